@@ -1,0 +1,8 @@
+-- Items, and lists of them.
+pub mod Item
+-- One number's place.
+pub mod Slot
+-- The lists, by number.
+pub mod Lists
+-- The numbers that wait for a list.
+pub mod Unused

@@ -1,0 +1,187 @@
+//! Readers and writers of bytes, one call each: over memory, and over the system's files and streams.
+
+ghost use Rattle.std.specs.Prelude.{◌≡◌, ℕ, Bool, true, List, Option, Some, None, OnOk, OnErr};
+ghost use Rattle.std.specs.Io.{ReadsAtMost, WritesAtMost};
+ghost use Rattle.std.specs.Io.KnownBytes.{ReadConsumes, WriteAppends};
+
+use std::alloc::Global;
+use std::io::{Read, Write};
+
+/// A read or a write that failed.
+#[derive(Clone, Copy, Debug, PartialEq, Eq)]
+pub struct Failed;
+
+/// Gives bytes, some at each call.
+pub trait ByteReader {
+    /// The bytes that it gives from here on, where they are known.
+    ghost remaining: { Self → Option (List ℕ) };
+
+    /// Whether a call has failed.
+    ghost has_failed: { Self → Bool };
+
+    /// Puts some bytes at the buffer's front, and tells how many: 0 at the end.
+    ///
+    /// # Errors
+    /// Where the read failed; nothing was taken.
+    fn read(&mut self, buffer: &mut [u8]) -> Result<usize, Failed>
+        ensures bound { ReadsAtMost result buffer.new }
+        ensures bytes { ReadConsumes (remaining self.old) (remaining self.new) result buffer.new }
+        ensures ok { OnOk result (has_failed self.new ≡ has_failed self.old) }
+        ensures err { OnErr result (has_failed self.new ≡ true) };
+}
+
+/// Takes bytes, some at each call.
+pub trait ByteWriter {
+    /// The bytes that it holds, where they are known.
+    ghost contents: { Self → Option (List ℕ) };
+
+    /// Whether a call has failed, or took nothing.
+    ghost has_failed: { Self → Bool };
+
+    /// Takes some bytes from the front, and tells how many.
+    ///
+    /// # Errors
+    /// Where the write failed; nothing was taken.
+    fn write(&mut self, bytes: &[u8]) -> Result<usize, Failed>
+        ensures bound { WritesAtMost result bytes.now }
+        ensures written { WriteAppends (contents self.old) (contents self.new) result bytes.now }
+        ensures err { OnErr result (has_failed self.new ≡ true) };
+}
+
+/// Reads what lies in memory.
+#[derive(Clone, Copy, Debug)]
+pub struct MemoryReader<'a> {
+    bytes: &'a [u8],
+}
+
+impl<'a> MemoryReader<'a> {
+    /// Reads these bytes.
+    pub fn new(bytes: &'a [u8]) -> MemoryReader<'a> {
+        MemoryReader { bytes }
+    }
+}
+
+impl<'a> ByteReader for MemoryReader<'a> {
+    ghost use Rattle.std.specs.Prelude.{Some, false};
+
+    ghost remaining = { λ r. Some r.bytes.now };
+
+    ghost has_failed = { λ _. false };
+
+    fn read(&mut self, buffer: &mut [u8]) -> Result<usize, Failed> {
+        let count = buffer.len().min(self.bytes.len());
+        let (front, rest) = self.bytes.split_at(count);
+        buffer[..count].copy_from_slice(front);
+        self.bytes = rest;
+        Ok(count)
+    }
+}
+
+/// A reader of the system, or one that could not be opened, whose reads fail.
+#[derive(Debug, Drop)]
+pub struct SystemReader<R: Read + Drop> {
+    reader: Option<R>,
+    failed: bool,
+}
+
+impl<R: Read + Drop> SystemReader<R> {
+    /// Reads what the reader reads; none is one that could not be opened.
+    pub fn new(reader: Option<R>) -> SystemReader<R> {
+        SystemReader {
+            reader,
+            failed: false,
+        }
+    }
+}
+
+impl<R: Read + Drop> ByteReader for SystemReader<R> {
+    ghost use Rattle.std.specs.Prelude.{None};
+
+    ghost remaining = { λ _. None };
+
+    ghost has_failed = { λ r. r.failed };
+
+    fn read(&mut self, buffer: &mut [u8]) -> Result<usize, Failed> {
+        let Some(reader) = &mut self.reader else {
+            self.failed = true;
+            return Err(Failed);
+        };
+        match reader.read(buffer) {
+            Ok(count) => Ok(count),
+            Err(_) => {
+                self.failed = true;
+                Err(Failed)
+            }
+        }
+    }
+}
+
+/// Writes to memory.
+#[derive(Debug, Drop)]
+pub struct MemoryWriter {
+    pub bytes: Vec<u8>,
+    failed: bool,
+}
+
+impl MemoryWriter {
+    /// Nothing is written yet.
+    pub fn new(alloc: Global) -> MemoryWriter {
+        MemoryWriter {
+            bytes: Vec::new(alloc),
+            failed: false,
+        }
+    }
+}
+
+impl ByteWriter for MemoryWriter {
+    ghost use Rattle.std.specs.Prelude.{Some};
+
+    ghost contents = { λ w. Some w.bytes.items };
+
+    ghost has_failed = { λ w. w.failed };
+
+    fn write(&mut self, bytes: &[u8]) -> Result<usize, Failed> {
+        match self.bytes.extend_from_slice(bytes) {
+            Ok(()) => Ok(bytes.len()),
+            Err(_) => {
+                self.failed = true;
+                Err(Failed)
+            }
+        }
+    }
+}
+
+/// A writer of the system.
+#[derive(Debug, Drop)]
+pub struct SystemWriter<W: Write + Drop> {
+    writer: W,
+    failed: bool,
+}
+
+impl<W: Write + Drop> SystemWriter<W> {
+    /// Writes to the writer.
+    pub fn new(writer: W) -> SystemWriter<W> {
+        SystemWriter {
+            writer,
+            failed: false,
+        }
+    }
+}
+
+impl<W: Write + Drop> ByteWriter for SystemWriter<W> {
+    ghost use Rattle.std.specs.Prelude.{None};
+
+    ghost contents = { λ _. None };
+
+    ghost has_failed = { λ w. w.failed };
+
+    fn write(&mut self, bytes: &[u8]) -> Result<usize, Failed> {
+        match self.writer.write(bytes) {
+            Ok(count) => Ok(count),
+            Err(_) => {
+                self.failed = true;
+                Err(Failed)
+            }
+        }
+    }
+}

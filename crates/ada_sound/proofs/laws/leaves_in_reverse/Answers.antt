@@ -1,0 +1,6 @@
+-- The items that are left have lower numbers.
+use Rattle.ada_sound.proofs.Headline as headline
+use Rattle.ada_sound.proofs.laws.leaves_in_reverse.Goals as goal
+
+pub returns : goal.returns
+returns c = headline.reverse

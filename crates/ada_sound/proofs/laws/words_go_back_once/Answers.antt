@@ -1,0 +1,6 @@
+-- What goes back exists before, and has ended after.
+use Rattle.ada_sound.proofs.Headline as headline
+use Rattle.ada_sound.proofs.laws.words_go_back_once.Goals as goal
+
+pub returns : goal.returns
+returns c = headline.back

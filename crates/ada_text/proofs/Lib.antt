@@ -1,0 +1,13 @@
+pub mod PlaceLemmas
+pub mod GapLemmas
+pub mod IdentifierLemmas
+pub mod NumberLemmas
+pub mod DelimiterLemmas
+pub mod WordLemmas
+pub mod LiteralLemmas
+pub mod ElementLemmas
+pub mod ReadingLemmas
+pub mod LayoutLemmas
+pub mod WritingLemmas
+pub mod FormLemmas
+pub mod FaultLemmas

@@ -1,0 +1,12 @@
+-- The definitions that several crates cite, in the order in which they are read.
+
+-- which tokens a tree is written with (2, 3, 5, 6)
+pub mod Grammar
+-- statements and declarations as plain data
+pub mod Form
+-- what a well-formed program is
+pub mod Typed
+-- what a variable may be relied on for, and the rules that follow
+pub mod Flow
+-- which programs allocate only objects that a collection can take
+pub mod Homes

@@ -1,0 +1,5 @@
+-- loops
+pub mod Loop
+-- what is read is written so
+pub mod Sound
+pub mod Phrases
