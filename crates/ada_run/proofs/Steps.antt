@@ -15,8 +15,11 @@ use Rattle.ada_meaning.specs.Run.{Choice, settled, grants, takes, Leads, Halts, 
 use Rattle.ada_meaning.specs.Machine.{Answers, Makes}
 use Rattle.ada_run.specs.declared.serve.Status.{Status}
 use Rattle.ada_run.specs.declared.serve.Status.TheVariants.{Stopped}
+use Rattle.ada_run.specs.declared.serve.Status.TheVariants as status
+use Rattle.ada_meaning.specs.declared.event.Halt.TheVariants as halt
+use Rattle.ada_meaning.specs.Law.{Safe}
 use Rattle.ada_run.specs.declared.serve.ServeFault.{ServeFault}
-use Rattle.ada_run.specs.Runner.{IsRunners, RunnerRun, begun, goes_on, event_text, lines_of, end_text, status_of, HasWritten, IsAnswer}
+use Rattle.ada_run.specs.Runner.{IsRunners, RunnerRun, begun, goes_on, event_text, lines_of, end_text, status_of, HasWritten, IsAnswer, Answers as Says}
 
 -- the answers of who grants all and takes the newest
 abbrev pub GrantsAll : {C : Type 0} → C → Request → Bool → C → Type 0
@@ -90,3 +93,25 @@ answered program s halt ending old mid new h (inr ends) a e differs = record {
 pub finished : (program : Program) (s : State) (halt : Halt) (result : Result Status ServeFault) (old mid new : Option (List ℕ)) → HasWritten program (first_state program []) s old mid → (halt ≡ Memory) ⊎ Halts program s halt → OnOk result (Appends mid new (end_text halt)) → IfOk result (λ ending. ending ≡ status_of halt) → IfOk result (λ ending. ending ≢ Stopped → IsAnswer program ending old new)
 finished program s halt (Ok ending) old mid new h ends a e = answered program s halt ending old mid new h ends a e
 finished program s halt (Err fault) old mid new h ends a e = tt
+
+-- a run is neither accepted nor refused
+no_accepted : (halt : Halt) → status.Accepted ≡ status_of halt → ⊥
+no_accepted halt.Finished e = cc
+no_accepted (halt.Unhandled exception) e = cc
+no_accepted (halt.Erroneous why) e = cc
+no_accepted halt.Memory e = cc
+
+no_refused : (halt : Halt) → status.Refused ≡ status_of halt → ⊥
+no_refused halt.Finished e = cc
+no_refused (halt.Unhandled exception) e = cc
+no_refused (halt.Erroneous why) e = cc
+no_refused halt.Memory e = cc
+
+-- what a run of a safe program says
+pub served : (program : Program) (result : Result Status ServeFault) (old new : Option (List ℕ)) → Safe program → IfOk result (λ ending. ending ≢ Stopped → IsAnswer program ending old new) → IfOk result (λ ending. Says ending old new)
+served program (Err fault) old new safe h = tt
+served program (Ok status.Accepted) old new safe h = let a : IsAnswer program status.Accepted old new = h (λ e. cc) in absurd (no_accepted a.halt a.ends)
+served program (Ok status.Refused) old new safe h = let a : IsAnswer program status.Refused old new = h (λ e. cc) in absurd (no_refused a.halt a.ends)
+served program (Ok status.Finished) old new safe h = (program, safe, h (λ e. cc))
+served program (Ok status.Unhandled) old new safe h = (program, safe, h (λ e. cc))
+served program (Ok status.Stopped) old new safe h = tt

@@ -2,7 +2,7 @@
 
 ghost use Rattle.std.specs.Prelude.{◌≡◌, ◌≢◌, [], IfOk, OnOk, OnErr};
 ghost use Rattle.std.specs.Io.KnownBytes.{Appends};
-ghost use Rattle.ada_run.specs.Runner.{end_text, status_of, event_text, IsAnswer};
+ghost use Rattle.ada_run.specs.Runner.{end_text, status_of, event_text, IsAnswer, Answers};
 ghost use Rattle.ada_run.specs.Written.{AppendsFront};
 
 use crate::output::write_all;
@@ -11,7 +11,7 @@ use crate::streams::{ByteReader, ByteWriter, Failed};
 use crate::texts::{put_line, put_refusal, put_unhandled};
 use ada_meaning::{Event, GrantAll, Halt, Machine};
 use ada_tree::Program;
-use ada_verdict::{Refusal, check};
+use ada_verdict::{Accepted, Verdict, check};
 use std::alloc::{AllocError, AllocFailed, Global};
 use thiserror::Error;
 
@@ -84,19 +84,31 @@ pub fn serve<S: ByteReader, W: ByteWriter>(
     source: &mut S,
     options: &Options,
     out: &mut W,
-) -> Result<Status, ServeFault> {
+) -> Result<Status, ServeFault>
+    ensures { IfOk result (λ status. Answers status (W.contents out.old) (W.contents out.new)) }
+{
     let text = read_all(alloc, source)?;
     match check(alloc, &text) {
-        Err(verdict) => match verdict.refusal() {
-            Some(refusal) => refuse(alloc, refusal, out),
-            None => Err(ServeFault::NoMemory),
-        },
-        Ok(_) if !options.run => {
-            write_all(out, b"accepted\n")?;
-            Ok(Status::Accepted)
-        }
-        Ok(accepted) => run(alloc, accepted.program(), out),
+        Ok(accepted) => answer(alloc, &accepted, options, out),
+        Err(verdict) => refuse(alloc, &verdict, out),
     }
+}
+
+/// Writes the answer to an accepted source.
+fn answer<W: ByteWriter>(
+    alloc: Global,
+    accepted: &Accepted,
+    options: &Options,
+    out: &mut W,
+) -> Result<Status, ServeFault>
+    ensures { IfOk result (λ status. Answers status (W.contents out.old) (W.contents out.new)) }
+{
+    let program = accepted.program();
+    if options.run {
+        return run(alloc, program, out);
+    }
+    write_all(out, b"accepted\n")?;
+    Ok(Status::Accepted)
 }
 
 /// All the bytes of a reader, up to the most that are kept.
@@ -122,9 +134,14 @@ fn keep(kept: &mut Vec<u8>, bytes: &[u8]) -> Result<(), AllocError> {
 /// Writes why a source is refused.
 fn refuse<W: ByteWriter>(
     alloc: Global,
-    refusal: Refusal,
+    verdict: &Verdict,
     out: &mut W,
-) -> Result<Status, ServeFault> {
+) -> Result<Status, ServeFault>
+    ensures { IfOk result (λ status. Answers status (W.contents out.old) (W.contents out.new)) }
+{
+    let Some(refusal) = verdict.refusal() else {
+        return Err(ServeFault::NoMemory);
+    };
     let mut page = Vec::new(alloc);
     put_refusal(&mut page, refusal)?;
     write_all(out, &page)?;
