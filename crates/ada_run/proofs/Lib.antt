@@ -1,4 +1,10 @@
--- what is written piece by piece
-pub mod Front
+-- what a reader gives in several calls
+pub mod Reading
+-- calls one after another, and what is written piece by piece
+pub mod Writing
+-- each step makes a state lighter
+pub mod Weight
 -- the runner's run, step by step
 pub mod Steps
+-- from the parts of an answer to the answer
+pub mod Answering

@@ -1,12 +1,13 @@
--- The runner's run, step by step.
+-- The runner's run, step by step, up to its end.
 
-use Rattle.std.proofs.Common.{◌≡◌, ◌≢◌, ◌⊎◌, inl, inr, ℕ, Bool, true, List, [], ◌∷◌, ◌++◌, append_assoc, refl, sym, ◌∙◌, ap, subst, Option, Some, None, Result, Ok, Err}
-use Rattle.std.specs.Prelude.{IfOk, OnOk}
+use Rattle.std.proofs.Common.{◌≡◌, ◌≢◌, ◌⊎◌, inl, inr, ℕ, zero, suc, ◌<◌, Bool, true, List, [], ◌∷◌, ◌++◌, append_assoc, append-nil, arith, refl, sym, ◌∙◌, ap, subst, Option, Result, Ok, Err}
+use Rattle.std.specs.Prelude.{IfOk}
 use Rattle.std.proofs.lemmas.Grind.{flat_map-append}
 use Rattle.std.specs.Io.KnownBytes.{Appends}
 use Rattle.ada_tree.specs.declared.program.Program.{Program}
 use Rattle.ada_meaning.specs.declared.choices.Request.{Request}
 use Rattle.ada_meaning.specs.declared.event.Event.{Event}
+use Rattle.ada_meaning.specs.declared.event.Event.TheVariants.{Quiet}
 use Rattle.ada_meaning.specs.declared.event.Halt.{Halt}
 use Rattle.ada_meaning.specs.declared.event.Halt.TheVariants.{Memory}
 use Rattle.ada_meaning.specs.State.{State}
@@ -14,12 +15,11 @@ use Rattle.ada_meaning.specs.Step.{Next, halts, moves, tells, asks, picks, next}
 use Rattle.ada_meaning.specs.Run.{Choice, settled, grants, takes, Leads, Halts, first_state}
 use Rattle.ada_meaning.specs.Machine.{Answers, Makes}
 use Rattle.ada_run.specs.declared.serve.Status.{Status}
-use Rattle.ada_run.specs.declared.serve.Status.TheVariants.{Stopped}
-use Rattle.ada_run.specs.declared.serve.Status.TheVariants as status
-use Rattle.ada_meaning.specs.declared.event.Halt.TheVariants as halt
-use Rattle.ada_meaning.specs.Law.{Safe}
 use Rattle.ada_run.specs.declared.serve.ServeFault.{ServeFault}
-use Rattle.ada_run.specs.Runner.{IsRunners, RunnerRun, begun, goes_on, event_text, lines_of, end_text, status_of, HasWritten, IsAnswer, Answers as Says}
+use Rattle.ada_run.specs.Runner.{IsRunners, RunnerRun, begun, goes_on, event_text, lines_of, end_text, status_of, HasWritten, HasRun}
+use Rattle.ada_run.specs.Written.{AppendsFront, Writes, Begins, SaysFront}
+use Rattle.ada_run.proofs.Writing.{appends_none, appends_both}
+use Rattle.ada_run.proofs.Weight.{weight, Lightens, next_lightens, step_lightens}
 
 -- the answers of who grants all and takes the newest
 abbrev pub GrantsAll : {C : Type 0} → C → Request → Bool → C → Type 0
@@ -44,21 +44,6 @@ runners (picks n taken) before after settled event last a l = tt
 runners (picks n taken) before after (grants granted) event last a l = absurd l
 runners (picks n taken) before after (takes i) event last a l = a
 
-append_nil : (xs : List ℕ) → xs ++ [] ≡ xs
-append_nil [] = refl
-append_nil (x ∷ xs) = ap (λ rest. x ∷ rest) (append_nil xs)
-
--- nothing is written yet
-appends_none : (old : Option (List ℕ)) → Appends old old []
-appends_none None = tt
-appends_none (Some xs) = sym (append_nil xs)
-
-pub appends_both : (old mid new : Option (List ℕ)) (a b : List ℕ) → Appends old mid a → Appends mid new b → Appends old new (a ++ b)
-appends_both None mid new a b h g = tt
-appends_both (Some xs) None new a b h g = absurd h
-appends_both (Some xs) (Some ys) None a b h g = absurd g
-appends_both (Some xs) (Some ys) (Some zs) a b h g = g ∙ ap (λ front. front ++ b) h ∙ append_assoc xs a b
-
 pub written_first : (program : Program) (first s : State) (old : Option (List ℕ)) → s ≡ first → HasWritten program first s old old
 written_first program first s old e = record {
   events = [];
@@ -67,51 +52,126 @@ written_first program first s old e = record {
 }
 
 lines_more : (events : List Event) (event : Event) → lines_of (events ++ event ∷ []) ≡ lines_of events ++ event_text event
-lines_more events event = flat_map-append event_text events (event ∷ []) ∙ ap (λ text. lines_of events ++ text) (append_nil (event_text event))
+lines_more events event = flat_map-append event_text events (event ∷ []) ∙ ap (λ text. lines_of events ++ text) (append-nil (event_text event))
 
--- one step more
+-- one step more of a run
+run_more : {C : Type 0} (program : Program) (first s last : State) (before after : C) (events : List Event) (event : Event) → RunnerRun program first events s → Makes GrantsAll TakesNewest (next program.types.items s) before event last after → RunnerRun program first (events ++ event ∷ []) last
+run_more program first s last before after events event run m = goes_on event s m.choice events run (runners (next program.types.items s) before after m.choice event last m.answers m.leads) m.leads refl
+
 pub written_more : {C : Type 0} (program : Program) (first s last : State) (before after : C) (event : Event) (old mid new : Option (List ℕ)) → HasWritten program first s old mid → Makes GrantsAll TakesNewest (next program.types.items s) before event last after → Appends mid new (event_text event) → HasWritten program first last old new
 written_more program first s last before after event old mid new h m a = record {
   events = h.events ++ event ∷ [];
-  run = goes_on event s m.choice h.events h.run (runners (next program.types.items s) before after m.choice event last m.answers m.leads) m.leads refl;
+  run = run_more program first s last before after h.events event h.run m;
   lines = subst (λ (text : List ℕ). Appends old new text) (sym (lines_more h.events event)) (appends_both old mid new (lines_of h.events) (event_text event) h.lines a);
 }
 
--- the run has ended
-answered : (program : Program) (s : State) (halt : Halt) (ending : Status) (old mid new : Option (List ℕ)) → HasWritten program (first_state program []) s old mid → (halt ≡ Memory) ⊎ Halts program s halt → Appends mid new (end_text halt) → ending ≡ status_of halt → ending ≢ Stopped → IsAnswer program ending old new
-answered program s halt ending old mid new h (inl memory) a e differs = absurd (differs (e ∙ ap status_of memory))
-answered program s halt ending old mid new h (inr ends) a e differs = record {
-  events = h.events;
-  last = s;
-  halt = halt;
-  run = h.run;
-  halts = ends;
-  written = appends_both old mid new (lines_of h.events) (end_text halt) h.lines a;
-  ends = e;
+-- no state's run ends for want of memory
+ends_else : (coming : Next) (w : ℕ) → Lightens coming w → coming ≡ halts Memory → ⊥
+ends_else (halts halt) w l e = let same : halt ≡ Memory = cc in l same
+ends_else (moves event s) w l e = cc
+ends_else (tells request event s) w l e = cc
+ends_else (asks request answered) w l e = cc
+ends_else (picks n taken) w l e = cc
+
+pub no_memory : (program : Program) (s : State) → Halts program s Memory → ⊥
+no_memory program s e = ends_else (next program.types.items s) (weight s) (next_lightens program.types.items s) e
+
+-- what comes next is the end, or the runner has a step
+data HasStep (coming : Next) : Type 0 where
+  halted : (halt : Halt) → coming ≡ halts halt → HasStep coming
+  steps : (choice : Choice) (event : Event) (mid : State) → IsRunners choice → Leads coming choice event mid → HasStep coming
+
+has_step : (coming : Next) (w : ℕ) → Lightens coming w → HasStep coming
+has_step (halts halt) w l = halted halt refl
+has_step (moves e s) w l = steps settled e s tt (refl, refl)
+has_step (tells request e s) w l = steps settled e s tt (refl, refl)
+has_step (asks request answered) w l = steps (grants true) Quiet (answered true) refl (refl, refl)
+has_step (picks n taken) w l = steps (takes 0) Quiet (taken 0) refl (l.0, refl, refl)
+
+-- a run goes on up to its end
+pub record ComesToEnd (program : Program) (first : State) (before : List Event) : Type 0 where
+  pub more : List Event
+  pub last : State
+  pub halt : Halt
+  pub run : RunnerRun program first (before ++ more) last
+  pub ends : Halts program last halt
+
+one_before : (program : Program) (first : State) (before : List Event) (event : Event) → ComesToEnd program first (before ++ event ∷ []) → ComesToEnd program first before
+one_before program first before event c = record {
+  more = event ∷ c.more;
+  last = c.last;
+  halt = c.halt;
+  run = subst (λ (events : List Event). RunnerRun program first events c.last) (append_assoc before (event ∷ []) c.more) c.run;
+  ends = c.ends;
 }
 
-pub finished : (program : Program) (s : State) (halt : Halt) (result : Result Status ServeFault) (old mid new : Option (List ℕ)) → HasWritten program (first_state program []) s old mid → (halt ≡ Memory) ⊎ Halts program s halt → OnOk result (Appends mid new (end_text halt)) → IfOk result (λ ending. ending ≡ status_of halt) → IfOk result (λ ending. ending ≢ Stopped → IsAnswer program ending old new)
-finished program s halt (Ok ending) old mid new h ends a e = answered program s halt ending old mid new h ends a e
-finished program s halt (Err fault) old mid new h ends a e = tt
+ends_within : (program : Program) (first s : State) (before : List Event) (n : ℕ) → weight s < n → RunnerRun program first before s → ComesToEnd program first before
+ends_within program first s before zero lighter run = absurd (omega (arith, lighter))
+ends_within program first s before (suc n) lighter run =
+    elim (has_step (next program.types.items s) (weight s) (next_lightens program.types.items s)) [
+      | halted halt is ↦ record {
+        more = [];
+        last = s;
+        halt = halt;
+        run = subst (λ (events : List Event). RunnerRun program first events s) (sym (append-nil before)) run;
+        ends = is;
+      }
+      | steps choice event mid is leads ↦ one_before program first before event (ends_within program first mid (before ++ event ∷ []) n (omega (arith, lighter, step_lightens program s mid choice event leads)) (goes_on event s choice before run is leads refl))
+    ]
 
--- a run is neither accepted nor refused
-no_accepted : (halt : Halt) → status.Accepted ≡ status_of halt → ⊥
-no_accepted halt.Finished e = cc
-no_accepted (halt.Unhandled exception) e = cc
-no_accepted (halt.Erroneous why) e = cc
-no_accepted halt.Memory e = cc
+pub comes_to_end : (program : Program) (first s : State) (before : List Event) → RunnerRun program first before s → ComesToEnd program first before
+comes_to_end program first s before run = ends_within program first s before (suc (weight s)) (omega arith) run
 
-no_refused : (halt : Halt) → status.Refused ≡ status_of halt → ⊥
-no_refused halt.Finished e = cc
-no_refused (halt.Unhandled exception) e = cc
-no_refused (halt.Erroneous why) e = cc
-no_refused halt.Memory e = cc
+-- where a front of the lines of a run is written, a front of its whole text is
+pub begins_run : (program : Program) (s : State) (events : List Event) (front rest : List ℕ) (old new : Option (List ℕ)) → RunnerRun program (first_state program []) events s → lines_of events ≡ front ++ rest → Appends old new front → Begins (HasRun program) old new
+begins_run program s events front rest old new run split written =
+    let c = comes_to_end program (first_state program []) s events run in
+    let tail : List ℕ = lines_of c.more ++ end_text c.halt in
+    let whole : lines_of (events ++ c.more) ++ end_text c.halt ≡ front ++ (rest ++ tail) =
+    ap (λ (text : List ℕ). text ++ end_text c.halt) (flat_map-append event_text events c.more) ∙ append_assoc (lines_of events) (lines_of c.more) (end_text c.halt) ∙ ap (λ (text : List ℕ). text ++ tail) split ∙ append_assoc front rest tail in
+    record {
+      text = lines_of (events ++ c.more) ++ end_text c.halt;
+      status = status_of c.halt;
+      is = record { events = events ++ c.more; last = c.last; halt = c.halt; run = c.run; halts = c.ends; is = refl; ends = refl };
+      written = record { front = front; rest = rest ++ tail; split = whole; written = written };
+    }
 
--- what a run of a safe program says
-pub served : (program : Program) (result : Result Status ServeFault) (old new : Option (List ℕ)) → Safe program → IfOk result (λ ending. ending ≢ Stopped → IsAnswer program ending old new) → IfOk result (λ ending. Says ending old new)
-served program (Err fault) old new safe h = tt
-served program (Ok status.Accepted) old new safe h = let a : IsAnswer program status.Accepted old new = h (λ e. cc) in absurd (no_accepted a.halt a.ends)
-served program (Ok status.Refused) old new safe h = let a : IsAnswer program status.Refused old new = h (λ e. cc) in absurd (no_refused a.halt a.ends)
-served program (Ok status.Finished) old new safe h = (program, safe, h (λ e. cc))
-served program (Ok status.Unhandled) old new safe h = (program, safe, h (λ e. cc))
-served program (Ok status.Stopped) old new safe h = tt
+-- the line of a step was written in part
+pub begins_line : {C : Type 0} (program : Program) (s last : State) (before after : C) (event : Event) (old mid new : Option (List ℕ)) → HasWritten program (first_state program []) s old mid → Makes GrantsAll TakesNewest (next program.types.items s) before event last after → AppendsFront mid new (event_text event) → Begins (HasRun program) old new
+begins_line program s last before after event old mid new h m a =
+    begins_run program last (h.events ++ event ∷ []) (lines_of h.events ++ a.front) a.rest old new
+    (run_more program (first_state program []) s last before after h.events event h.run m)
+    (lines_more h.events event ∙ ap (λ (text : List ℕ). lines_of h.events ++ text) a.split ∙ sym (append_assoc (lines_of h.events) a.front a.rest))
+    (appends_both old mid new (lines_of h.events) a.front h.lines a.written)
+
+-- the last line was written in part
+begins_end : (program : Program) (s : State) (halt : Halt) (old mid new : Option (List ℕ)) → HasWritten program (first_state program []) s old mid → (halt ≡ Memory) ⊎ Halts program s halt → AppendsFront mid new (end_text halt) → Begins (HasRun program) old new
+begins_end program s halt old mid new h (inl memory) a =
+    let none : [] ≡ a.front ++ a.rest = sym (ap end_text memory) ∙ a.split in
+    begins_run program s h.events (lines_of h.events ++ a.front) a.rest old new h.run
+    (sym (append-nil (lines_of h.events)) ∙ ap (λ (text : List ℕ). lines_of h.events ++ text) none ∙ sym (append_assoc (lines_of h.events) a.front a.rest))
+    (appends_both old mid new (lines_of h.events) a.front h.lines a.written)
+begins_end program s halt old mid new h (inr ends) a = record {
+  text = lines_of h.events ++ end_text halt;
+  status = status_of halt;
+  is = record { events = h.events; last = s; halt = halt; run = h.run; halts = ends; is = refl; ends = refl };
+  written = record {
+    front = lines_of h.events ++ a.front;
+    rest = a.rest;
+    split = ap (λ (text : List ℕ). lines_of h.events ++ text) a.split ∙ sym (append_assoc (lines_of h.events) a.front a.rest);
+    written = appends_both old mid new (lines_of h.events) a.front h.lines a.written;
+  };
+}
+
+ended : (program : Program) (s : State) (halt : Halt) (ending : Status) (old mid new : Option (List ℕ)) → HasWritten program (first_state program []) s old mid → (halt ≡ Memory) ⊎ Halts program s halt → Appends mid new (end_text halt) → ending ≡ status_of halt → halt ≢ Memory → SaysFront (HasRun program) old new (Ok ending)
+ended program s halt ending old mid new h (inl memory) a e isnt = absurd (isnt memory)
+ended program s halt ending old mid new h (inr ends) a e isnt = record {
+  text = lines_of h.events ++ end_text halt;
+  is = record { events = h.events; last = s; halt = halt; run = h.run; halts = ends; is = refl; ends = e };
+  written = appends_both old mid new (lines_of h.events) (end_text halt) h.lines a;
+}
+
+-- the run has ended
+pub finished : (program : Program) (s : State) (halt : Halt) (result : Result Status ServeFault) (old mid new : Option (List ℕ)) → HasWritten program (first_state program []) s old mid → (halt ≡ Memory) ⊎ Halts program s halt → Writes mid new (end_text halt) result → IfOk result (λ ending. ending ≡ status_of halt) → IfOk result (λ ending. halt ≢ Memory) → SaysFront (HasRun program) old new result
+finished program s halt (Ok ending) old mid new h ends a e isnt = ended program s halt ending old mid new h ends a e isnt
+finished program s halt (Err fault) old mid new h ends a e isnt = inr (begins_end program s halt old mid new h ends a)

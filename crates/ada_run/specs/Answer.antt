@@ -1,41 +1,30 @@
--- The texts of an answer.
+-- The answer to a source: a text and how it ends.
 
-use Rattle.std.specs.Prelude.{ℕ, ℤ, List, [], ◌∷◌, ◌++◌, codes, decimal}
-use Rattle.std.specs.Fmt.{signed_decimal}
-use Rattle.std.specs.Prelude.{pos, negsuc}
-use Rattle.ada_meaning.specs.declared.event.Line.{Line}
-use Rattle.ada_meaning.specs.declared.event.Line.TheVariants.{Image}
-use Rattle.ada_meaning.specs.declared.event.Exception.{Exception}
-use Rattle.ada_meaning.specs.Text.{exception_text}
-use Rattle.ada_verdict.specs.Refusal.{Told}
+use Rattle.std.specs.Prelude.{◌≡◌, ℕ, Bool, true, false, List, Some}
+use Rattle.ada_tree.specs.declared.program.Program.{Program}
+use Rattle.ada_meaning.specs.Law.{Safe}
+use Rattle.ada_verdict.specs.declared.fault.Verdict.{Verdict}
+use Rattle.ada_verdict.specs.First.{IsAccepted, IsFirst}
+use Rattle.ada_verdict.specs.Refusal.{Told, refusal_of}
+use Rattle.ada_run.specs.declared.serve.Status.{Status}
+use Rattle.ada_run.specs.declared.serve.Status.TheVariants.{Accepted, Refused}
+use Rattle.ada_run.specs.Texts.{refusal_text, accepted_text}
+use Rattle.ada_run.specs.Runner.{HasRun}
 
--- The line feed that ends each line.
-abbrev pub line_feed : List ℕ
-line_feed = 10 ∷ []
+-- The line of a fault that has one: all but want of memory.
+pub record IsRefusal (verdict : Verdict) (text : List ℕ) (status : Status) : Type 0 where
+  pub told : Told
+  pub tells : refusal_of verdict ≡ Some told
+  pub is : text ≡ refusal_text told
+  pub ends : status ≡ Refused
 
--- `Integer'Image` (3.5): a blank before a number that is not negative, else a minus sign; then digits.
-abbrev pub image : ℤ → List ℕ
-image (pos n) = 32 ∷ decimal n
-image (negsuc n) = signed_decimal (negsuc n)
+-- The answer to a program that is only checked, and to one that is to be run.
+abbrev pub IsProgramAnswer : Program → Bool → List ℕ → Status → Type 0
+IsProgramAnswer program false text status = (text ≡ accepted_text) × (status ≡ Accepted)
+IsProgramAnswer program true text status = HasRun program text status
 
--- A line of the program.
-abbrev pub line_text : Line → List ℕ
-line_text (Image value) = image value ++ line_feed
-
--- Why a source is refused.
-abbrev pub refusal_text : Told → List ℕ
-refusal_text told = codes "refused " ++ decimal told.line ++ codes ":" ++ decimal told.column ++ codes " " ++ told.name ++ line_feed
-
--- An exception that left the main procedure (11.4), by its name.
-abbrev pub unhandled_text : Exception → List ℕ
-unhandled_text e = codes "unhandled " ++ exception_text e ++ line_feed
-
--- The last lines of the other answers.
-abbrev pub finished_text : List ℕ
-finished_text = codes "finished" ++ line_feed
-
-abbrev pub erroneous_text : List ℕ
-erroneous_text = codes "erroneous" ++ line_feed
-
-abbrev pub accepted_text : List ℕ
-accepted_text = codes "accepted" ++ line_feed
+-- The answer to a source, which is to be run or not: the refusal of its first fault; or its program is accepted, and
+-- is safe: it is only checked, or it is run up to its end.
+pub data Answer (source : List ℕ) (run : Bool) (text : List ℕ) (status : Status) : Type 0 where
+  refused : (verdict : Verdict) → IsFirst source verdict → IsRefusal verdict text status → Answer source run text status
+  accepted : (program : Program) → IsAccepted source program → Safe program → IsProgramAnswer program run text status → Answer source run text status

@@ -7,13 +7,11 @@ use Rattle.ada_meaning.specs.declared.event.Event.{Event}
 use Rattle.ada_meaning.specs.declared.event.Event.TheVariants as event
 use Rattle.ada_meaning.specs.declared.event.Halt.{Halt}
 use Rattle.ada_meaning.specs.declared.event.Halt.TheVariants.{Finished, Unhandled, Erroneous, Memory}
-use Rattle.ada_meaning.specs.Law.{Safe}
 use Rattle.ada_meaning.specs.State.{State}
 use Rattle.ada_meaning.specs.Run.{Choice, settled, grants, takes, Step, first_state, Halts}
 use Rattle.ada_run.specs.declared.serve.Status.{Status}
 use Rattle.ada_run.specs.declared.serve.Status.TheVariants as status
-use Rattle.ada_run.specs.Answer.{line_text, refusal_text, unhandled_text, accepted_text, finished_text, erroneous_text}
-use Rattle.ada_verdict.specs.Refusal.{Told}
+use Rattle.ada_run.specs.Texts.{line_text, unhandled_text, finished_text, erroneous_text}
 
 -- What the runner answers.
 abbrev pub IsRunners : Choice → Type 0
@@ -58,21 +56,12 @@ pub record HasWritten (program : Program) (first : State) (last : State) (old ne
   pub run : RunnerRun program first events last
   pub lines : Appends old new (lines_of events)
 
--- The runner's whole run of a program, and the text that it writes: its lines, and how it ends.
-pub record IsAnswer (program : Program) (ending : Status) (old new : Option (List ℕ)) : Type 0 where
+-- The runner's whole run of a program: its lines and how it ends are the text.
+pub record HasRun (program : Program) (text : List ℕ) (status : Status) : Type 0 where
   pub events : List Event
   pub last : State
   pub halt : Halt
   pub run : RunnerRun program (first_state program []) events last
   pub halts : Halts program last halt
-  pub written : Appends old new (lines_of events ++ end_text halt)
-  pub ends : ending ≡ status_of halt
-
--- What an answer says: an accepted program is safe; a refusal names a rule; a run that is finished, or that an exception
--- ended, is the runner's run of a safe program, and its text.
-abbrev pub Answers : Status → Option (List ℕ) → Option (List ℕ) → Type 0
-Answers status.Accepted old new = (program : Program) × Safe program × Appends old new accepted_text
-Answers status.Refused old new = (told : Told) × Appends old new (refusal_text told)
-Answers status.Finished old new = (program : Program) × Safe program × IsAnswer program status.Finished old new
-Answers status.Unhandled old new = (program : Program) × Safe program × IsAnswer program status.Unhandled old new
-Answers status.Stopped old new = Unit {0}
+  pub is : text ≡ lines_of events ++ end_text halt
+  pub ends : status ≡ status_of halt

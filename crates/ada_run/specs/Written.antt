@@ -1,15 +1,36 @@
 -- What a writer holds after a text, or after a failure.
 
-use Rattle.std.specs.Prelude.{◌≡◌, ℕ, List, take, Option, Result, Ok, Err}
+use Rattle.std.specs.Prelude.{◌≡◌, ◌⊎◌, ℕ, List, [], ◌++◌, Option, Result, Ok, Err}
 use Rattle.std.specs.Io.KnownBytes.{Appends}
 use Rattle.ada_run.specs.declared.serve.ServeFault.{ServeFault}
-use Rattle.ada_run.specs.declared.serve.ServeFault.TheVariants.{WriteFailed}
+use Rattle.ada_run.specs.declared.serve.Status.{Status}
 
 -- What is known of a writer grows by some front of a text.
-abbrev pub AppendsFront : Option (List ℕ) → Option (List ℕ) → List ℕ → Type 0
-AppendsFront old new text = (n : ℕ) × Appends old new (take n text)
+pub record AppendsFront (old new : Option (List ℕ)) (text : List ℕ) : Type 0 where
+  pub front : List ℕ
+  pub rest : List ℕ
+  pub split : text ≡ front ++ rest
+  pub written : Appends old new front
 
--- A text was written, or a front of it, and then a write failed.
+-- A text was written, or a front of it and then there was a fault.
 abbrev pub Writes : {X : Type 0} → Option (List ℕ) → Option (List ℕ) → List ℕ → Result X ServeFault → Type 0
 Writes old new text (Ok x) = Appends old new text
-Writes old new text (Err fault) = AppendsFront old new text × (fault ≡ WriteFailed)
+Writes old new text (Err fault) = AppendsFront old new text
+
+-- An answer was written, whose text and status are as told.
+pub record Says (IsIt : List ℕ → Status → Type 0) (old new : Option (List ℕ)) (status : Status) : Type 0 where
+  pub text : List ℕ
+  pub is : IsIt text status
+  pub written : Appends old new text
+
+-- A front of such an answer was written.
+pub record Begins (IsIt : List ℕ → Status → Type 0) (old new : Option (List ℕ)) : Type 0 where
+  pub text : List ℕ
+  pub status : Status
+  pub is : IsIt text status
+  pub written : AppendsFront old new text
+
+-- Such an answer was written; or there was a fault, and nothing was written, or a front of such an answer.
+abbrev pub SaysFront : (List ℕ → Status → Type 0) → Option (List ℕ) → Option (List ℕ) → Result Status ServeFault → Type 0
+SaysFront IsIt old new (Ok status) = Says IsIt old new status
+SaysFront IsIt old new (Err fault) = Appends old new [] ⊎ Begins IsIt old new

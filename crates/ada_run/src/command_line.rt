@@ -1,6 +1,7 @@
 //! The command line.
 
-ghost use Rattle.std.specs.Prelude.{◌≡◌};
+ghost use Rattle.std.specs.Prelude.{◌≡◌, None, IfOk};
+ghost use Rattle.ada_run.specs.Settings.{HasDefaults};
 
 use crate::settings::{Options, Paths};
 use clap::error::ErrorKind;
@@ -29,10 +30,10 @@ impl From<AllocError> for UsageFault {
 ///
 /// # Errors
 /// Where they are no command of this program, or memory ran out.
-pub fn options<'a>(
-    alloc: Global,
-    words: &'a [&'a str],
-) -> Result<(Options, Paths<'a>), UsageFault> {
+pub fn options<'a>(alloc: Global, words: &'a [&'a str]) -> Result<(Options, Paths<'a>), UsageFault>
+    ensures defaults { IfOk result (λ found. HasDefaults found.0) }
+    ensures input { IfOk result (λ found. found.1.input ≡ None) }
+{
     let command = command(alloc)?;
     let matches = match command.try_get_matches_from(words) {
         Ok(matches) => matches,

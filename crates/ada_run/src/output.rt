@@ -1,5 +1,6 @@
 //! How bytes are written over a writer that may take less than it is given.
 
+ghost use Rattle.ada_run.specs.Calls.{OnlyWrites};
 ghost use Rattle.ada_run.specs.Written.{Writes};
 
 use crate::serve::ServeFault;
@@ -10,13 +11,19 @@ use crate::streams::ByteWriter;
 /// # Errors
 /// Where a write failed or took nothing; what was taken before stands.
 pub fn write_all<W: ByteWriter>(out: &mut W, bytes: &[u8]) -> Result<(), ServeFault>
-    ensures { Writes (W.contents out.old) (W.contents out.new) bytes.now result }
+    ensures text { Writes (W.contents out.old) (W.contents out.new) bytes.now result }
+    ensures calls { OnlyWrites W.writes out.old out.new result }
 {
     let mut rest = bytes;
     while !rest.is_empty() {
         match out.write(rest) {
-            Ok(0) | Err(_) => return Err(ServeFault::WriteFailed),
-            Ok(count) => rest = rest.split_at(count).1,
+            Ok(count) => {
+                if count == 0 {
+                    return Err(ServeFault::WriteFailed);
+                }
+                rest = rest.split_at(count).1;
+            }
+            Err(_) => return Err(ServeFault::WriteFailed),
         }
     }
     Ok(())

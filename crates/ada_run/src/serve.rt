@@ -1,9 +1,13 @@
 //! The answer to a source: it is checked, and run where it is accepted.
 
-ghost use Rattle.std.specs.Prelude.{◌≡◌, ◌≢◌, [], IfOk, OnOk, OnErr};
-ghost use Rattle.std.specs.Io.KnownBytes.{Appends};
-ghost use Rattle.ada_run.specs.Runner.{end_text, status_of, event_text, IsAnswer, Answers};
-ghost use Rattle.ada_run.specs.Written.{AppendsFront};
+ghost use Rattle.std.specs.Prelude.{◌≡◌, ◌≢◌, ◌⊎◌, ◌++◌, ◌-◌, take, length, [], true, Err, IfOk, IfErr, OnOk};
+ghost use Rattle.ada_meaning.specs.declared.event.Halt.TheVariants.{Memory};
+ghost use Rattle.ada_meaning.specs.Law.{Safe};
+ghost use Rattle.ada_run.specs.Answer.{IsRefusal, IsProgramAnswer};
+ghost use Rattle.ada_run.specs.Calls.{IsRead, IsKept, FaultReads, OnlyWrites, WriterEnds};
+ghost use Rattle.ada_run.specs.Runner.{end_text, status_of, event_text, HasRun};
+ghost use Rattle.ada_run.specs.Served.{InputTurns, Serves, SourceCut, SourceEnds};
+ghost use Rattle.ada_run.specs.Written.{Writes, SaysFront};
 
 use crate::output::write_all;
 use crate::settings::Options;
@@ -75,36 +79,49 @@ const MOST_CALLS: usize = 2_097_152;
 const MOST_KEPT: usize = 1_048_577;
 
 /// Writes the answer to a source: the refusal of its first fault; or `accepted`; or, where it is to be run, its lines
-/// and how it ends. Lines go out as they come.
+/// and how it ends. Lines go out as they come. The input is read before a run.
 ///
 /// # Errors
 /// Where reading, writing or memory failed; a read fails before anything is written.
-pub fn serve<S: ByteReader, W: ByteWriter>(
+pub fn serve<S: ByteReader, I: ByteReader, W: ByteWriter>(
     alloc: Global,
     source: &mut S,
+    input: &mut I,
     options: &Options,
     out: &mut W,
 ) -> Result<Status, ServeFault>
-    ensures { IfOk result (λ status. Answers status (W.contents out.old) (W.contents out.new)) }
+    // What was written is the answer of what the source gave; at a fault it is a front of it.
+    ensures answer { Serves (IsRead S.remaining S.reads source.old source.new) options.now.run (W.contents out.old) (W.contents out.new) result }
+    // A run never comes to an erroneous action.
+    ensures status { IfOk result (λ status. status ≢ Status.Stopped) }
+    // A read failed where that is the answer, and nowhere else; so did a write.
+    ensures readers { SourceCut S.reads source.old source.new input.old input.new result ⊎ SourceEnds I.remaining I.reads (IsRead S.remaining S.reads source.old source.new) options.now.run input.old input.new result }
+    ensures writer { WriterEnds W.writes out.old out.new result }
 {
     let text = read_all(alloc, source)?;
     match check(alloc, &text) {
-        Ok(accepted) => answer(alloc, &accepted, options, out),
+        Ok(accepted) => answer(alloc, &accepted, input, options, out),
         Err(verdict) => refuse(alloc, &verdict, out),
     }
 }
 
 /// Writes the answer to an accepted source.
-fn answer<W: ByteWriter>(
+fn answer<I: ByteReader, W: ByteWriter>(
     alloc: Global,
     accepted: &Accepted,
+    input: &mut I,
     options: &Options,
     out: &mut W,
 ) -> Result<Status, ServeFault>
-    ensures { IfOk result (λ status. Answers status (W.contents out.old) (W.contents out.new)) }
+    ensures text { SaysFront (IsProgramAnswer accepted.now options.now.run) (W.contents out.old) (W.contents out.new) result }
+    ensures writer { WriterEnds W.writes out.old out.new result }
+    ensures input { InputTurns I.remaining I.reads input.old input.new result }
+    ensures asked { result ≡ Err ServeFault.ReadFailed → options.now.run ≡ true }
+    ensures safe { Safe accepted.now }
 {
     let program = accepted.program();
     if options.run {
+        let _numbers = read_all(alloc, input)?;
         return run(alloc, program, out);
     }
     write_all(out, b"accepted\n")?;
@@ -112,10 +129,13 @@ fn answer<W: ByteWriter>(
 }
 
 /// All the bytes of a reader, up to the most that are kept.
-fn read_all<R: ByteReader>(alloc: Global, reader: &mut R) -> Result<Vec<u8>, ServeFault> {
+fn read_all<R: ByteReader>(alloc: Global, reader: &mut R) -> Result<Vec<u8>, ServeFault>
+    ensures kept { IfOk result (λ kept. IsKept R.remaining R.reads reader.old reader.new kept.items) }
+    ensures faults { IfErr result (λ fault. FaultReads R.reads reader.old reader.new fault) }
+{
     let mut kept = Vec::new(alloc);
     let mut buffer = [0u8; 4096];
-    for _ in 0..MOST_CALLS {
+    for _call in 0..MOST_CALLS {
         let count = reader.read(&mut buffer)?;
         if count == 0 {
             return Ok(kept);
@@ -126,7 +146,9 @@ fn read_all<R: ByteReader>(alloc: Global, reader: &mut R) -> Result<Vec<u8>, Ser
 }
 
 /// Keeps what there is room for.
-fn keep(kept: &mut Vec<u8>, bytes: &[u8]) -> Result<(), AllocError> {
+fn keep(kept: &mut Vec<u8>, bytes: &[u8]) -> Result<(), AllocError>
+    ensures { OnOk result (kept.new.items ≡ kept.old.items ++ take (MOST_KEPT - length kept.old.items) bytes.now) }
+{
     let room = MOST_KEPT.saturating_sub(kept.len());
     kept.extend_from_slice(&bytes[..room.min(bytes.len())])
 }
@@ -137,7 +159,8 @@ fn refuse<W: ByteWriter>(
     verdict: &Verdict,
     out: &mut W,
 ) -> Result<Status, ServeFault>
-    ensures { IfOk result (λ status. Answers status (W.contents out.old) (W.contents out.new)) }
+    ensures text { SaysFront (IsRefusal verdict.now) (W.contents out.old) (W.contents out.new) result }
+    ensures writer { OnlyWrites W.writes out.old out.new result }
 {
     let Some(refusal) = verdict.refusal() else {
         return Err(ServeFault::NoMemory);
@@ -148,21 +171,20 @@ fn refuse<W: ByteWriter>(
     Ok(Status::Refused)
 }
 
-/// Runs a program, and writes its lines and how it ends. Every request is granted. A run that is not at its end after
-/// 2^64 - 1 steps is stopped.
+/// Runs a program, and writes its lines and how it ends. Every request is granted.
 fn run<W: ByteWriter>(alloc: Global, program: &Program, out: &mut W) -> Result<Status, ServeFault>
-    ensures { IfOk result (λ status. status ≢ Status.Stopped → IsAnswer program.now status (W.contents out.old) (W.contents out.new)) }
+    ensures text { SaysFront (HasRun program.now) (W.contents out.old) (W.contents out.new) result }
+    ensures writer { OnlyWrites W.writes out.old out.new result }
 {
     let mut machine = Machine::new(alloc, program, Vec::new(alloc), GrantAll)?;
     let mut page = Vec::new(alloc);
-    for _ in 0..u64::MAX {
+    loop {
         page.clear();
         match machine.step() {
             Ok(event) => write_event(&mut page, out, event)?,
             Err(halt) => return finish(&mut page, out, halt),
         }
     }
-    Ok(Status::Stopped)
 }
 
 /// Writes the line of an event, if it has one.
@@ -172,7 +194,8 @@ fn write_event<W: ByteWriter>(
     event: Event,
 ) -> Result<(), ServeFault>
     requires { page.old.items ≡ [] }
-    ensures { OnOk result (Appends (W.contents out.old) (W.contents out.new) (event_text event)) }
+    ensures text { Writes (W.contents out.old) (W.contents out.new) (event_text event) result }
+    ensures writer { OnlyWrites W.writes out.old out.new result }
 {
     if let Event::Line(line) = event {
         put_line(page, line)?;
@@ -183,8 +206,10 @@ fn write_event<W: ByteWriter>(
 /// Writes how a run has ended.
 fn finish<W: ByteWriter>(page: &mut Vec<u8>, out: &mut W, halt: Halt) -> Result<Status, ServeFault>
     requires { page.old.items ≡ [] }
-    ensures text { OnOk result (Appends (W.contents out.old) (W.contents out.new) (end_text halt)) }
+    ensures text { Writes (W.contents out.old) (W.contents out.new) (end_text halt) result }
+    ensures writer { OnlyWrites W.writes out.old out.new result }
     ensures status { IfOk result (λ status. status ≡ status_of halt) }
+    ensures memory { IfOk result (λ _. halt ≢ Memory) }
 {
     match halt {
         Halt::Finished => {

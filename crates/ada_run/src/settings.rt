@@ -1,5 +1,8 @@
 //! What a run is asked for.
 
+ghost use Rattle.std.specs.Prelude.{◌≡◌};
+ghost use Rattle.ada_run.specs.Settings.{HasDefaults};
+
 /// The words of a pool's storage where the source gives no size, at most.
 pub const MOST_WORDS: u32 = 65_536;
 
@@ -20,7 +23,10 @@ pub struct Options {
 
 impl Options {
     /// The defaults, to check or to run.
-    pub fn new(run: bool) -> Options {
+    pub fn new(run: bool) -> Options
+        ensures run { result.run ≡ run }
+        ensures defaults { HasDefaults result }
+    {
         Options {
             run,
             standard: MOST_WORDS,

@@ -1,8 +1,9 @@
 //! Readers and writers of bytes, one call each: over memory, and over the system's files and streams.
 
-ghost use Rattle.std.specs.Prelude.{◌≡◌, ℕ, Bool, true, List, Option, Some, None, OnOk, OnErr};
+ghost use Rattle.std.specs.Prelude.{ℕ, List, Option};
 ghost use Rattle.std.specs.Io.{ReadsAtMost, WritesAtMost};
 ghost use Rattle.std.specs.Io.KnownBytes.{ReadConsumes, WriteAppends};
+ghost use Rattle.ada_run.specs.Calls.{moved};
 
 use std::alloc::Global;
 use std::io::{Read, Write};
@@ -16,8 +17,8 @@ pub trait ByteReader {
     /// The bytes that it gives from here on, where they are known.
     ghost remaining: { Self → Option (List ℕ) };
 
-    /// Whether a call has failed.
-    ghost has_failed: { Self → Bool };
+    /// A call: from the first state it gives these bytes, or nothing where it fails, and the second state is left.
+    ghost reads: { Self → Option (List ℕ) → Self → Type 0 };
 
     /// Puts some bytes at the buffer's front, and tells how many: 0 at the end.
     ///
@@ -26,8 +27,7 @@ pub trait ByteReader {
     fn read(&mut self, buffer: &mut [u8]) -> Result<usize, Failed>
         ensures bound { ReadsAtMost result buffer.new }
         ensures bytes { ReadConsumes (remaining self.old) (remaining self.new) result buffer.new }
-        ensures ok { OnOk result (has_failed self.new ≡ has_failed self.old) }
-        ensures err { OnErr result (has_failed self.new ≡ true) };
+        ensures call { reads self.old (moved result buffer.new) self.new };
 }
 
 /// Takes bytes, some at each call.
@@ -35,8 +35,8 @@ pub trait ByteWriter {
     /// The bytes that it holds, where they are known.
     ghost contents: { Self → Option (List ℕ) };
 
-    /// Whether a call has failed, or took nothing.
-    ghost has_failed: { Self → Bool };
+    /// A call: from the first state it takes these bytes, or nothing where it fails, and the second state is left.
+    ghost writes: { Self → Option (List ℕ) → Self → Type 0 };
 
     /// Takes some bytes from the front, and tells how many.
     ///
@@ -45,7 +45,7 @@ pub trait ByteWriter {
     fn write(&mut self, bytes: &[u8]) -> Result<usize, Failed>
         ensures bound { WritesAtMost result bytes.now }
         ensures written { WriteAppends (contents self.old) (contents self.new) result bytes.now }
-        ensures err { OnErr result (has_failed self.new ≡ true) };
+        ensures call { writes self.old (moved result bytes.now) self.new };
 }
 
 /// Reads what lies in memory.
@@ -62,11 +62,12 @@ impl<'a> MemoryReader<'a> {
 }
 
 impl<'a> ByteReader for MemoryReader<'a> {
-    ghost use Rattle.std.specs.Prelude.{Some, false};
+    ghost use Rattle.std.specs.Prelude.{Some};
+    ghost use Rattle.ada_run.specs.Calls.{LosesFront};
 
     ghost remaining = { λ r. Some r.bytes.now };
 
-    ghost has_failed = { λ _. false };
+    ghost reads = { λ before given after. LosesFront before.bytes.now given after.bytes.now };
 
     fn read(&mut self, buffer: &mut [u8]) -> Result<usize, Failed> {
         let count = buffer.len().min(self.bytes.len());
@@ -81,16 +82,12 @@ impl<'a> ByteReader for MemoryReader<'a> {
 #[derive(Debug, Drop)]
 pub struct SystemReader<R: Read + Drop> {
     reader: Option<R>,
-    failed: bool,
 }
 
 impl<R: Read + Drop> SystemReader<R> {
     /// Reads what the reader reads; none is one that could not be opened.
     pub fn new(reader: Option<R>) -> SystemReader<R> {
-        SystemReader {
-            reader,
-            failed: false,
-        }
+        SystemReader { reader }
     }
 }
 
@@ -99,19 +96,15 @@ impl<R: Read + Drop> ByteReader for SystemReader<R> {
 
     ghost remaining = { λ _. None };
 
-    ghost has_failed = { λ r. r.failed };
+    ghost reads = { λ _ _ _. Unit {0} };
 
     fn read(&mut self, buffer: &mut [u8]) -> Result<usize, Failed> {
         let Some(reader) = &mut self.reader else {
-            self.failed = true;
             return Err(Failed);
         };
         match reader.read(buffer) {
             Ok(count) => Ok(count),
-            Err(_) => {
-                self.failed = true;
-                Err(Failed)
-            }
+            Err(_) => Err(Failed),
         }
     }
 }
@@ -120,7 +113,6 @@ impl<R: Read + Drop> ByteReader for SystemReader<R> {
 #[derive(Debug, Drop)]
 pub struct MemoryWriter {
     pub bytes: Vec<u8>,
-    failed: bool,
 }
 
 impl MemoryWriter {
@@ -128,25 +120,22 @@ impl MemoryWriter {
     pub fn new(alloc: Global) -> MemoryWriter {
         MemoryWriter {
             bytes: Vec::new(alloc),
-            failed: false,
         }
     }
 }
 
 impl ByteWriter for MemoryWriter {
     ghost use Rattle.std.specs.Prelude.{Some};
+    ghost use Rattle.ada_run.specs.Calls.{GainsEnd};
 
     ghost contents = { λ w. Some w.bytes.items };
 
-    ghost has_failed = { λ w. w.failed };
+    ghost writes = { λ before taken after. GainsEnd before.bytes.items taken after.bytes.items };
 
     fn write(&mut self, bytes: &[u8]) -> Result<usize, Failed> {
         match self.bytes.extend_from_slice(bytes) {
             Ok(()) => Ok(bytes.len()),
-            Err(_) => {
-                self.failed = true;
-                Err(Failed)
-            }
+            Err(_) => Err(Failed),
         }
     }
 }
@@ -155,16 +144,12 @@ impl ByteWriter for MemoryWriter {
 #[derive(Debug, Drop)]
 pub struct SystemWriter<W: Write + Drop> {
     writer: W,
-    failed: bool,
 }
 
 impl<W: Write + Drop> SystemWriter<W> {
     /// Writes to the writer.
     pub fn new(writer: W) -> SystemWriter<W> {
-        SystemWriter {
-            writer,
-            failed: false,
-        }
+        SystemWriter { writer }
     }
 }
 
@@ -173,15 +158,12 @@ impl<W: Write + Drop> ByteWriter for SystemWriter<W> {
 
     ghost contents = { λ _. None };
 
-    ghost has_failed = { λ w. w.failed };
+    ghost writes = { λ _ _ _. Unit {0} };
 
     fn write(&mut self, bytes: &[u8]) -> Result<usize, Failed> {
         match self.writer.write(bytes) {
             Ok(count) => Ok(count),
-            Err(_) => {
-                self.failed = true;
-                Err(Failed)
-            }
+            Err(_) => Err(Failed),
         }
     }
 }

@@ -40,7 +40,8 @@ fn whole(
 ) -> Result<(), Fail> {
     let mut reader = MemoryReader::new(source);
     let mut out = MemoryWriter::new(alloc);
-    let found = serve(alloc, &mut reader, &Options::new(run), &mut out)?;
+    let mut input = MemoryReader::new(b"");
+    let found = serve(alloc, &mut reader, &mut input, &Options::new(run), &mut out)?;
     assert_eq!(rt; found, status);
     assert_eq!(rt; out.bytes.as_slice(), wanted);
     Ok(())

@@ -1,7 +1,7 @@
 //! The texts of an answer, put at the end of a page that is written out whole.
 
 ghost use Rattle.std.specs.Prelude.{◌≡◌, ◌++◌, OnOk, decimal};
-ghost use Rattle.ada_run.specs.Answer.{line_text, refusal_text, unhandled_text};
+ghost use Rattle.ada_run.specs.Texts.{line_text, refusal_text, unhandled_text};
 ghost use Rattle.ada_verdict.specs.Shown.{shown};
 
 use ada_meaning::{Exception, Line};

@@ -28,5 +28,3 @@ pub mod Orders
 pub mod Headline
 -- a program that meets the premises
 pub mod Example
--- the test of a program's collections
-pub mod Tested

@@ -14,10 +14,13 @@ ghost use Rattle.ada_meaning.specs.declared.event.Line.TheVariants.{Image};
 ghost use Rattle.ada_meaning.specs.declared.event.Why.{Why};
 ghost use Rattle.ada_meaning.specs.declared.event.Why.TheVariants.{FollowsGone, EndsTwice};
 ghost use Rattle.ada_meaning.specs.Law.{BackTwoObjects, FinalizedTwoValues, InReverseOrder, IsBack, Safe};
-ghost use Rattle.ada_tree.specs.Form.{elaborations, forms};
-ghost use Rattle.ada_tree.specs.Homes.{HasHomes, program_has_homes};
+ghost use Rattle.ada_tree.specs.ProgramForm.{program_form};
+ghost use Rattle.ada_tree.specs.WellFormed.{IsWellFormed};
+ghost use Rattle.ada_tree.specs.Homes.{HasHomes};
 ghost use Rattle.ada_sound.specs.Agreement.{IsOwner, IsFlowAt};
 ghost use Rattle.ada_sound.specs.Always.{InEveryRun, NeverErroneous, AgreesWithFlow, ReachesStatement, FinishesAfter};
+
+use ada_tree::laws::well_formed_programs_have_homes;
 
 /// In every run of a program that obeys the rules, wherever a statement begins, each variable holds what flow says of it
 /// there: null, or null or an object that exists. No two variables that own name one object. Flow says one thing there.
@@ -68,10 +71,12 @@ pub fn rules_imply_safety()
     ensures { (program : Program) → ObeysRules program → HasHomes program → Safe program }
 {}
 
-/// A program that obeys the rules, and passes the test of its collections, is safe.
-pub fn tested_programs_are_safe()
-    ensures { (program : Program) → ObeysRules program → program_has_homes [] (elaborations program) (forms program) ≡ true → Safe program }
-{}
+/// A well-formed program that obeys the rules is safe: its allocators have their collections.
+pub fn well_formed_programs_are_safe()
+    ensures { (program : Program) → IsWellFormed (program_form program) → ObeysRules program → Safe program }
+{
+    well_formed_programs_have_homes();
+}
 
 /// The rules let Free through only where the variable owns what it names, or holds null (13.11.2); it owns nothing after.
 pub fn only_owners_are_freed()

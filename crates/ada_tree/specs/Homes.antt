@@ -1,7 +1,6 @@
 -- Which programs allocate only objects that a collection can take.
 
-use Rattle.std.specs.Prelude.{◌≡◌, ℕ, Bool, true, false, ◌||◌, ◌&&◌, ◌==◌, List, [], ◌∷◌, ◌++◌}
-use Rattle.std.specs.List.{list_any}
+use Rattle.std.specs.Prelude.{◌≡◌, ℕ, Bool, true, false, ◌||◌, ◌==◌, List, [], ◌∷◌}
 use Rattle.ada_tree.specs.declared.program.Program.{Program}
 use Rattle.ada_tree.specs.Form.{Source, nothing, value_of, allocates, Form, skips, assigns, frees, writes, Elaboration, collects, declares, elaborations, forms}
 
@@ -35,30 +34,3 @@ DeclarationsAreHomed homes (declares x source ∷ ds) fs = SourceIsHomed homes s
 -- Each allocator's access type has its collection before the allocator is reached (7.6.1, 13.14).
 abbrev pub HasHomes : Program → Type 0
 HasHomes program = DeclarationsAreHomed [] (elaborations program) (forms program)
-
--- The same as tests, over the collections in order of creation: whether an access type has one.
-abbrev pub is_home : ℕ → ℕ → Bool
-is_home access t = access == t
-
-abbrev pub has_home : List ℕ → ℕ → Bool
-has_home homes access = list_any (is_home access) homes
-
-abbrev pub source_has_home : List ℕ → Source → Bool
-source_has_home homes nothing = true
-source_has_home homes (value_of y spot) = true
-source_has_home homes (allocates access items) = has_home homes access
-
-abbrev pub form_has_home : List ℕ → Form → Bool
-form_has_home homes skips = true
-form_has_home homes (assigns x source) = source_has_home homes source
-form_has_home homes (frees access x spot) = true
-form_has_home homes (writes x c spot) = true
-
-abbrev pub statements_have_homes : List ℕ → List Form → Bool
-statements_have_homes homes [] = true
-statements_have_homes homes (f ∷ fs) = form_has_home homes f && statements_have_homes homes fs
-
-abbrev pub program_has_homes : List ℕ → List Elaboration → List Form → Bool
-program_has_homes homes [] fs = statements_have_homes homes fs
-program_has_homes homes (collects access ∷ ds) fs = program_has_homes (homes ++ access ∷ []) ds fs
-program_has_homes homes (declares x source ∷ ds) fs = source_has_home homes source && program_has_homes homes ds fs

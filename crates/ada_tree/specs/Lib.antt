@@ -4,8 +4,12 @@
 pub mod Grammar
 -- statements and declarations as plain data
 pub mod Form
--- what a well-formed program is
+-- a whole program as plain data
+pub mod ProgramForm
+-- what the types of a program give
 pub mod Typed
+-- what a well-formed program is
+pub mod WellFormed
 -- what a variable may be relied on for, and the rules that follow
 pub mod Flow
 -- which programs allocate only objects that a collection can take

@@ -5,12 +5,14 @@
 //! `specs/`: the grammar, statements as plain data, what a well-formed program is, and the flow rules.
 #![tactic(auto)]
 
-mod homes;
+pub mod laws;
 pub mod program;
 mod rule;
 pub mod syntax;
+#[cfg(test)]
+mod tests;
+mod well_formed;
 
-pub use crate::homes::has_homes;
 pub use crate::program::{Path, PlaceNo, Program, Stmt, TypeNo};
 pub use crate::rule::{Hold, Rule};
 pub use crate::syntax::Unit;

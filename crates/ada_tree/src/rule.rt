@@ -1,7 +1,5 @@
 //! What is known of a variable at a place in the program, and the rules of the flow of values.
 
-use std::fmt;
-
 /// What a variable may be relied on for. The later, the less: what is known after two ways is the later of both.
 #[derive(Clone, Copy, Debug, PartialEq, Eq)]
 pub enum Hold {
@@ -15,20 +13,11 @@ pub enum Hold {
     Lost,
 }
 
-/// A rule of the flow of values; it prints its number and name.
+/// A rule of the flow of values.
 #[derive(Clone, Copy, Debug, PartialEq, Eq)]
 pub enum Rule {
     /// A lost variable is read, followed, moved or freed.
     LostValue,
     /// A variable that owns nothing is moved or freed.
     AliasMoved,
-}
-
-impl fmt::Display for Rule {
-    fn fmt<W: fmt::Write>(&self, f: &mut fmt::Formatter<W>) -> fmt::Result {
-        match self {
-            Rule::LostValue => write!(f, "S1 lost-value"),
-            Rule::AliasMoved => write!(f, "S2 alias-moved"),
-        }
-    }
 }

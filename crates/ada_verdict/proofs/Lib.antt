@@ -1,5 +1,2 @@
--- loops
-pub mod Loop
--- what is read is written so
-pub mod Sound
-pub mod Phrases
+-- one program or one first fault
+pub mod Firsts

@@ -1,10 +1,10 @@
 -- What the checker answers, in the order in which it is read.
 
--- reading the tokens of a tree
-pub mod Reading
 -- what flow tells
 pub mod Told
 -- what is printed of a fault
 pub mod Refusal
 -- a refusal as it is lent
 pub mod Shown
+-- the program of a source, and its first fault
+pub mod First

@@ -7,11 +7,11 @@ use Rattle.ada_text.specs.declared.spot.Spot.{Spot}
 use Rattle.ada_tree.specs.declared.rule.Rule.{Rule}
 use Rattle.ada_tree.specs.declared.rule.Rule.TheVariants as rule
 use Rattle.ada_verdict.specs.declared.fault.FlowFault.TheVariants as flow
-use Rattle.ada_verdict.specs.declared.fault.NameFault.TheVariants as names
-use Rattle.ada_verdict.specs.declared.fault.NameRule.{NameRule}
-use Rattle.ada_verdict.specs.declared.fault.NameRule.TheVariants as name
-use Rattle.ada_verdict.specs.declared.fault.SyntaxFault.{SyntaxFault}
-use Rattle.ada_verdict.specs.declared.fault.SyntaxFault.TheVariants as syntax
+use Rattle.ada_resolve.specs.declared.fault.NameFault.TheVariants as names
+use Rattle.ada_resolve.specs.declared.fault.NameRule.{NameRule}
+use Rattle.ada_resolve.specs.declared.fault.NameRule.TheVariants as name
+use Rattle.ada_parser.specs.declared.fault.SyntaxFault.{SyntaxFault}
+use Rattle.ada_parser.specs.declared.fault.SyntaxFault.TheVariants as syntax
 use Rattle.ada_verdict.specs.declared.fault.Verdict.{Verdict}
 use Rattle.ada_verdict.specs.declared.fault.Verdict.TheVariants as verdict
 

@@ -4,7 +4,9 @@ ghost use Rattle.std.specs.Prelude.{◌≡◌};
 ghost use Rattle.ada_verdict.specs.Refusal.{refusal_of, text_told, syntax_told, name_text, rule_text, told};
 ghost use Rattle.ada_verdict.specs.Shown.{shown_if};
 
-use crate::fault::{FlowFault, NameFault, NameRule, SyntaxFault, Verdict};
+use crate::fault::{FlowFault, Verdict};
+use ada_parser::SyntaxFault;
+use ada_resolve::{NameFault, NameRule};
 use ada_text::TextFault;
 use ada_tree::{Rule, Spot};
 

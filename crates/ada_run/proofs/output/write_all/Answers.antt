@@ -1,20 +1,24 @@
-use Rattle.std.proofs.Common.{arith, ◌≡◌, ◌≤◌, ◌+◌, length, take, drop, length-drop, ap, ◌∙◌}
-use Rattle.std.specs.Io.KnownBytes.{Appends}
-use Rattle.std.proofs.lemmas.List.{drop-drop}
-use Rattle.ada_run.proofs.Front.{appends_more}
+use Rattle.std.proofs.Common.{◌≡◌, ℕ, List, [], ◌++◌, take, drop, refl, sym, ap, ◌∙◌, append_assoc, take-append-drop}
+use Rattle.ada_run.proofs.Writing.{appends_none, appends_both, idle, works_more, taken_some}
 use Rattle.ada_run.proofs.output.write_all.Goals as goal
+
+pub loop-rest-init : goal.loop-rest-init
+loop-rest-init g c = record {
+  front = ([], refl, appends_none (g.W.ByteWriter.contents c.args.out.now));
+  calls = idle g.W.ByteWriter.writes c.args.out.now;
+}
 
 pub loop-rest-preserved : goal.loop-rest-preserved
 loop-rest-preserved g c =
-    let n = c.loop-rest.invariant.0 in
+    let done = c.loop-rest.invariant.front.0 in
     let k = c.in-Ok.count in
-    let left : c.loop-rest.rest.now ≡ drop n c.args.bytes.now = c.loop-rest.invariant.2 in
-    let taken : k ≤ length c.loop-rest.rest.now = c.in-Ok.ensures.bound in
-    let long : length c.loop-rest.rest.now ≡ length (drop n c.args.bytes.now) = ap length left in
-    let wrote : Appends (g.W.ByteWriter.contents c.loop-rest.out) (g.W.ByteWriter.contents c.write.new.self) (take k (drop n c.args.bytes.now)) =
-    rw left at c.in-Ok.ensures.written in (
-      n + k,
-      omega (arith, length-drop n c.args.bytes.now),
-      c.split_at.ensures.back ∙ ap (drop k) left ∙ drop-drop k n c.args.bytes.now,
-      appends_more _ _ _ c.args.bytes.now n k c.loop-rest.invariant.3 wrote,
-    )
+    let rest = c.loop-rest.rest.now in
+    let left : c.split_at.result.1.now ≡ drop k rest = c.split_at.ensures.back in
+    record {
+      front = (
+        done ++ take k rest,
+        c.loop-rest.invariant.front.1 ∙ ap (λ (r : List ℕ). done ++ r) (sym (take-append-drop k rest)) ∙ sym (append_assoc done (take k rest) (drop k rest)) ∙ ap (λ (r : List ℕ). (done ++ take k rest) ++ r) (sym left),
+        appends_both _ _ _ done (take k rest) c.loop-rest.invariant.front.2 c.in-Ok.ensures.written,
+      );
+      calls = works_more g.W.ByteWriter.writes c.args.out.now c.loop-rest.out c.write.new.self (take k rest) c.loop-rest.invariant.calls (taken_some k rest c.if-count-eq0.false c.in-Ok.ensures.bound) c.in-Ok.ensures.call;
+    }

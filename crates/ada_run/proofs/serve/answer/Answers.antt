@@ -1,8 +1,8 @@
-use Rattle.ada_meaning.specs.Law.{Safe}
-use Rattle.ada_run.proofs.Steps.{served}
+use Rattle.std.proofs.lemmas.Result.{err_from_is_err_and}
+use Rattle.ada_run.proofs.Answering.{unwritten}
 use Rattle.ada_run.proofs.serve.answer.Goals as goal
 
-pub returns-then-options : goal.returns-then-options
-returns-then-options g c =
-    let safe : Safe c.program-program.result.now = rw c.program-program.ensures.program c.program-program.ensures.safe in
-    served c.program-program.result.now c.run.result (g.W.ByteWriter.contents c.args.out.now) (g.W.ByteWriter.contents c.run.new.out) safe c.run.ensures
+pub returns-in_err-_numbers-clause-writer : goal.returns-in_err-_numbers-clause-writer
+returns-in_err-_numbers-clause-writer g c =
+    let p = err_from_is_err_and c.from_residual.result c.from_residual.ensures.1 in
+    rw (p.1, p.2) (unwritten g.I.ByteReader.reads g.W.ByteWriter.writes c.args.input.now c.read_all.new.reader c.args.out.now c.in_err-_numbers.field-0.0 c.in_err-_numbers.ensures.faults)

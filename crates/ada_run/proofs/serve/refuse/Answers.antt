@@ -1,10 +1,11 @@
-use Rattle.std.proofs.Common.{◌≡◌, ℕ, List, ◌++◌, ◌∙◌, ap}
-use Rattle.ada_run.specs.Answer.{refusal_text}
-use Rattle.ada_verdict.specs.Shown.{shown}
+use Rattle.std.proofs.lemmas.Result.{err_from_is_err_and}
+use Rattle.ada_run.proofs.Writing.{idle}
 use Rattle.ada_run.proofs.serve.refuse.Goals as goal
 
-pub returns : goal.returns
-returns g c =
-    let page : c.deref.result.now ≡ refusal_text (shown c.in-Some.refusal) =
-    c.deref.ensures.value ∙ c.in_ok-put_refusal.ensures ∙ ap (λ (before : List ℕ). before ++ refusal_text (shown c.in-Some.refusal)) c.new-page.ensures.items in
-    (shown c.in-Some.refusal, rw page at c.in_ok-write_all.ensures)
+pub returns-in_default-clause-writer : goal.returns-in_default-clause-writer
+returns-in_default-clause-writer g c = idle g.W.ByteWriter.writes c.args.out.now
+
+pub returns-in_err-put_refusal-clause-writer : goal.returns-in_err-put_refusal-clause-writer
+returns-in_err-put_refusal-clause-writer g c =
+    let p = err_from_is_err_and c.from_residual.result c.from_residual.ensures.1 in
+    rw (p.1, p.2) (idle g.W.ByteWriter.writes c.args.out.now)

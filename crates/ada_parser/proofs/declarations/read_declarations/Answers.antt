@@ -1,0 +1,24 @@
+use Rattle.std.proofs.Common.{rules, ◌≡◌, [], not, sym, ap, ◌∙◌, arith}
+use Rattle.std.proofs.lemmas.Result.{err_from_is_err_and}
+use Rattle.ada_tree.specs.Grammar.{declaration_of}
+use Rattle.ada_parser.proofs.Loop.{begins_list, goes_on_push, ends, is_done}
+use Rattle.ada_parser.proofs.declarations.read_declarations.Goals as goal
+
+pub loop-alloc-init : goal.loop-alloc-init
+loop-alloc-init c =
+    let e : c.new-found.result.items ≡ [] = search rules in
+    record { shorter = omega arith; read = begins_list declaration_of e }
+
+pub returns-in_err-next-clause-read : goal.returns-in_err-next-clause-read
+returns-in_err-next-clause-read c =
+    let p = err_from_is_err_and c.from_residual.result c.from_residual.ensures.1 in
+    rw (p.1, p.2) (ends c.in_err-next.field-0.0 c.read_declaration.new.reader.tokens.now c.loop-alloc.invariant.read (ap not (sym c.is_at_word.ensures ∙ c.loop-alloc-test.true)) c.in_err-next.ensures.read)
+
+pub loop-alloc-preserved : goal.loop-alloc-preserved
+loop-alloc-preserved c = record {
+  shorter = omega (arith, c.in_ok-next.ensures.shorter);
+  read = goes_on_push declaration_of c.loop-alloc.found.items c.in_ok-next.next c.in_ok-push.ensures.items c.loop-alloc.invariant.read (ap not (sym c.is_at_word.ensures ∙ c.loop-alloc-test.true)) c.in_ok-next.ensures.read c.in_ok-next.ensures.shorter;
+}
+
+pub returns-clause-read : goal.returns-clause-read
+returns-clause-read c = is_done c.loop-alloc.invariant.read (ap not (sym c.is_at_word.ensures ∙ c.loop-alloc-test.false))

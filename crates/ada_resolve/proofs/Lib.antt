@@ -1,0 +1,4 @@
+pub mod Names
+pub mod Told
+pub mod First
+mod WellFormed

@@ -1,0 +1,144 @@
+-- What stays of types and objects as more of them are declared.
+
+use Rattle.std.proofs.Common.{◌≡◌, ℕ, ◌<◌, Bool, true, false, ◌&&◌, ◌||◌, List, [], ◌∷◌, ◌++◌, length, refl, zero, suc, sym, ap, eqb, eq-eqb, arith}
+use Rattle.std.specs.Prelude.{Option, Some, None, is_some}
+use Rattle.std.specs.List.{list_all, slice_get, slice_set}
+use Rattle.ada_tree.specs.declared.program.ComponentKind.{ComponentKind}
+use Rattle.ada_tree.specs.declared.program.ComponentKind.TheVariants as kind
+use Rattle.ada_tree.specs.ProgramForm.{ComponentForm, TypeForm, record_of, access_to}
+use Rattle.ada_tree.specs.WellFormed as fits
+use Rattle.ada_resolve.specs.Types.{is_designated}
+
+-- both parts of a test
+pub first_part : (a b : Bool) → (a && b) ≡ true → a ≡ true
+first_part true b e = refl
+first_part false b e = absurd (cc e)
+
+pub second_part : (a b : Bool) → (a && b) ≡ true → b ≡ true
+second_part true b e = e
+second_part false b e = absurd (cc e)
+
+pub both_parts : (a b : Bool) → a ≡ true → b ≡ true → (a && b) ≡ true
+both_parts true b e f = f
+both_parts false b e f = absurd (cc e)
+
+module _ {X : Type 0} where
+  pub all_weaker : (p q : X → Bool) → ((x : X) → p x ≡ true → q x ≡ true) → (xs : List X) → list_all p xs ≡ true → list_all q xs ≡ true
+  all_weaker p q w [] e = refl
+  all_weaker p q w (x ∷ xs) e = both_parts (q x) (list_all q xs) (w x (first_part (p x) (list_all p xs) e)) (all_weaker p q w xs (second_part (p x) (list_all p xs) e))
+
+  pub all_more : (p : X → Bool) (xs ys : List X) → list_all p xs ≡ true → list_all p ys ≡ true → list_all p (xs ++ ys) ≡ true
+  all_more p [] ys e f = f
+  all_more p (x ∷ xs) ys e f = both_parts (p x) (list_all p (xs ++ ys)) (first_part (p x) (list_all p xs) e) (all_more p xs ys (second_part (p x) (list_all p xs) e) f)
+
+  pub all_set : (p : X → Bool) (xs : List X) (i : ℕ) (y : X) → list_all p xs ≡ true → p y ≡ true → list_all p (slice_set xs i y) ≡ true
+  all_set p [] i y e f = refl
+  all_set p (x ∷ xs) zero y e f = both_parts (p y) (list_all p xs) f (second_part (p x) (list_all p xs) e)
+  all_set p (x ∷ xs) (suc i) y e f = both_parts (p x) (list_all p (slice_set xs i y)) (first_part (p x) (list_all p xs) e) (all_set p xs i y (second_part (p x) (list_all p xs) e) f)
+
+  pub get_more : (xs : List X) (y : X) (i : ℕ) (x : X) → slice_get xs i ≡ Some x → slice_get (xs ++ y ∷ []) i ≡ Some x
+  get_more [] y i x e = absurd (cc e)
+  get_more (z ∷ xs) y zero x e = e
+  get_more (z ∷ xs) y (suc i) x e = get_more xs y i x e
+
+  pub get_last : (xs : List X) (y : X) → slice_get (xs ++ y ∷ []) (length xs) ≡ Some y
+  get_last [] y = refl
+  get_last (x ∷ xs) y = get_last xs y
+
+  pub get_set : (xs : List X) (i : ℕ) (x y : X) → slice_get xs i ≡ Some x → slice_get (slice_set xs i y) i ≡ Some y
+  get_set [] i x y e = absurd (cc e)
+  get_set (z ∷ xs) zero x y e = refl
+  get_set (z ∷ xs) (suc i) x y e = get_set xs i x y e
+
+  pub get_other : (xs : List X) (i j : ℕ) (y : X) → (i ≡ j → ⊥) → slice_get (slice_set xs i y) j ≡ slice_get xs j
+  get_other [] i j y ne = refl
+  get_other (z ∷ xs) zero zero y ne = absurd (ne refl)
+  get_other (z ∷ xs) zero (suc j) y ne = refl
+  get_other (z ∷ xs) (suc i) zero y ne = refl
+  get_other (z ∷ xs) (suc i) (suc j) y ne = get_other xs i j y (λ e. ne (ap (λ k. suc k) e))
+
+  pub get_within : (xs : List X) (i : ℕ) (x : X) → slice_get xs i ≡ Some x → i < length xs
+  get_within [] i x e = absurd (cc e)
+  get_within (z ∷ xs) zero x e = omega arith
+  get_within (z ∷ xs) (suc i) x e = let h = get_within xs i x e in omega arith
+
+-- the access types of these are among those
+abbrev pub Keeps : List TypeForm → List TypeForm → Type 0
+Keeps types more = (t : ℕ) → fits.is_access types t ≡ true → fits.is_access more t ≡ true
+
+-- what fits these types fits types that keep the access types
+kind_kept : (types more : List TypeForm) → Keeps types more → (k : ComponentKind) → fits.kind_fits types k ≡ true → fits.kind_fits more k ≡ true
+kind_kept types more w (kind.Integer initial) e = refl
+kind_kept types more w (kind.Access t) e = w t.0 e
+
+pub components_kept : (types more : List TypeForm) → Keeps types more → (cs : List ComponentForm) → list_all (fits.component_fits types) cs ≡ true → list_all (fits.component_fits more) cs ≡ true
+components_kept types more w cs e = all_weaker (fits.component_fits types) (fits.component_fits more) (λ c. kind_kept types more w c.kind) cs e
+
+-- an access type is no record type
+one_kind : (o : Option TypeForm) → is_some (fits.components_in o) ≡ true → is_some (fits.designated_in o) ≡ true → ⊥
+one_kind None a b = (cc a)
+one_kind (Some (record_of name cs)) a b = (cc b)
+one_kind (Some (access_to name d)) a b = (cc a)
+
+-- one more type
+pub access_more : (types : List TypeForm) (form : TypeForm) → Keeps types (types ++ form ∷ [])
+access_more [] form t e = absurd (cc e)
+access_more (x ∷ types) form zero e = e
+access_more (x ∷ types) form (suc t) e = access_more types form t e
+
+pub record_more : (types : List TypeForm) (form : TypeForm) (t : ℕ) → fits.is_record types t ≡ true → fits.is_record (types ++ form ∷ []) t ≡ true
+record_more [] form t e = absurd (cc e)
+record_more (x ∷ types) form zero e = e
+record_more (x ∷ types) form (suc t) e = record_more types form t e
+
+-- another definition for a record type
+pub access_set : (types : List TypeForm) (i : ℕ) (form : TypeForm) → fits.is_record types i ≡ true → Keeps types (slice_set types i form)
+access_set [] i form r t e = absurd (cc r)
+access_set (x ∷ types) zero form r zero e = absurd (one_kind (Some x) r e)
+access_set (x ∷ types) zero form r (suc t) e = e
+access_set (x ∷ types) (suc i) form r zero e = e
+access_set (x ∷ types) (suc i) form r (suc t) e = access_set types i form r t e
+
+pub record_set : (types : List TypeForm) (i : ℕ) (name : List ℕ) (cs : List ComponentForm) (t : ℕ) → fits.is_record types t ≡ true → fits.is_record (slice_set types i (record_of name cs)) t ≡ true
+record_set [] i name cs t e = absurd (cc e)
+record_set (x ∷ types) zero name cs zero e = refl
+record_set (x ∷ types) zero name cs (suc t) e = e
+record_set (x ∷ types) (suc i) name cs zero e = e
+record_set (x ∷ types) (suc i) name cs (suc t) e = record_set types i name cs t e
+
+pub record_other : (types : List TypeForm) (i : ℕ) (form : TypeForm) (t : ℕ) → (i ≡ t → ⊥) → fits.is_record types t ≡ true → fits.is_record (slice_set types i form) t ≡ true
+record_other [] i form t ne e = absurd (cc e)
+record_other (x ∷ types) zero form zero ne e = absurd (ne refl)
+record_other (x ∷ types) zero form (suc t) ne e = e
+record_other (x ∷ types) (suc i) form zero ne e = e
+record_other (x ∷ types) (suc i) form (suc t) ne e = record_other types i form t (λ h. ne (ap (λ k. suc k) h)) e
+
+-- types that keep both kinds keep what fits
+type_kept : (types more : List TypeForm) → Keeps types more → ((t : ℕ) → fits.is_record types t ≡ true → fits.is_record more t ≡ true) → (x : TypeForm) → fits.type_fits types x ≡ true → fits.type_fits more x ≡ true
+type_kept types more a r (record_of name cs) e = components_kept types more a cs e
+type_kept types more a r (access_to name d) e = r d e
+
+pub types_kept : (types more : List TypeForm) → Keeps types more → ((t : ℕ) → fits.is_record types t ≡ true → fits.is_record more t ≡ true) → (xs : List TypeForm) → list_all (fits.type_fits types) xs ≡ true → list_all (fits.type_fits more) xs ≡ true
+types_kept types more a r xs e = all_weaker (fits.type_fits types) (fits.type_fits more) (type_kept types more a r) xs e
+
+-- neither of two tests holds
+pub left_fails : (a b : Bool) → (a || b) ≡ false → a ≡ false
+left_fails true b e = e
+left_fails false b e = refl
+
+pub right_fails : (a b : Bool) → (a || b) ≡ false → b ≡ false
+right_fails true b e = absurd (cc e)
+right_fails false b e = e
+
+-- a record type that no type designates becomes another
+pub types_without : (types more : List TypeForm) (i : ℕ) → Keeps types more → ((t : ℕ) → (i ≡ t → ⊥) → fits.is_record types t ≡ true → fits.is_record more t ≡ true) → (xs : List TypeForm) → is_designated i xs ≡ false → list_all (fits.type_fits types) xs ≡ true → list_all (fits.type_fits more) xs ≡ true
+types_without types more i a r [] d e = refl
+types_without types more i a r (record_of name cs ∷ xs) d e =
+    both_parts (list_all (fits.component_fits more) cs) (list_all (fits.type_fits more) xs)
+    (components_kept types more a cs (first_part (list_all (fits.component_fits types) cs) (list_all (fits.type_fits types) xs) e))
+    (types_without types more i a r xs d (second_part (list_all (fits.component_fits types) cs) (list_all (fits.type_fits types) xs) e))
+types_without types more i a r (access_to name t ∷ xs) d e =
+    both_parts (fits.is_record more t) (list_all (fits.type_fits more) xs)
+    (r t (λ same. let no : eqb t i ≡ false = left_fails (eqb t i) (is_designated i xs) d in let on : eqb t i ≡ true = eq-eqb t i (sym same) in absurd (cc (no, on)))
+    (first_part (fits.is_record types t) (list_all (fits.type_fits types) xs) e))
+    (types_without types more i a r xs (right_fails (eqb t i) (is_designated i xs) d) (second_part (fits.is_record types t) (list_all (fits.type_fits types) xs) e))

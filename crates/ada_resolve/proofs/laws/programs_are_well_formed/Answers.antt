@@ -1,0 +1,6 @@
+-- What is known stays sound from declaration to declaration.
+use Rattle.ada_resolve.proofs.WellFormed as known
+use Rattle.ada_resolve.proofs.laws.programs_are_well_formed.Goals as goal
+
+pub returns : goal.returns
+returns c = known.well_formed

@@ -1,0 +1,110 @@
+-- What is known at a place in the main procedure, and what the names stand for there.
+
+use Rattle.std.specs.Prelude.{ℕ, Bool, true, false, ◌==◌, not, nat_lt, if◌then◌else◌, List, [], ◌∷◌, length, Option, Some, None, is_some, bytes_eq}
+use Rattle.ada_text.specs.declared.spot.Spot.{Spot}
+use Rattle.ada_tree.specs.Form.{Elaboration}
+use Rattle.ada_tree.specs.Grammar.{Ident}
+use Rattle.ada_tree.specs.ProgramForm.{TypeForm, ObjectForm}
+use Rattle.ada_resolve.specs.declared.fault.NameRule.TheVariants.{UnknownName, DeclaredTwice, NotInProfile, Layout, Limit}
+use Rattle.ada_resolve.specs.declared.library.LibraryName.{LibraryName}
+use Rattle.ada_resolve.specs.declared.library.LibraryName.TheVariants.{TextIo, PutLine, UncheckedDeallocation, OtherUnit, Unknown}
+use Rattle.ada_resolve.specs.declared.library.Withs.{Withs}
+use Rattle.ada_resolve.specs.declared.scope.Entity.{Entity}
+use Rattle.ada_resolve.specs.declared.scope.Entity.TheVariants.{Procedure}
+use Rattle.ada_resolve.specs.Library.{predefined, is_primitive, is_taken, unknown, library_name}
+use Rattle.ada_resolve.specs.Remark.{Remark, fine, wrong, node, ◌also◌, wrong_if}
+
+-- A name that is declared, and what it stands for.
+pub record Named : Type 0 where
+  pub text : List ℕ
+  pub entity : Entity
+
+-- What is known: the library units of the with clauses, the procedure's name, the names that it declares so far, in order, its types and
+-- objects by their numbers, and what is elaborated so far (3.11).
+pub record Known : Type 0 where
+  pub withs : Withs
+  pub procedure : List ℕ
+  pub names : List Named
+  pub types : List TypeForm
+  pub objects : List ObjectForm
+  pub elaborated : List Elaboration
+
+-- What a name stands for among these.
+abbrev pub named : List ℕ → List Named → Option Entity
+named text [] = None
+named text (n ∷ ns) = if bytes_eq text n.text then Some n.entity else named text ns
+
+-- The names once this one stands for that: in its place where it is declared (an incomplete type is completed), else last.
+abbrev pub entered : List ℕ → Entity → List Named → List Named
+entered text entity [] = record { text = text; entity = entity } ∷ []
+entered text entity (n ∷ ns) = if bytes_eq text n.text then record { text = n.text; entity = entity } ∷ ns else n ∷ entered text entity ns
+
+-- What is known once the name stands for that.
+abbrev pub declared : Known → List ℕ → Entity → Known
+declared known text entity = record known { names = entered text entity known.names }
+
+-- What a name stands for (8.3): what the procedure declares hides the procedure's own name, and this what is predefined.
+abbrev pub inner_first : Option Entity → Bool → Option Entity → Option Entity
+inner_first (Some entity) own standard = Some entity
+inner_first None true standard = Some Procedure
+inner_first None false standard = standard
+
+-- What a name stands for at a place (8.3), if anything.
+unfoldable pub visible : Known → List ℕ → Option Entity
+visible known text = inner_first (named text known.names) (bytes_eq text known.procedure) (predefined text)
+
+-- A name of which nothing is visible is wrong (8.3).
+abbrev pub missing : Option Entity → Ident → Remark
+missing (Some entity) name = fine
+missing None name = wrong name.spot (unknown name.text)
+
+-- A lone name is wanted, whatever it stands for.
+abbrev pub name_remark : Known → Ident → Remark
+name_remark known name = missing (visible known name.text) name
+
+-- The most names that the procedure declares.
+abbrev pub most_names : ℕ
+most_names = 500
+
+-- What is wrong with declaring a name, in a declaration that begins at `first`: it is predefined; it is declared already (8.3); it is the
+-- name of a primitive of controlled types; or there are too many.
+abbrev pub new_name_remark : Known → Ident → Spot → Remark
+new_name_remark known name first =
+    wrong_if (is_taken name.text) name.spot DeclaredTwice also
+    wrong_if (is_some (named name.text known.names)) name.spot DeclaredTwice also
+    wrong_if (is_primitive name.text) first NotInProfile also
+    wrong_if (not (nat_lt (length known.names) most_names)) name.spot Limit
+
+-- Whether the unit of a library name stands in a with clause (10.1.2).
+abbrev pub is_with : Withs → LibraryName → Bool
+is_with withs TextIo = withs.text_io
+is_with withs PutLine = withs.text_io
+is_with withs UncheckedDeallocation = withs.deallocation
+is_with withs OtherUnit = false
+is_with withs Unknown = false
+
+-- What is wrong with a name of the library: it is none of the profile's; or its unit stands in no with clause.
+abbrev pub library_wrong : Withs → LibraryName → Spot → Remark
+library_wrong withs Unknown spot = wrong spot NotInProfile
+library_wrong withs name spot = wrong_if (not (is_with withs name)) spot UnknownName
+
+-- What is wrong with a name that begins with a root of the library.
+abbrev pub library_remark : Known → Ident → List Ident → Remark
+library_remark known first rest = library_wrong known.withs (library_name first.text rest) first.spot
+
+-- What a name of the library stands for, where nothing is wrong with it.
+abbrev pub if_with : Bool → LibraryName → Option LibraryName
+if_with true name = Some name
+if_with false name = None
+
+-- What such a name stands for, where nothing is wrong with it.
+abbrev pub library_found : Known → Ident → List Ident → Option LibraryName
+library_found known first rest = if_with (is_with known.withs (library_name first.text rest)) (library_name first.text rest)
+
+-- A list has nothing.
+abbrev pub is_empty : {X : Type 0} → List X → Bool
+is_empty xs = length xs == 0
+
+-- A type or an instance begins: it is a node of the source, and none follows an object.
+abbrev pub type_begins : Known → Spot → Remark
+type_begins known spot = node spot also wrong_if (not (is_empty known.objects)) spot Layout

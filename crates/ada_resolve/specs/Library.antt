@@ -1,0 +1,88 @@
+-- The library's names, and those that are predefined.
+
+use Rattle.std.specs.Prelude.{ℕ, Bool, true, false, ◌||◌, ◌&&◌, if◌then◌else◌, List, [], ◌∷◌, Option, Some, None, is_some, codes, bytes_eq}
+use Rattle.ada_tree.specs.Grammar.{Ident}
+use Rattle.ada_resolve.specs.declared.fault.NameRule.{NameRule}
+use Rattle.ada_resolve.specs.declared.fault.NameRule.TheVariants.{UnknownName, NotInProfile}
+use Rattle.ada_resolve.specs.declared.library.LibraryName.{LibraryName}
+use Rattle.ada_resolve.specs.declared.library.LibraryName.TheVariants.{TextIo, PutLine, UncheckedDeallocation, OtherUnit, Unknown}
+use Rattle.ada_resolve.specs.declared.scope.Entity.{Entity}
+use Rattle.ada_resolve.specs.declared.scope.Entity.TheVariants.{Integer, Boolean, Truth, Exception}
+
+-- What a predefined name stands for (A.1): Integer, Boolean, True and False, and the exceptions that the language raises (11.1).
+unfoldable pub predefined : List ℕ → Option Entity
+predefined text =
+    if bytes_eq text (codes "INTEGER") then Some Integer else (
+    if bytes_eq text (codes "BOOLEAN") then Some Boolean else (
+    if bytes_eq text (codes "TRUE") || bytes_eq text (codes "FALSE") then Some Truth else (
+    if bytes_eq text (codes "CONSTRAINT_ERROR") || (bytes_eq text (codes "PROGRAM_ERROR") || bytes_eq text (codes "STORAGE_ERROR"))
+    then Some Exception else None)))
+
+-- Whether a name that begins so is looked for in the library alone (10.1.1, A.2).
+unfoldable pub is_library_root : List ℕ → Bool
+is_library_root text =
+    bytes_eq text (codes "ADA") || (bytes_eq text (codes "SYSTEM") || (bytes_eq text (codes "PROFILE_POOLS") || bytes_eq text (codes "RUN_INPUT")))
+
+-- Whether the name is one of the primitives of controlled types (7.6), which nothing else may have.
+unfoldable pub is_primitive : List ℕ → Bool
+is_primitive text = bytes_eq text (codes "INITIALIZE") || (bytes_eq text (codes "ADJUST") || bytes_eq text (codes "FINALIZE"))
+
+-- Whether no declaration may have this name: it is predefined, or a root of the library.
+abbrev pub is_taken : List ℕ → Bool
+is_taken text = is_some (predefined text) || is_library_root text
+
+-- The rule that a name breaks of which nothing is visible (8.3): a library's root that stands for nothing alone is not in the profile.
+unfoldable pub unknown : List ℕ → NameRule
+unknown text = if bytes_eq text (codes "ADA") || bytes_eq text (codes "SYSTEM") then NotInProfile else UnknownName
+
+-- Whether identifiers are these.
+unfoldable pub spelled : List Ident → List (List ℕ) → Bool
+spelled [] [] = true
+spelled [] (t ∷ ts) = false
+spelled (i ∷ is) [] = false
+spelled (i ∷ is) (t ∷ ts) = bytes_eq i.text t && spelled is ts
+
+-- A name of the profile's library whose unit is not in use yet, or no name of it.
+abbrev pub other_if : Bool → LibraryName
+other_if true = OtherUnit
+other_if false = Unknown
+
+-- The names under Ada of units that are not in use yet: Finalization (7.6), and Unchecked_Deallocate_Subpool (13.11.5).
+unfoldable pub other_in_ada : List Ident → LibraryName
+other_in_ada rest =
+    if spelled rest (codes "FINALIZATION" ∷ []) then OtherUnit else (
+    if spelled rest (codes "FINALIZATION" ∷ codes "CONTROLLED" ∷ []) then OtherUnit else (
+    if spelled rest (codes "FINALIZATION" ∷ codes "LIMITED_CONTROLLED" ∷ []) then OtherUnit else (
+    if spelled rest (codes "UNCHECKED_DEALLOCATE_SUBPOOL" ∷ []) then OtherUnit else Unknown)))
+
+-- What the names under Ada stand for (A.2): Text_IO (A.10), Unchecked_Deallocation (13.11.2), and units that are not in use.
+unfoldable pub in_ada : List Ident → LibraryName
+in_ada rest =
+    if spelled rest (codes "TEXT_IO" ∷ []) then TextIo else (
+    if spelled rest (codes "TEXT_IO" ∷ codes "PUT_LINE" ∷ []) then PutLine else (
+    if spelled rest (codes "UNCHECKED_DEALLOCATION" ∷ []) then UncheckedDeallocation else other_in_ada rest))
+
+-- The names under System that the profile has (13.11.4).
+unfoldable pub in_system : List Ident → LibraryName
+in_system rest =
+    if spelled rest (codes "STORAGE_POOLS" ∷ codes "SUBPOOLS" ∷ []) then OtherUnit else (
+    if spelled rest (codes "STORAGE_POOLS" ∷ codes "SUBPOOLS" ∷ codes "SUBPOOL_HANDLE" ∷ []) then OtherUnit else Unknown)
+
+-- Profile_Pools and its names, which are the profile's own.
+unfoldable pub in_pools : List Ident → LibraryName
+in_pools rest =
+    other_if (
+    spelled rest [] || (spelled rest (codes "FIRST_FIT_POOL" ∷ []) || (spelled rest (codes "SUBPOOL_POOL" ∷ []) ||
+    (spelled rest (codes "MARK_RELEASE_POOL" ∷ []) || spelled rest (codes "CREATE_SUBPOOL" ∷ [])))))
+
+-- Run_Input and its names, which are the profile's own.
+unfoldable pub in_input : List Ident → LibraryName
+in_input rest = other_if (spelled rest [] || (spelled rest (codes "GET" ∷ []) || spelled rest (codes "END_ERROR" ∷ [])))
+
+-- What a name of the library stands for.
+unfoldable pub library_name : List ℕ → List Ident → LibraryName
+library_name first rest =
+    if bytes_eq first (codes "ADA") then in_ada rest else (
+    if bytes_eq first (codes "SYSTEM") then in_system rest else (
+    if bytes_eq first (codes "PROFILE_POOLS") then in_pools rest else (
+    if bytes_eq first (codes "RUN_INPUT") then in_input rest else Unknown)))

@@ -1,0 +1,18 @@
+//! The laws of resolution. Each is a function that does nothing, and whose contract is the theorem.
+
+ghost use Rattle.ada_tree.specs.Grammar.{Kept};
+ghost use Rattle.ada_tree.specs.ProgramForm.{ProgramForm};
+ghost use Rattle.ada_tree.specs.WellFormed.{IsWellFormed};
+ghost use Rattle.ada_resolve.specs.First.{NotesTheFirst};
+ghost use Rattle.ada_resolve.specs.Resolution.{Resolves};
+
+/// The program that a tree means is well formed.
+pub fn programs_are_well_formed()
+    ensures { (tree : Kept) (program : ProgramForm) → Resolves tree program → IsWellFormed program }
+{}
+
+/// What is noted of a declaration or a statement, where nothing was wrong before it, is the first of the faults that are
+/// remarked of it: by line, by column, and by the rule's number.
+pub fn the_first_fault_is_noted()
+    ensures { NotesTheFirst }
+{}

@@ -1,0 +1,210 @@
+//! The library's names, and those that are predefined.
+
+ghost use Rattle.std.specs.Prelude.{◌≡◌, map, [], ◌∷◌};
+ghost use Rattle.ada_tree.specs.Grammar.{ident_of};
+ghost use Rattle.ada_resolve.specs.Known.{is_with};
+ghost use Rattle.ada_resolve.specs.Library.{spelled, other_if, other_in_ada, in_ada, in_system, in_pools, in_input, library_name, is_library_root, is_primitive, unknown};
+
+use crate::fault::NameRule;
+use ada_tree::syntax::Identifier;
+
+/// What a name that begins with a library's root stands for.
+#[derive(Clone, Copy)]
+pub(crate) enum LibraryName {
+    /// `Ada.Text_IO` (A.10)
+    TextIo,
+    /// `Ada.Text_IO.Put_Line`
+    PutLine,
+    /// `Ada.Unchecked_Deallocation` (13.11.2): the unit, and the generic procedure.
+    UncheckedDeallocation,
+    /// A name of the profile's library whose unit is not in use.
+    OtherUnit,
+    /// No name of the profile's library.
+    Unknown,
+}
+
+/// The library units that are named in `with` clauses.
+#[derive(Clone, Copy)]
+pub(crate) struct Withs {
+    pub(crate) text_io: bool,
+    pub(crate) deallocation: bool,
+}
+
+impl Withs {
+    /// Whether the unit of a library name is named.
+    pub(crate) fn has(&self, name: LibraryName) -> bool
+        ensures { result ≡ is_with self.now name }
+    {
+        match name {
+            LibraryName::TextIo | LibraryName::PutLine => self.text_io,
+            LibraryName::UncheckedDeallocation => self.deallocation,
+            LibraryName::OtherUnit | LibraryName::Unknown => false,
+        }
+    }
+}
+
+/// What the name stands for whose identifiers are these.
+#[tactic(auto, unfolding(crate::specs::Library::library_name))]
+pub(crate) fn library_name(first: &str, rest: &[Identifier<'_>]) -> LibraryName
+    ensures { result ≡ library_name first.now (map ident_of rest.now) }
+{
+    match first {
+        "ADA" => in_ada(rest),
+        "SYSTEM" => in_system(rest),
+        "PROFILE_POOLS" => in_pools(rest),
+        "RUN_INPUT" => in_input(rest),
+        _ => LibraryName::Unknown,
+    }
+}
+
+/// What the name stands for after `Ada`.
+#[tactic(auto, unfolding(crate::specs::Library::in_ada))]
+fn in_ada(rest: &[Identifier<'_>]) -> LibraryName
+    ensures { result ≡ in_ada (map ident_of rest.now) }
+{
+    if is_one(rest, "TEXT_IO") {
+        LibraryName::TextIo
+    } else if is_two(rest, "TEXT_IO", "PUT_LINE") {
+        LibraryName::PutLine
+    } else if is_one(rest, "UNCHECKED_DEALLOCATION") {
+        LibraryName::UncheckedDeallocation
+    } else {
+        other_in_ada(rest)
+    }
+}
+
+/// A name after `Ada` of a unit that is not in use.
+#[tactic(auto, unfolding(crate::specs::Library::other_in_ada))]
+fn other_in_ada(rest: &[Identifier<'_>]) -> LibraryName
+    ensures { result ≡ other_in_ada (map ident_of rest.now) }
+{
+    if is_one(rest, "FINALIZATION") {
+        return LibraryName::OtherUnit;
+    }
+    if is_two(rest, "FINALIZATION", "CONTROLLED") {
+        return LibraryName::OtherUnit;
+    }
+    if is_two(rest, "FINALIZATION", "LIMITED_CONTROLLED") {
+        return LibraryName::OtherUnit;
+    }
+    if is_one(rest, "UNCHECKED_DEALLOCATE_SUBPOOL") {
+        return LibraryName::OtherUnit;
+    }
+    LibraryName::Unknown
+}
+
+/// What the name stands for after `System`.
+#[tactic(auto, unfolding(crate::specs::Library::in_system))]
+fn in_system(rest: &[Identifier<'_>]) -> LibraryName
+    ensures { result ≡ in_system (map ident_of rest.now) }
+{
+    if is_two(rest, "STORAGE_POOLS", "SUBPOOLS") {
+        return LibraryName::OtherUnit;
+    }
+    if is_three(rest, "STORAGE_POOLS", "SUBPOOLS", "SUBPOOL_HANDLE") {
+        return LibraryName::OtherUnit;
+    }
+    LibraryName::Unknown
+}
+
+/// What the name stands for after `Profile_Pools`.
+#[tactic(auto, unfolding(crate::specs::Library::in_pools))]
+fn in_pools(rest: &[Identifier<'_>]) -> LibraryName
+    ensures { result ≡ in_pools (map ident_of rest.now) }
+{
+    other_if(
+        is_none(rest)
+            || is_one(rest, "FIRST_FIT_POOL")
+            || is_one(rest, "SUBPOOL_POOL")
+            || is_one(rest, "MARK_RELEASE_POOL")
+            || is_one(rest, "CREATE_SUBPOOL"),
+    )
+}
+
+/// What the name stands for after `Run_Input`.
+#[tactic(auto, unfolding(crate::specs::Library::in_input))]
+fn in_input(rest: &[Identifier<'_>]) -> LibraryName
+    ensures { result ≡ in_input (map ident_of rest.now) }
+{
+    other_if(is_none(rest) || is_one(rest, "GET") || is_one(rest, "END_ERROR"))
+}
+
+/// A name of a unit that is not in use, if the test holds, else no name of the library.
+fn other_if(test: bool) -> LibraryName
+    ensures { result ≡ other_if test }
+{
+    if test {
+        LibraryName::OtherUnit
+    } else {
+        LibraryName::Unknown
+    }
+}
+
+/// Whether there are no identifiers.
+#[tactic(auto, using(crate::proofs::Names::spelled_none))]
+fn is_none(rest: &[Identifier<'_>]) -> bool
+    ensures { result ≡ spelled (map ident_of rest.now) [] }
+{
+    rest.is_empty()
+}
+
+/// Whether the identifiers are this one.
+#[tactic(auto, using(crate::proofs::Names::spelled_short))]
+fn is_one(rest: &[Identifier<'_>], text: &str) -> bool
+    ensures { result ≡ spelled (map ident_of rest.now) (text.now ∷ []) }
+{
+    match rest.split_first() {
+        Some((head, tail)) => head.text == text && is_none(tail),
+        None => false,
+    }
+}
+
+/// Whether the identifiers are these two.
+#[tactic(auto, using(crate::proofs::Names::spelled_short))]
+fn is_two(rest: &[Identifier<'_>], first: &str, second: &str) -> bool
+    ensures { result ≡ spelled (map ident_of rest.now) (first.now ∷ second.now ∷ []) }
+{
+    match rest.split_first() {
+        Some((head, tail)) => head.text == first && is_one(tail, second),
+        None => false,
+    }
+}
+
+/// Whether the identifiers are these three.
+#[tactic(auto, using(crate::proofs::Names::spelled_short))]
+fn is_three(rest: &[Identifier<'_>], first: &str, second: &str, third: &str) -> bool
+    ensures { result ≡ spelled (map ident_of rest.now) (first.now ∷ second.now ∷ third.now ∷ []) }
+{
+    match rest.split_first() {
+        Some((head, tail)) => head.text == first && is_two(tail, second, third),
+        None => false,
+    }
+}
+
+/// Whether a name that begins so is looked for in the library alone.
+#[tactic(auto, unfolding(crate::specs::Library::is_library_root))]
+pub(crate) fn is_library_root(text: &str) -> bool
+    ensures { result ≡ is_library_root text.now }
+{
+    text == "ADA" || text == "SYSTEM" || text == "PROFILE_POOLS" || text == "RUN_INPUT"
+}
+
+/// Whether the name is one of the primitives of controlled types (7.6).
+#[tactic(auto, unfolding(crate::specs::Library::is_primitive))]
+pub(crate) fn is_primitive(text: &str) -> bool
+    ensures { result ≡ is_primitive text.now }
+{
+    text == "INITIALIZE" || text == "ADJUST" || text == "FINALIZE"
+}
+
+/// The rule that a name breaks of which nothing is visible.
+#[tactic(auto, unfolding(crate::specs::Library::unknown))]
+pub(crate) fn unknown(text: &str) -> NameRule
+    ensures { result ≡ unknown text.now }
+{
+    if text == "ADA" || text == "SYSTEM" {
+        NameRule::NotInProfile
+    } else {
+        NameRule::UnknownName
+    }
+}

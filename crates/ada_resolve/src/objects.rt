@@ -1,0 +1,239 @@
+//! Resolution of object declarations (3.3.1).
+
+ghost use Rattle.std.specs.Prelude.{◌≡◌, ◌++◌, ◌∷◌, [], map, length, not, IfOk, OnOk, IfErr};
+ghost use Rattle.ada_tree.specs.Form.{declares, elaboration_of};
+ghost use Rattle.ada_tree.specs.Grammar.{ident_of, name_of, right_of, initial_of};
+ghost use Rattle.ada_tree.specs.ProgramForm.{type_form, object_form};
+ghost use Rattle.ada_resolve.specs.Known.{visible, is_empty};
+ghost use Rattle.ada_resolve.specs.Objects.{type_in, type_wanted, object_type_found, object_type_remark, access_of, initial_found, initial_remark, kind_remark, right_spot, object_remark, object_known, object_created, initial_source, after_types, collections_of};
+ghost use Rattle.ada_resolve.specs.Remark.{noted};
+ghost use Rattle.ada_resolve.specs.Resolution.{settled};
+ghost use Rattle.ada_resolve.specs.View.{known_of, source_in, Tells};
+
+use crate::fault::{NameFault, NameRule};
+use crate::library::is_library_root;
+use crate::notes::Notes;
+use crate::resolver::Resolver;
+use crate::scope::Entity;
+use ada_tree::program::{self, Declaration, Object, TypeDefinition};
+use ada_tree::syntax::{self, Identifier, Name};
+use ada_tree::{PlaceNo, Spot, TypeNo};
+
+impl<'t> Resolver<'t> {
+    /// `X : A := ..;` (3.3.1): an object of an access type.
+    pub(crate) fn object(
+        &mut self,
+        name: Identifier<'t>,
+        type_name: &Name<'t>,
+        initial: &Option<syntax::Right<'t>>,
+        notes: &mut Notes,
+    ) -> Result<(), NameFault>
+        ensures { Tells result (known_of self.new, notes.new) (settled (noted (object_remark (known_of self.old) (ident_of name.entry) (name_of type_name.now) (initial_of initial.now)) notes.old) (object_known (known_of self.old) (ident_of name.entry) (name_of type_name.now) (initial_of initial.now))) }
+    {
+        notes.node(name.spot);
+        self.new_name(name, name.spot, notes);
+        let found = self.object_type(type_name, notes);
+        let access = access_of(found);
+        let value = self.initial(initial, access, notes)?;
+        kind(found, name, initial, value.is_some(), notes);
+        notes.settle()?;
+        match access {
+            Some(access) => self.create(name, access, value),
+            None => Ok(()),
+        }
+    }
+
+    /// The object is known, and is created with its initial value.
+    fn create(
+        &mut self,
+        name: Identifier<'t>,
+        access: TypeNo,
+        value: Option<program::Right>,
+    ) -> Result<(), NameFault>
+        ensures known { OnOk result (known_of self.new ≡ object_created (known_of self.old) (ident_of name.entry) (Some access) (source_in value)) }
+        ensures memory { IfErr result (λ e. e ≡ NameFault.NoMemory) }
+    {
+        let place = self.add_object(name, access)?;
+        self.add_elaboration(place, value)?;
+        self.declare(name.text, Entity::Object { place, access })
+    }
+
+    /// One more object.
+    #[tactic(auto, unfolding(crate::specs::View::known_of), using(crate::proofs::Names::map_snoc))]
+    fn add_object(&mut self, name: Identifier<'t>, access: TypeNo) -> Result<PlaceNo, NameFault>
+        ensures known { OnOk result (known_of self.new ≡ record (known_of self.old) { objects = (known_of self.old).objects ++ record { name = name.entry.text.now; access = access.0 } ∷ [] }) }
+        ensures place { IfOk result (λ p. p ≡ record { 0 = length (known_of self.old).objects }) }
+        ensures memory { IfErr result (λ e. e ≡ NameFault.NoMemory) }
+    {
+        let place = PlaceNo(self.objects.len());
+        let text = String::from_str(self.alloc, name.text)?;
+        self.objects.push(Object { name: text, access })?;
+        Ok(place)
+    }
+
+    /// An object is created with its initial value.
+    #[tactic(auto, unfolding(crate::specs::View::known_of), using(crate::proofs::Names::map_snoc, crate::proofs::Names::initial_same))]
+    fn add_elaboration(
+        &mut self,
+        place: PlaceNo,
+        initial: Option<program::Right>,
+    ) -> Result<(), NameFault>
+        ensures known { OnOk result (known_of self.new ≡ record (known_of self.old) { elaborated = (known_of self.old).elaborated ++ declares place.0 (initial_source (source_in initial)) ∷ [] }) }
+        ensures memory { IfErr result (λ e. e ≡ NameFault.NoMemory) }
+    {
+        self.declarations
+            .push(Declaration::Object { place, initial })?;
+        Ok(())
+    }
+
+    /// The initial value, where one is written.
+    fn initial(
+        &self,
+        initial: &Option<syntax::Right<'t>>,
+        access: Option<TypeNo>,
+        notes: &mut Notes,
+    ) -> Result<Option<program::Right>, NameFault>
+        ensures found { IfOk result (λ v. source_in v ≡ initial_found (known_of self.now) access (initial_of initial.now)) }
+        ensures remark { OnOk result (notes.new ≡ noted (initial_remark (known_of self.now) access (initial_of initial.now)) notes.old) }
+        ensures memory { IfErr result (λ e. e ≡ NameFault.NoMemory) }
+    {
+        match initial {
+            Some(right) => self.right(right, access, notes),
+            None => Ok(None),
+        }
+    }
+
+    /// What the type's name of an object stands for.
+    #[tactic(auto, unfolding(crate::specs::Objects::object_type_found, crate::specs::Objects::object_type_remark))]
+    fn object_type(&self, type_name: &Name<'t>, notes: &mut Notes) -> Option<Entity>
+        ensures found { result ≡ object_type_found (known_of self.now) (name_of type_name.now) }
+        ensures remark { notes.new ≡ noted (object_type_remark (known_of self.now) (name_of type_name.now)) notes.old }
+    {
+        let spot = type_name.first.spot;
+        if is_library_root(type_name.first.text) {
+            if self
+                .library(type_name.first, &type_name.rest, notes)
+                .is_some()
+            {
+                notes.note(spot, NameRule::WrongType);
+            }
+            return None;
+        }
+        let alone = type_name.rest.is_empty();
+        match self.lookup(type_name.first, notes) {
+            Some(found) => {
+                notes.note_if(!alone, spot, NameRule::WrongType);
+                let complete = type_in(found);
+                notes.note_if(complete.is_none(), spot, NameRule::WrongType);
+                if alone { complete } else { None }
+            }
+            None => None,
+        }
+    }
+
+    /// The types end: an access type without an instance has its collection created here, in text order.
+    #[tactic(auto, unfolding(crate::specs::Objects::after_types))]
+    pub(crate) fn end_of_types(&mut self) -> Result<(), NameFault>
+        ensures known { OnOk result (known_of self.new ≡ after_types (known_of self.old)) }
+        ensures memory { IfErr result (λ e. e ≡ NameFault.NoMemory) }
+    {
+        if self.has_objects() {
+            return Ok(());
+        }
+        let collections = self.collections()?;
+        self.add_collections(collections)
+    }
+
+    /// Whether an object is declared.
+    #[tactic(auto, unfolding(crate::specs::View::known_of))]
+    fn has_objects(&self) -> bool
+        ensures { is_empty (known_of self.now).objects ≡ not result }
+    {
+        !self.objects.is_empty()
+    }
+
+    /// The collections of the access types that have none yet, in text order.
+    #[tactic(auto, unfolding(crate::specs::View::known_of))]
+    fn collections(&self) -> Result<Vec<Declaration>, NameFault>
+        ensures made { IfOk result (λ v. map elaboration_of v.items ≡ collections_of 0 (known_of self.now).types (known_of self.now).elaborated) }
+        ensures memory { IfErr result (λ e. e ≡ NameFault.NoMemory) }
+    {
+        let mut made = Vec::new(self.alloc);
+        for (i, definition) in self.types.iter().enumerate() {
+            if let TypeDefinition::Access { .. } = definition
+                && !self.is_collected(TypeNo(i))
+            {
+                made.push(Declaration::Collection(TypeNo(i)))?;
+            }
+        }
+        Ok(made)
+    }
+
+    /// These collections are created.
+    #[tactic(auto, unfolding(crate::specs::View::known_of), using(crate::proofs::Names::map_append))]
+    fn add_collections(&mut self, collections: Vec<Declaration>) -> Result<(), NameFault>
+        ensures known { OnOk result (known_of self.new ≡ record (known_of self.old) { elaborated = (known_of self.old).elaborated ++ map elaboration_of collections.items }) }
+        ensures memory { IfErr result (λ e. e ≡ NameFault.NoMemory) }
+    {
+        let mut collections = collections;
+        self.declarations.append(&mut collections)?;
+        Ok(())
+    }
+}
+
+/// What a name stands for, if that is a type that is complete.
+fn type_in(found: Entity) -> Option<Entity>
+    ensures { result ≡ type_in (Some found) }
+{
+    match found {
+        Entity::Integer | Entity::Boolean | Entity::Record(_) | Entity::Access(_) => Some(found),
+        _ => None,
+    }
+}
+
+/// The access type of an object.
+fn access_of(found: Option<Entity>) -> Option<TypeNo>
+    ensures { result ≡ access_of found }
+{
+    match found {
+        Some(Entity::Access(access)) => Some(access),
+        _ => None,
+    }
+}
+
+/// What is wrong with an object of a type that is no access type: an Integer or a Boolean wants an initial value
+/// of its own type, and nothing that can be written here is an Integer; the others are not in use.
+fn kind(
+    found: Option<Entity>,
+    name: Identifier<'_>,
+    initial: &Option<syntax::Right<'_>>,
+    known: bool,
+    notes: &mut Notes,
+)
+    ensures { notes.new ≡ noted (kind_remark found (ident_of name.entry) (initial_of initial.now) known) notes.old }
+{
+    match (found, initial) {
+        (None | Some(Entity::Access(_)), _) => {}
+        (Some(Entity::Integer | Entity::Boolean), None) => notes.note(
+            name.spot,
+            NameRule::NoInitialValue,
+        ),
+        (Some(Entity::Integer), Some(right)) => notes.note_if(
+            known,
+            right_spot(right),
+            NameRule::WrongType,
+        ),
+        _ => notes.note(name.spot, NameRule::NotInProfile),
+    }
+}
+
+/// Where what is assigned begins.
+fn right_spot(right: &syntax::Right<'_>) -> Spot
+    ensures { result ≡ right_spot (right_of right.now) }
+{
+    match right {
+        syntax::Right::Null(spot) => *spot,
+        syntax::Right::Named(name) => name.spot,
+        syntax::Right::Allocator { spot, .. } => *spot,
+    }
+}

@@ -1,0 +1,53 @@
+//! What the names of the main procedure stand for.
+
+ghost use Rattle.std.specs.Prelude.{◌≡◌};
+ghost use Rattle.ada_resolve.specs.Library.{predefined, is_taken};
+
+use crate::library::is_library_root;
+use ada_tree::{PlaceNo, TypeNo};
+
+/// What a name stands for.
+#[derive(Clone, Copy)]
+pub(crate) enum Entity {
+    /// `Integer` (3.5.4)
+    Integer,
+    /// `Boolean` (3.5.3)
+    Boolean,
+    /// `True` or `False`
+    Truth,
+    /// A predefined exception (11.1).
+    Exception,
+    /// The main procedure.
+    Procedure,
+    /// A record type that is not completed yet (3.10.1).
+    Incomplete(TypeNo),
+    /// A record type (3.8).
+    Record(TypeNo),
+    /// An access type (3.10).
+    Access(TypeNo),
+    /// An instance of Unchecked_Deallocation for an access type (13.11.2).
+    Instance(TypeNo),
+    /// A declared object (3.3.1) and its access type.
+    Object { place: PlaceNo, access: TypeNo },
+}
+
+/// What a predefined name stands for.
+#[tactic(auto, unfolding(crate::specs::Library::predefined))]
+pub(crate) fn predefined(text: &str) -> Option<Entity>
+    ensures { result ≡ predefined text.now }
+{
+    match text {
+        "INTEGER" => Some(Entity::Integer),
+        "BOOLEAN" => Some(Entity::Boolean),
+        "TRUE" | "FALSE" => Some(Entity::Truth),
+        "CONSTRAINT_ERROR" | "PROGRAM_ERROR" | "STORAGE_ERROR" => Some(Entity::Exception),
+        _ => None,
+    }
+}
+
+/// Whether no declaration may have this name.
+pub(crate) fn is_taken(text: &str) -> bool
+    ensures { result ≡ is_taken text.now }
+{
+    predefined(text).is_some() || is_library_root(text)
+}
