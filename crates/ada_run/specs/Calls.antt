@@ -1,6 +1,6 @@
 -- Calls of a reader or of a writer, one after another, and how they end.
 
-use Rattle.std.specs.Prelude.{◌≡◌, ◌≢◌, ◌⊎◌, ℕ, ◌+◌, ◌<◌, ◌≤◌, List, [], ◌++◌, take, Option, Some, None, Result, Ok, Err}
+use Rattle.std.specs.Prelude.{◌≡◌, ◌≢◌, ◌⊎◌, ℕ, ◌+◌, ◌<◌, ◌≤◌, Bool, true, List, [], ◌++◌, take, Option, Some, None, Result, Ok, Err}
 use Rattle.ada_run.specs.declared.serve.ServeFault.{ServeFault}
 use Rattle.ada_run.specs.declared.serve.ServeFault.TheVariants.{ReadFailed, WriteFailed, NoMemory}
 use Rattle.ada_run.specs.declared.serve.TheConstants.{MOST_CALLS, MOST_KEPT}
@@ -19,6 +19,22 @@ LosesFront before None after = ⊥
 abbrev pub GainsEnd : List ℕ → Option (List ℕ) → List ℕ → Type 0
 GainsEnd before (Some bytes) after = after ≡ before ++ bytes
 GainsEnd before None after = after ≡ before
+
+-- The bytes that are left in a reader of the system, where it is open and they are known.
+abbrev pub remaining_of : {R : Type 0} → (R → Option (List ℕ)) → Option R → Option (List ℕ)
+remaining_of remaining None = None
+remaining_of remaining (Some reader) = remaining reader
+
+-- A call of a reader of the system gives something only where it is open.
+abbrev pub GivesOpen : {R : Type 0} → Option R → Option (List ℕ) → Type 0
+GivesOpen None (Some bytes) = ⊥
+GivesOpen None None = Unit {0}
+GivesOpen (Some reader) given = Unit {0}
+
+-- A call of a reader or a writer of the system: one that fails is marked, and a mark stays.
+abbrev pub MarksFailure : Bool → Option (List ℕ) → Bool → Type 0
+MarksFailure before (Some bytes) after = after ≡ before
+MarksFailure before None after = after ≡ true
 
 -- So many calls, of which each moved a byte or more, and all the bytes that they moved.
 pub data InCalls {X : Type 0} (call : X → Option (List ℕ) → X → Type 0) (first : X) : ℕ → List ℕ → X → Type 0 where

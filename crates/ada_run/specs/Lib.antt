@@ -14,3 +14,5 @@ pub mod Runner
 pub mod Answer
 -- what a call of serve does to its readers
 pub mod Served
+-- the exit statuses of the program
+pub mod Exits

@@ -1,5 +1,8 @@
 //! The exit statuses of the program.
 
+ghost use Rattle.std.specs.Prelude.{◌≡◌};
+ghost use Rattle.ada_run.specs.Exits.{exit_of, fault_exit};
+
 use crate::serve::{ServeFault, Status};
 
 /// The exit status where the words are no command.
@@ -8,7 +11,9 @@ pub const USAGE: u8 = 4;
 pub const NO_MEMORY: u8 = 6;
 
 /// The exit status of an answer.
-pub fn code_of(status: Status) -> u8 {
+pub fn code_of(status: Status) -> u8
+    ensures { result ≡ exit_of status }
+{
     match status {
         Status::Accepted | Status::Finished => 0,
         Status::Refused => 1,
@@ -18,7 +23,9 @@ pub fn code_of(status: Status) -> u8 {
 }
 
 /// The exit status where there is no whole answer.
-pub fn fault_code(fault: ServeFault) -> u8 {
+pub fn fault_code(fault: ServeFault) -> u8
+    ensures { result ≡ fault_exit fault }
+{
     match fault {
         ServeFault::ReadFailed | ServeFault::WriteFailed => 5,
         ServeFault::NoMemory => NO_MEMORY,

@@ -1,4 +1,6 @@
 //! `ada_run check|run [--source FILE]`: checks a source, or runs it where it is accepted.
+//!
+//! The exit status tells how that ended, whatever the standard error takes of its text.
 #![tactic(auto)]
 
 mod command_line;
@@ -17,21 +19,29 @@ mod usage_tests;
 
 use crate::command_line::UsageFault;
 use crate::exit::{NO_MEMORY, USAGE, code_of, fault_code};
-use crate::settings::{Options, Paths};
+use crate::settings::Options;
 use crate::streams::{ByteReader, MemoryReader, SystemReader, SystemWriter};
 use std::fs::File;
 use std::io;
 use std::process::ExitCode;
 
-fn main(rt: HostRuntime) -> io::Result<ExitCode> {
-    match obey(&rt) {
+fn main(rt: HostRuntime) -> ExitCode {
+    let code = match obey(&rt) {
+        Ok(code) => code,
         Err(error) if error.kind() == io::ErrorKind::OutOfMemory => no_memory(&rt),
-        ended => ended,
-    }
+        Err(error) => {
+            let _ = eprintln!(rt; "error: the words cannot be read: {error}");
+            USAGE
+        }
+    };
+    ExitCode::from(code)
 }
 
-/// Does what the words say.
-fn obey(rt: &HostRuntime) -> io::Result<ExitCode> {
+/// Does what the words say, and gives the exit status.
+///
+/// # Errors
+/// Where the words are no text, or memory ran out for them.
+fn obey(rt: &HostRuntime) -> io::Result<u8> {
     let mut words = Vec::new(rt.alloc());
     for word in std::env::args(rt)?.skip(1) {
         words.push(word)?;
@@ -40,50 +50,43 @@ fn obey(rt: &HostRuntime) -> io::Result<ExitCode> {
     for word in &words {
         texts.push(word.as_str())?;
     }
-    match command_line::options(rt.alloc(), &texts) {
-        Ok(
-            (
-                options,
-                Paths {
-                    source: Some(path),
-                    ..
-                },
-            ),
-        ) => {
-            let mut file = SystemReader::new(File::open(rt, path).ok());
-            answer(rt, &mut file, &options)
-        }
-        Ok((options, Paths { source: None, .. })) => {
-            let mut stdin = SystemReader::new(Some(rt.stdin()));
-            answer(rt, &mut stdin, &options)
-        }
+    Ok(match command_line::options(rt.alloc(), &texts) {
+        Ok((options, paths)) => open(rt, &options, paths.source),
         Err(UsageFault::Usage(error)) => {
-            eprint!(rt; "{error}")?;
-            Ok(ExitCode::from(USAGE))
+            let _ = eprint!(rt; "{error}");
+            USAGE
         }
         Err(UsageFault::NoMemory) => no_memory(rt),
-    }
+    })
 }
 
 /// Tells that memory ran out.
-fn no_memory(rt: &HostRuntime) -> io::Result<ExitCode> {
-    eprintln!(rt; "failed F90 no-memory")?;
-    Ok(ExitCode::from(NO_MEMORY))
+fn no_memory(rt: &HostRuntime) -> u8 {
+    let _ = eprintln!(rt; "failed F90 no-memory");
+    NO_MEMORY
+}
+
+/// Answers to the source in this file; none is the standard input.
+fn open(rt: &HostRuntime, options: &Options, source: Option<&str>) -> u8 {
+    match source {
+        Some(path) => answer(
+            rt,
+            &mut SystemReader::new(File::open(rt, path).ok()),
+            options,
+        ),
+        None => answer(rt, &mut SystemReader::new(Some(rt.stdin())), options),
+    }
 }
 
 /// Answers to a source on the standard output, and tells a fault on the standard error.
-fn answer<S: ByteReader>(
-    rt: &HostRuntime,
-    source: &mut S,
-    options: &Options,
-) -> io::Result<ExitCode> {
+fn answer<S: ByteReader>(rt: &HostRuntime, source: &mut S, options: &Options) -> u8 {
     let mut out = SystemWriter::new(rt.stdout());
     let mut input = MemoryReader::new(b"");
     match serve::serve(rt.alloc(), source, &mut input, options, &mut out) {
-        Ok(status) => Ok(ExitCode::from(code_of(status))),
+        Ok(status) => code_of(status),
         Err(fault) => {
-            eprintln!(rt; "failed {fault}")?;
-            Ok(ExitCode::from(fault_code(fault)))
+            let _ = eprintln!(rt; "failed {fault}");
+            fault_code(fault)
         }
     }
 }

@@ -1,6 +1,6 @@
 //! Readers and writers of bytes, one call each: over memory, and over the system's files and streams.
 
-ghost use Rattle.std.specs.Prelude.{ℕ, List, Option};
+ghost use Rattle.std.specs.Prelude.{◌≡◌, ℕ, false, List, [], Option};
 ghost use Rattle.std.specs.Io.{ReadsAtMost, WritesAtMost};
 ghost use Rattle.std.specs.Io.KnownBytes.{ReadConsumes, WriteAppends};
 ghost use Rattle.ada_run.specs.Calls.{moved};
@@ -56,7 +56,9 @@ pub struct MemoryReader<'a> {
 
 impl<'a> MemoryReader<'a> {
     /// Reads these bytes.
-    pub fn new(bytes: &'a [u8]) -> MemoryReader<'a> {
+    pub fn new(bytes: &'a [u8]) -> MemoryReader<'a>
+        ensures { result.bytes.now ≡ bytes.now }
+    {
         MemoryReader { bytes }
     }
 }
@@ -82,29 +84,41 @@ impl<'a> ByteReader for MemoryReader<'a> {
 #[derive(Debug, Drop)]
 pub struct SystemReader<R: Read + Drop> {
     reader: Option<R>,
+    /// A read has failed.
+    failed: bool,
 }
 
 impl<R: Read + Drop> SystemReader<R> {
     /// Reads what the reader reads; none is one that could not be opened.
-    pub fn new(reader: Option<R>) -> SystemReader<R> {
-        SystemReader { reader }
+    pub fn new(reader: Option<R>) -> SystemReader<R>
+        ensures reader { result.reader ≡ reader }
+        ensures failed { result.failed ≡ false }
+    {
+        SystemReader {
+            reader,
+            failed: false,
+        }
     }
 }
 
 impl<R: Read + Drop> ByteReader for SystemReader<R> {
-    ghost use Rattle.std.specs.Prelude.{None};
+    ghost use Rattle.ada_run.specs.Calls.{GivesOpen, MarksFailure, remaining_of};
 
-    ghost remaining = { λ _. None };
+    ghost remaining = { λ r. remaining_of R.remaining r.reader };
 
-    ghost reads = { λ _ _ _. Unit {0} };
+    ghost reads = { λ before given after. GivesOpen before.reader given × MarksFailure before.failed given after.failed };
 
     fn read(&mut self, buffer: &mut [u8]) -> Result<usize, Failed> {
         let Some(reader) = &mut self.reader else {
+            self.failed = true;
             return Err(Failed);
         };
         match reader.read(buffer) {
             Ok(count) => Ok(count),
-            Err(_) => Err(Failed),
+            Err(_) => {
+                self.failed = true;
+                Err(Failed)
+            }
         }
     }
 }
@@ -117,7 +131,9 @@ pub struct MemoryWriter {
 
 impl MemoryWriter {
     /// Nothing is written yet.
-    pub fn new(alloc: Global) -> MemoryWriter {
+    pub fn new(alloc: Global) -> MemoryWriter
+        ensures { result.bytes.items ≡ [] }
+    {
         MemoryWriter {
             bytes: Vec::new(alloc),
         }
@@ -144,26 +160,37 @@ impl ByteWriter for MemoryWriter {
 #[derive(Debug, Drop)]
 pub struct SystemWriter<W: Write + Drop> {
     writer: W,
+    /// A write has failed.
+    failed: bool,
 }
 
 impl<W: Write + Drop> SystemWriter<W> {
     /// Writes to the writer.
-    pub fn new(writer: W) -> SystemWriter<W> {
-        SystemWriter { writer }
+    pub fn new(writer: W) -> SystemWriter<W>
+        ensures writer { result.writer ≡ writer }
+        ensures failed { result.failed ≡ false }
+    {
+        SystemWriter {
+            writer,
+            failed: false,
+        }
     }
 }
 
 impl<W: Write + Drop> ByteWriter for SystemWriter<W> {
-    ghost use Rattle.std.specs.Prelude.{None};
+    ghost use Rattle.ada_run.specs.Calls.{MarksFailure};
 
-    ghost contents = { λ _. None };
+    ghost contents = { λ w. W.contents w.writer };
 
-    ghost writes = { λ _ _ _. Unit {0} };
+    ghost writes = { λ before taken after. MarksFailure before.failed taken after.failed };
 
     fn write(&mut self, bytes: &[u8]) -> Result<usize, Failed> {
         match self.writer.write(bytes) {
             Ok(count) => Ok(count),
-            Err(_) => Err(Failed),
+            Err(_) => {
+                self.failed = true;
+                Err(Failed)
+            }
         }
     }
 }
