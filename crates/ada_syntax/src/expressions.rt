@@ -1,0 +1,284 @@
+//! Reading expressions (4.4).
+
+ghost use Rattle.std.specs.Prelude.{◌<◌, ◌≤◌, length, OnOk};
+ghost use Rattle.ada_text.specs.Token.{lexemes_of};
+ghost use Rattle.ada_grammar.specs.Names.{ident_of};
+ghost use Rattle.ada_grammar.specs.Expressions.{binary_expression};
+ghost use Rattle.ada_grammar.specs.ExpressionView.{expression_of};
+ghost use Rattle.ada_syntax.specs.Step.{Gives, at, chain};
+ghost use Rattle.ada_syntax.specs.Expressions.{beside, expression_at, logical_from, relation_from, sum_from, term_from};
+ghost use Rattle.ada_syntax.specs.Phrases.{Builds, again_at, behind_primary_at, expression_led_at, factor_at, first_term_at, first_word, relation_at, repeated_at, sum_at, term_at};
+
+use crate::operators::{
+    is_at_adding, is_at_comparing, is_at_logical, is_at_multiplying, read_adding, read_again,
+    read_comparing, read_multiplying, read_sign,
+};
+use crate::primaries::{read_factor, read_primary_led};
+use crate::reader::{Reader, Stop};
+use ada_grammar::expressions::Expression;
+use ada_grammar::names::Identifier;
+use ada_grammar::operators::BinaryOperator;
+use ada_text::Word;
+use std::alloc::Global;
+
+/// An operator beside its operands.
+#[tactic(auto, using(std::proofs::lemmas::Grind::common_steps, ada_grammar::specs::ExpressionView::tree_rules))]
+fn joined<'t>(
+    alloc: Global,
+    left: Expression<'t>,
+    operator: BinaryOperator,
+    right: Expression<'t>,
+) -> Result<Expression<'t>, Stop>
+    ensures { Builds (binary_expression operator (expression_of left.entry) (expression_of right.entry)) result }
+{
+    let left = Box::new(alloc, left)?;
+    let right = Box::new(alloc, right)?;
+    Ok(Expression::Binary {
+        operator,
+        left,
+        right,
+    })
+}
+
+/// An expression (4.4).
+#[cycle(expression)]
+#[tactic(auto, using(std::proofs::lemmas::Grind::common_steps, ada_grammar::specs::ExpressionView::tree_rules), unfolding(crate::specs::Expressions::expression_at, crate::specs::Expressions::expression_in))]
+pub(crate) fn read_expression<'t>(
+    alloc: Global,
+    reader: &mut Reader<'t>,
+    room: u32,
+) -> Result<Expression<'t>, Stop>
+    ensures shorter { OnOk result (length reader.new.tokens.now < length reader.old.tokens.now) }
+    ensures read { Gives expression_of result reader.new.tokens.now (expression_at room (lexemes_of reader.old.tokens.now)) }
+{
+    let first = read_relation(alloc, reader, room)?;
+    read_logical(alloc, reader, room, first)
+}
+
+/// What stands behind the first relation of an expression: one operator, repeated.
+#[cycle(expression)]
+#[tactic(auto, using(std::proofs::lemmas::Grind::common_steps, ada_grammar::specs::ExpressionView::tree_rules), unfolding(crate::specs::Expressions::logical_from, crate::specs::Phrases::repeated_at, crate::specs::Phrases::again_at))]
+fn read_logical<'t>(
+    alloc: Global,
+    reader: &mut Reader<'t>,
+    room: u32,
+    left: Expression<'t>,
+) -> Result<Expression<'t>, Stop>
+    ensures shorter { OnOk result (length reader.new.tokens.now ≤ length reader.old.tokens.now) }
+    ensures read { Gives expression_of result reader.new.tokens.now (logical_from (relation_at room) (expression_of left.entry) (lexemes_of reader.old.tokens.now)) }
+{
+    if reader.is_at_word(Word::And) {
+        reader.word(Word::And)?;
+        if reader.is_at_word(Word::Then) {
+            reader.word(Word::Then)?;
+            return read_repeated(alloc, reader, room, BinaryOperator::AndThen, left);
+        }
+        return read_repeated(alloc, reader, room, BinaryOperator::And, left);
+    }
+    if reader.is_at_word(Word::Or) {
+        reader.word(Word::Or)?;
+        if reader.is_at_word(Word::Else) {
+            reader.word(Word::Else)?;
+            return read_repeated(alloc, reader, room, BinaryOperator::OrElse, left);
+        }
+        return read_repeated(alloc, reader, room, BinaryOperator::Or, left);
+    }
+    if reader.is_at_word(Word::Xor) {
+        reader.word(Word::Xor)?;
+        return read_repeated(alloc, reader, room, BinaryOperator::Xor, left);
+    }
+    Ok(left)
+}
+
+/// A relation behind a logical operator, and then as many as there are with this operator before them.
+#[cycle(expression)]
+#[tactic(auto, using(std::proofs::lemmas::Grind::common_steps, ada_grammar::specs::ExpressionView::tree_rules), unfolding(crate::specs::Phrases::repeated_at))]
+fn read_repeated<'t>(
+    alloc: Global,
+    reader: &mut Reader<'t>,
+    room: u32,
+    operator: BinaryOperator,
+    left: Expression<'t>,
+) -> Result<Expression<'t>, Stop>
+    ensures shorter { OnOk result (length reader.new.tokens.now < length reader.old.tokens.now) }
+    ensures read { Gives expression_of result reader.new.tokens.now (repeated_at (relation_at room) operator (expression_of left.entry) (lexemes_of reader.old.tokens.now)) }
+{
+    let right = read_relation(alloc, reader, room)?;
+    let left = joined(alloc, left, operator, right)?;
+    read_more_repeated(alloc, reader, room, operator, left)
+}
+
+/// As many relations as there are, with this operator before them.
+#[cycle(expression)]
+fn read_more_repeated<'t>(
+    alloc: Global,
+    reader: &mut Reader<'t>,
+    room: u32,
+    operator: BinaryOperator,
+    first: Expression<'t>,
+) -> Result<Expression<'t>, Stop>
+    ensures shorter { OnOk result (length reader.new.tokens.now ≤ length reader.old.tokens.now) }
+    ensures read { Gives expression_of result reader.new.tokens.now (chain (at (first_word operator)) (again_at operator) (relation_at room) beside (expression_of first.entry) (lexemes_of reader.old.tokens.now)) }
+{
+    let mut left = first;
+    'relations: while is_at_logical(reader, operator) {
+        let operator = read_again(reader, operator)?;
+        let right = read_relation(alloc, reader, room)?;
+        left = joined(alloc, left, operator, right)?;
+    }
+    Ok(left)
+}
+
+/// One sum, or two that are compared (4.4).
+#[cycle(expression)]
+#[tactic(auto, using(std::proofs::lemmas::Grind::common_steps, ada_grammar::specs::ExpressionView::tree_rules), unfolding(crate::specs::Expressions::relation_in))]
+fn read_relation<'t>(
+    alloc: Global,
+    reader: &mut Reader<'t>,
+    room: u32,
+) -> Result<Expression<'t>, Stop>
+    ensures shorter { OnOk result (length reader.new.tokens.now < length reader.old.tokens.now) }
+    ensures read { Gives expression_of result reader.new.tokens.now (relation_at room (lexemes_of reader.old.tokens.now)) }
+{
+    let left = read_sum(alloc, reader, room)?;
+    read_relation_behind(alloc, reader, room, left)
+}
+
+/// What stands behind the first sum of a relation.
+#[cycle(expression)]
+#[tactic(auto, using(std::proofs::lemmas::Grind::common_steps, ada_grammar::specs::ExpressionView::tree_rules), unfolding(crate::specs::Expressions::relation_from))]
+fn read_relation_behind<'t>(
+    alloc: Global,
+    reader: &mut Reader<'t>,
+    room: u32,
+    left: Expression<'t>,
+) -> Result<Expression<'t>, Stop>
+    ensures shorter { OnOk result (length reader.new.tokens.now ≤ length reader.old.tokens.now) }
+    ensures read { Gives expression_of result reader.new.tokens.now (relation_from (sum_at room) (expression_of left.entry) (lexemes_of reader.old.tokens.now)) }
+{
+    if !is_at_comparing(reader) {
+        return Ok(left);
+    }
+    let operator = read_comparing(reader)?;
+    let right = read_sum(alloc, reader, room)?;
+    joined(alloc, left, operator, right)
+}
+
+/// Terms with operators that add between them (4.4).
+#[cycle(expression)]
+#[tactic(auto, using(std::proofs::lemmas::Grind::common_steps, ada_grammar::specs::ExpressionView::tree_rules), unfolding(crate::specs::Expressions::sum_in))]
+fn read_sum<'t>(alloc: Global, reader: &mut Reader<'t>, room: u32) -> Result<Expression<'t>, Stop>
+    ensures shorter { OnOk result (length reader.new.tokens.now < length reader.old.tokens.now) }
+    ensures read { Gives expression_of result reader.new.tokens.now (sum_at room (lexemes_of reader.old.tokens.now)) }
+{
+    let first = read_first_term(alloc, reader, room)?;
+    read_sum_behind(alloc, reader, room, first)
+}
+
+/// What stands behind the first term of a sum.
+#[cycle(expression)]
+fn read_sum_behind<'t>(
+    alloc: Global,
+    reader: &mut Reader<'t>,
+    room: u32,
+    first: Expression<'t>,
+) -> Result<Expression<'t>, Stop>
+    ensures shorter { OnOk result (length reader.new.tokens.now ≤ length reader.old.tokens.now) }
+    ensures read { Gives expression_of result reader.new.tokens.now (sum_from (term_at room) (expression_of first.entry) (lexemes_of reader.old.tokens.now)) }
+{
+    let mut left = first;
+    'terms: while is_at_adding(reader) {
+        let operator = read_adding(reader)?;
+        let right = read_term(alloc, reader, room)?;
+        left = joined(alloc, left, operator, right)?;
+    }
+    Ok(left)
+}
+
+/// A term, perhaps behind a sign (4.4).
+#[cycle(expression)]
+#[tactic(auto, using(std::proofs::lemmas::Grind::common_steps, ada_grammar::specs::ExpressionView::tree_rules), unfolding(crate::specs::Expressions::first_term_in))]
+fn read_first_term<'t>(
+    alloc: Global,
+    reader: &mut Reader<'t>,
+    room: u32,
+) -> Result<Expression<'t>, Stop>
+    ensures shorter { OnOk result (length reader.new.tokens.now < length reader.old.tokens.now) }
+    ensures read { Gives expression_of result reader.new.tokens.now (first_term_at room (lexemes_of reader.old.tokens.now)) }
+{
+    if !is_at_adding(reader) {
+        return read_term(alloc, reader, room);
+    }
+    let (operator, spot) = read_sign(reader)?;
+    let operand = Box::new(alloc, read_term(alloc, reader, room)?)?;
+    Ok(Expression::Unary {
+        operator,
+        spot,
+        operand,
+    })
+}
+
+/// Factors with operators that multiply between them (4.4).
+#[cycle(expression)]
+#[tactic(auto, using(std::proofs::lemmas::Grind::common_steps, ada_grammar::specs::ExpressionView::tree_rules), unfolding(crate::specs::Expressions::term_in))]
+fn read_term<'t>(alloc: Global, reader: &mut Reader<'t>, room: u32) -> Result<Expression<'t>, Stop>
+    ensures shorter { OnOk result (length reader.new.tokens.now < length reader.old.tokens.now) }
+    ensures read { Gives expression_of result reader.new.tokens.now (term_at room (lexemes_of reader.old.tokens.now)) }
+{
+    let first = read_factor(alloc, reader, room)?;
+    read_term_behind(alloc, reader, room, first)
+}
+
+/// What stands behind the first factor of a term.
+#[cycle(expression)]
+fn read_term_behind<'t>(
+    alloc: Global,
+    reader: &mut Reader<'t>,
+    room: u32,
+    first: Expression<'t>,
+) -> Result<Expression<'t>, Stop>
+    ensures shorter { OnOk result (length reader.new.tokens.now ≤ length reader.old.tokens.now) }
+    ensures read { Gives expression_of result reader.new.tokens.now (term_from (factor_at room) (expression_of first.entry) (lexemes_of reader.old.tokens.now)) }
+{
+    let mut left = first;
+    'factors: while is_at_multiplying(reader) {
+        let operator = read_multiplying(reader)?;
+        let right = read_factor(alloc, reader, room)?;
+        left = joined(alloc, left, operator, right)?;
+    }
+    Ok(left)
+}
+
+/// An expression that begins with an identifier, which was read before.
+#[cycle(expression)]
+#[tactic(auto, using(std::proofs::lemmas::Grind::common_steps, ada_grammar::specs::ExpressionView::tree_rules), unfolding(crate::specs::Expressions::expression_led))]
+pub(crate) fn read_expression_led<'t>(
+    alloc: Global,
+    reader: &mut Reader<'t>,
+    room: u32,
+    first: Identifier<'t>,
+) -> Result<Expression<'t>, Stop>
+    ensures shorter { OnOk result (length reader.new.tokens.now ≤ length reader.old.tokens.now) }
+    ensures read { Gives expression_of result reader.new.tokens.now (expression_led_at room (ident_of first.entry) (lexemes_of reader.old.tokens.now)) }
+{
+    let primary = read_primary_led(alloc, reader, room, first)?;
+    read_behind_primary(alloc, reader, room, primary)
+}
+
+/// What stands behind the first primary of an expression.
+#[cycle(expression)]
+#[tactic(auto, using(std::proofs::lemmas::Grind::common_steps, ada_grammar::specs::ExpressionView::tree_rules), unfolding(crate::specs::Expressions::behind_primary))]
+pub(crate) fn read_behind_primary<'t>(
+    alloc: Global,
+    reader: &mut Reader<'t>,
+    room: u32,
+    first: Expression<'t>,
+) -> Result<Expression<'t>, Stop>
+    ensures shorter { OnOk result (length reader.new.tokens.now ≤ length reader.old.tokens.now) }
+    ensures read { Gives expression_of result reader.new.tokens.now (behind_primary_at room (expression_of first.entry) (lexemes_of reader.old.tokens.now)) }
+{
+    let term = read_term_behind(alloc, reader, room, first)?;
+    let sum = read_sum_behind(alloc, reader, room, term)?;
+    let relation = read_relation_behind(alloc, reader, room, sum)?;
+    read_logical(alloc, reader, room, relation)
+}

@@ -1,0 +1,41 @@
+//! Why tokens have no tree, and where.
+
+ghost use Rattle.ada_syntax.specs.declared.fault.SyntaxFault.TheVariants.{NoMemory};
+ghost use Rattle.std.specs.Prelude.{◌≡◌};
+
+use ada_text::Spot;
+use std::alloc::{AllocError, AllocFailed};
+use thiserror::Error;
+
+/// Why tokens have no tree.
+#[derive(Debug, Drop, PartialEq, Eq, Error)]
+pub enum SyntaxFault {
+    /// The tokens before this one begin a unit, and with it they begin none; the spot is the token's.
+    #[error("F10 unexpected-token")]
+    UnexpectedToken(Spot),
+    /// The token at this spot opens more levels of nesting than there may be.
+    #[error("F11 too-deep")]
+    TooDeep(Spot),
+    /// The tokens begin a unit and are none; the spot is just after the last one, or 1:1 where there is none.
+    #[error("F12 end-of-source")]
+    EndOfSource(Spot),
+    /// Memory ran out.
+    #[error("F90 no-memory")]
+    NoMemory,
+}
+
+impl From<AllocError> for SyntaxFault {
+    ghost from_gives = { λ _ e. e ≡ NoMemory };
+
+    fn from(_error: AllocError) -> SyntaxFault {
+        SyntaxFault::NoMemory
+    }
+}
+
+impl<T: Drop> From<AllocFailed<T>> for SyntaxFault {
+    ghost from_gives = { λ _ e. e ≡ NoMemory };
+
+    fn from(_failed: AllocFailed<T>) -> SyntaxFault {
+        SyntaxFault::NoMemory
+    }
+}

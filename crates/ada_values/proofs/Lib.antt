@@ -1,0 +1,4 @@
+-- Quotients, remainders and moduli.
+pub mod Division
+-- An operator has one outcome.
+pub mod Outcomes

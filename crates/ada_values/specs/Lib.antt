@@ -1,0 +1,4 @@
+-- What the operators give.
+pub mod Operators
+-- What it is to have one result.
+pub mod One
