@@ -142,7 +142,7 @@ reaches_more {A} {O} {read} {ps} {po} {py} {x} {y} {o} {f} goes operator item jo
       let q : A → Reader A = chain goes operator item join in
       let there : goes s.0 ≡ true = starts s.0 u.0 u.1 in
       let behind : q x s.0 ≡ (expected (or_else (sinks po s.0) (sinks py u.0)) (join x o y) rest >>= λ z. q z.0 z.1) =
-          chain_unfold goes operator item join advances plain x s.0 ∙ rw (there, c.reads s.0 u.0 u.1 (any_next u.0)) (one_step item q join x y o u.0 rest (sinks po s.0) (sinks py u.0) (d.reads u.0 rest u.2 n)) in
+      chain_unfold goes operator item join advances plain x s.0 ∙ rw (there, c.reads s.0 u.0 u.1 (any_next u.0)) (one_step item q join x y o u.0 rest (sinks po s.0) (sinks py u.0) (d.reads u.0 rest u.2 n)) in
       let sunk : sinks (ps ++ (po ++ py)) ts ≡ or_else (sinks ps ts) (or_else (sinks po s.0) (sinks py u.0)) = sinks_append ps (po ++ py) ts s.0 s.1 ∙ ap (or_else (sinks ps ts)) (sinks_append po py s.0 u.0 u.1) in
       r.reaches ts s.0 s.1 (leads.next s.0 u.0 u.1 (any_next u.0)) ∙ rw sunk (further q x (join x o y) s.0 rest (sinks ps ts) (or_else (sinks po s.0) (sinks py u.0)) behind);
 }

@@ -152,4 +152,3 @@ items_complete room i (an_item label value rest) =
     complete_as (subst (λ ys. Complete ((label_pieces label ++ expression_pieces room value) ++ (flat_map (next_item_pieces room) (list_of rest) ++ [])) (items_in room _ _) (an_item label value ys) (before (delimiter mark.RightParenthesis))) (from_list rest)
     (mapped_complete all_items_from (both_complete (item_complete room i label value) (both_complete (more_complete room i (list_of rest)) (weaken nothing_complete) leads_same) (leads_nothing (items_lead room (list_of rest))))))
     (ap (λ (us : List Piece). (label_pieces label ++ expression_pieces room value) ++ us) (more_are room rest ∙ sym (append-nil (flat_map (next_item_pieces room) (list_of rest)))))
-

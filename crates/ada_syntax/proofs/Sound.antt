@@ -440,8 +440,7 @@ joined_takes {A} {O} {pO} {pI} {rO} {rI} pA goes join f g h (suc n) x able ts z 
           let w : Written (pI b.0.0) a.0.1 b.0.1 = g.takes a.0.1 b.0.0 b.0.1 b.1 in
           let able_o : Able (pO a.0.0) = written_able (pO a.0.0) ts a.0.1 v in
           let able_y : Able (pI b.0.0) = written_able (pI b.0.0) a.0.1 b.0.1 w in
-          let c = joined_takes pA goes join f g h n (join x a.0.0 b.0.0) (joined_able pA pO pI join h x a.0.0 b.0.0 able able_o able_y) b.0.1 z rest b.2 in
-          (
+          let c = joined_takes pA goes join f g h n (join x a.0.0 b.0.0) (joined_able pA pO pI join h x a.0.0 b.0.0 able able_o able_y) b.0.1 z rest b.2 in (
             pO a.0.0 ++ (pI b.0.0 ++ c.0),
             joined_more (pA z) (pA (join x a.0.0 b.0.0)) (pA x) (pO a.0.0) (pI b.0.0) c.0 c.1 (h x a.0.0 b.0.0 able able_o able_y),
             Written-append (pO a.0.0) (pI b.0.0 ++ c.0) ts a.0.1 rest v (Written-append (pI b.0.0) c.0 a.0.1 b.0.1 rest w c.2),
@@ -621,7 +620,6 @@ string_sound = record {
   some = (([], some_spot), (tt, tt));
   plain = single_plain string_at string_single;
 }
-
 
 -- the value of a number of which the tree keeps no spot
 pub number_anywhere : Sound (λ (x : ℕ × Spot). anywhere (number x.0) ∷ []) number_at
