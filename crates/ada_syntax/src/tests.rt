@@ -58,7 +58,12 @@ fn reads_statements(rt: HostRuntime) -> Result<(), Fail> {
     let unit = parse(rt.alloc(), found.as_slice())?;
     assert_eq!(rt; unit.body.statements.len(), 9);
     assert_eq!(rt; unit.body.handlers.len(), 1);
-    assert!(rt; matches!(&unit.body.handlers[0].choices[0], Choice::Others(_)));
+    assert!(rt;
+        matches!(
+            unit.body.handlers[0].choices.first(),
+            Some(Choice::Others(_))
+        )
+    );
     assert!(rt;
         matches!(
             &unit.body.statements[4],
