@@ -9,8 +9,9 @@ use Rattle.ada_grammar.specs.declared.names.Path.{Path as PathIn}
 use Rattle.ada_grammar.specs.declared.operators.UnaryOperator.{UnaryOperator}
 use Rattle.ada_grammar.specs.declared.operators.BinaryOperator.{BinaryOperator}
 use Rattle.ada_grammar.specs.declared.expressions.Item.{Item}
-use Rattle.ada_grammar.specs.declared.expressions.Expression.{Expression, Number, Null, Path, Aggregate, Enclosed, Unary, Binary, Aggregate', Enclosed', Unary', Binary', Row_of-Item, end_of-Item, more_of-Item, items-the_row-Item, items_hidden-the_row-Item-0}
-use Rattle.ada_grammar.specs.declared.expressions.Expression.TheBlock.{hidden-the_row-Item-0}
+use Rattle.ada_grammar.specs.declared.expressions.Link.{Link}
+use Rattle.ada_grammar.specs.declared.expressions.Expression.{Expression, Number, Null, Path, Aggregate, Enclosed, Unary, Chain, Aggregate', Enclosed', Unary', Chain', Row_of-Item, end_of-Item, more_of-Item, items-the_row-Item, items_hidden-the_row-Item-0, Row_of-Link, end_of-Link, more_of-Link, items-the_row-Link, items_hidden-the_row-Link-1}
+use Rattle.ada_grammar.specs.declared.expressions.Expression.TheBlock.{hidden-the_row-Item-0, hidden-the_row-Link-1}
 use Rattle.ada_grammar.specs.declared.expressions.Right.{Right}
 use Rattle.ada_grammar.specs.declared.expressions.Right.TheVariants as right
 use Rattle.ada_grammar.specs.declared.expressions.Argument.{Argument}
@@ -27,12 +28,17 @@ unfoldable mutual
   expression_of (Aggregate' type_name shape items) = aggregate_expression (ident_of type_name) (row_of items)
   expression_of (Enclosed' spot p inner) = enclosed_expression spot (expression_of inner)
   expression_of (Unary' operator spot p operand) = unary_expression operator spot (expression_of operand)
-  expression_of (Binary' operator p left q right) = binary_expression operator (expression_of left) (expression_of right)
+  expression_of (Chain' p first shape links) = behind_in_row (expression_of first) links
 
   -- The items of an aggregate, as an expression keeps them.
   pub row_of : {m : _} → Row_of-Item m → ItemsTree
   row_of end_of-Item = no_more_items
   row_of (more_of-Item label value rest) = an_item (optional_ident_of label) (expression_of value) (row_of rest)
+
+  -- An expression with operators behind it, as a chain keeps them: each has for its left operand all that stands before it.
+  pub behind_in_row : {m : _} → ExpressionTree → Row_of-Link m → ExpressionTree
+  behind_in_row left end_of-Link = left
+  behind_in_row left (more_of-Link operator operand rest) = behind_in_row (binary_expression operator left (expression_of operand)) rest
 
 -- An item: its label and its value.
 abbrev pub item_of : Item → Option Ident × ExpressionTree
@@ -42,6 +48,11 @@ item_of item = (optional_ident_of item.label, expression_of item.value)
 abbrev pub items_of : List Item → ItemsTree
 items_of [] = no_more_items
 items_of (item ∷ items) = an_item (optional_ident_of item.label) (expression_of item.value) (items_of items)
+
+-- An expression with operators behind it: each has for its left operand all that stands before it (4.5).
+abbrev pub linked : ExpressionTree → List Link → ExpressionTree
+linked left [] = left
+linked left (link ∷ links) = linked (binary_expression link.operator left (expression_of link.operand)) links
 
 -- What stands on the right of `:=`.
 abbrev pub right_of : Right → RightTree
@@ -84,9 +95,14 @@ pub unary_view : (operator : UnaryOperator) (spot : Spot) (operand : Box Express
 unfolding expression_of
 unary_view operator spot operand = refl
 
-pub binary_view : (operator : BinaryOperator) (left right : Box Expression) → expression_of (Binary operator left right) ≡ binary_expression operator (expression_of left.value) (expression_of right.value)
+links_in_row : {m : _} (left : ExpressionTree) (row : Row_of-Link m) → behind_in_row left row ≡ linked left (items-the_row-Link m row)
+unfolding behind_in_row
+links_in_row left end_of-Link = refl
+links_in_row left (more_of-Link operator operand rest) = links_in_row (binary_expression operator left (expression_of operand)) rest
+
+pub chain_view : (first : Box Expression) (links : Vec Link) → expression_of (Chain first links) ≡ linked (expression_of first.value) links.items
 unfolding expression_of
-binary_view operator left right = refl
+chain_view first links = links_in_row (expression_of first.value) (hidden-the_row-Link-1 links) ∙ ap (linked (expression_of first.value)) (items_hidden-the_row-Link-1 links)
 
 items_in_row : {m : _} (row : Row_of-Item m) → row_of row ≡ items_of (items-the_row-Item m row)
 unfolding row_of
@@ -98,4 +114,4 @@ unfolding expression_of
 aggregate_view type_name items = ap (aggregate_expression (ident_of type_name)) (items_in_row (hidden-the_row-Item-0 items) ∙ ap items_of (items_hidden-the_row-Item-0 items))
 
 -- The view of an expression, step by step.
-pub ruleset tree_rules = (number_view, null_view, path_view, aggregate_view, enclosed_view, unary_view, binary_view)
+pub ruleset tree_rules = (number_view, null_view, path_view, aggregate_view, enclosed_view, unary_view, chain_view)

@@ -4,7 +4,7 @@ use crate::names::{Identifier, Path};
 use crate::operators::{BinaryOperator, UnaryOperator};
 use ada_text::Spot;
 
-/// An expression, as it is written: the operators that bind closer stand further inside (4.4).
+/// An expression, as it is written (4.4).
 #[derive(Debug, Drop)]
 #[cycle(expression)]
 pub enum Expression<'t> {
@@ -33,12 +33,19 @@ pub enum Expression<'t> {
         spot: Spot,
         operand: Box<Expression<'t>>,
     },
-    /// `X + Y`
-    Binary {
-        operator: BinaryOperator,
-        left: Box<Expression<'t>>,
-        right: Box<Expression<'t>>,
+    /// `X * Y + Z`: each operator has for its left operand all that stands before it.
+    Chain {
+        first: Box<Expression<'t>>,
+        links: Vec<Link<'t>>,
     },
+}
+
+/// An operator of a chain, and its right operand (4.5).
+#[derive(Debug, Drop)]
+#[cycle(expression)]
+pub struct Link<'t> {
+    pub operator: BinaryOperator,
+    pub operand: Expression<'t>,
 }
 
 /// An item of an aggregate, perhaps with the component that it is for (4.3.1).

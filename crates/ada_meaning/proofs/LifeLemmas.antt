@@ -1,16 +1,22 @@
 -- What one step does to the objects, and what follows for runs.
 
-use Rattle.std.proofs.Common.{◌≡◌, ◌≢◌, ℕ, zero, suc, Bool, true, false, List, [], ◌∷◌, ◌++◌, Option, Some, None, arith, refl, sym, ap, ◌∙◌, subst}
+use Rattle.std.proofs.Common.{◌≡◌, ◌≢◌, ℕ, zero, suc, Bool, true, false, List, [], ◌∷◌, ◌++◌, Option, Some, None, Result, Ok, Err, drop, arith, refl, sym, ap, ◌∙◌, subst}
 use Rattle.std.specs.List.{slice_get, slice_set, AllPairs, AllByRecursion}
 use Rattle.std.proofs.lemmas.List.Elements.{All-from_recursion}
 use Rattle.std.proofs.lemmas.List.Kept.{AllPairs-cons}
 use Rattle.ada_tree.specs.declared.program.Program.{Program}
 use Rattle.ada_tree.specs.declared.program.TypeDefinition.{TypeDefinition}
-use Rattle.ada_tree.specs.declared.program.Item.{Item as Written}
-use Rattle.ada_tree.specs.Form.{Source, nothing, value_of, allocates, Form, skips, assigns, frees, writes, Elaboration, collects, declares}
+use Rattle.ada_grammar.specs.declared.operators.BinaryOperator.{BinaryOperator}
+use Rattle.ada_grammar.specs.declared.operators.UnaryOperator.{UnaryOperator}
+use Rattle.ada_values.specs.declared.value.Value.{Value as ScalarValue}
+use Rattle.ada_values.specs.declared.value.Value.TheVariants as scalar
+use Rattle.ada_values.specs.declared.fault.OperatorFault.{OperatorFault}
+use Rattle.ada_values.specs.declared.fault.OperatorFault.TheVariants.{Overflow, DivisionByZero, WrongType}
+use Rattle.ada_values.specs.Outcome.{outcome_of, unary_outcome_of}
+use Rattle.ada_tree.specs.Form.{ExpressionForm, integer, boolean, object_value, component_value, applied_to, chained, LinksForm, no_more_links, a_link, ItemForm, null_item, item_of_value, Source, nothing, value_of, allocates, computes, Form, skips, assigns, frees, writes, writes_text, Elaboration, collects, declares}
 use Rattle.ada_meaning.specs.declared.state.Name.{Name}
 use Rattle.ada_meaning.specs.declared.state.Value.{Value}
-use Rattle.ada_meaning.specs.declared.state.Value.TheVariants.{Null, Names, Integer}
+use Rattle.ada_meaning.specs.declared.state.Value.TheVariants.{Null, Names, Scalar}
 use Rattle.ada_meaning.specs.declared.state.Stage.{Stage}
 use Rattle.ada_meaning.specs.declared.state.Stage.TheVariants.{Building, Existing, Gone}
 use Rattle.ada_meaning.specs.declared.state.Mode.{Mode}
@@ -20,8 +26,8 @@ use Rattle.ada_meaning.specs.declared.event.Cause.TheVariants.{Leaving, Free}
 use Rattle.ada_meaning.specs.declared.event.Event.{Event}
 use Rattle.ada_meaning.specs.declared.event.Event.TheVariants as event
 use Rattle.ada_meaning.specs.declared.event.Exception.{Exception}
-use Rattle.ada_meaning.specs.State.{Thing, Owned, declared, collection, Item, Master, Control, stops, elaborates, does, evaluates, stores, creates, prints, releases, ends, closes, leaves, State, found, thing_at, stage_by, stage_at, ended, held}
-use Rattle.ada_meaning.specs.Step.{Next, halts, moves, tells, asks, picks, next, mode_next, running_next, raising_next, elaboration_next, form_next, freed, follows, followed_by, source_next, line_next, release_next, end_next, emptied, owned_next, items_next, leave_next, at, answered, new_thing, newest, older}
+use Rattle.ada_meaning.specs.State.{Thing, Owned, declared, collection, Item, Master, Control, stops, elaborates, does, evaluates, computing, continues, applies, applies_alone, fills, creates_new, stores, creates, prints, releases, ends, closes, leaves, State, found, thing_at, stage_by, stage_at, ended, held}
+use Rattle.ada_meaning.specs.Step.{Next, halts, moves, tells, asks, picks, next, mode_next, running_next, raising_next, elaboration_next, form_next, freed, follows, followed_by, source_next, item_next, filled, new_next, expression_next, is_decided, link_next, outcome_next, applied_next, applied_alone_next, line_next, release_next, end_next, emptied, owned_next, items_next, leave_next, at, answered, new_thing, newest, older}
 use Rattle.ada_meaning.specs.Run.{Choice, settled, grants, takes, Leads, Step, Run, here, there}
 use Rattle.ada_meaning.specs.Law.{back_of, Differ, BackTwoObjects}
 use Rattle.ada_meaning.specs.Life.{KeepsUse, KeepsUses}
@@ -58,32 +64,72 @@ followed_does o c Existing s = same refl refl
 follows_does : (v : Value) (c : ℕ) (s : State) → Does s.objects (follows v c s)
 follows_does Null c s = same refl refl
 follows_does (Names o) c s = followed_does o c (stage_at s o) s
-follows_does (Integer i) c s = same refl refl
+follows_does (Scalar v) c s = same refl refl
 
 freed_does : (x : ℕ) (v : Value) (s : State) → Does s.objects (freed x v s)
 freed_does x Null s = same refl refl
 freed_does x (Names o) s = adds None refl refl
-freed_does x (Integer i) s = same refl refl
+freed_does x (Scalar v) s = same refl refl
 
 form_does : (f : Form) (s : State) → Does s.objects (form_next f s)
 form_does skips s = same refl refl
 form_does (assigns x source) s = same refl refl
 form_does (frees access x spot) s = freed_does x (held s x) s
-form_does (writes x c spot) s = follows_does (held s x) c s
+form_does (writes e) s = same refl refl
+form_does (writes_text text) s = same refl refl
 
-answered_does : (access : ℕ) (items : List Written) (s : State) (granted : Bool) → Deed s.objects event.Quiet (answered access items s granted).objects
-answered_does access items s true = adds (Some (new_thing access items)) refl refl
-answered_does access items s false = same refl refl
+answered_does : (access : ℕ) (values : List Value) (s : State) (granted : Bool) → Deed s.objects event.Quiet (answered access values s granted).objects
+answered_does access values s true = adds (Some (new_thing access values)) refl refl
+answered_does access values s false = same refl refl
 
-source_does : (types : List TypeDefinition) (source : Source) (s : State) → Does s.objects (source_next types source s)
-source_does types nothing s = same refl refl
-source_does types (value_of y spot) s = same refl refl
-source_does types (allocates access items) s = λ granted. answered_does access items s granted
+new_does : (types : List TypeDefinition) (access count : ℕ) (s : State) → Does s.objects (new_next types access count s)
+new_does types access count s = λ granted. answered_does access (filled count s) (record s { operands = drop count s.operands }) granted
+
+source_does : (source : Source) (s : State) → Does s.objects (source_next source s)
+source_does nothing s = same refl refl
+source_does (value_of y spot) s = same refl refl
+source_does (allocates access items) s = same refl refl
+source_does (computes e) s = same refl refl
+
+item_does : (item : ItemForm) (s : State) → Does s.objects (item_next item s)
+item_does null_item s = same refl refl
+item_does (item_of_value e) s = same refl refl
+
+expression_does : (e : ExpressionForm) (s : State) → Does s.objects (expression_next e s)
+expression_does (integer i) s = same refl refl
+expression_does (boolean b) s = same refl refl
+expression_does (object_value x) s = same refl refl
+expression_does (component_value x c spot) s = follows_does (held s x) c s
+expression_does (applied_to operator e) s = same refl refl
+expression_does (chained e links) s = same refl refl
+
+link_does : (decided : Bool) (operator : BinaryOperator) (e : ExpressionForm) (links : LinksForm) (s : State) → Does s.objects (link_next decided operator e links s)
+link_does true operator e links s = same refl refl
+link_does false operator e links s = same refl refl
+
+outcome_does : (outcome : Result ScalarValue OperatorFault) (s : State) → Does s.objects (outcome_next outcome s)
+outcome_does (Ok v) s = same refl refl
+outcome_does (Err Overflow) s = same refl refl
+outcome_does (Err DivisionByZero) s = same refl refl
+outcome_does (Err WrongType) s = same refl refl
+
+applied_does : (operator : BinaryOperator) (left right : Value) (s : State) → Does s.objects (applied_next operator left right s)
+applied_does operator (Scalar a) (Scalar b) s = outcome_does (outcome_of operator a b) s
+applied_does operator Null right s = same refl refl
+applied_does operator (Names o) right s = same refl refl
+applied_does operator (Scalar a) Null s = same refl refl
+applied_does operator (Scalar a) (Names o) s = same refl refl
+
+applied_alone_does : (operator : UnaryOperator) (operand : Value) (s : State) → Does s.objects (applied_alone_next operator operand s)
+applied_alone_does operator (Scalar a) s = outcome_does (unary_outcome_of operator a) s
+applied_alone_does operator Null s = same refl refl
+applied_alone_does operator (Names o) s = same refl refl
 
 line_does : (v : Value) (s : State) → Does s.objects (line_next v s)
 line_does Null s = same refl refl
 line_does (Names o) s = same refl refl
-line_does (Integer i) s = same refl refl
+line_does (Scalar (scalar.Integer i)) s = same refl refl
+line_does (Scalar (scalar.Boolean b)) s = same refl refl
 
 end_does : (o : Name) (cause : Cause) (stage : Stage) (s : State) → stage_at s o ≡ stage → Does s.objects (end_next o cause stage s)
 end_does o cause Gone s is = tt
@@ -93,7 +139,7 @@ end_does o cause Existing s is = goes o refl (λ (gone : stage_at s o ≡ Gone).
 release_does : (x : ℕ) (number : Name) (v : Value) (s : State) → Does s.objects (release_next x number v s)
 release_does x number Null s = same refl refl
 release_does x number (Names o) s = end_does o (Free number) (stage_at s o) (emptied x s) refl
-release_does x number (Integer i) s = same refl refl
+release_does x number (Scalar v) s = same refl refl
 
 owned_does : (cause : Cause) (owned : Owned) (s : State) → Does s.objects (owned_next cause owned s)
 owned_does cause (declared x) s = same refl refl
@@ -114,7 +160,15 @@ running_does types (elaborates [] k) s = same refl refl
 running_does types (elaborates (d ∷ ds) k) s = elaboration_does d (at (elaborates ds k) s)
 running_does types (does [] k) s = same refl refl
 running_does types (does (f ∷ fs) k) s = form_does f (at (does fs k) s)
-running_does types (evaluates source k) s = source_does types source (at k s)
+running_does types (evaluates source k) s = source_does source (at k s)
+running_does types (computing e k) s = expression_does e (at k s)
+running_does types (continues no_more_links k) s = same refl refl
+running_does types (continues (a_link operator e links) k) s = link_does (is_decided operator (newest s.operands)) operator e links (at k s)
+running_does types (applies operator k) s = applied_does operator (newest (older s.operands)) (newest s.operands) (record s { operands = older (older s.operands); control = k })
+running_does types (applies_alone operator k) s = applied_alone_does operator (newest s.operands) (record s { operands = older s.operands; control = k })
+running_does types (fills [] k) s = same refl refl
+running_does types (fills (i ∷ is) k) s = item_does i (at (fills is k) s)
+running_does types (creates_new access count k) s = new_does types access count (at k s)
 running_does types (stores x k) s = same refl refl
 running_does types (creates x k) s = adds None refl refl
 running_does types (prints k) s = line_does (newest s.operands) (record s { operands = older s.operands; control = k })
@@ -128,6 +182,12 @@ raising_does e stops s = tt
 raising_does e (elaborates ds k) s = same refl refl
 raising_does e (does fs k) s = same refl refl
 raising_does e (evaluates source k) s = same refl refl
+raising_does e (computing x k) s = same refl refl
+raising_does e (continues links k) s = same refl refl
+raising_does e (applies operator k) s = same refl refl
+raising_does e (applies_alone operator k) s = same refl refl
+raising_does e (fills items k) s = same refl refl
+raising_does e (creates_new access count k) s = same refl refl
 raising_does e (stores x k) s = same refl refl
 raising_does e (creates x k) s = same refl refl
 raising_does e (prints k) s = same refl refl

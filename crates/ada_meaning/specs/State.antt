@@ -10,7 +10,9 @@ use Rattle.ada_meaning.specs.declared.state.Stage.TheVariants.{Gone}
 use Rattle.ada_meaning.specs.declared.state.Home.{Home}
 use Rattle.ada_meaning.specs.declared.state.Mode.{Mode}
 use Rattle.ada_meaning.specs.declared.event.Cause.{Cause}
-use Rattle.ada_tree.specs.Form.{Source, Form, Elaboration}
+use Rattle.ada_grammar.specs.declared.operators.BinaryOperator.{BinaryOperator}
+use Rattle.ada_grammar.specs.declared.operators.UnaryOperator.{UnaryOperator}
+use Rattle.ada_tree.specs.Form.{ExpressionForm, LinksForm, ItemForm, Source, Form, Elaboration}
 
 -- An allocated object (3.3, 4.8): its components, where its words lie, its stage, and whether its words are still out.
 pub record Thing : Type 0 where
@@ -40,6 +42,12 @@ pub data Control : Type 0 where
   elaborates : List Elaboration → Control → Control
   does : List Form → Control → Control
   evaluates : Source → Control → Control
+  computing : ExpressionForm → Control → Control
+  continues : LinksForm → Control → Control
+  applies : BinaryOperator → Control → Control
+  applies_alone : UnaryOperator → Control → Control
+  fills : List ItemForm → Control → Control
+  creates_new : ℕ → ℕ → Control → Control
   stores : ℕ → Control → Control
   creates : ℕ → Control → Control
   prints : Control → Control

@@ -1,10 +1,10 @@
 -- The small steps: what a state does next, form by form in the order of the manual.
 
-use Rattle.std.specs.Prelude.{ℕ, Bool, true, false, not, ◌==◌, cond, List, [], ◌∷◌, ◌++◌, length, map, Some, None}
+use Rattle.std.specs.Prelude.{ℕ, Bool, true, false, not, ◌==◌, cond, List, [], ◌∷◌, ◌++◌, length, take, drop, reverse, map, Some, None, Result, Ok, Err}
 use Rattle.std.specs.List.{slice_index_or, slice_set, filter}
 use Rattle.ada_meaning.specs.declared.state.Name.{Name}
 use Rattle.ada_meaning.specs.declared.state.Value.{Value}
-use Rattle.ada_meaning.specs.declared.state.Value.TheVariants.{Null, Names, Integer}
+use Rattle.ada_meaning.specs.declared.state.Value.TheVariants.{Null, Names, Scalar}
 use Rattle.ada_meaning.specs.declared.state.Stage.{Stage}
 use Rattle.ada_meaning.specs.declared.state.Stage.TheVariants.{Building, Existing, Gone}
 use Rattle.ada_meaning.specs.declared.state.Mode.{Mode}
@@ -17,16 +17,22 @@ use Rattle.ada_meaning.specs.declared.event.Exception.{Exception}
 use Rattle.ada_meaning.specs.declared.event.Exception.TheVariants.{ConstraintError, StorageError}
 use Rattle.ada_meaning.specs.declared.event.Halt.{Halt}
 use Rattle.ada_meaning.specs.declared.event.Halt.TheVariants.{Finished, Unhandled, Erroneous}
-use Rattle.ada_meaning.specs.declared.event.Line.TheVariants.{Image}
+use Rattle.ada_meaning.specs.declared.event.Line.TheVariants.{Image, Literal}
 use Rattle.ada_meaning.specs.declared.event.Why.TheVariants.{FollowsGone, EndsTwice}
 use Rattle.ada_meaning.specs.declared.choices.Request.{Request}
 use Rattle.ada_meaning.specs.declared.choices.Request.TheVariants as request
 use Rattle.ada_tree.specs.declared.program.TypeDefinition.{TypeDefinition}
-use Rattle.ada_tree.specs.declared.program.Item.{Item as Written}
-use Rattle.ada_tree.specs.declared.program.Item.TheVariants as written
-use Rattle.ada_tree.specs.Form.{Source, nothing, value_of, allocates, Form, skips, assigns, frees, writes, Elaboration, collects, declares}
+use Rattle.ada_grammar.specs.declared.operators.BinaryOperator.{BinaryOperator}
+use Rattle.ada_grammar.specs.declared.operators.BinaryOperator.TheVariants as binary
+use Rattle.ada_grammar.specs.declared.operators.UnaryOperator.{UnaryOperator}
+use Rattle.ada_values.specs.declared.value.Value.{Value as ScalarValue}
+use Rattle.ada_values.specs.declared.value.Value.TheVariants as scalar
+use Rattle.ada_values.specs.declared.fault.OperatorFault.{OperatorFault}
+use Rattle.ada_values.specs.declared.fault.OperatorFault.TheVariants.{Overflow, DivisionByZero, WrongType}
+use Rattle.ada_values.specs.Outcome.{outcome_of, unary_outcome_of}
+use Rattle.ada_tree.specs.Form.{ExpressionForm, integer, boolean, object_value, component_value, applied_to, chained, LinksForm, no_more_links, a_link, ItemForm, null_item, item_of_value, Source, nothing, value_of, allocates, computes, Form, skips, assigns, frees, writes, writes_text, Elaboration, collects, declares}
 use Rattle.ada_tree.specs.Typed.{words_of}
-use Rattle.ada_meaning.specs.State.{Thing, Owned, declared, collection, Item, Master, Control, stops, elaborates, does, evaluates, stores, creates, prints, releases, ends, closes, leaves, State, next_name, held, thing_at, stage_at, component_by, ended}
+use Rattle.ada_meaning.specs.State.{Thing, Owned, declared, collection, Item, Master, Control, stops, elaborates, does, evaluates, computing, continues, applies, applies_alone, fills, creates_new, stores, creates, prints, releases, ends, closes, leaves, State, next_name, held, thing_at, stage_at, component_by, ended}
 
 -- What a state does next: it halts; or one event comes, perhaps with something told to the pools; or a request to a
 -- pool is open; or one of so many members is to be taken.
@@ -41,9 +47,9 @@ pub data Next : Type 0 where
 abbrev pub at : Control → State → State
 at k s = record s { control = k }
 
--- An exception is raised (11.3): what is left to do is searched for who takes it.
+-- An exception is raised (11.3): what is left to do is searched for who takes it, and what pending forms have computed is dropped.
 abbrev pub raised : Exception → State → State
-raised e s = record s { mode = Raising e }
+raised e s = record s { mode = Raising e; operands = [] }
 
 -- A name is used up for a master, an item or a cause.
 abbrev pub numbered : State → State
@@ -111,38 +117,34 @@ elaboration_next (declares x source) s = moves event.Quiet (at (evaluates source
 -- X.C is followed (4.1): null raises Constraint_Error, and a gone object is erroneous (13.11.2).
 abbrev pub followed_by : Name → ℕ → Stage → State → Next
 followed_by o c Gone s = halts (Erroneous FollowsGone)
-followed_by o c Building s = moves (event.Followed o) (at (prints s.control) (computed (component_by (thing_at s o) c) s))
-followed_by o c Existing s = moves (event.Followed o) (at (prints s.control) (computed (component_by (thing_at s o) c) s))
+followed_by o c Building s = moves (event.Followed o) (computed (component_by (thing_at s o) c) s)
+followed_by o c Existing s = moves (event.Followed o) (computed (component_by (thing_at s o) c) s)
 
 abbrev pub follows : Value → ℕ → State → Next
 follows Null c s = moves event.Quiet (raised ConstraintError s)
 follows (Names o) c s = followed_by o c (stage_at s o) s
-follows (Integer i) c s = moves event.Quiet s
+follows (Scalar v) c s = moves event.Quiet s
 
 -- Free (X) (13.11.2): null has no effect; else the object is to end.
 abbrev pub freed : ℕ → Value → State → Next
 freed x Null s = moves event.Quiet s
 freed x (Names o) s = moves event.Quiet (at (releases x (next_name s) s.control) (numbered s))
-freed x (Integer i) s = moves event.Quiet s
+freed x (Scalar v) s = moves event.Quiet s
 
 -- Statements (5.1).
 abbrev pub form_next : Form → State → Next
 form_next skips s = moves event.Quiet s
 form_next (assigns x source) s = moves event.Quiet (at (evaluates source (stores x s.control)) s)
 form_next (frees access x spot) s = freed x (held s x) s
-form_next (writes x c spot) s = follows (held s x) c s
+form_next (writes e) s = moves event.Quiet (at (computing e (prints s.control)) s)
+form_next (writes_text text) s = moves (event.Line (Literal (record { 0 = text }))) s
 
--- The components of a new object, from its items (4.8, 4.3.1).
-abbrev pub item_value : Written → Value
-item_value (written.Integer i) = Integer i
-item_value written.Null = Null
+-- A granted allocator (4.8): the object exists with the values of its items, belongs to its collection, and its name is the value.
+abbrev pub new_thing : ℕ → List Value → Thing
+new_thing access values = record { values = values; home = record { access = record { 0 = access }; pool = 0; subpool = None }; stage = Existing; out = true }
 
--- A granted allocator (4.8): the object exists, belongs to its collection, and its name is the value.
-abbrev pub new_thing : ℕ → List Written → Thing
-new_thing access items = record { values = map item_value items; home = record { access = record { 0 = access }; pool = 0; subpool = None }; stage = Existing; out = true }
-
-abbrev pub granted : ℕ → List Written → State → State
-granted access items s = computed (Names (next_name s)) (record s { objects = s.objects ++ Some (new_thing access items) ∷ []; masters = map (joined access (next_name s)) s.masters })
+abbrev pub granted : ℕ → List Value → State → State
+granted access values s = computed (Names (next_name s)) (record s { objects = s.objects ++ Some (new_thing access values) ∷ []; masters = map (joined access (next_name s)) s.masters })
 
 -- A refused one raises Storage_Error (11.1), and nothing waits for a value any more.
 abbrev pub abandoned : Control → Control
@@ -150,21 +152,73 @@ abandoned (stores x k) = k
 abandoned (creates x k) = k
 abandoned k = k
 
-abbrev pub answered : ℕ → List Written → State → Bool → State
-answered access items s true = granted access items s
-answered access items s false = raised StorageError (at (abandoned s.control) s)
+abbrev pub answered : ℕ → List Value → State → Bool → State
+answered access values s true = granted access values s
+answered access values s false = raised StorageError (at (abandoned s.control) s)
 
--- What is assigned is evaluated (4.1, 4.8).
-abbrev pub source_next : List TypeDefinition → Source → State → Next
-source_next types nothing s = moves event.Quiet (computed Null s)
-source_next types (value_of y spot) s = moves event.Quiet (computed (held s y) s)
-source_next types (allocates access items) s = asks (request.Allocate 0 0 (words_of types access) (next_name s)) (answered access items s)
+-- What is assigned is evaluated (4.1, 4.8): the items of an allocator one by one, in the order of the components, before its object is asked for.
+abbrev pub source_next : Source → State → Next
+source_next nothing s = moves event.Quiet (computed Null s)
+source_next (value_of y spot) s = moves event.Quiet (computed (held s y) s)
+source_next (allocates access items) s = moves event.Quiet (at (fills items (creates_new access (length items) s.control)) s)
+source_next (computes e) s = moves event.Quiet (at (computing e s.control) s)
+
+-- The next item of an allocator.
+abbrev pub item_next : ItemForm → State → Next
+item_next null_item s = moves event.Quiet (computed Null s)
+item_next (item_of_value e) s = moves event.Quiet (at (computing e s.control) s)
+
+-- The values of an allocator's items, in order: the newest operands, as many as there are items.
+abbrev pub filled : ℕ → State → List Value
+filled count s = reverse (take count s.operands)
+
+-- A pool is asked for the object of an allocator, whose items are evaluated (4.8).
+abbrev pub new_next : List TypeDefinition → ℕ → ℕ → State → Next
+new_next types access count s = asks (request.Allocate 0 0 (words_of types access) (next_name s)) (answered access (filled count s) (record s { operands = drop count s.operands }))
+
+-- An expression is evaluated (4.4); the left operand comes before the right one.
+abbrev pub expression_next : ExpressionForm → State → Next
+expression_next (integer i) s = moves event.Quiet (computed (Scalar (scalar.Integer i)) s)
+expression_next (boolean b) s = moves event.Quiet (computed (Scalar (scalar.Boolean b)) s)
+expression_next (object_value x) s = moves event.Quiet (computed (held s x) s)
+expression_next (component_value x c spot) s = follows (held s x) c s
+expression_next (applied_to operator e) s = moves event.Quiet (at (computing e (applies_alone operator s.control)) s)
+expression_next (chained e links) s = moves event.Quiet (at (computing e (continues links s.control)) s)
+
+-- Whether the left operand decides a short-circuit form (4.5.1): its right operand isn't evaluated then.
+abbrev pub is_decided : BinaryOperator → Value → Bool
+is_decided binary.AndThen (Scalar (scalar.Boolean b)) = not b
+is_decided binary.OrElse (Scalar (scalar.Boolean b)) = b
+is_decided operator value = false
+
+-- The next operator of a chain: its right operand is evaluated and the operator applied, unless the left one decides.
+abbrev pub link_next : Bool → BinaryOperator → ExpressionForm → LinksForm → State → Next
+link_next true operator e links s = moves event.Quiet (at (continues links s.control) s)
+link_next false operator e links s = moves event.Quiet (at (computing e (applies operator (continues links s.control))) s)
+
+-- What comes of an operator (4.5): a value, or Constraint_Error.
+abbrev pub outcome_next : Result ScalarValue OperatorFault → State → Next
+outcome_next (Ok v) s = moves event.Quiet (computed (Scalar v) s)
+outcome_next (Err Overflow) s = moves event.Quiet (raised ConstraintError s)
+outcome_next (Err DivisionByZero) s = moves event.Quiet (raised ConstraintError s)
+outcome_next (Err WrongType) s = moves event.Quiet s
+
+-- An operator is applied to its operands.
+abbrev pub applied_next : BinaryOperator → Value → Value → State → Next
+applied_next operator (Scalar a) (Scalar b) s = outcome_next (outcome_of operator a b) s
+applied_next operator a b s = moves event.Quiet s
+
+-- An operator is applied to its one operand.
+abbrev pub applied_alone_next : UnaryOperator → Value → State → Next
+applied_alone_next operator (Scalar a) s = outcome_next (unary_outcome_of operator a) s
+applied_alone_next operator a s = moves event.Quiet s
 
 -- The line of an integer (3.5).
 abbrev pub line_next : Value → State → Next
 line_next Null s = moves event.Quiet s
 line_next (Names o) s = moves event.Quiet s
-line_next (Integer i) s = moves (event.Line (Image i)) s
+line_next (Scalar (scalar.Integer i)) s = moves (event.Line (Image i)) s
+line_next (Scalar (scalar.Boolean b)) s = moves event.Quiet s
 
 -- An object ceases to exist and its words go back (13.11.2): twice is erroneous.
 abbrev pub end_next : Name → Cause → Stage → State → Next
@@ -179,7 +233,7 @@ emptied x s = record s { places = slice_set s.places x Null }
 abbrev pub release_next : ℕ → Name → Value → State → Next
 release_next x number Null s = moves event.Quiet s
 release_next x number (Names o) s = end_next o (Free number) (stage_at s o) (emptied x s)
-release_next x number (Integer i) s = moves event.Quiet s
+release_next x number (Scalar v) s = moves event.Quiet s
 
 -- The innermost master without its newest item.
 abbrev pub shorter : List Master → List Master
@@ -212,7 +266,15 @@ running_next types (elaborates [] k) s = moves event.Quiet (at k s)
 running_next types (elaborates (d ∷ ds) k) s = elaboration_next d (at (elaborates ds k) s)
 running_next types (does [] k) s = moves event.Quiet (at k s)
 running_next types (does (f ∷ fs) k) s = form_next f (at (does fs k) s)
-running_next types (evaluates source k) s = source_next types source (at k s)
+running_next types (evaluates source k) s = source_next source (at k s)
+running_next types (computing e k) s = expression_next e (at k s)
+running_next types (continues no_more_links k) s = moves event.Quiet (at k s)
+running_next types (continues (a_link operator e links) k) s = link_next (is_decided operator (newest s.operands)) operator e links (at k s)
+running_next types (applies operator k) s = applied_next operator (newest (older s.operands)) (newest s.operands) (record s { operands = older (older s.operands); control = k })
+running_next types (applies_alone operator k) s = applied_alone_next operator (newest s.operands) (record s { operands = older s.operands; control = k })
+running_next types (fills [] k) s = moves event.Quiet (at k s)
+running_next types (fills (i ∷ is) k) s = item_next i (at (fills is k) s)
+running_next types (creates_new access count k) s = new_next types access count (at k s)
 running_next types (stores x k) s = moves event.Quiet (stored x (at k s))
 running_next types (creates x k) s = moves event.Quiet (created (declared x) (stored x (at k s)))
 running_next types (prints k) s = line_next (newest s.operands) (record s { operands = older s.operands; control = k })
@@ -227,6 +289,12 @@ raising_next e stops s = halts (Unhandled e)
 raising_next e (elaborates ds k) s = moves event.Quiet (at k s)
 raising_next e (does fs k) s = moves event.Quiet (at k s)
 raising_next e (evaluates source k) s = moves event.Quiet (at k s)
+raising_next e (computing x k) s = moves event.Quiet (at k s)
+raising_next e (continues links k) s = moves event.Quiet (at k s)
+raising_next e (applies operator k) s = moves event.Quiet (at k s)
+raising_next e (applies_alone operator k) s = moves event.Quiet (at k s)
+raising_next e (fills items k) s = moves event.Quiet (at k s)
+raising_next e (creates_new access count k) s = moves event.Quiet (at k s)
 raising_next e (stores x k) s = moves event.Quiet (at k s)
 raising_next e (creates x k) s = moves event.Quiet (at k s)
 raising_next e (prints k) s = moves event.Quiet (at k s)
@@ -250,6 +318,12 @@ begins_by (elaborates ds k) = false
 begins_by (does [] k) = false
 begins_by (does (f ∷ fs) k) = true
 begins_by (evaluates source k) = false
+begins_by (computing e k) = false
+begins_by (continues links k) = false
+begins_by (applies operator k) = false
+begins_by (applies_alone operator k) = false
+begins_by (fills items k) = false
+begins_by (creates_new access count k) = false
 begins_by (stores x k) = false
 begins_by (creates x k) = false
 begins_by (prints k) = false

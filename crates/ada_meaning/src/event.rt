@@ -1,6 +1,7 @@
 //! What a step shows to the outside, and how a run ends.
 
 use crate::state::Name;
+use ada_tree::program::TextNo;
 use std::fmt;
 
 /// What one step does that can be seen from outside.
@@ -36,6 +37,8 @@ pub enum Cause {
 pub enum Line {
     /// `Integer'Image`: a blank or a minus sign, then digits.
     Image(i32),
+    /// A string literal of the program.
+    Literal(TextNo),
 }
 
 /// How a run ends. After it the machine answers the same again.

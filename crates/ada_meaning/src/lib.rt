@@ -5,6 +5,7 @@
 //!   statement;
 //! - [`Machine::step`] makes a step of the definition in `specs/Step.antt` that its [`Choices`] answered, with that
 //!   step's event, and tells them each request and each object that goes, once;
+//! - an expression is evaluated in steps too, its left operand first, by the operators of `ada_values`;
 //! - it halts exactly where the definition has no step, or where memory was refused, and answers the same again;
 //! - objects are known by names that are never used again, so that it is seen where a gone object would be followed
 //!   or ended ([`laws`]).
@@ -17,8 +18,10 @@
 //! ```
 #![tactic(auto)]
 
+mod allocators;
 mod choices;
 mod event;
+mod expressions;
 pub mod laws;
 mod listed;
 mod machine;

@@ -111,9 +111,9 @@ impl<'a, C: Choices + Drop> Machine<'a, C> {
     }
 
     /// The answer of a turn is taken up: what it tells is told, and what it asks is asked.
-    fn settle(&mut self, turn: Turn<'a>) -> Result<Event, Halt>
-        ensures steps { IfOk result (λ event. Makes C.grants C.picks (shown turn.entry (state_in self.old)) (choices_of self.old) event (state_in self.new) (choices_of self.new)) }
-        ensures ends { IfErr result (λ halt. (halt ≡ Memory) ⊎ (shown turn.entry (state_in self.old) ≡ halts halt)) }
+    fn settle(&mut self, turn: Turn) -> Result<Event, Halt>
+        ensures steps { IfOk result (λ event. Makes C.grants C.picks (shown turn (state_in self.old)) (choices_of self.old) event (state_in self.new) (choices_of self.new)) }
+        ensures ends { IfErr result (λ halt. (halt ≡ Memory) ⊎ (shown turn (state_in self.old) ≡ halts halt)) }
         ensures same { halt_of self.new ≡ halt_of self.old }
         ensures program { program_of self.new ≡ program_of self.old }
     {
@@ -140,8 +140,8 @@ impl<'a, C: Choices + Drop> Machine<'a, C> {
     }
 
     /// A pool is asked.
-    fn ask(&mut self, allocation: Allocation<'a>) -> Result<Event, Halt>
-        ensures steps { IfOk result (λ shows. Makes C.grants C.picks (shown (Turn.Asks allocation.entry) (state_in self.old)) (choices_of self.old) shows (state_in self.new) (choices_of self.new)) }
+    fn ask(&mut self, allocation: Allocation) -> Result<Event, Halt>
+        ensures steps { IfOk result (λ shows. Makes C.grants C.picks (shown (Turn.Asks allocation) (state_in self.old)) (choices_of self.old) shows (state_in self.new) (choices_of self.new)) }
         ensures ends { IfErr result (λ halt. halt ≡ Memory) }
         ensures same { halt_of self.new ≡ halt_of self.old }
         ensures program { program_of self.new ≡ program_of self.old }

@@ -6,7 +6,7 @@ ghost use Rattle.ada_meaning.specs.declared.choices.Request.TheVariants.{Allocat
 ghost use Rattle.ada_meaning.specs.declared.event.Event.TheVariants.{Quiet};
 ghost use Rattle.std.proofs.Math.ListN.{replicate};
 ghost use Rattle.ada_meaning.specs.State.{Control};
-ghost use Rattle.ada_meaning.specs.Step.{moves, next, begins, begins_by, running_next, raising_next};
+ghost use Rattle.ada_meaning.specs.Step.{moves, next, begins, begins_by, running_next, raising_next, raised, computed, newest, older};
 ghost use Rattle.ada_meaning.specs.Run.{first_state};
 ghost use Rattle.ada_meaning.specs.Process.{on, control_of, state_of, shown};
 
@@ -18,12 +18,12 @@ use crate::remains::Members;
 use crate::stack::Stack;
 use crate::state::{Frame, Mode, Name, Value};
 use crate::values::{set_value, value_at};
-use ada_tree::{PlaceNo, Program, TypeNo, program};
+use ada_tree::{PlaceNo, Program, TypeNo};
 use std::alloc::{AllocError, Global};
 
 /// What comes next: the answer of one turn.
 #[derive(Clone, Copy)]
-pub(crate) enum Turn<'a> {
+pub(crate) enum Turn {
     /// There is no step.
     Halts(Halt),
     /// The step is made, and this is its event.
@@ -31,21 +31,21 @@ pub(crate) enum Turn<'a> {
     /// The step is made, and the pools are to be told.
     Tells(Request, Event),
     /// A request is open.
-    Asks(Allocation<'a>),
+    Asks(Allocation),
     /// One of so many members of a collection is to be taken.
     Picks(Members),
 }
 
-/// An allocator that waits for its storage.
+/// An allocator that waits for its storage; the values of its items are so many newest operands.
 #[derive(Clone, Copy)]
-pub(crate) struct Allocation<'a> {
+pub(crate) struct Allocation {
     pub(crate) access: TypeNo,
-    pub(crate) items: &'a [program::Item],
+    pub(crate) count: usize,
     pub(crate) words: usize,
     pub(crate) object: Name,
 }
 
-impl<'a> Allocation<'a> {
+impl Allocation {
     /// What a pool is asked for it.
     pub(crate) fn request(&self) -> Request
         ensures { result ≡ Allocate 0 0 self.now.words self.now.object }
@@ -119,7 +119,7 @@ impl<'a> Process<'a> {
 
     /// What comes next; the step is made, up to what it asks.
     #[tactic(auto, unfolding(crate::specs::Step::next))]
-    pub(crate) fn turn(&mut self, program: &Program) -> Result<Turn<'a>, AllocError>
+    pub(crate) fn turn(&mut self, program: &Program) -> Result<Turn, AllocError>
         ensures { IfOk result (λ turn. shown turn (state_of self.new) ≡ next program.now.types.items (state_of self.old)) }
     {
         match self.mode {
@@ -129,7 +129,7 @@ impl<'a> Process<'a> {
     }
 
     /// What comes next where no exception is on its way.
-    fn run(&mut self, program: &Program) -> Result<Turn<'a>, AllocError>
+    fn run(&mut self, program: &Program) -> Result<Turn, AllocError>
         ensures { IfOk result (λ turn. shown turn (state_of self.new) ≡ running_next program.now.types.items (state_of self.old).control (state_of self.old)) }
     {
         match self.frames.pop() {
@@ -139,13 +139,19 @@ impl<'a> Process<'a> {
     }
 
     /// What comes next where a frame has been taken off.
-    fn advance(&mut self, program: &Program, frame: Frame<'a>) -> Result<Turn<'a>, AllocError>
+    fn advance(&mut self, program: &Program, frame: Frame<'a>) -> Result<Turn, AllocError>
         ensures { IfOk result (λ turn. shown turn (state_of self.new) ≡ running_next program.now.types.items (on frame.entry (state_of self.old).control) (record (state_of self.old) { control = on frame.entry (state_of self.old).control })) }
     {
         match frame {
             Frame::Elaborates(declarations) => self.elaborate(declarations),
             Frame::Does(statements) => self.begin(statements),
-            Frame::Evaluates(source) => self.evaluate(program, source),
+            Frame::Evaluates(source) => self.evaluate(source),
+            Frame::Computes(expression) => self.compute(expression),
+            Frame::Continues(links) => self.go_on(links),
+            Frame::Applies(operator) => self.apply(operator),
+            Frame::AppliesAlone(operator) => self.apply_alone(operator),
+            Frame::Fills(items) => self.fill(items),
+            Frame::Creates { access, count } => Ok(self.ask(program, access, count)),
             Frame::Stores(place) => Ok(self.store(place)),
             Frame::Declares(place) => self.create(place),
             Frame::Writes => Ok(self.write()),
@@ -157,7 +163,7 @@ impl<'a> Process<'a> {
     }
 
     /// What an exception does to what is left to do (11.4): it passes it, but a master is left before it goes on.
-    fn unwind(&mut self, exception: Exception) -> Result<Turn<'a>, AllocError>
+    fn unwind(&mut self, exception: Exception) -> Result<Turn, AllocError>
         ensures { IfOk result (λ turn. shown turn (state_of self.new) ≡ raising_next exception (state_of self.old).control (state_of self.old)) }
     {
         match self.frames.pop() {
@@ -167,7 +173,7 @@ impl<'a> Process<'a> {
     }
 
     /// What an exception does to a frame that has been taken off.
-    fn pass(&mut self, exception: Exception, frame: Frame<'a>) -> Result<Turn<'a>, AllocError>
+    fn pass(&mut self, exception: Exception, frame: Frame<'a>) -> Result<Turn, AllocError>
         ensures { IfOk result (λ turn. shown turn (state_of self.new) ≡ raising_next exception (on frame.entry (state_of self.old).control) (record (state_of self.old) { control = on frame.entry (state_of self.old).control })) }
     {
         if let Frame::Closes = frame {
@@ -179,11 +185,48 @@ impl<'a> Process<'a> {
     }
 
     /// One more thing is left to do.
-    pub(crate) fn push(&mut self, frame: Frame<'a>) -> Result<Turn<'a>, AllocError>
+    pub(crate) fn push(&mut self, frame: Frame<'a>) -> Result<Turn, AllocError>
         ensures { IfOk result (λ turn. shown turn (state_of self.new) ≡ moves Quiet (record (state_of self.old) { control = on frame.entry (state_of self.old).control })) }
     {
         self.frames.push(frame)?;
         Ok(Turn::Moves(Event::Quiet))
+    }
+
+    /// An exception is raised (11.3), and what pending forms have computed is dropped.
+    pub(crate) fn raise(&mut self, exception: Exception)
+        ensures { state_of self.new ≡ raised exception (state_of self.old) }
+    {
+        self.operands.clear();
+        self.mode = Mode::Raising(exception);
+    }
+
+    /// A value is kept for the form that waits for it.
+    pub(crate) fn keep(&mut self, value: Value) -> Result<Turn, AllocError>
+        ensures { IfOk result (λ turn. shown turn (state_of self.new) ≡ moves Quiet (computed value (state_of self.old))) }
+    {
+        self.operands.push(value)?;
+        Ok(Turn::Moves(Event::Quiet))
+    }
+
+    /// The newest operand; null, if there is none.
+    pub(crate) fn newest(&self) -> Value
+        ensures { result ≡ newest (state_of self.now).operands }
+    {
+        match self.operands.top() {
+            Some(value) => *value,
+            None => Value::Null,
+        }
+    }
+
+    /// The newest operand, taken off.
+    pub(crate) fn operand(&mut self) -> Value
+        ensures value { result ≡ newest (state_of self.old).operands }
+        ensures left { state_of self.new ≡ record (state_of self.old) { operands = older (state_of self.old).operands } }
+    {
+        match self.operands.pop() {
+            Some(value) => value,
+            None => Value::Null,
+        }
     }
 
     /// What a declared object holds.

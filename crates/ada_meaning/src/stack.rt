@@ -1,6 +1,6 @@
 //! A stack: what was put on last comes off first.
 
-ghost use Rattle.std.specs.Prelude.{◌≡◌, ℕ, [], ◌∷◌, map, drop, take, length, OnOk, MatchOption};
+ghost use Rattle.std.specs.Prelude.{◌≡◌, ℕ, [], ◌∷◌, map, drop, take, reverse, length, IfOk, OnOk, MatchOption};
 ghost use Rattle.std.specs.List.{filter, slice_index_or};
 ghost use Rattle.ada_meaning.specs.Step.{is_other, parted, parted_item, joined, joined_item};
 ghost use Rattle.ada_meaning.specs.View.{item_of, master_of};
@@ -58,6 +58,22 @@ impl<T: Drop> Stack<T> {
         ensures { MatchOption result (self.now ≡ []) (λ item. self.now ≡ item.now ∷ drop 1 self.now) }
     {
         self.items.last()
+    }
+
+    /// Takes all items off.
+    pub(crate) fn clear(&mut self)
+        ensures { self.new ≡ [] }
+    {
+        self.items.clear();
+    }
+
+    /// Takes so many of the newest items off, or all if there are not so many: in the order in which they were put on.
+    pub(crate) fn take(&mut self, count: usize) -> Result<Vec<T>, AllocError>
+        ensures taken { IfOk result (λ taken. taken.items ≡ reverse (take count self.old)) }
+        ensures left { OnOk result (self.new ≡ drop count self.old) }
+    {
+        let kept = self.items.len().saturating_sub(count);
+        self.items.split_off(kept)
     }
 
     /// How many items there are.

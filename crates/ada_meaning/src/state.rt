@@ -6,7 +6,8 @@ ghost use Rattle.ada_meaning.specs.View.{item_of};
 
 use crate::event::{Cause, Exception};
 use crate::stack::Stack;
-use ada_tree::program::{Declaration, Right};
+use ada_grammar::operators::{BinaryOperator, UnaryOperator};
+use ada_tree::program::{self, Declaration, Expression, Link, Right};
 use ada_tree::{PlaceNo, Stmt, TypeNo};
 use std::alloc::AllocError;
 
@@ -19,7 +20,8 @@ pub struct Name(pub usize);
 pub enum Value {
     Null,
     Names(Name),
-    Integer(i32),
+    /// An Integer or a Boolean.
+    Scalar(ada_values::Value),
 }
 
 /// The stages of an object's life; none comes back (7.6.1, 13.11.2).
@@ -123,6 +125,18 @@ pub(crate) enum Frame<'a> {
     Does(&'a [Stmt]),
     /// What is assigned is to be evaluated; null where nothing is written.
     Evaluates(Option<&'a Right>),
+    /// An expression is to be evaluated: its value becomes the newest operand (4.4).
+    Computes(&'a Expression),
+    /// The operators of a chain that are left; the newest operand is the left one of the first (4.5).
+    Continues(&'a [Link]),
+    /// An operator is to be applied to the two newest operands (4.5).
+    Applies(BinaryOperator),
+    /// An operator is to be applied to the newest operand (4.5.4, 4.5.6).
+    AppliesAlone(UnaryOperator),
+    /// The items of an allocator that are left to be evaluated (4.8).
+    Fills(&'a [program::Item]),
+    /// A pool is to be asked for a new object, whose values are so many newest operands (4.8).
+    Creates { access: TypeNo, count: usize },
     /// The newest operand goes to a declared object (5.2).
     Stores(PlaceNo),
     /// The newest operand is the initial value of a declared object, which then is created (3.3.1).

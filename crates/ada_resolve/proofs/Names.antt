@@ -1,14 +1,15 @@
 -- Names and numbers in lists, and what they stand for.
 
-use Rattle.std.proofs.Common.{◌≡◌, ◌∙◌, ◌≤◌, ℕ, zero, suc, List, [], ◌∷◌, ◌++◌, map, length, refl, ap, bytes_eq, Option, Some, None, slice_get, slice_set, true, false, ◌==◌, ◌&&◌, arith}
+use Rattle.std.proofs.Common.{◌≡◌, ◌∙◌, ◌≤◌, ℕ, zero, suc, List, [], ◌∷◌, ◌++◌, map, length, refl, ap, sym, ◌+◌, bytes_eq, Option, Some, None, slice_get, slice_set, true, false, ◌==◌, ◌&&◌, arith}
 use Rattle.std.specs.Map.{lookup}
 use Rattle.std.specs.Prelude.{if◌then◌else◌, option_map, Bool}
+use Rattle.std.proofs.lemmas.List.{length-append, length-map}
 use Rattle.indexmap.specs.IndexMap.{insert_entry}
 use Rattle.ada_resolve.specs.declared.scope.Entity.{Entity}
 use Rattle.ada_resolve.specs.Known.{named, entered}
 use Rattle.ada_resolve.specs.View.{named_of}
-use Rattle.ada_tree.specs.Grammar.{ident_of}
-use Rattle.ada_tree.specs.declared.syntax.Identifier.{Identifier}
+use Rattle.ada_grammar.specs.Names.{ident_of}
+use Rattle.ada_grammar.specs.declared.names.Identifier.{Identifier}
 use Rattle.ada_resolve.specs.Library.{spelled}
 use Rattle.ada_tree.specs.Form.{initial_of}
 use Rattle.ada_tree.specs.declared.program.Right.{Right}
@@ -90,3 +91,7 @@ map_append f (x ∷ xs) ys = ap (λ zs. f x ∷ zs) (map_append f xs ys)
 pub entities_map : (entries : List (Bor (List ℕ) × Entity)) → map entity_in (map named_of entries) ≡ map (λ e. e.1) entries
 entities_map [] = refl
 entities_map (e ∷ es) = ap (λ (xs : List Entity). e.1 ∷ xs) (entities_map es)
+
+-- as many texts as before, and those that are added
+pub length_added : {X Y : Type 0} (f : X → Y) (xs ys : List X) (zs : List Y) → map f ys ≡ map f xs ++ zs → length ys ≡ length xs + length zs
+length_added f xs ys zs e = sym (length-map ys f) ∙ ap length e ∙ length-append (map f xs) zs ∙ ap (λ (n : ℕ). n + length zs) (length-map xs f)

@@ -2,8 +2,8 @@
 
 use Rattle.std.specs.Prelude.{ℕ, Bool, true, false, ◌==◌, not, nat_lt, if◌then◌else◌, List, [], ◌∷◌, length, Option, Some, None, is_some, bytes_eq}
 use Rattle.ada_text.specs.declared.spot.Spot.{Spot}
+use Rattle.ada_grammar.specs.Names.{Ident, SelectorTree, component, dereference, PathTree, is_name}
 use Rattle.ada_tree.specs.Form.{Elaboration}
-use Rattle.ada_tree.specs.Grammar.{Ident}
 use Rattle.ada_tree.specs.ProgramForm.{TypeForm, ObjectForm}
 use Rattle.ada_resolve.specs.declared.fault.NameRule.TheVariants.{UnknownName, DeclaredTwice, NotInProfile, Layout, Limit}
 use Rattle.ada_resolve.specs.declared.library.LibraryName.{LibraryName}
@@ -100,6 +100,22 @@ if_with false name = None
 -- What such a name stands for, where nothing is wrong with it.
 abbrev pub library_found : Known → Ident → List Ident → Option LibraryName
 library_found known first rest = if_with (is_with known.withs (library_name first.text rest)) (library_name first.text rest)
+
+-- The identifiers that a path selects, one by one.
+abbrev pub parts_of : List SelectorTree → List Ident
+parts_of [] = []
+parts_of (component i ∷ selectors) = i ∷ parts_of selectors
+parts_of (dereference spot ∷ selectors) = parts_of selectors
+
+-- What is wrong with a path that begins with a root of the library: with `all` in it, it is no name of the profile's.
+abbrev pub library_path_remark : Known → PathTree → Remark
+library_path_remark known path =
+    if is_name path.selectors then library_remark known path.root (parts_of path.selectors) else wrong path.root.spot NotInProfile
+
+-- What such a path stands for, where nothing is wrong with it.
+abbrev pub library_path_found : Known → PathTree → Option LibraryName
+library_path_found known path =
+    if is_name path.selectors then library_found known path.root (parts_of path.selectors) else None
 
 -- A list has nothing.
 abbrev pub is_empty : {X : Type 0} → List X → Bool

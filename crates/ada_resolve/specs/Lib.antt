@@ -2,15 +2,43 @@
 
 -- what is wrong with a tree, and which fault is the first
 pub mod Remark
+-- where a construct begins
+pub mod Spots
 -- the library's names, and those that are predefined (A.1, A.2)
 pub mod Library
 -- what is known at a place in the procedure, and what names stand for there (8.3)
 pub mod Known
--- type declarations and instances of Unchecked_Deallocation (3.8, 3.10, 13.11.2)
+-- incomplete types and access types (3.10)
 pub mod Types
--- object declarations, and what is assigned (3.3.1, 4.3, 4.8)
+-- static values, and named numbers (3.3.2, 4.9)
+pub mod Statics
+-- record types (3.8)
+pub mod Records
+-- instances of Unchecked_Deallocation (12.3, 13.11.2)
+pub mod Instances
+-- paths where a value is wanted (4.1)
+pub mod Paths
+-- operators (4.5)
+pub mod Operators
+-- expressions (4.4)
+pub mod Expressions
+-- chains of operators, one operator after another (4.5)
+pub mod Chains
+-- the items of aggregates (4.3.1)
+pub mod Items
+-- allocators (4.8)
+pub mod Allocators
+-- what is assigned (5.2)
+pub mod Rights
+-- object declarations (3.3.1)
 pub mod Objects
--- statements (5.2, 6.4)
+-- the arguments of a call (6.4)
+pub mod Arguments
+-- Put_Line (A.10.7)
+pub mod Lines
+-- calls (6.4, 13.11.2)
+pub mod Calls
+-- statements (5.1, 5.2)
 pub mod Statements
 -- the program of a tree, or its first fault
 pub mod Resolution

@@ -1,7 +1,7 @@
 -- The library's names, and those that are predefined.
 
 use Rattle.std.specs.Prelude.{ℕ, Bool, true, false, ◌||◌, ◌&&◌, if◌then◌else◌, List, [], ◌∷◌, Option, Some, None, is_some, codes, bytes_eq}
-use Rattle.ada_tree.specs.Grammar.{Ident}
+use Rattle.ada_grammar.specs.Names.{Ident}
 use Rattle.ada_resolve.specs.declared.fault.NameRule.{NameRule}
 use Rattle.ada_resolve.specs.declared.fault.NameRule.TheVariants.{UnknownName, NotInProfile}
 use Rattle.ada_resolve.specs.declared.library.LibraryName.{LibraryName}
@@ -14,9 +14,10 @@ unfoldable pub predefined : List ℕ → Option Entity
 predefined text =
     if bytes_eq text (codes "INTEGER") then Some Integer else (
     if bytes_eq text (codes "BOOLEAN") then Some Boolean else (
-    if bytes_eq text (codes "TRUE") || bytes_eq text (codes "FALSE") then Some Truth else (
+    if bytes_eq text (codes "TRUE") then Some (Truth true) else (
+    if bytes_eq text (codes "FALSE") then Some (Truth false) else (
     if bytes_eq text (codes "CONSTRAINT_ERROR") || (bytes_eq text (codes "PROGRAM_ERROR") || bytes_eq text (codes "STORAGE_ERROR"))
-    then Some Exception else None)))
+    then Some Exception else None))))
 
 -- Whether a name that begins so is looked for in the library alone (10.1.1, A.2).
 unfoldable pub is_library_root : List ℕ → Bool

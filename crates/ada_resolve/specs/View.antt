@@ -1,9 +1,10 @@
 -- What the resolver's values stand for, and what it tells.
 
 use Rattle.std.specs.Prelude.{◌≡◌, ℕ, List, map, Option, Some, None, Result, Ok, Err}
-use Rattle.ada_tree.specs.Form.{Source, Form, source_of, form_of, elaboration_of}
-use Rattle.ada_tree.specs.Grammar.{Kept}
+use Rattle.ada_grammar.specs.Statements.{UnitTree}
+use Rattle.ada_tree.specs.Form.{Source, Form, ItemForm, expression_form, source_of, item_form, form_of, elaboration_of}
 use Rattle.ada_tree.specs.ProgramForm.{type_form, object_form}
+use Rattle.ada_tree.specs.declared.program.Item.{Item}
 use Rattle.ada_tree.specs.declared.program.Right.{Right}
 use Rattle.ada_tree.specs.declared.program.Stmt.{Stmt}
 use Rattle.ada_text.specs.declared.spot.Spot.{Spot}
@@ -13,11 +14,16 @@ use Rattle.ada_resolve.specs.declared.fault.NameRule.{NameRule}
 use Rattle.ada_resolve.specs.declared.notes.Notes.{Notes}
 use Rattle.ada_resolve.specs.declared.resolver.Resolver.{Resolver}
 use Rattle.ada_resolve.specs.declared.scope.Entity.{Entity}
+use Rattle.ada_resolve.specs.declared.meant.Meant.{Meant as MeantOf}
+use Rattle.ada_resolve.specs.declared.meant.Meant.TheVariants as meant
+use Rattle.ada_resolve.specs.declared.items.Filling.{Filling as FillingOf}
 use Rattle.ada_resolve.specs.Known.{Known, Named}
-use Rattle.ada_resolve.specs.Resolution.{Told, broken, gives, IsFirstNameFault}
+use Rattle.ada_resolve.specs.Items.{Filling}
 use Rattle.ada_resolve.specs.declared.library.Withs.{Withs}
 use Rattle.std.specs.Global.{Vec}
 use denote.Ref.{Bor}
+use Rattle.ada_resolve.specs.Paths.{Meant, boolean_value, integer_value, null_value, other_access, unknown, variable}
+use Rattle.ada_resolve.specs.Resolution.{IsFirstNameFault, Told, broken, gives}
 
 -- An entry of the names.
 abbrev pub named_of : Bor (List ℕ) × Entity → Named
@@ -33,6 +39,24 @@ known_of r = record {
   objects = map object_form r.objects.items;
   elaborated = map elaboration_of r.declarations.items;
 }
+
+-- What an expression means, as the code keeps it.
+abbrev pub meant_of : MeantOf → Meant
+meant_of meant.Unknown = unknown
+meant_of meant.Null = null_value
+meant_of (meant.Variable path access) = variable path access
+meant_of meant.OtherAccess = other_access
+meant_of (meant.Integer e) = integer_value (expression_form e)
+meant_of (meant.Boolean e) = boolean_value (expression_form e)
+
+-- The item of a component, where it has one.
+abbrev pub item_in : Option Item → Option ItemForm
+item_in (Some item) = Some (item_form item)
+item_in None = None
+
+-- What is known before an item, as the code keeps it.
+abbrev pub filling_in : FillingOf → Filling
+filling_in f = record { count = f.count; slots = map item_in f.slots.items; whole = f.whole }
 
 -- What is assigned, where that is known.
 abbrev pub source_in : Option Right → Option Source
@@ -83,6 +107,6 @@ abbrev pub same_units : Withs → Withs
 same_units withs = withs
 
 -- A fault that is answered is the tree's first.
-abbrev pub Faults : NameFault → Kept → Type 0
+abbrev pub Faults : NameFault → UnitTree → Type 0
 Faults (Broken spot rule) tree = IsFirstNameFault tree spot rule
 Faults NoMemory tree = Unit {0}

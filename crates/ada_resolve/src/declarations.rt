@@ -1,18 +1,21 @@
 //! Resolution of declarations, in order, up to `begin` (3.1).
 
 ghost use Rattle.std.specs.Prelude.{◌≡◌, map};
-ghost use Rattle.ada_tree.specs.Grammar.{declaration_of};
+ghost use Rattle.ada_grammar.specs.StatementView.{declaration_of, declarations_of};
 ghost use Rattle.ada_resolve.specs.Known.{Named};
 ghost use Rattle.ada_resolve.specs.Resolution.{declaration_told, declarations_told, some_incomplete, entity_in, is_incomplete, begin_remark, at_begin};
-ghost use Rattle.ada_resolve.specs.View.{known_of, named_of, Tells};
+ghost use Rattle.ada_resolve.specs.Remark.{wrong, noted};
+ghost use Rattle.ada_resolve.specs.Spots.{declaration_spot};
+ghost use Rattle.ada_resolve.specs.View.{known_of, named_of, Tells, Settles};
 
 use crate::fault::{NameFault, NameRule};
 use crate::instances::Instance;
 use crate::notes::Notes;
 use crate::resolver::Resolver;
 use crate::scope::Entity;
+use crate::spots::declaration_spot;
+use ada_grammar::declarations::Declaration;
 use ada_tree::Spot;
-use ada_tree::syntax::Declaration;
 
 impl<'t> Resolver<'t> {
     /// The declarations, in order.
@@ -21,7 +24,7 @@ impl<'t> Resolver<'t> {
         declarations: &[Declaration<'t>],
         notes: &mut Notes,
     ) -> Result<(), NameFault>
-        ensures { Tells result (known_of self.new, notes.new) (declarations_told (map declaration_of declarations.now) (known_of self.old, notes.old)) }
+        ensures { Tells result (known_of self.new, notes.new) (declarations_told (declarations_of declarations.now) (known_of self.old, notes.old)) }
     {
         for one in declarations {
             self.declaration(one, notes)?;
@@ -30,6 +33,7 @@ impl<'t> Resolver<'t> {
     }
 
     /// One declaration.
+    #[tactic(auto, using(std::proofs::lemmas::Grind::common_steps, ada_grammar::specs::StatementView::statement_rules))]
     fn declaration(
         &mut self,
         declaration: &Declaration<'t>,
@@ -43,7 +47,8 @@ impl<'t> Resolver<'t> {
                 spot,
                 name,
                 designated,
-            } => self.access_type(*spot, *name, *designated, notes),
+                aspect,
+            } => self.access_type(*spot, *name, *designated, *aspect, notes),
             Declaration::RecordType {
                 spot,
                 name,
@@ -59,6 +64,7 @@ impl<'t> Resolver<'t> {
                 Instance::new(*spot, *name, generic, *object, *access),
                 notes,
             ),
+            Declaration::Constant { name, value } => self.constant(*name, value, notes),
             Declaration::Object {
                 name,
                 type_name,
@@ -67,6 +73,13 @@ impl<'t> Resolver<'t> {
                 self.end_of_types()?;
                 self.object(*name, type_name, initial, notes)
             }
+            Declaration::Exception { .. }
+            | Declaration::Pool { .. }
+            | Declaration::Borrower { .. }
+            | Declaration::DerivedType { .. }
+            | Declaration::Clause { .. }
+            | Declaration::Specification(_)
+            | Declaration::Body { .. } => not_in_use(declaration, notes),
         }
     }
 
@@ -86,6 +99,15 @@ impl<'t> Resolver<'t> {
     {
         some_incomplete(self.names.values().as_slice())
     }
+}
+
+/// A declaration of a kind that is not in use.
+fn not_in_use(declaration: &Declaration<'_>, notes: &mut Notes) -> Result<(), NameFault>
+    ensures noted { notes.new ≡ noted (wrong (declaration_spot (declaration_of declaration.now)) NameRule.NotInProfile) notes.old }
+    ensures settled { Settles result notes.new.fault }
+{
+    notes.note(declaration_spot(declaration), NameRule::NotInProfile);
+    notes.settle()
 }
 
 /// Whether one of these is an incomplete type.

@@ -24,7 +24,7 @@ pub enum NameRule {
     /// The declaration stands where its kind may not stand.
     #[error("F24 layout")]
     Layout,
-    /// An Integer component has no initial value.
+    /// A component or an object of type Integer or Boolean has no initial value.
     #[error("F25 no-initial-value")]
     NoInitialValue,
     /// An incomplete type is not completed (3.10.1).

@@ -1,13 +1,14 @@
 //! Resolution of instances of Unchecked_Deallocation (12.3, 13.11.2).
 
 ghost use Rattle.std.specs.Prelude.{◌≡◌, map, OnOk, IfErr, ◌++◌, ◌∷◌, []};
+ghost use Rattle.ada_grammar.specs.Names.{ident_of, name_of};
 ghost use Rattle.ada_tree.specs.Form.{Elaboration, collects, elaboration_of};
-ghost use Rattle.ada_tree.specs.Grammar.{ident_of, name_of};
 ghost use Rattle.ada_tree.specs.ProgramForm.{type_form};
 ghost use Rattle.ada_resolve.specs.Known.{visible};
 ghost use Rattle.ada_resolve.specs.Remark.{noted};
 ghost use Rattle.ada_resolve.specs.Resolution.{settled};
-ghost use Rattle.ada_resolve.specs.Types.{record_found, designates, designates_if_known, freed_found, freed_remark, is_collected, one_instance, complete_wanted, generic_remark, instance_remark, instance_known};
+ghost use Rattle.ada_resolve.specs.Types.{record_found, designates};
+ghost use Rattle.ada_resolve.specs.Instances.{designates_if_known, freed_found, freed_remark, is_collected, one_instance, complete_wanted, generic_remark, instance_remark, instance_known};
 ghost use Rattle.ada_resolve.specs.View.{known_of, Tells};
 
 use crate::fault::{NameFault, NameRule};
@@ -15,8 +16,8 @@ use crate::library::{LibraryName, is_library_root};
 use crate::notes::Notes;
 use crate::resolver::Resolver;
 use crate::scope::Entity;
+use ada_grammar::names::{Identifier, Name};
 use ada_tree::program::{Declaration, TypeDefinition};
-use ada_tree::syntax::{Identifier, Name};
 use ada_tree::{Spot, TypeNo};
 
 /// An instance as it is written: `procedure Free is new .. (T, A);`
@@ -78,7 +79,7 @@ impl<'t> Resolver<'t> {
     }
 
     /// The generic that an instance names: Unchecked_Deallocation.
-    #[tactic(auto, unfolding(crate::specs::Types::generic_remark))]
+    #[tactic(auto, unfolding(crate::specs::Instances::generic_remark))]
     fn generic_name(&self, name: &Name<'t>, notes: &mut Notes)
         ensures { notes.new ≡ noted (generic_remark (known_of self.now) (name_of name.now)) notes.old }
     {
@@ -112,7 +113,7 @@ impl<'t> Resolver<'t> {
     }
 
     /// The access type of a name, which designates the record type, where that is known.
-    #[tactic(auto, unfolding(crate::specs::Types::freed_found, crate::specs::Types::freed_remark))]
+    #[tactic(auto, unfolding(crate::specs::Instances::freed_found, crate::specs::Instances::freed_remark))]
     fn access_name(
         &self,
         name: Identifier<'t>,

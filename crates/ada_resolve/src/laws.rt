@@ -1,6 +1,6 @@
 //! The laws of resolution. Each is a function that does nothing, and whose contract is the theorem.
 
-ghost use Rattle.ada_tree.specs.Grammar.{Kept};
+ghost use Rattle.ada_grammar.specs.Statements.{UnitTree};
 ghost use Rattle.ada_tree.specs.ProgramForm.{ProgramForm};
 ghost use Rattle.ada_tree.specs.WellFormed.{IsWellFormed};
 ghost use Rattle.ada_resolve.specs.First.{NotesTheFirst};
@@ -8,7 +8,7 @@ ghost use Rattle.ada_resolve.specs.Resolution.{Resolves};
 
 /// The program that a tree means is well formed.
 pub fn programs_are_well_formed()
-    ensures { (tree : Kept) (program : ProgramForm) → Resolves tree program → IsWellFormed program }
+    ensures { (tree : UnitTree) (program : ProgramForm) → Resolves tree program → IsWellFormed program }
 {}
 
 /// What is noted of a declaration or a statement, where nothing was wrong before it, is the first of the faults that are

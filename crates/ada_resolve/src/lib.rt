@@ -1,18 +1,30 @@
 //! The resolver: the program of a tree, or the first fault of its names.
 #![tactic(auto)]
 
+mod allocators;
+mod arguments;
+mod calls;
 mod declarations;
+mod expressions;
 mod fault;
 mod instances;
+mod items;
 pub mod laws;
 mod library;
+mod lines;
+mod meant;
 mod notes;
 mod objects;
+mod operators;
+mod paths;
 mod program;
+mod records;
 mod resolver;
 mod rights;
 mod scope;
+mod spots;
 mod statements;
+mod statics;
 #[cfg(test)]
 mod tests;
 mod types;

@@ -1,12 +1,12 @@
 //! The library's names, and those that are predefined.
 
 ghost use Rattle.std.specs.Prelude.{◌≡◌, map, [], ◌∷◌};
-ghost use Rattle.ada_tree.specs.Grammar.{ident_of};
+ghost use Rattle.ada_grammar.specs.Names.{ident_of};
 ghost use Rattle.ada_resolve.specs.Known.{is_with};
 ghost use Rattle.ada_resolve.specs.Library.{spelled, other_if, other_in_ada, in_ada, in_system, in_pools, in_input, library_name, is_library_root, is_primitive, unknown};
 
 use crate::fault::NameRule;
-use ada_tree::syntax::Identifier;
+use ada_grammar::names::Identifier;
 
 /// What a name that begins with a library's root stands for.
 #[derive(Clone, Copy)]

@@ -1,11 +1,11 @@
 //! Resolution of object declarations (3.3.1).
 
 ghost use Rattle.std.specs.Prelude.{◌≡◌, ◌++◌, ◌∷◌, [], map, length, not, IfOk, OnOk, IfErr};
+ghost use Rattle.ada_grammar.specs.ExpressionView.{optional_right_of};
+ghost use Rattle.ada_grammar.specs.Names.{ident_of, name_of};
 ghost use Rattle.ada_tree.specs.Form.{declares, elaboration_of};
-ghost use Rattle.ada_tree.specs.Grammar.{ident_of, name_of, right_of, initial_of};
-ghost use Rattle.ada_tree.specs.ProgramForm.{type_form, object_form};
-ghost use Rattle.ada_resolve.specs.Known.{visible, is_empty};
-ghost use Rattle.ada_resolve.specs.Objects.{type_in, type_wanted, object_type_found, object_type_remark, access_of, initial_found, initial_remark, kind_remark, right_spot, object_remark, object_known, object_created, initial_source, after_types, collections_of};
+ghost use Rattle.ada_resolve.specs.Known.{is_empty};
+ghost use Rattle.ada_resolve.specs.Objects.{type_in, object_type_found, object_type_remark, kind_of, initial_found, initial_remark, initial_wanted, object_remark, object_known, object_created, initial_source, after_types, collections_of};
 ghost use Rattle.ada_resolve.specs.Remark.{noted};
 ghost use Rattle.ada_resolve.specs.Resolution.{settled};
 ghost use Rattle.ada_resolve.specs.View.{known_of, source_in, Tells};
@@ -15,30 +15,31 @@ use crate::library::is_library_root;
 use crate::notes::Notes;
 use crate::resolver::Resolver;
 use crate::scope::Entity;
-use ada_tree::program::{self, Declaration, Object, TypeDefinition};
-use ada_tree::syntax::{self, Identifier, Name};
-use ada_tree::{PlaceNo, Spot, TypeNo};
+use ada_grammar::expressions;
+use ada_grammar::names::{Identifier, Name};
+use ada_tree::program::{self, Declaration, Object, ObjectKind, TypeDefinition};
+use ada_tree::{PlaceNo, TypeNo};
 
 impl<'t> Resolver<'t> {
-    /// `X : A := ..;` (3.3.1): an object of an access type.
+    /// `X : T := ..;` (3.3.1)
     pub(crate) fn object(
         &mut self,
         name: Identifier<'t>,
         type_name: &Name<'t>,
-        initial: &Option<syntax::Right<'t>>,
+        initial: &Option<expressions::Right<'t>>,
         notes: &mut Notes,
     ) -> Result<(), NameFault>
-        ensures { Tells result (known_of self.new, notes.new) (settled (noted (object_remark (known_of self.old) (ident_of name.entry) (name_of type_name.now) (initial_of initial.now)) notes.old) (object_known (known_of self.old) (ident_of name.entry) (name_of type_name.now) (initial_of initial.now))) }
+        ensures { Tells result (known_of self.new, notes.new) (settled (noted (object_remark (known_of self.old) (ident_of name.entry) (name_of type_name.now) (optional_right_of initial.now)) notes.old) (object_known (known_of self.old) (ident_of name.entry) (name_of type_name.now) (optional_right_of initial.now))) }
     {
         notes.node(name.spot);
         self.new_name(name, name.spot, notes);
         let found = self.object_type(type_name, notes);
-        let access = access_of(found);
-        let value = self.initial(initial, access, notes)?;
-        kind(found, name, initial, value.is_some(), notes);
+        let kind = kind_of(found);
+        let value = self.initial(initial, kind, notes)?;
+        initial_wanted(found, name, initial, notes);
         notes.settle()?;
-        match access {
-            Some(access) => self.create(name, access, value),
+        match kind {
+            Some(kind) => self.create(name, kind, value),
             None => Ok(()),
         }
     }
@@ -47,27 +48,27 @@ impl<'t> Resolver<'t> {
     fn create(
         &mut self,
         name: Identifier<'t>,
-        access: TypeNo,
+        kind: ObjectKind,
         value: Option<program::Right>,
     ) -> Result<(), NameFault>
-        ensures known { OnOk result (known_of self.new ≡ object_created (known_of self.old) (ident_of name.entry) (Some access) (source_in value)) }
+        ensures known { OnOk result (known_of self.new ≡ object_created (known_of self.old) (ident_of name.entry) (Some kind) (source_in value)) }
         ensures memory { IfErr result (λ e. e ≡ NameFault.NoMemory) }
     {
-        let place = self.add_object(name, access)?;
+        let place = self.add_object(name, kind)?;
         self.add_elaboration(place, value)?;
-        self.declare(name.text, Entity::Object { place, access })
+        self.declare(name.text, Entity::Object { place, kind })
     }
 
     /// One more object.
     #[tactic(auto, unfolding(crate::specs::View::known_of), using(crate::proofs::Names::map_snoc))]
-    fn add_object(&mut self, name: Identifier<'t>, access: TypeNo) -> Result<PlaceNo, NameFault>
-        ensures known { OnOk result (known_of self.new ≡ record (known_of self.old) { objects = (known_of self.old).objects ++ record { name = name.entry.text.now; access = access.0 } ∷ [] }) }
+    fn add_object(&mut self, name: Identifier<'t>, kind: ObjectKind) -> Result<PlaceNo, NameFault>
+        ensures known { OnOk result (known_of self.new ≡ record (known_of self.old) { objects = (known_of self.old).objects ++ record { name = name.entry.text.now; kind = kind } ∷ [] }) }
         ensures place { IfOk result (λ p. p ≡ record { 0 = length (known_of self.old).objects }) }
         ensures memory { IfErr result (λ e. e ≡ NameFault.NoMemory) }
     {
         let place = PlaceNo(self.objects.len());
         let text = String::from_str(self.alloc, name.text)?;
-        self.objects.push(Object { name: text, access })?;
+        self.objects.push(Object { name: text, kind })?;
         Ok(place)
     }
 
@@ -89,16 +90,16 @@ impl<'t> Resolver<'t> {
     /// The initial value, where one is written.
     fn initial(
         &self,
-        initial: &Option<syntax::Right<'t>>,
-        access: Option<TypeNo>,
+        initial: &Option<expressions::Right<'t>>,
+        kind: Option<ObjectKind>,
         notes: &mut Notes,
     ) -> Result<Option<program::Right>, NameFault>
-        ensures found { IfOk result (λ v. source_in v ≡ initial_found (known_of self.now) access (initial_of initial.now)) }
-        ensures remark { OnOk result (notes.new ≡ noted (initial_remark (known_of self.now) access (initial_of initial.now)) notes.old) }
+        ensures found { IfOk result (λ v. source_in v ≡ initial_found (known_of self.now) kind (optional_right_of initial.now)) }
+        ensures remark { OnOk result (notes.new ≡ noted (initial_remark (known_of self.now) kind (optional_right_of initial.now)) notes.old) }
         ensures memory { IfErr result (λ e. e ≡ NameFault.NoMemory) }
     {
         match initial {
-            Some(right) => self.right(right, access, notes),
+            Some(right) => self.right(right, kind, notes),
             None => Ok(None),
         }
     }
@@ -191,49 +192,34 @@ fn type_in(found: Entity) -> Option<Entity>
     }
 }
 
-/// The access type of an object.
-fn access_of(found: Option<Entity>) -> Option<TypeNo>
-    ensures { result ≡ access_of found }
+/// What an object of a type holds: no record object is in use.
+fn kind_of(found: Option<Entity>) -> Option<ObjectKind>
+    ensures { result ≡ kind_of found }
 {
-    match found {
-        Some(Entity::Access(access)) => Some(access),
+    match found? {
+        Entity::Integer => Some(ObjectKind::Integer),
+        Entity::Boolean => Some(ObjectKind::Boolean),
+        Entity::Access(access) => Some(ObjectKind::Access(access)),
         _ => None,
     }
 }
 
-/// What is wrong with an object of a type that is no access type: an Integer or a Boolean wants an initial value
-/// of its own type, and nothing that can be written here is an Integer; the others are not in use.
-fn kind(
+/// An Integer or a Boolean has an initial value; objects of other types than these and access types are not in use.
+fn initial_wanted(
     found: Option<Entity>,
     name: Identifier<'_>,
-    initial: &Option<syntax::Right<'_>>,
-    known: bool,
+    initial: &Option<expressions::Right<'_>>,
     notes: &mut Notes,
 )
-    ensures { notes.new ≡ noted (kind_remark found (ident_of name.entry) (initial_of initial.now) known) notes.old }
+    ensures { notes.new ≡ noted (initial_wanted found (ident_of name.entry) (optional_right_of initial.now)) notes.old }
 {
-    match (found, initial) {
-        (None | Some(Entity::Access(_)), _) => {}
-        (Some(Entity::Integer | Entity::Boolean), None) => notes.note(
+    match found {
+        Some(Entity::Integer | Entity::Boolean) => notes.note_if(
+            initial.is_none(),
             name.spot,
             NameRule::NoInitialValue,
         ),
-        (Some(Entity::Integer), Some(right)) => notes.note_if(
-            known,
-            right_spot(right),
-            NameRule::WrongType,
-        ),
-        _ => notes.note(name.spot, NameRule::NotInProfile),
-    }
-}
-
-/// Where what is assigned begins.
-fn right_spot(right: &syntax::Right<'_>) -> Spot
-    ensures { result ≡ right_spot (right_of right.now) }
-{
-    match right {
-        syntax::Right::Null(spot) => *spot,
-        syntax::Right::Named(name) => name.spot,
-        syntax::Right::Allocator { spot, .. } => *spot,
+        Some(Entity::Access(_)) | None => {}
+        Some(_) => notes.note(name.spot, NameRule::NotInProfile),
     }
 }

@@ -1,13 +1,16 @@
 //! From the tree to the program: what each name stands for, and whether each form has the types that it wants.
 
 ghost use Rattle.std.specs.Prelude.{◌≡◌, false, map, IfOk, IfErr};
-ghost use Rattle.ada_tree.specs.Form.{form_of};
-ghost use Rattle.ada_tree.specs.Grammar.{ident_of, name_of, optional_ident_of, unit_of};
+ghost use Rattle.std.specs.String.{string_bytes};
+ghost use Rattle.ada_grammar.specs.Declarations.{clause_of};
+ghost use Rattle.ada_grammar.specs.Names.{ident_of, optional_ident_of, name_of};
+ghost use Rattle.ada_grammar.specs.StatementView.{handler_of, unit_of};
+ghost use Rattle.ada_grammar.specs.Statements.{handlers_from};
 ghost use Rattle.ada_tree.specs.ProgramForm.{program_form};
 ghost use Rattle.ada_tree.specs.WellFormed.{IsWellFormed};
 ghost use Rattle.ada_resolve.specs.Library.{library_name};
 ghost use Rattle.ada_resolve.specs.Remark.{noted};
-ghost use Rattle.ada_resolve.specs.Resolution.{with_unit, units_of, procedure_remark, same_name, program_of, resolution, Resolves};
+ghost use Rattle.ada_resolve.specs.Resolution.{with_unit, units_of, clause_told, clauses_told, procedure_remark, unhandled, same_name, program_of, Resolves};
 ghost use Rattle.ada_resolve.specs.View.{known_of, forms_in, same_units, Answers, Tells, Faults};
 
 use crate::fault::{NameFault, NameRule};
@@ -16,9 +19,11 @@ use crate::library::{LibraryName, Withs, is_primitive, library_name};
 use crate::notes::Notes;
 use crate::resolver::Resolver;
 use crate::scope::is_taken;
+use ada_grammar::names::{Identifier, Name};
+use ada_grammar::statements::Handler;
+use ada_grammar::unit::{Clause, Unit};
 use ada_tree::program::Stmt;
-use ada_tree::syntax::{Identifier, Name};
-use ada_tree::{Program, Spot, Unit};
+use ada_tree::{Program, Spot};
 use std::alloc::Global;
 
 /// The program of a tree, which is well formed.
@@ -36,31 +41,53 @@ pub fn resolve(alloc: Global, unit: &Unit<'_>) -> Result<Program, NameFault>
 }
 
 /// The program of a tree, from its parts in order.
+#[tactic(auto, using(crate::proofs::Views::body_view, crate::proofs::Views::begin_view))]
 fn resolved(alloc: Global, unit: &Unit<'_>) -> Result<Program, NameFault>
     ensures resolves { IfOk result (λ p. Resolves (unit_of unit.now) (program_form p)) }
     ensures first { IfErr result (λ e. Faults e (unit_of unit.now)) }
 {
-    let withs = library_units(&unit.withs)?;
+    let withs = library_units(&unit.clauses)?;
     let mut notes = Notes::new();
     procedure_name(unit.name, unit.spot, &mut notes);
     notes.settle()?;
     let mut resolver = Resolver::new(alloc, withs, unit.name.text);
     resolver.declarations(&unit.declarations, &mut notes)?;
-    resolver.begin(unit.begin, &mut notes)?;
-    let statements = resolver.statements(&unit.statements, &mut notes)?;
+    resolver.begin(unit.body.begin, &mut notes)?;
+    let mut texts = Vec::new(alloc);
+    let statements = resolver.statements(&unit.body.statements, &mut texts, &mut notes)?;
+    no_handlers(&unit.body.handlers)?;
     same_name(unit.name, unit.end_name)?;
-    Ok(finished(resolver, statements))
+    Ok(finished(resolver, texts, statements))
 }
 
 /// The library units of the `with` clauses: each is one that is in use.
-fn library_units(withs: &[Name<'_>]) -> Result<Withs, NameFault>
-    ensures { Answers result same_units (units_of (map name_of withs.now) (record { text_io = false; deallocation = false })) }
+fn library_units(clauses: &[Clause<'_>]) -> Result<Withs, NameFault>
+    ensures { Answers result same_units (clauses_told (map clause_of clauses.now) (record { text_io = false; deallocation = false })) }
 {
     let mut units = Withs {
         text_io: false,
         deallocation: false,
     };
-    for name in withs {
+    for clause in clauses {
+        units = with_clause(clause, units)?;
+    }
+    Ok(units)
+}
+
+/// The library units with those of one more clause.
+fn with_clause(clause: &Clause<'_>, units: Withs) -> Result<Withs, NameFault>
+    ensures { Answers result same_units (clause_told (clause_of clause.now) units) }
+{
+    let first = with_unit(&clause.first, units)?;
+    with_units(&clause.rest, first)
+}
+
+/// The library units with those of these names.
+fn with_units(names: &[Name<'_>], units: Withs) -> Result<Withs, NameFault>
+    ensures { Answers result same_units (units_of (map name_of names.now) units) }
+{
+    let mut units = units;
+    for name in names {
         units = with_unit(name, units)?;
     }
     Ok(units)
@@ -94,6 +121,19 @@ fn procedure_name(name: Identifier<'_>, spot: Spot, notes: &mut Notes)
     notes.note_if(is_primitive(name.text), spot, NameRule::NotInProfile);
 }
 
+/// No handler is in use (11.2).
+fn no_handlers(handlers: &[Handler<'_>]) -> Result<(), NameFault>
+    ensures { Tells result (tt {0}) (unhandled (handlers_from (map handler_of handlers.now)) (tt {0})) }
+{
+    match handlers.first() {
+        Some(handler) => Err(NameFault::Broken {
+            spot: handler.spot,
+            rule: NameRule::NotInProfile,
+        }),
+        None => Ok(()),
+    }
+}
+
 /// The name after `end` is the procedure's own, where one is written (6.3).
 fn same_name(name: Identifier<'_>, last: Option<Identifier<'_>>) -> Result<(), NameFault>
     ensures { Tells result (tt {0}) (same_name name.entry.text.now (optional_ident_of last.entry) (tt {0})) }
@@ -109,8 +149,8 @@ fn same_name(name: Identifier<'_>, last: Option<Identifier<'_>>) -> Result<(), N
 
 /// The program of what is resolved.
 #[tactic(auto, unfolding(crate::specs::View::known_of))]
-fn finished(resolver: Resolver<'_>, statements: Vec<Stmt>) -> Program
-    ensures { program_form result ≡ program_of (known_of resolver.entry) (forms_in statements) }
+fn finished(resolver: Resolver<'_>, texts: Vec<String>, statements: Vec<Stmt>) -> Program
+    ensures { program_form result ≡ program_of (known_of resolver.entry) (map string_bytes texts.items) (forms_in statements) }
 {
     let Resolver {
         alloc: _,
@@ -124,6 +164,7 @@ fn finished(resolver: Resolver<'_>, statements: Vec<Stmt>) -> Program
     Program {
         types,
         objects,
+        texts,
         declarations,
         statements,
     }

@@ -1,8 +1,8 @@
 //! A resolution in progress: what is declared so far, and what names stand for.
 
 ghost use Rattle.std.specs.Prelude.{◌≡◌, ℕ, map, length, ◌++◌, ◌∷◌, [], slice_get, IfOk, OnOk, IfErr, bytes_eq};
+ghost use Rattle.ada_grammar.specs.Names.{ident_of};
 ghost use Rattle.ada_tree.specs.Form.{elaboration_of};
-ghost use Rattle.ada_tree.specs.Grammar.{ident_of};
 ghost use Rattle.ada_tree.specs.ProgramForm.{type_form, object_form, component_form};
 ghost use Rattle.ada_resolve.specs.Known.{named, declared, visible, name_remark, new_name_remark, library_remark, library_found, is_with, type_begins, is_empty};
 ghost use Rattle.ada_resolve.specs.Remark.{noted};
@@ -14,8 +14,8 @@ use crate::fault::{NameFault, NameRule};
 use crate::library::{LibraryName, Withs, is_primitive, library_name, unknown};
 use crate::notes::Notes;
 use crate::scope::{Entity, is_taken, predefined};
+use ada_grammar::names::Identifier;
 use ada_tree::program::{Declaration, Object, TypeDefinition};
-use ada_tree::syntax::Identifier;
 use ada_tree::{Spot, TypeNo};
 use indexmap::IndexMap;
 use std::alloc::Global;

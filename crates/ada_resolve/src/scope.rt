@@ -4,6 +4,7 @@ ghost use Rattle.std.specs.Prelude.{◌≡◌};
 ghost use Rattle.ada_resolve.specs.Library.{predefined, is_taken};
 
 use crate::library::is_library_root;
+use ada_tree::program::ObjectKind;
 use ada_tree::{PlaceNo, TypeNo};
 
 /// What a name stands for.
@@ -13,8 +14,10 @@ pub(crate) enum Entity {
     Integer,
     /// `Boolean` (3.5.3)
     Boolean,
-    /// `True` or `False`
-    Truth,
+    /// `True` or `False` (3.5.3)
+    Truth(bool),
+    /// A named number (3.3.2).
+    Number(i32),
     /// A predefined exception (11.1).
     Exception,
     /// The main procedure.
@@ -27,8 +30,8 @@ pub(crate) enum Entity {
     Access(TypeNo),
     /// An instance of Unchecked_Deallocation for an access type (13.11.2).
     Instance(TypeNo),
-    /// A declared object (3.3.1) and its access type.
-    Object { place: PlaceNo, access: TypeNo },
+    /// A declared object (3.3.1), and what it holds.
+    Object { place: PlaceNo, kind: ObjectKind },
 }
 
 /// What a predefined name stands for.
@@ -39,7 +42,8 @@ pub(crate) fn predefined(text: &str) -> Option<Entity>
     match text {
         "INTEGER" => Some(Entity::Integer),
         "BOOLEAN" => Some(Entity::Boolean),
-        "TRUE" | "FALSE" => Some(Entity::Truth),
+        "TRUE" => Some(Entity::Truth(true)),
+        "FALSE" => Some(Entity::Truth(false)),
         "CONSTRAINT_ERROR" | "PROGRAM_ERROR" | "STORAGE_ERROR" => Some(Entity::Exception),
         _ => None,
     }

@@ -16,6 +16,7 @@ use Rattle.ada_meaning.specs.Run.{Choice, settled, grants, takes, Leads, Halts, 
 use Rattle.ada_meaning.specs.Machine.{Answers, Makes}
 use Rattle.ada_run.specs.declared.serve.Status.{Status}
 use Rattle.ada_run.specs.declared.serve.ServeFault.{ServeFault}
+use Rattle.ada_run.specs.Texts.{texts_of}
 use Rattle.ada_run.specs.Runner.{IsRunners, RunnerRun, begun, goes_on, event_text, lines_of, end_text, status_of, HasWritten, HasRun}
 use Rattle.ada_run.specs.Written.{AppendsFront, Writes, Begins, SaysFront}
 use Rattle.ada_run.proofs.Writing.{appends_none, appends_both}
@@ -51,18 +52,18 @@ written_first program first s old e = record {
   lines = appends_none old;
 }
 
-lines_more : (events : List Event) (event : Event) → lines_of (events ++ event ∷ []) ≡ lines_of events ++ event_text event
-lines_more events event = flat_map-append event_text events (event ∷ []) ∙ ap (λ text. lines_of events ++ text) (append-nil (event_text event))
+lines_more : (program : Program) (events : List Event) (event : Event) → lines_of program (events ++ event ∷ []) ≡ lines_of program events ++ event_text (texts_of program) event
+lines_more program events event = flat_map-append (event_text (texts_of program)) events (event ∷ []) ∙ ap (λ text. lines_of program events ++ text) (append-nil (event_text (texts_of program) event))
 
 -- one step more of a run
 run_more : {C : Type 0} (program : Program) (first s last : State) (before after : C) (events : List Event) (event : Event) → RunnerRun program first events s → Makes GrantsAll TakesNewest (next program.types.items s) before event last after → RunnerRun program first (events ++ event ∷ []) last
 run_more program first s last before after events event run m = goes_on event s m.choice events run (runners (next program.types.items s) before after m.choice event last m.answers m.leads) m.leads refl
 
-pub written_more : {C : Type 0} (program : Program) (first s last : State) (before after : C) (event : Event) (old mid new : Option (List ℕ)) → HasWritten program first s old mid → Makes GrantsAll TakesNewest (next program.types.items s) before event last after → Appends mid new (event_text event) → HasWritten program first last old new
+pub written_more : {C : Type 0} (program : Program) (first s last : State) (before after : C) (event : Event) (old mid new : Option (List ℕ)) → HasWritten program first s old mid → Makes GrantsAll TakesNewest (next program.types.items s) before event last after → Appends mid new (event_text (texts_of program) event) → HasWritten program first last old new
 written_more program first s last before after event old mid new h m a = record {
   events = h.events ++ event ∷ [];
   run = run_more program first s last before after h.events event h.run m;
-  lines = subst (λ (text : List ℕ). Appends old new text) (sym (lines_more h.events event)) (appends_both old mid new (lines_of h.events) (event_text event) h.lines a);
+  lines = subst (λ (text : List ℕ). Appends old new text) (sym (lines_more program h.events event)) (appends_both old mid new (lines_of program h.events) (event_text (texts_of program) event) h.lines a);
 }
 
 -- no state's run ends for want of memory
@@ -123,52 +124,52 @@ pub comes_to_end : (program : Program) (first s : State) (before : List Event) �
 comes_to_end program first s before run = ends_within program first s before (suc (weight s)) (omega arith) run
 
 -- where a front of the lines of a run is written, a front of its whole text is
-pub begins_run : (program : Program) (s : State) (events : List Event) (front rest : List ℕ) (old new : Option (List ℕ)) → RunnerRun program (first_state program []) events s → lines_of events ≡ front ++ rest → Appends old new front → Begins (HasRun program) old new
+pub begins_run : (program : Program) (s : State) (events : List Event) (front rest : List ℕ) (old new : Option (List ℕ)) → RunnerRun program (first_state program []) events s → lines_of program events ≡ front ++ rest → Appends old new front → Begins (HasRun program) old new
 begins_run program s events front rest old new run split written =
     let c = comes_to_end program (first_state program []) s events run in
-    let tail : List ℕ = lines_of c.more ++ end_text c.halt in
-    let whole : lines_of (events ++ c.more) ++ end_text c.halt ≡ front ++ (rest ++ tail) =
-    ap (λ (text : List ℕ). text ++ end_text c.halt) (flat_map-append event_text events c.more) ∙ append_assoc (lines_of events) (lines_of c.more) (end_text c.halt) ∙ ap (λ (text : List ℕ). text ++ tail) split ∙ append_assoc front rest tail in
+    let tail : List ℕ = lines_of program c.more ++ end_text c.halt in
+    let whole : lines_of program (events ++ c.more) ++ end_text c.halt ≡ front ++ (rest ++ tail) =
+    ap (λ (text : List ℕ). text ++ end_text c.halt) (flat_map-append (event_text (texts_of program)) events c.more) ∙ append_assoc (lines_of program events) (lines_of program c.more) (end_text c.halt) ∙ ap (λ (text : List ℕ). text ++ tail) split ∙ append_assoc front rest tail in
     record {
-      text = lines_of (events ++ c.more) ++ end_text c.halt;
+      text = lines_of program (events ++ c.more) ++ end_text c.halt;
       status = status_of c.halt;
       is = record { events = events ++ c.more; last = c.last; halt = c.halt; run = c.run; halts = c.ends; is = refl; ends = refl };
       written = record { front = front; rest = rest ++ tail; split = whole; written = written };
     }
 
 -- the line of a step was written in part
-pub begins_line : {C : Type 0} (program : Program) (s last : State) (before after : C) (event : Event) (old mid new : Option (List ℕ)) → HasWritten program (first_state program []) s old mid → Makes GrantsAll TakesNewest (next program.types.items s) before event last after → AppendsFront mid new (event_text event) → Begins (HasRun program) old new
+pub begins_line : {C : Type 0} (program : Program) (s last : State) (before after : C) (event : Event) (old mid new : Option (List ℕ)) → HasWritten program (first_state program []) s old mid → Makes GrantsAll TakesNewest (next program.types.items s) before event last after → AppendsFront mid new (event_text (texts_of program) event) → Begins (HasRun program) old new
 begins_line program s last before after event old mid new h m a =
-    begins_run program last (h.events ++ event ∷ []) (lines_of h.events ++ a.front) a.rest old new
+    begins_run program last (h.events ++ event ∷ []) (lines_of program h.events ++ a.front) a.rest old new
     (run_more program (first_state program []) s last before after h.events event h.run m)
-    (lines_more h.events event ∙ ap (λ (text : List ℕ). lines_of h.events ++ text) a.split ∙ sym (append_assoc (lines_of h.events) a.front a.rest))
-    (appends_both old mid new (lines_of h.events) a.front h.lines a.written)
+    (lines_more program h.events event ∙ ap (λ (text : List ℕ). lines_of program h.events ++ text) a.split ∙ sym (append_assoc (lines_of program h.events) a.front a.rest))
+    (appends_both old mid new (lines_of program h.events) a.front h.lines a.written)
 
 -- the last line was written in part
 begins_end : (program : Program) (s : State) (halt : Halt) (old mid new : Option (List ℕ)) → HasWritten program (first_state program []) s old mid → (halt ≡ Memory) ⊎ Halts program s halt → AppendsFront mid new (end_text halt) → Begins (HasRun program) old new
 begins_end program s halt old mid new h (inl memory) a =
     let none : [] ≡ a.front ++ a.rest = sym (ap end_text memory) ∙ a.split in
-    begins_run program s h.events (lines_of h.events ++ a.front) a.rest old new h.run
-    (sym (append-nil (lines_of h.events)) ∙ ap (λ (text : List ℕ). lines_of h.events ++ text) none ∙ sym (append_assoc (lines_of h.events) a.front a.rest))
-    (appends_both old mid new (lines_of h.events) a.front h.lines a.written)
+    begins_run program s h.events (lines_of program h.events ++ a.front) a.rest old new h.run
+    (sym (append-nil (lines_of program h.events)) ∙ ap (λ (text : List ℕ). lines_of program h.events ++ text) none ∙ sym (append_assoc (lines_of program h.events) a.front a.rest))
+    (appends_both old mid new (lines_of program h.events) a.front h.lines a.written)
 begins_end program s halt old mid new h (inr ends) a = record {
-  text = lines_of h.events ++ end_text halt;
+  text = lines_of program h.events ++ end_text halt;
   status = status_of halt;
   is = record { events = h.events; last = s; halt = halt; run = h.run; halts = ends; is = refl; ends = refl };
   written = record {
-    front = lines_of h.events ++ a.front;
+    front = lines_of program h.events ++ a.front;
     rest = a.rest;
-    split = ap (λ (text : List ℕ). lines_of h.events ++ text) a.split ∙ sym (append_assoc (lines_of h.events) a.front a.rest);
-    written = appends_both old mid new (lines_of h.events) a.front h.lines a.written;
+    split = ap (λ (text : List ℕ). lines_of program h.events ++ text) a.split ∙ sym (append_assoc (lines_of program h.events) a.front a.rest);
+    written = appends_both old mid new (lines_of program h.events) a.front h.lines a.written;
   };
 }
 
 ended : (program : Program) (s : State) (halt : Halt) (ending : Status) (old mid new : Option (List ℕ)) → HasWritten program (first_state program []) s old mid → (halt ≡ Memory) ⊎ Halts program s halt → Appends mid new (end_text halt) → ending ≡ status_of halt → halt ≢ Memory → SaysFront (HasRun program) old new (Ok ending)
 ended program s halt ending old mid new h (inl memory) a e isnt = absurd (isnt memory)
 ended program s halt ending old mid new h (inr ends) a e isnt = record {
-  text = lines_of h.events ++ end_text halt;
+  text = lines_of program h.events ++ end_text halt;
   is = record { events = h.events; last = s; halt = halt; run = h.run; halts = ends; is = refl; ends = e };
-  written = appends_both old mid new (lines_of h.events) (end_text halt) h.lines a;
+  written = appends_both old mid new (lines_of program h.events) (end_text halt) h.lines a;
 }
 
 -- the run has ended

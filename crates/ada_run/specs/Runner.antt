@@ -11,7 +11,7 @@ use Rattle.ada_meaning.specs.State.{State}
 use Rattle.ada_meaning.specs.Run.{Choice, settled, grants, takes, Step, first_state, Halts}
 use Rattle.ada_run.specs.declared.serve.Status.{Status}
 use Rattle.ada_run.specs.declared.serve.Status.TheVariants as status
-use Rattle.ada_run.specs.Texts.{line_text, unhandled_text, finished_text, erroneous_text}
+use Rattle.ada_run.specs.Texts.{texts_of, line_text, unhandled_text, finished_text, erroneous_text}
 
 -- What the runner answers.
 abbrev pub IsRunners : Choice → Type 0
@@ -24,18 +24,19 @@ pub data RunnerRun (program : Program) (first : State) : List Event → State �
   begun : RunnerRun program first [] first
   goes_on : {events : List Event} {last : State} (event : Event) (mid : State) (choice : Choice) (before : List Event) → RunnerRun program first before mid → IsRunners choice → Step program mid choice event last → events ≡ before ++ event ∷ [] → RunnerRun program first events last
 
--- What an event writes.
-abbrev pub event_text : Event → List ℕ
-event_text (event.Born value) = []
-event_text (event.Finalized value cause) = []
-event_text (event.Back object cause) = []
-event_text (event.Followed object) = []
-event_text (event.Left master) = []
-event_text (event.Line line) = line_text line
-event_text event.Quiet = []
+-- What an event writes, in a program with these texts.
+abbrev pub event_text : List (List ℕ) → Event → List ℕ
+event_text texts (event.Born value) = []
+event_text texts (event.Finalized value cause) = []
+event_text texts (event.Back object cause) = []
+event_text texts (event.Followed object) = []
+event_text texts (event.Left master) = []
+event_text texts (event.Line line) = line_text texts line
+event_text texts event.Quiet = []
 
-abbrev pub lines_of : List Event → List ℕ
-lines_of events = flat_map event_text events
+-- What the events of a run of a program write.
+abbrev pub lines_of : Program → List Event → List ℕ
+lines_of program events = flat_map (event_text (texts_of program)) events
 
 -- The last line of a run, and its status.
 abbrev pub end_text : Halt → List ℕ
@@ -54,7 +55,7 @@ status_of Memory = status.Stopped
 pub record HasWritten (program : Program) (first : State) (last : State) (old new : Option (List ℕ)) : Type 0 where
   pub events : List Event
   pub run : RunnerRun program first events last
-  pub lines : Appends old new (lines_of events)
+  pub lines : Appends old new (lines_of program events)
 
 -- The runner's whole run of a program: its lines and how it ends are the text.
 pub record HasRun (program : Program) (text : List ℕ) (status : Status) : Type 0 where
@@ -63,5 +64,5 @@ pub record HasRun (program : Program) (text : List ℕ) (status : Status) : Type
   pub halt : Halt
   pub run : RunnerRun program (first_state program []) events last
   pub halts : Halts program last halt
-  pub is : text ≡ lines_of events ++ end_text halt
+  pub is : text ≡ lines_of program events ++ end_text halt
   pub ends : status ≡ status_of halt

@@ -1,10 +1,13 @@
 -- The texts of an answer.
 
-use Rattle.std.specs.Prelude.{ℕ, ℤ, List, [], ◌∷◌, ◌++◌, codes, decimal}
+use Rattle.std.specs.Prelude.{ℕ, ℤ, List, [], ◌∷◌, ◌++◌, map, codes, decimal}
+use Rattle.std.specs.List.{slice_index_or}
+use Rattle.std.specs.String.{string_bytes}
 use Rattle.std.specs.Fmt.{signed_decimal}
 use Rattle.std.specs.Prelude.{pos, negsuc}
+use Rattle.ada_tree.specs.declared.program.Program.{Program}
 use Rattle.ada_meaning.specs.declared.event.Line.{Line}
-use Rattle.ada_meaning.specs.declared.event.Line.TheVariants.{Image}
+use Rattle.ada_meaning.specs.declared.event.Line.TheVariants.{Image, Literal}
 use Rattle.ada_meaning.specs.declared.event.Exception.{Exception}
 use Rattle.ada_meaning.specs.Text.{exception_text}
 use Rattle.ada_verdict.specs.Refusal.{Told}
@@ -18,9 +21,18 @@ abbrev pub image : ℤ → List ℕ
 image (pos n) = 32 ∷ decimal n
 image (negsuc n) = signed_decimal (negsuc n)
 
--- A line of the program.
-abbrev pub line_text : Line → List ℕ
-line_text (Image value) = image value ++ line_feed
+-- The string literals of a program (2.6), by their numbers.
+abbrev pub texts_of : Program → List (List ℕ)
+texts_of program = map string_bytes program.texts.items
+
+-- The text of a number; an empty one, if there is none.
+abbrev pub text_at : List (List ℕ) → ℕ → List ℕ
+text_at texts number = slice_index_or texts number []
+
+-- A line that a program with these texts writes (A.10.7).
+abbrev pub line_text : List (List ℕ) → Line → List ℕ
+line_text texts (Image value) = image value ++ line_feed
+line_text texts (Literal text) = text_at texts text.0 ++ line_feed
 
 -- Why a source is refused.
 abbrev pub refusal_text : Told → List ℕ

@@ -7,6 +7,7 @@ ghost use Rattle.ada_run.specs.Answer.{IsRefusal, IsProgramAnswer};
 ghost use Rattle.ada_run.specs.Calls.{IsRead, IsKept, FaultReads, OnlyWrites, WriterEnds};
 ghost use Rattle.ada_run.specs.Runner.{end_text, status_of, event_text, HasRun};
 ghost use Rattle.ada_run.specs.Served.{InputTurns, Serves, SourceCut, SourceEnds};
+ghost use Rattle.ada_run.specs.Texts.{texts_of};
 ghost use Rattle.ada_run.specs.Written.{Writes, SaysFront};
 
 use crate::output::write_all;
@@ -181,7 +182,7 @@ fn run<W: ByteWriter>(alloc: Global, program: &Program, out: &mut W) -> Result<S
     loop {
         page.clear();
         match machine.step() {
-            Ok(event) => write_event(&mut page, out, event)?,
+            Ok(event) => write_event(&mut page, program, out, event)?,
             Err(halt) => return finish(&mut page, out, halt),
         }
     }
@@ -190,15 +191,16 @@ fn run<W: ByteWriter>(alloc: Global, program: &Program, out: &mut W) -> Result<S
 /// Writes the line of an event, if it has one.
 fn write_event<W: ByteWriter>(
     page: &mut Vec<u8>,
+    program: &Program,
     out: &mut W,
     event: Event,
 ) -> Result<(), ServeFault>
     requires { page.old.items ≡ [] }
-    ensures text { Writes (W.contents out.old) (W.contents out.new) (event_text event) result }
+    ensures text { Writes (W.contents out.old) (W.contents out.new) (event_text (texts_of program.now) event) result }
     ensures writer { OnlyWrites W.writes out.old out.new result }
 {
     if let Event::Line(line) = event {
-        put_line(page, line)?;
+        put_line(page, &program.texts, line)?;
     }
     write_all(out, page)
 }

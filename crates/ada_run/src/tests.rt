@@ -3,6 +3,9 @@
 use crate::serve::{Status, serve};
 use crate::settings::Options;
 use crate::streams::{MemoryReader, MemoryWriter};
+use crate::texts::put_line;
+use ada_meaning::Line;
+use ada_tree::program::TextNo;
 use std::alloc::Global;
 use std::process::Abort;
 use std::test::Fail;
@@ -156,4 +159,100 @@ fn no_source_is_no_unit(rt: HostRuntime) -> Result<(), Fail> {
         Status::Refused,
         b"refused 1:1 F12 end-of-source\n",
     )
+}
+
+const LINES: &[u8] = b"N : Integer := 41;
+begin
+Ada.Text_IO.Put_Line (\"a\"\"b\");
+Ada.Text_IO.Put_Line (\"\");
+Ada.Text_IO.Put_Line (Integer'Image (N + 1));
+N := -N;
+Ada.Text_IO.Put_Line (Integer'Image (N - 1));
+end Main;
+";
+
+#[test]
+fn literals_and_sums_are_written(rt: HostRuntime) -> Result<(), Fail> {
+    answers(
+        &rt,
+        rt.alloc(),
+        LINES,
+        true,
+        Status::Finished,
+        b"a\"b\n\n 42\n-42\nfinished\n",
+    )
+}
+
+const OVERFLOW: &[u8] = b"N : Integer := 2147483647;
+begin
+Ada.Text_IO.Put_Line (\"before\");
+N := N + 1;
+Ada.Text_IO.Put_Line (\"after\");
+end Main;
+";
+
+#[test]
+fn a_sum_overflows(rt: HostRuntime) -> Result<(), Fail> {
+    answers(
+        &rt,
+        rt.alloc(),
+        OVERFLOW,
+        true,
+        Status::Unhandled,
+        b"before\nunhandled CONSTRAINT_ERROR\n",
+    )
+}
+
+/// Blocks in one another, 65 of them.
+fn nested(alloc: Global) -> Result<Vec<u8>, Fail> {
+    let mut source = Vec::from_slice(alloc, b"procedure Main is begin ")?;
+    for _ in 0..65 {
+        source.extend_from_slice(b"begin ")?;
+    }
+    source.extend_from_slice(b"null;")?;
+    for _ in 0..65 {
+        source.extend_from_slice(b" end;")?;
+    }
+    source.extend_from_slice(b" end Main;")?;
+    Ok(source)
+}
+
+#[test]
+fn a_source_is_nested_too_deep(rt: HostRuntime) -> Result<(), Fail> {
+    let source = nested(rt.alloc())?;
+    whole(
+        &rt,
+        rt.alloc(),
+        &source,
+        true,
+        Status::Refused,
+        b"refused 1:409 F11 too-deep\n",
+    )
+}
+
+#[test]
+fn nothing_is_called_so(rt: HostRuntime) -> Result<(), Fail> {
+    let source = b"procedure Main is begin nul; end Main;";
+    whole(
+        &rt,
+        rt.alloc(),
+        source,
+        true,
+        Status::Refused,
+        b"refused 1:25 F20 unknown-name\n",
+    )
+}
+
+#[test]
+fn lines_of_texts(rt: HostRuntime) -> Result<(), Fail> {
+    let mut texts = Vec::new(rt.alloc());
+    texts.push(String::from_str(rt.alloc(), "first")?)?;
+    texts.push(String::from_str(rt.alloc(), "second")?)?;
+    let mut page = Vec::new(rt.alloc());
+    put_line(&mut page, &texts, Line::Literal(TextNo(1)))?;
+    put_line(&mut page, &texts, Line::Image(-2))?;
+    put_line(&mut page, &texts, Line::Literal(TextNo(2)))?;
+    put_line(&mut page, &texts, Line::Literal(TextNo(0)))?;
+    assert_eq!(rt; page.as_slice(), b"second\n-2\n\nfirst\n".as_slice());
+    Ok(())
 }

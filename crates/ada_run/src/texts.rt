@@ -1,25 +1,46 @@
 //! The texts of an answer, put at the end of a page that is written out whole.
 
-ghost use Rattle.std.specs.Prelude.{◌≡◌, ◌++◌, OnOk, decimal};
-ghost use Rattle.ada_run.specs.Texts.{line_text, refusal_text, unhandled_text};
+ghost use Rattle.std.specs.Prelude.{◌≡◌, ◌++◌, map, OnOk, decimal};
+ghost use Rattle.std.specs.String.{string_bytes};
+ghost use Rattle.ada_run.specs.Texts.{image, line_text, refusal_text, text_at, unhandled_text};
 ghost use Rattle.ada_verdict.specs.Shown.{shown};
 
 use ada_meaning::{Exception, Line};
+use ada_tree::program::TextNo;
 use ada_verdict::Refusal;
 use itoa::Buffer;
 use std::alloc::AllocError;
 
-/// A line of the program.
-pub fn put_line(page: &mut Vec<u8>, line: Line) -> Result<(), AllocError>
-    ensures { OnOk result (page.new.items ≡ page.old.items ++ line_text line) }
+/// A line that a program with these texts writes.
+pub fn put_line(page: &mut Vec<u8>, texts: &[String], line: Line) -> Result<(), AllocError>
+    ensures { OnOk result (page.new.items ≡ page.old.items ++ line_text (map string_bytes texts.now) line) }
 {
-    let Line::Image(value) = line;
+    match line {
+        Line::Image(value) => put_image(page, value)?,
+        Line::Literal(text) => put_text(page, texts, text)?,
+    }
+    page.extend_from_slice(b"\n")
+}
+
+/// `Integer'Image` of a number.
+fn put_image(page: &mut Vec<u8>, value: i32) -> Result<(), AllocError>
+    ensures { OnOk result (page.new.items ≡ page.old.items ++ image value) }
+{
     if value >= 0 {
         page.extend_from_slice(b" ")?;
     }
     let mut buffer = Buffer::new();
-    page.extend_from_slice(buffer.format(value).as_bytes())?;
-    page.extend_from_slice(b"\n")
+    page.extend_from_slice(buffer.format(value).as_bytes())
+}
+
+/// The text of a number; nothing, if there is none.
+fn put_text(page: &mut Vec<u8>, texts: &[String], number: TextNo) -> Result<(), AllocError>
+    ensures { OnOk result (page.new.items ≡ page.old.items ++ text_at (map string_bytes texts.now) number.0) }
+{
+    match texts.get(number.0) {
+        Some(text) => page.extend_from_slice(text.as_bytes()),
+        None => Ok(()),
+    }
 }
 
 /// A number in decimal digits.

@@ -8,7 +8,7 @@ use Rattle.ada_tree.specs.declared.rule.Hold.TheVariants as hold
 use Rattle.ada_tree.specs.Form.{Form}
 use Rattle.ada_meaning.specs.declared.state.Name.{Name}
 use Rattle.ada_meaning.specs.declared.state.Value.{Value}
-use Rattle.ada_meaning.specs.declared.state.Value.TheVariants.{Null, Names, Integer}
+use Rattle.ada_meaning.specs.declared.state.Value.TheVariants.{Null, Names, Scalar}
 use Rattle.ada_meaning.specs.declared.state.Stage.{Stage}
 use Rattle.ada_meaning.specs.declared.state.Stage.TheVariants.{Building, Existing, Gone}
 use Rattle.ada_meaning.specs.declared.state.Mode.{Mode}
@@ -74,7 +74,7 @@ module _ (At : List Form → List Hold → Type 0) (Homed : Type 0) where
   pub release_fine : (x : ℕ) (number : Name) (k : Control) (s : State) → Working Homed s.objects s.places s.masters (Frees At Homed x k) → (v : Value) → place_at s.places x ≡ v → Fine At Homed s.objects (release_next x number v (running k s))
   release_fine x number k s w Null is = record { ready = runs_ready At Homed k s.objects s.places s.operands s.masters (record { homes = w.homes; holds = slice_set w.holds x hold.Null; housed = w.housed; opens = w.opens; fit = null_fit x is w.fit; rest = w.rest.1 }); lasts = λ n h. h; says = tt }
   release_fine x number k s w (Names o) is = let e = owner_exists x o w.fit w.rest.0 is in release_end o s x number k w is e (stage_at s o) e
-  release_fine x number k s w (Integer i) is = absurd (rw (w.rest.0, is) at (w.fit.each x))
+  release_fine x number k s w (Scalar n) is = absurd (rw (w.rest.0, is) at (w.fit.each x))
 
   -- The main master is left.
   empty_owned : (n : ℕ) (owned : Owned) (items : List Item) (number : Name) (objects : List (Option Thing)) → ((k : ℕ) → InOwned k owned → ⊥) → Homes Homed objects (record { number = number; owned = owned } ∷ items) → Homes Homed objects items

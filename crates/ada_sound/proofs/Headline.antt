@@ -12,7 +12,7 @@ use Rattle.ada_tree.specs.Form.{Form, value_of, assigns, frees}
 use Rattle.ada_tree.specs.Flow.{goes, hold_at, moves, released, statement_flow, ObeysRules}
 use Rattle.ada_meaning.specs.declared.state.Name.{Name}
 use Rattle.ada_meaning.specs.declared.state.Value.{Value}
-use Rattle.ada_meaning.specs.declared.state.Value.TheVariants.{Null, Names, Integer}
+use Rattle.ada_meaning.specs.declared.state.Value.TheVariants.{Null, Names, Scalar}
 use Rattle.ada_meaning.specs.declared.event.Event.{Event}
 use Rattle.ada_meaning.specs.declared.event.Event.TheVariants as event
 use Rattle.ada_meaning.specs.declared.event.Why.{Why}
@@ -32,7 +32,7 @@ use Rattle.ada_sound.proofs.Orders as orders
 valid_is : (s : State) (v : Value) → Valid s.objects v → IsValid s v
 valid_is s Null h = tt
 valid_is s (Names o) h = h
-valid_is s (Integer i) h = h
+valid_is s (Scalar n) h = h
 
 fits_is : (s : State) (h : Hold) (v : Value) → Fits s.objects h v → IsAs s h v
 fits_is s hold.Null v f = f

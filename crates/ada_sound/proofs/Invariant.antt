@@ -1,12 +1,12 @@
 -- What every step keeps: control typed by its flow, places that fit, members that exist.
 
 use Rattle.std.proofs.Common.{◌≡◌, ℕ, suc, ◌<◌, ◌≤◌, Bool, true, List, [], ◌∷◌, length}
-use Rattle.std.specs.Prelude.{Option}
+use Rattle.std.specs.Prelude.{Option, None}
 use Rattle.std.specs.List.{slice_set}
 use Rattle.ada_tree.specs.declared.rule.Hold.{Hold}
 use Rattle.ada_tree.specs.declared.rule.Hold.TheVariants as hold
 use Rattle.ada_tree.specs.Form.{Source, Form, Elaboration, collects, declares}
-use Rattle.ada_tree.specs.Flow.{Outcome, faults, goes, hold_at, gives, statement_flow}
+use Rattle.ada_tree.specs.Flow.{Outcome, faults, goes, hold_at, Followed, followed_in, followed_in_links, followed_in_items, lost_among, gives, statement_flow}
 use Rattle.ada_meaning.specs.declared.state.Value.{Value}
 use Rattle.ada_meaning.specs.declared.state.Mode.{Mode}
 use Rattle.ada_meaning.specs.declared.state.Mode.TheVariants.{Running, Raising}
@@ -16,7 +16,7 @@ use Rattle.ada_meaning.specs.declared.event.Event.{Event}
 use Rattle.ada_meaning.specs.declared.event.Event.TheVariants as event
 use Rattle.ada_meaning.specs.declared.event.Halt.{Halt}
 use Rattle.ada_meaning.specs.declared.event.Halt.TheVariants.{Finished, Unhandled, Erroneous, Memory}
-use Rattle.ada_meaning.specs.State.{Thing, Master, Control, stops, elaborates, does, evaluates, stores, creates, prints, releases, ends, closes, leaves, State}
+use Rattle.ada_meaning.specs.State.{Thing, Master, Control, stops, elaborates, does, evaluates, computing, continues, applies, applies_alone, fills, creates_new, stores, creates, prints, releases, ends, closes, leaves, State}
 use Rattle.ada_meaning.specs.Step.{Next, halts, moves, tells, asks, picks, newest}
 use Rattle.ada_tree.specs.Homes.{is_among, SourceIsHomed, FormIsHomed}
 use Rattle.ada_sound.proofs.Objects.{Exists, HasEnded, thing_of, out_by}
@@ -34,6 +34,12 @@ Passes stops = ⊥
 Passes (elaborates ds k) = Passes k
 Passes (does fs k) = Passes k
 Passes (evaluates source k) = Passes k
+Passes (computing e k) = Passes k
+Passes (continues links k) = Passes k
+Passes (applies operator k) = Passes k
+Passes (applies_alone operator k) = Passes k
+Passes (fills items k) = Passes k
+Passes (creates_new access count k) = Passes k
 Passes (stores x k) = Passes k
 Passes (creates x k) = Passes k
 Passes (prints k) = Passes k
@@ -63,6 +69,12 @@ RunsOn At Homed stops homes holds = ⊥
 RunsOn At Homed (elaborates ds k) homes holds = Passes k × Elaborating Homed ds (RunsOn At Homed k) homes holds
 RunsOn At Homed (does fs k) homes holds = Passes k × Doing At Homed fs (RunsOn At Homed k) homes holds
 RunsOn At Homed (evaluates source k) homes holds = ⊥
+RunsOn At Homed (computing e k) homes holds = ⊥
+RunsOn At Homed (continues links k) homes holds = ⊥
+RunsOn At Homed (applies operator k) homes holds = ⊥
+RunsOn At Homed (applies_alone operator k) homes holds = ⊥
+RunsOn At Homed (fills items k) homes holds = ⊥
+RunsOn At Homed (creates_new access count k) homes holds = ⊥
 RunsOn At Homed (stores x k) homes holds = ⊥
 RunsOn At Homed (creates x k) homes holds = ⊥
 RunsOn At Homed (prints k) homes holds = ⊥
@@ -82,6 +94,27 @@ Gives At Homed source homes holds x k = Goes (gives x source holds) (RunsOn At H
 
 abbrev pub Takes : (List Form → List Hold → Type 0) → Type 0 → Source → Control → List ℕ → List Hold → Type 0
 Takes At Homed source k homes holds = (Homed → SourceIsHomed homes source) × StoresTo k (Gives At Homed source homes holds)
+
+-- None of these variables is lost.
+abbrev pub NoneIsLost : List Hold → List Followed → Type 0
+NoneIsLost holds fs = lost_among holds fs ≡ None
+
+-- A new object is awaited.
+abbrev pub Owns : (List Form → List Hold → Type 0) → Type 0 → List ℕ → List Hold → ℕ → Control → Type 0
+Owns At Homed homes holds x k = RunsOn At Homed k homes (slice_set holds x hold.Own)
+
+-- What is left of an expression, or of an allocator's items, follows nothing that is lost; and nothing relies on an expression's value.
+abbrev pub Awaits : (List Form → List Hold → Type 0) → Type 0 → Control → List ℕ → List Hold → Type 0
+Awaits At Homed (computing e k) homes holds = NoneIsLost holds (followed_in e) × Awaits At Homed k homes holds
+Awaits At Homed (continues links k) homes holds = NoneIsLost holds (followed_in_links links) × Awaits At Homed k homes holds
+Awaits At Homed (applies operator k) homes holds = Awaits At Homed k homes holds
+Awaits At Homed (applies_alone operator k) homes holds = Awaits At Homed k homes holds
+Awaits At Homed (fills items k) homes holds = NoneIsLost holds (followed_in_items items) × Awaits At Homed k homes holds
+Awaits At Homed (creates_new access count k) homes holds = (Homed → is_among access homes ≡ true) × StoresTo k (Owns At Homed homes holds)
+Awaits At Homed (stores x k) homes holds = RunsOn At Homed k homes (slice_set holds x hold.Lost)
+Awaits At Homed (creates x k) homes holds = RunsOn At Homed k homes (slice_set holds x hold.Lost)
+Awaits At Homed (prints k) homes holds = RunsOn At Homed k homes holds
+Awaits At Homed k homes holds = ⊥
 
 -- An owner is being freed.
 abbrev pub Frees : (List Form → List Hold → Type 0) → Type 0 → ℕ → Control → List ℕ → List Hold → Type 0
@@ -129,9 +162,15 @@ ReadyIn At Homed Running stops objects places operands masters = (Homed → AllI
 ReadyIn At Homed Running (elaborates ds k) objects places operands masters = Working Homed objects places masters (RunsOn At Homed (elaborates ds k))
 ReadyIn At Homed Running (does fs k) objects places operands masters = Working Homed objects places masters (RunsOn At Homed (does fs k))
 ReadyIn At Homed Running (evaluates source k) objects places operands masters = Working Homed objects places masters (Takes At Homed source k)
+ReadyIn At Homed Running (computing e k) objects places operands masters = Working Homed objects places masters (Awaits At Homed (computing e k))
+ReadyIn At Homed Running (continues links k) objects places operands masters = Working Homed objects places masters (Awaits At Homed (continues links k))
+ReadyIn At Homed Running (applies operator k) objects places operands masters = Working Homed objects places masters (Awaits At Homed (applies operator k))
+ReadyIn At Homed Running (applies_alone operator k) objects places operands masters = Working Homed objects places masters (Awaits At Homed (applies_alone operator k))
+ReadyIn At Homed Running (fills items k) objects places operands masters = Working Homed objects places masters (Awaits At Homed (fills items k))
+ReadyIn At Homed Running (creates_new access count k) objects places operands masters = Working Homed objects places masters (Awaits At Homed (creates_new access count k))
 ReadyIn At Homed Running (stores x k) objects places operands masters = Working Homed objects (slice_set places x (newest operands)) masters (RunsOn At Homed k)
 ReadyIn At Homed Running (creates x k) objects places operands masters = Working Homed objects (slice_set places x (newest operands)) masters (RunsOn At Homed k)
-ReadyIn At Homed Running (prints k) objects places operands masters = Working Homed objects places masters (RunsOn At Homed k)
+ReadyIn At Homed Running (prints k) objects places operands masters = Working Homed objects places masters (Awaits At Homed (prints k))
 ReadyIn At Homed Running (releases x number k) objects places operands masters = Working Homed objects places masters (Frees At Homed x k)
 ReadyIn At Homed Running (ends o cause k) objects places operands masters = Exists objects o.0 × Housed Homed objects masters × CauseFits cause masters × IsLeaving k
 ReadyIn At Homed Running (closes k) objects places operands masters = Housed Homed objects masters × IsEnd k

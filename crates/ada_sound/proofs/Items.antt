@@ -4,8 +4,8 @@ use Rattle.std.proofs.Common.{◌≡◌, ◌≢◌, ℕ, zero, suc, ◌<◌, ◌
 use Rattle.std.specs.Prelude.{Option, Some, None, ◌==◌}
 use Rattle.std.proofs.lemmas.Bool.{eqb-true, eq-eqb}
 use Rattle.std.specs.List.{slice_set, slice_index_or, filter}
-use Rattle.ada_tree.specs.declared.program.Item.{Item as Written}
 use Rattle.ada_meaning.specs.declared.state.Name.{Name}
+use Rattle.ada_meaning.specs.declared.state.Value.{Value}
 use Rattle.ada_meaning.specs.State.{Thing, Owned, declared, collection, Item, ended}
 use Rattle.ada_meaning.specs.Step.{joined_owned, joined_item, is_other, parted_owned, parted_item, new_thing}
 use Rattle.ada_sound.proofs.Objects.{Exists, thing_of, out_by, exists_more, new_is, out_more, out_set, set_other, ended_is_in}
@@ -148,7 +148,7 @@ homes_more {objects} {items} h = record {
   all = λ given k e. elim (out_more objects None k e) [ inl g ↦ h.all given k g | inr g ↦ absurd (cc (g.1)) ];
 }
 
-pub homes_new : {Homed : Type 0} {objects : List (Option Thing)} {items : List Item} (access : ℕ) (values : List Written) → (Homed → OpensItems access items) → Homes Homed objects items → Homes Homed (objects ++ Some (new_thing access values) ∷ []) (map (joined_item access (record { 0 = length objects })) items)
+pub homes_new : {Homed : Type 0} {objects : List (Option Thing)} {items : List Item} (access : ℕ) (values : List Value) → (Homed → OpensItems access items) → Homes Homed objects items → Homes Homed (objects ++ Some (new_thing access values) ∷ []) (map (joined_item access (record { 0 = length objects })) items)
 homes_new {objects} {items} access values open' h =
     let o : Name = record { 0 = length objects } in
     record {

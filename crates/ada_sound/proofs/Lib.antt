@@ -10,6 +10,10 @@ pub mod Invariant
 pub mod Masters
 -- what is left of the program
 pub mod Ready
+-- what is followed
+pub mod Followings
+-- expressions
+pub mod Expressions
 -- declarations and statements
 pub mod Statements
 -- what is assigned

@@ -3,8 +3,8 @@
 use Rattle.std.proofs.Common.{◌≡◌, ℕ, zero, suc, ◌≤◌, Bool, true, false, ◌||◌, List, [], ◌∷◌, ◌++◌, map, length, refl, ◌⊎◌, inl, inr, arith, length-append}
 use Rattle.std.specs.Prelude.{Option, Some, None}
 use Rattle.std.specs.List.{slice_set}
-use Rattle.ada_tree.specs.declared.program.Item.{Item as Written}
 use Rattle.ada_meaning.specs.declared.state.Name.{Name}
+use Rattle.ada_meaning.specs.declared.state.Value.{Value}
 use Rattle.ada_meaning.specs.State.{Thing, Owned, collection, Item, Master, ended}
 use Rattle.ada_meaning.specs.Step.{owning, joined, parted, new_thing}
 use Rattle.ada_tree.specs.Homes.{is_among}
@@ -24,7 +24,7 @@ housed_created Homed objects (m ∷ []) owned empty h =
     (record { live = λ k i. elim i [ inl g ↦ absurd (empty k g) | inr g ↦ more.live k g ]; all = λ given k e. inr (more.all given k e) }, (omega (arith, length-append objects (None ∷ [])), h.1))
 housed_created Homed objects (m ∷ n ∷ ms) owned empty h = h
 
-pub housed_new : (Homed : Type 0) (objects : List (Option Thing)) (ms : List Master) (access : ℕ) (values : List Written) → (Homed → OpensIn access ms) → Housed Homed objects ms → Housed Homed (objects ++ Some (new_thing access values) ∷ []) (map (joined access (record { 0 = length objects })) ms)
+pub housed_new : (Homed : Type 0) (objects : List (Option Thing)) (ms : List Master) (access : ℕ) (values : List Value) → (Homed → OpensIn access ms) → Housed Homed objects ms → Housed Homed (objects ++ Some (new_thing access values) ∷ []) (map (joined access (record { 0 = length objects })) ms)
 housed_new Homed objects [] access values open' h = h
 housed_new Homed objects (m ∷ []) access values open' h =
     (homes_new access values open' h.0, falls_joined _ access (record { 0 = length objects }) m.items (falls_more (length objects) (length (objects ++ Some (new_thing access values) ∷ [])) m.items (omega (arith, length-append objects (Some (new_thing access values) ∷ []))) h.1))

@@ -19,6 +19,10 @@ pub goes_map : (o : Outcome) (more other : List Hold → Type 0) → ((h : List 
 goes_map (faults spot rule) more other f g = g
 goes_map (goes h) more other f g = f h g
 
+-- The same at work, with something else to do.
+pub at_work : {Homed : Type 0} {objects : List (Option Thing)} {places : List Value} {ms : List Master} {more other : List ℕ → List Hold → Type 0} (w : Working Homed objects places ms more) → other w.homes w.holds → Working Homed objects places ms other
+at_work w rest = record { homes = w.homes; holds = w.holds; housed = w.housed; opens = w.opens; fit = w.fit; rest = rest }
+
 module _ (At : List Form → List Hold → Type 0) (Homed : Type 0) where
   pub runs_passes : (k : Control) (homes : List ℕ) (holds : List Hold) → RunsOn At Homed k homes holds → Passes k
   runs_passes (elaborates ds k) homes holds r = r.0

@@ -1,26 +1,24 @@
 -- Declarations and statements begin.
 
 use Rattle.std.proofs.Common.{◌≡◌, ℕ, List, [], ◌∷◌, length, refl}
-use Rattle.std.specs.Prelude.{Option, None}
+use Rattle.std.specs.Prelude.{None}
 use Rattle.std.specs.List.{slice_set}
 use Rattle.ada_text.specs.declared.spot.Spot.{Spot}
 use Rattle.ada_tree.specs.declared.rule.Hold.{Hold}
 use Rattle.ada_tree.specs.declared.rule.Hold.TheVariants as hold
-use Rattle.ada_tree.specs.Form.{Form, skips, assigns, frees, writes, Elaboration, collects, declares}
-use Rattle.ada_tree.specs.Flow.{hold_at, gives, released, followed}
-use Rattle.ada_meaning.specs.declared.state.Name.{Name}
+use Rattle.ada_tree.specs.Form.{Form, skips, assigns, frees, writes, writes_text, Elaboration, collects, declares}
+use Rattle.ada_tree.specs.Flow.{hold_at, followed_in, gives, released}
 use Rattle.ada_meaning.specs.declared.state.Value.{Value}
-use Rattle.ada_meaning.specs.declared.state.Value.TheVariants.{Null, Names, Integer}
-use Rattle.ada_meaning.specs.declared.state.Stage.{Stage}
-use Rattle.ada_meaning.specs.declared.state.Stage.TheVariants.{Building, Existing, Gone}
+use Rattle.ada_meaning.specs.declared.state.Value.TheVariants.{Null, Names, Scalar}
 use Rattle.ada_meaning.specs.declared.event.Event.TheVariants as event
-use Rattle.ada_meaning.specs.State.{Thing, collection, Control, elaborates, does, State, stage_at}
-use Rattle.ada_meaning.specs.Step.{elaboration_next, form_next, freed, follows, followed_by}
+use Rattle.ada_meaning.specs.State.{collection, Control, elaborates, does, State}
+use Rattle.ada_meaning.specs.Step.{elaboration_next, form_next, freed}
 use Rattle.ada_sound.proofs.Objects.{ended_more}
-use Rattle.ada_sound.proofs.Values.{Valid, Fits, place_at, fit_more, null_fit}
+use Rattle.ada_sound.proofs.Values.{Fits, place_at, fit_more, null_fit}
 use Rattle.ada_sound.proofs.Invariant.{Passes, Goes, Doing, Elaborating, RunsOn, Working, Stepped, Fine}
 use Rattle.ada_sound.proofs.Masters.{housed_none, housed_created, open_collected}
 use Rattle.ada_sound.proofs.Ready.{running, goes_map}
+use Rattle.ada_sound.proofs.Followings.{following_goes}
 
 module _ (At : List Form → List Hold → Type 0) (Homed : Type 0) where
   pub elaborate_fine : (d : Elaboration) (ds : List Elaboration) (k : Control) (s : State) → Working Homed s.objects s.places s.masters (RunsOn At Homed (elaborates (d ∷ ds) k)) → Fine At Homed s.objects (elaboration_next d (running (elaborates ds k) s))
@@ -57,45 +55,19 @@ module _ (At : List Form → List Hold → Type 0) (Homed : Type 0) where
     free_value : (h : Hold) → hold_at w.holds x ≡ h → Goes (released x spot w.holds h) (Doing At Homed fs (RunsOn At Homed k) w.homes) → (v : Value) → place_at s.places x ≡ v → Fits s.objects h v → Fine At Homed s.objects (freed x v (running (does fs k) s))
     free_value hold.Null own more Null is fits = free_null is more
     free_value hold.Null own more (Names o) is fits = absurd (cc (fits))
-    free_value hold.Null own more (Integer i) is fits = absurd (cc (fits))
+    free_value hold.Null own more (Scalar n) is fits = absurd (cc (fits))
     free_value hold.Own own more Null is fits = free_null is more
     free_value hold.Own own more (Names o) is fits = record {
       ready = record { homes = w.homes; holds = w.holds; housed = housed_none Homed s.objects s.masters w.housed; opens = w.opens; fit = fit_more None w.fit; rest = (own, (w.rest.0, more)) };
       lasts = λ n h. ended_more s.objects None n h;
       says = tt;
     }
-    free_value hold.Own own more (Integer i) is fits = absurd fits
+    free_value hold.Own own more (Scalar n) is fits = absurd fits
     free_value hold.Alias own more v is fits = absurd more
     free_value hold.Lost own more v is fits = absurd more
 
     free_fine : Fine At Homed s.objects (freed x (place_at s.places x) (running (does fs k) s))
     free_fine = free_value (hold_at w.holds x) refl w.rest.1 (place_at s.places x) refl (w.fit.each x)
-
-  -- X.C is followed
-  valid_null : (objects : List (Option Thing)) (v : Value) → v ≡ Null → Valid objects v
-  valid_null objects Null e = tt
-  valid_null objects (Names o) e = absurd (cc e)
-  valid_null objects (Integer i) e = absurd (cc e)
-
-  module _ (x c : ℕ) (spot : Spot) (fs : List Form) (k : Control) (s : State) (w : Working Homed s.objects s.places s.masters (λ homes holds. Passes k × Goes (followed spot holds (hold_at holds x)) (Doing At Homed fs (RunsOn At Homed k) homes))) where
-    follow_stage : Doing At Homed fs (RunsOn At Homed k) w.homes w.holds → (o : Name) (stage : Stage) → stage ≡ Existing → Fine At Homed s.objects (followed_by o c stage (running (does fs k) s))
-    follow_stage more o Building e = absurd (cc e)
-    follow_stage more o Existing e = record { ready = record { homes = w.homes; holds = w.holds; housed = w.housed; opens = w.opens; fit = w.fit; rest = (w.rest.0, more) }; lasts = λ n h. h; says = tt }
-    follow_stage more o Gone e = absurd (cc e)
-
-    follow_value : Doing At Homed fs (RunsOn At Homed k) w.homes w.holds → (v : Value) → Valid s.objects v → Fine At Homed s.objects (follows v c (running (does fs k) s))
-    follow_value more Null valid = record { ready = (w.housed, w.rest.0); lasts = λ n h. h; says = tt }
-    follow_value more (Names o) valid = follow_stage more o (stage_at s o) valid
-    follow_value more (Integer i) valid = absurd valid
-
-    follow_hold : (h : Hold) → Goes (followed spot w.holds h) (Doing At Homed fs (RunsOn At Homed k) w.homes) → Fits s.objects h (place_at s.places x) → Fine At Homed s.objects (follows (place_at s.places x) c (running (does fs k) s))
-    follow_hold hold.Null more fits = follow_value more (place_at s.places x) (valid_null s.objects (place_at s.places x) fits)
-    follow_hold hold.Own more fits = follow_value more (place_at s.places x) fits
-    follow_hold hold.Alias more fits = absurd fits
-    follow_hold hold.Lost more fits = absurd more
-
-    follow_fine : Fine At Homed s.objects (follows (place_at s.places x) c (running (does fs k) s))
-    follow_fine = follow_hold (hold_at w.holds x) w.rest.1 (w.fit.each x)
 
   pub form_fine : (f : Form) (fs : List Form) (k : Control) (s : State) → Working Homed s.objects s.places s.masters (RunsOn At Homed (does (f ∷ fs) k)) → Fine At Homed s.objects (form_next f (running (does fs k) s))
   form_fine skips fs k s w = record { ready = record { homes = w.homes; holds = w.holds; housed = w.housed; opens = w.opens; fit = w.fit; rest = (w.rest.0, w.rest.1.2) }; lasts = λ n h. h; says = tt }
@@ -112,4 +84,7 @@ module _ (At : List Form → List Hold → Type 0) (Homed : Type 0) where
     says = tt;
   }
   form_fine (frees access x spot) fs k s w = free_fine x spot fs k s (record { homes = w.homes; holds = w.holds; housed = w.housed; opens = w.opens; fit = w.fit; rest = (w.rest.0, w.rest.1.2) })
-  form_fine (writes x c spot) fs k s w = follow_fine x c spot fs k s (record { homes = w.homes; holds = w.holds; housed = w.housed; opens = w.opens; fit = w.fit; rest = (w.rest.0, w.rest.1.2) })
+  form_fine (writes e) fs k s w =
+      let h = following_goes (followed_in e) w.holds (Doing At Homed fs (RunsOn At Homed k) w.homes) w.rest.1.2 in
+      record { ready = record { homes = w.homes; holds = w.holds; housed = w.housed; opens = w.opens; fit = w.fit; rest = (h.0, (w.rest.0, h.1)) }; lasts = λ n h. h; says = tt }
+  form_fine (writes_text text) fs k s w = record { ready = record { homes = w.homes; holds = w.holds; housed = w.housed; opens = w.opens; fit = w.fit; rest = (w.rest.0, w.rest.1.2) }; lasts = λ n h. h; says = tt }

@@ -8,7 +8,7 @@ use Rattle.ada_tree.specs.declared.rule.Hold.TheVariants as hold
 use Rattle.ada_tree.specs.Flow.{hold_at}
 use Rattle.ada_meaning.specs.declared.state.Name.{Name}
 use Rattle.ada_meaning.specs.declared.state.Value.{Value}
-use Rattle.ada_meaning.specs.declared.state.Value.TheVariants.{Null, Names, Integer}
+use Rattle.ada_meaning.specs.declared.state.Value.TheVariants.{Null, Names, Scalar}
 use Rattle.ada_meaning.specs.State.{Thing}
 use Rattle.ada_sound.proofs.Objects.{Exists, exists_more, set_other}
 
@@ -16,7 +16,7 @@ use Rattle.ada_sound.proofs.Objects.{Exists, exists_more, set_other}
 abbrev pub Valid : List (Option Thing) → Value → Type 0
 Valid objects Null = Unit {0}
 Valid objects (Names o) = Exists objects o.0
-Valid objects (Integer i) = ⊥
+Valid objects (Scalar n) = ⊥
 
 -- A value fits a hold. No form gives an alias yet.
 abbrev pub Fits : List (Option Thing) → Hold → Value → Type 0
@@ -60,7 +60,7 @@ same_or_not (suc a) (suc b) = elim (same_or_not a b) [ inl e ↦ inl (ap suc e) 
 valid_more : (xs : List (Option Thing)) (y : Option Thing) (v : Value) → Valid xs v → Valid (xs ++ y ∷ []) v
 valid_more xs y Null h = tt
 valid_more xs y (Names o) h = exists_more xs y o.0 h
-valid_more xs y (Integer i) h = h
+valid_more xs y (Scalar n) h = h
 
 fits_more : (xs : List (Option Thing)) (y : Option Thing) (h : Hold) (v : Value) → Fits xs h v → Fits (xs ++ y ∷ []) h v
 fits_more xs y hold.Null v f = f
@@ -76,7 +76,7 @@ fit_more {objects} {places} {holds} y f = record { each = λ x. fits_more object
 valid_set : (xs : List (Option Thing)) (k : ℕ) (t : Option Thing) (v : Value) → ((o : Name) → v ≡ Names o → o.0 ≡ k → ⊥) → Valid xs v → Valid (slice_set xs k t) v
 valid_set xs k t Null apart_from h = tt
 valid_set xs k t (Names o) apart_from h = rw (set_other xs k o.0 t (apart_from o refl)) h
-valid_set xs k t (Integer i) apart_from h = h
+valid_set xs k t (Scalar n) apart_from h = h
 
 fits_set : (xs : List (Option Thing)) (k : ℕ) (t : Option Thing) (h : Hold) (v : Value) → (h ≡ hold.Own → (o : Name) → v ≡ Names o → o.0 ≡ k → ⊥) → Fits xs h v → Fits (slice_set xs k t) h v
 fits_set xs k t hold.Null v apart_from f = f

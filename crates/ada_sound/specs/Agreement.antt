@@ -9,7 +9,7 @@ use Rattle.ada_tree.specs.Form.{Form, elaborations, forms}
 use Rattle.ada_tree.specs.Flow.{goes, then_flow, hold_at, statements_flow, elaborations_flow}
 use Rattle.ada_meaning.specs.declared.state.Name.{Name}
 use Rattle.ada_meaning.specs.declared.state.Value.{Value}
-use Rattle.ada_meaning.specs.declared.state.Value.TheVariants.{Null, Names, Integer}
+use Rattle.ada_meaning.specs.declared.state.Value.TheVariants.{Null, Names, Scalar}
 use Rattle.ada_meaning.specs.declared.state.Stage.TheVariants.{Existing}
 use Rattle.ada_meaning.specs.declared.state.Mode.TheVariants.{Running}
 use Rattle.ada_meaning.specs.State.{Control, does, State, stage_at, held}
@@ -18,7 +18,7 @@ use Rattle.ada_meaning.specs.State.{Control, does, State, stage_at, held}
 abbrev pub IsValid : State → Value → Type 0
 IsValid s Null = Unit {0}
 IsValid s (Names o) = stage_at s o ≡ Existing
-IsValid s (Integer i) = ⊥
+IsValid s (Scalar v) = ⊥
 
 -- A value is as it is relied on to be.
 abbrev pub IsAs : State → Hold → Value → Type 0

@@ -1,16 +1,13 @@
 -- What is written so is read so, or sinks where the tree opens one level of nesting too many: phrase by phrase.
-use Rattle.std.proofs.Common.{◌≡◌, ℕ, zero, suc, ◌<◌, Bool, true, false, cond, not, List, [], ◌∷◌, ◌++◌, length, Option, Some, None, Result, Ok, Err, refl, sym, ap, subst, ◌∙◌, arith, lt-suc_self}
+use Rattle.std.proofs.Common.{◌≡◌, ℕ, zero, suc, ◌<◌, Bool, true, false, not, List, [], ◌∷◌, ◌++◌, length, Option, Some, None, Ok, Err, refl, sym, ap, subst, ◌∙◌, arith, lt-suc_self}
 use Rattle.std.specs.List.{flat_map}
 use Rattle.std.proofs.lemmas.List.Concat.{flat_map-cons}
-use denote.Enum.Bare.{same_true}
-use Rattle.ada_text.specs.contracts.word.Word.{the_type as words}
-use Rattle.ada_text.specs.contracts.delimiter.Delimiter.{the_type as delimiters}
 use Rattle.ada_text.specs.declared.spot.Spot.{Spot}
-use Rattle.ada_text.specs.Token.{Kind, identifier, number, string, reserved, delimiter, Lexeme}
+use Rattle.ada_text.specs.Token.{Kind, identifier, number, string, Lexeme}
 use Rattle.ada_grammar.specs.Piece.{Piece, anywhere, placed, deep, never, IsSpelled, Spelled, opening, opening_at, guarded}
 use Rattle.ada_grammar.specs.Names.{Ident, ident_pieces}
-use Rattle.ada_syntax.specs.Step.{◌>>=◌, Reader, Outcome, Stopped, here, too_deep, spot_of, is_kind, is_identifier, is_at, at, not_at, fixed, identifier_at, number_at, string_at, nothing, continued, mapped, both, after, choose, many, all_of, allowed, opening_in, opened}
-use Rattle.ada_syntax.proofs.Sound.{is_filled, spelled_shorter}
+use Rattle.ada_syntax.specs.Step.{◌>>=◌, Reader, Outcome, too_deep, spot_of, is_kind, is_identifier, is_at, at, not_at, fixed, identifier_at, number_at, string_at, nothing, continued, mapped, both, after, choose, many, all_of, opening_in, opened}
+use Rattle.ada_syntax.proofs.Sound.{is_filled, spelled_shorter, kind_is, spot_is}
 
 -- What stands next: whether the next token passes this test. At the end none does.
 pub record Follow : Type 0 where
@@ -79,21 +76,6 @@ sinks_append (deep k ∷ ps) qs (t ∷ ts) mid w = refl
 sinks_append (never ∷ ps) qs (t ∷ ts) mid w = absurd w.0
 
 -- ---- what stands next
-
-pub kind_is : (k l : Kind) → is_kind k l ≡ true → l ≡ k
-kind_is (reserved w) (reserved v) e = ap reserved (same_true words tt v w e)
-kind_is (delimiter d) (delimiter f) e = ap delimiter (same_true delimiters tt f d e)
-kind_is (reserved w) (identifier a) e = absurd cc
-kind_is (reserved w) (number a) e = absurd cc
-kind_is (reserved w) (string a) e = absurd cc
-kind_is (reserved w) (delimiter a) e = absurd cc
-kind_is (delimiter w) (identifier a) e = absurd cc
-kind_is (delimiter w) (number a) e = absurd cc
-kind_is (delimiter w) (string a) e = absurd cc
-kind_is (delimiter w) (reserved a) e = absurd cc
-kind_is (identifier w) l e = absurd cc
-kind_is (number w) l e = absurd cc
-kind_is (string w) l e = absurd cc
 
 pub any_next : (rest : List Lexeme) → Next any rest
 any_next [] = refl
@@ -209,15 +191,12 @@ choose_false c l = record { reads = λ ts rest w n. rw (l.next ts rest w n) (c.r
 
 -- ---- one token
 
-same_spot : (t : Lexeme) (spot : Spot) → t.line ≡ spot.line → t.column ≡ spot.column → spot_of t ≡ spot
-same_spot t spot e f = let g : spot_of t ≡ record { line = spot.line; column = spot.column } = rw (e, f) refl in g
-
 fixed_reads : (k : Kind) (spot : Spot) (ts rest : List Lexeme) → is_kind k k ≡ true → Spelled (placed k spot ∷ []) ts rest → fixed k ts ≡ Ok (spot, rest)
 unfolding fixed
 fixed_reads k spot [] rest e w = absurd w
 fixed_reads k spot (t ∷ ts) rest e w =
     let g : is_kind k t.kind ≡ true = ap (is_kind k) w.0.0 ∙ e in
-    rw g (rw (same_spot t spot w.0.1 w.0.2, w.1) refl)
+    rw g (rw (spot_is t spot w.0.1 w.0.2, w.1) refl)
 
 placed_sinks : (k : Kind) (spot : Spot) (ts : List Lexeme) → sinks (placed k spot ∷ []) ts ≡ None
 placed_sinks k spot [] = refl
@@ -258,7 +237,7 @@ unfolding fixed
 opened_at_reads room k spot q x ps f [] rest e c w n = absurd w
 opened_at_reads room k spot q x ps f (t ∷ ts) rest e c w n =
     let g : is_kind k t.kind ≡ true = ap (is_kind k) w.0.0 ∙ e in
-    rw g (rw (same_spot t spot w.0.1 w.0.2) (c.reads ts rest w.1 n))
+    rw g (rw (spot_is t spot w.0.1 w.0.2) (c.reads ts rest w.1 n))
 
 -- the same where the tree keeps the token's spot
 pub opened_at_complete : {A : Type 0} {x : A} {ps : List Piece} {f : Follow} (room : ℕ) (k : Kind) (spot : Spot) (q : Spot → Reader A) → is_kind k k ≡ true → ((less : ℕ) → room ≡ suc less → Complete ps (q spot) x f) → Complete (opening_at room k spot ∷ ps) (continued (opening_in room k) q) x f
@@ -268,7 +247,7 @@ opened_at_complete {A} {x} {ps} {f} (suc room) k spot q e c = record { reads = �
 identifier_reads : (i : Ident) (ts rest : List Lexeme) → Spelled (ident_pieces i) ts rest → identifier_at ts ≡ Ok (i, rest)
 unfolding identifier_at
 identifier_reads i [] rest w = absurd w
-identifier_reads i (t ∷ ts) rest w = rw w.0.0 (rw (same_spot t i.spot w.0.1 w.0.2, w.1) refl)
+identifier_reads i (t ∷ ts) rest w = rw w.0.0 (rw (spot_is t i.spot w.0.1 w.0.2, w.1) refl)
 
 pub identifier_complete : (i : Ident) → Complete (ident_pieces i) identifier_at i any
 identifier_complete i = record { reads = λ ts rest w n. rw (placed_sinks (identifier i.text) i.spot ts) (identifier_reads i ts rest w) }
@@ -276,7 +255,7 @@ identifier_complete i = record { reads = λ ts rest w n. rw (placed_sinks (ident
 number_reads : (m : ℕ) (spot : Spot) (ts rest : List Lexeme) → Spelled (placed (number m) spot ∷ []) ts rest → number_at ts ≡ Ok ((m, spot), rest)
 unfolding number_at
 number_reads m spot [] rest w = absurd w
-number_reads m spot (t ∷ ts) rest w = rw w.0.0 (rw (same_spot t spot w.0.1 w.0.2, w.1) refl)
+number_reads m spot (t ∷ ts) rest w = rw w.0.0 (rw (spot_is t spot w.0.1 w.0.2, w.1) refl)
 
 pub number_complete : (m : ℕ) (spot : Spot) → Complete (placed (number m) spot ∷ []) number_at (m, spot) any
 number_complete m spot = record { reads = λ ts rest w n. rw (placed_sinks (number m) spot ts) (number_reads m spot ts rest w) }
@@ -292,7 +271,7 @@ amount_complete m = record { reads = λ ts rest w n. amount_reads m ts rest w }
 string_reads : (b : List ℕ) (spot : Spot) (ts rest : List Lexeme) → Spelled (placed (string b) spot ∷ []) ts rest → string_at ts ≡ Ok ((b, spot), rest)
 unfolding string_at
 string_reads b spot [] rest w = absurd w
-string_reads b spot (t ∷ ts) rest w = rw w.0.0 (rw (same_spot t spot w.0.1 w.0.2, w.1) refl)
+string_reads b spot (t ∷ ts) rest w = rw w.0.0 (rw (spot_is t spot w.0.1 w.0.2, w.1) refl)
 
 pub string_complete : (b : List ℕ) (spot : Spot) → Complete (placed (string b) spot ∷ []) string_at (b, spot) any
 string_complete b spot = record { reads = λ ts rest w n. rw (placed_sinks (string b) spot ts) (string_reads b spot ts rest w) }
@@ -312,9 +291,6 @@ more_expected : {A : Type 0} (goes : List Lexeme → Bool) (item : Reader A) (n 
 more_expected goes item n x xs mid rest None None e = rw e refl
 more_expected goes item n x xs mid rest None (Some spot) e = rw e refl
 more_expected goes item n x xs mid rest (Some spot) other e = refl
-
-none_sinks : (ts : List Lexeme) → sinks [] ts ≡ None
-none_sinks ts = refl
 
 many_reads : {A : Type 0} (w : A → List Piece) (item : Reader A) (goes : List Lexeme → Bool) (f g : Follow) → Items w item goes f g → (xs : List A) (n : ℕ) (ts rest : List Lexeme) → length ts < n → Spelled (flat_map w xs) ts rest → Next g rest → many goes item n ts ≡ expected (sinks (flat_map w xs) ts) xs rest
 many_reads w item goes f g items xs zero ts rest less h e = absurd (omega arith)

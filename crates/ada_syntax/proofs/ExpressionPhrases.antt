@@ -16,15 +16,15 @@ use Rattle.ada_grammar.specs.Piece.{Piece, anywhere, placed, opening, guarded}
 use Rattle.ada_grammar.specs.Names.{Ident, SelectorTree, component, dereference, ident_pieces, part_pieces, name_pieces, selector_pieces, path_pieces}
 use Rattle.ada_grammar.specs.Expressions.{ExpressionTree, null_expression, path_expression, aggregate_expression, unary_expression, binary_expression, ItemsTree, no_more_items, an_item, Rank, primary, factor, term, sum, relation, logical, number_of, binary_rank, is_at_most, unary_rank, unary_kind, binary_pieces, label_pieces, expression_pieces, items_pieces, more_items_pieces}
 use Rattle.ada_syntax.specs.Step.{Reader, is_identifier, is_number, is_at, at, nothing, continued, mapped, after, chain}
-use Rattle.ada_syntax.specs.Expressions.{part_at, name_from, name_at, selector_at, selectors_at, path_from, path_led, items_from, all_items_from, labelled, positional, at_multiplying, operator_at, multiplying_at, at_adding, adding_at, at_comparing, comparing_at, beside, sign_at, signed_from, not_from, number_from_parts, enclosed_from, term_from, sum_from, relation_from, repeated_from, short_from, logical_from, enclosed_items_in, primary_led, primary_in, factor_in, term_in, first_term_in, sum_in, relation_in, expression_in, behind_primary, expression_led, item_in, items_in, inside, expression_at, items_at}
-use Rattle.ada_syntax.proofs.Sound.{Able, able_append, guard_holds, guard_true, is_filled, Sound, Goes, sound_of, nothing_sound, refuses_sound, mapped_goes, mapped_sound, continued_goes, continued_sound, goes_on, both_sound, choose_goes, choose_sound, goes_as, sound_as, all_sound, chain_goes, placed_sound, fixed_sound, after_goes, after_sound, some_spot, identifier_sound, number_sound, opening_sound, opened_sound, goes_front, goes_mapped}
+use Rattle.ada_syntax.specs.Expressions.{part_at, name_from, name_at, selector_at, selectors_at, path_from, path_led, items_from, all_items_from, labelled, positional, at_multiplying, operator_at, multiplying_at, at_adding, adding_at, at_comparing, comparing_at, beside, sign_at, signed_from, not_from, number_from_parts, enclosed_from, term_from, sum_from, relation_from, repeated_from, short_from, logical_from, enclosed_items_in, primary_led, primary_in, factor_in, term_in, first_term_in, sum_in, relation_in, expression_in, behind_primary, expression_led, item_in, items_in, inside, expression_at}
+use Rattle.ada_syntax.proofs.Sound.{Able, able_append, guard_holds, guard_true, is_filled, Sound, Goes, sound_of, nothing_sound, refuses_sound, mapped_goes, mapped_sound, continued_goes, continued_sound, goes_on, both_sound, choose_goes, choose_sound, goes_as, sound_as, all_sound, chain_goes, IsOther, placed_sound, fixed_sound, after_goes, after_sound, some_spot, identifier_sound, number_sound, opening_sound, opened_sound, goes_front, goes_mapped}
 use Rattle.ada_syntax.proofs.Ranks.{ranked, operator_pieces, repeated, only_operator, ranked_is, ranked_wider, repeated_is, beside_is, term_joins, sum_joins, logical_first, logical_joins}
 
 -- ---- names
 
 pub part_sound : Sound part_pieces part_at
 unfolding part_at
-part_sound = after_sound (delimiter mark.Dot) identifier_sound
+part_sound = after_sound (delimiter mark.Dot) refl identifier_sound
 
 pub name_sound : Sound name_pieces name_at
 unfolding name_at
@@ -32,9 +32,9 @@ name_sound = mapped_sound name_pieces name_from (both_sound identifier_sound (al
 
 selector_sound : Sound selector_pieces selector_at
 unfolding selector_at
-selector_sound = sound_of (after_goes [] selector_pieces (delimiter mark.Dot) _
+selector_sound = sound_of (after_goes [] selector_pieces (delimiter mark.Dot) _ refl
     (choose_goes (anywhere (delimiter mark.Dot) ∷ []) selector_pieces (at (reserved word.All)) _ _ (λ t ts us. refl)
-    (mapped_goes (anywhere (delimiter mark.Dot) ∷ []) selector_pieces dereference (placed_sound (reserved word.All)) (λ x able. refl))
+    (mapped_goes (anywhere (delimiter mark.Dot) ∷ []) selector_pieces dereference (placed_sound (reserved word.All) refl) (λ x able. refl))
     (mapped_goes (anywhere (delimiter mark.Dot) ∷ []) selector_pieces component identifier_sound (λ x able. refl))))
 
 pub selector_filled : (s : SelectorTree) → is_filled (selector_pieces s) ≡ true
@@ -54,32 +54,32 @@ path_goes root = mapped_goes (ident_pieces root) path_pieces (path_from root) se
 pub multiplying_sound : Sound (operator_pieces term) multiplying_at
 unfolding multiplying_at
 multiplying_sound = choose_sound (operator_pieces term) (at (delimiter mark.Star)) _ _ (λ t ts us. refl)
-    (mapped_sound (operator_pieces term) (λ _. binary.Multiply) (fixed_sound (delimiter mark.Star)) (λ x able. refl))
+    (mapped_sound (operator_pieces term) (λ _. binary.Multiply) (fixed_sound (delimiter mark.Star) refl) (λ x able. refl))
     (choose_sound (operator_pieces term) (at (delimiter mark.Slash)) _ _ (λ t ts us. refl)
-    (mapped_sound (operator_pieces term) (λ _. binary.Divide) (fixed_sound (delimiter mark.Slash)) (λ x able. refl))
+    (mapped_sound (operator_pieces term) (λ _. binary.Divide) (fixed_sound (delimiter mark.Slash) refl) (λ x able. refl))
     (choose_sound (operator_pieces term) (at (reserved word.Mod)) _ _ (λ t ts us. refl)
-    (mapped_sound (operator_pieces term) (λ _. binary.Modulo) (fixed_sound (reserved word.Mod)) (λ x able. refl))
-    (mapped_sound (operator_pieces term) (λ _. binary.Remainder) (fixed_sound (reserved word.Rem)) (λ x able. refl))))
+    (mapped_sound (operator_pieces term) (λ _. binary.Modulo) (fixed_sound (reserved word.Mod) refl) (λ x able. refl))
+    (mapped_sound (operator_pieces term) (λ _. binary.Remainder) (fixed_sound (reserved word.Rem) refl) (λ x able. refl))))
 
 pub adding_sound : Sound (operator_pieces sum) adding_at
 unfolding adding_at
 adding_sound = choose_sound (operator_pieces sum) (at (delimiter mark.Plus)) _ _ (λ t ts us. refl)
-    (mapped_sound (operator_pieces sum) (λ _. binary.Add) (fixed_sound (delimiter mark.Plus)) (λ x able. refl))
-    (mapped_sound (operator_pieces sum) (λ _. binary.Subtract) (fixed_sound (delimiter mark.Minus)) (λ x able. refl))
+    (mapped_sound (operator_pieces sum) (λ _. binary.Add) (fixed_sound (delimiter mark.Plus) refl) (λ x able. refl))
+    (mapped_sound (operator_pieces sum) (λ _. binary.Subtract) (fixed_sound (delimiter mark.Minus) refl) (λ x able. refl))
 
 pub comparing_sound : Sound (operator_pieces relation) comparing_at
 unfolding comparing_at
 comparing_sound = choose_sound (operator_pieces relation) (at (delimiter mark.Equal)) _ _ (λ t ts us. refl)
-    (mapped_sound (operator_pieces relation) (λ _. binary.Equal) (fixed_sound (delimiter mark.Equal)) (λ x able. refl))
+    (mapped_sound (operator_pieces relation) (λ _. binary.Equal) (fixed_sound (delimiter mark.Equal) refl) (λ x able. refl))
     (choose_sound (operator_pieces relation) (at (delimiter mark.NotEqual)) _ _ (λ t ts us. refl)
-    (mapped_sound (operator_pieces relation) (λ _. binary.NotEqual) (fixed_sound (delimiter mark.NotEqual)) (λ x able. refl))
+    (mapped_sound (operator_pieces relation) (λ _. binary.NotEqual) (fixed_sound (delimiter mark.NotEqual) refl) (λ x able. refl))
     (choose_sound (operator_pieces relation) (at (delimiter mark.Less)) _ _ (λ t ts us. refl)
-    (mapped_sound (operator_pieces relation) (λ _. binary.Less) (fixed_sound (delimiter mark.Less)) (λ x able. refl))
+    (mapped_sound (operator_pieces relation) (λ _. binary.Less) (fixed_sound (delimiter mark.Less) refl) (λ x able. refl))
     (choose_sound (operator_pieces relation) (at (delimiter mark.LessEqual)) _ _ (λ t ts us. refl)
-    (mapped_sound (operator_pieces relation) (λ _. binary.LessOrEqual) (fixed_sound (delimiter mark.LessEqual)) (λ x able. refl))
+    (mapped_sound (operator_pieces relation) (λ _. binary.LessOrEqual) (fixed_sound (delimiter mark.LessEqual) refl) (λ x able. refl))
     (choose_sound (operator_pieces relation) (at (delimiter mark.Greater)) _ _ (λ t ts us. refl)
-    (mapped_sound (operator_pieces relation) (λ _. binary.Greater) (fixed_sound (delimiter mark.Greater)) (λ x able. refl))
-    (mapped_sound (operator_pieces relation) (λ _. binary.GreaterOrEqual) (fixed_sound (delimiter mark.GreaterEqual)) (λ x able. refl))))))
+    (mapped_sound (operator_pieces relation) (λ _. binary.Greater) (fixed_sound (delimiter mark.Greater) refl) (λ x able. refl))
+    (mapped_sound (operator_pieces relation) (λ _. binary.GreaterOrEqual) (fixed_sound (delimiter mark.GreaterEqual) refl) (λ x able. refl))))))
 
 guarded_filled : (b : Bool) (ps : List Piece) → is_filled ps ≡ true → is_filled (guarded b ps) ≡ true
 guarded_filled true ps e = e
@@ -163,38 +163,38 @@ repeated_goes room o front operator k item e f reads sound x able whole =
     (chain_goes (repeated o room) (at k) beside (λ t ts us. refl) (only_filled o) reads sound (logical_joins o room e f) (beside x o y) able_first)
     (λ z able_z. sym (repeated_is o room z able_z))) there)
 
-pub one_word : (o : BinaryOperator) (k : Kind) → only_operator o o ≡ anywhere k ∷ [] → Sound (only_operator o) (operator_at k o)
-one_word o k e = mapped_sound (only_operator o) (λ _. o) (fixed_sound k) (λ x able. e)
+pub one_word : (o : BinaryOperator) (k : Kind) → IsOther k → only_operator o o ≡ anywhere k ∷ [] → Sound (only_operator o) (operator_at k o)
+one_word o k other e = mapped_sound (only_operator o) (λ _. o) (fixed_sound k other) (λ x able. e)
 
-pub two_words : (o : BinaryOperator) (k second : Kind) → only_operator o o ≡ anywhere k ∷ anywhere second ∷ [] → Sound (only_operator o) (after k (operator_at second o))
-two_words o k second e = sound_of (after_goes [] (only_operator o) k _ (mapped_goes (anywhere k ∷ []) (only_operator o) (λ _. o) (fixed_sound second) (λ x able. e)))
+pub two_words : (o : BinaryOperator) (k second : Kind) → IsOther k → IsOther second → only_operator o o ≡ anywhere k ∷ anywhere second ∷ [] → Sound (only_operator o) (after k (operator_at second o))
+two_words o k second other others e = sound_of (after_goes [] (only_operator o) k _ other (mapped_goes (anywhere k ∷ []) (only_operator o) (λ _. o) (fixed_sound second others) (λ x able. e)))
 
-short_goes : (room : ℕ) (o : BinaryOperator) (k second : Kind) (item : Reader ExpressionTree) → binary_rank o ≡ logical → sameb operators o o ≡ true → binary_pieces o ≡ anywhere k ∷ anywhere second ∷ [] → only_operator o o ≡ anywhere k ∷ anywhere second ∷ [] → Sound (ranked relation room) item → (x : ExpressionTree) → Able (ranked relation room x) → Goes (ranked relation room x ++ anywhere k ∷ []) (expression_pieces room) (short_from k second o item x)
-short_goes room o k second item e f two only sound x able = after_goes (ranked relation room x ++ anywhere k ∷ []) (expression_pieces room) second _
-    (repeated_goes room o ((ranked relation room x ++ anywhere k ∷ []) ++ anywhere second ∷ []) (after k (operator_at second o)) k item e f (two_words o k second only) sound x able
+short_goes : (room : ℕ) (o : BinaryOperator) (k second : Kind) (item : Reader ExpressionTree) → IsOther k → IsOther second → binary_rank o ≡ logical → sameb operators o o ≡ true → binary_pieces o ≡ anywhere k ∷ anywhere second ∷ [] → only_operator o o ≡ anywhere k ∷ anywhere second ∷ [] → Sound (ranked relation room) item → (x : ExpressionTree) → Able (ranked relation room x) → Goes (ranked relation room x ++ anywhere k ∷ []) (expression_pieces room) (short_from k second o item x)
+short_goes room o k second item other others e f two only sound x able = after_goes (ranked relation room x ++ anywhere k ∷ []) (expression_pieces room) second _ others
+    (repeated_goes room o ((ranked relation room x ++ anywhere k ∷ []) ++ anywhere second ∷ []) (after k (operator_at second o)) k item e f (two_words o k second other others only) sound x able
     (append_assoc (ranked relation room x) (anywhere k ∷ []) (anywhere second ∷ []) ∙ ap (λ (ps : List Piece). ranked relation room x ++ ps) (sym two)))
 
-long_goes : (room : ℕ) (o : BinaryOperator) (k : Kind) (item : Reader ExpressionTree) → binary_rank o ≡ logical → sameb operators o o ≡ true → binary_pieces o ≡ anywhere k ∷ [] → only_operator o o ≡ anywhere k ∷ [] → Sound (ranked relation room) item → (x : ExpressionTree) → Able (ranked relation room x) → Goes (ranked relation room x ++ anywhere k ∷ []) (expression_pieces room) (repeated_from k o item x)
-long_goes room o k item e f one only sound x able =
-    repeated_goes room o (ranked relation room x ++ anywhere k ∷ []) (operator_at k o) k item e f (one_word o k only) sound x able
+long_goes : (room : ℕ) (o : BinaryOperator) (k : Kind) (item : Reader ExpressionTree) → IsOther k → binary_rank o ≡ logical → sameb operators o o ≡ true → binary_pieces o ≡ anywhere k ∷ [] → only_operator o o ≡ anywhere k ∷ [] → Sound (ranked relation room) item → (x : ExpressionTree) → Able (ranked relation room x) → Goes (ranked relation room x ++ anywhere k ∷ []) (expression_pieces room) (repeated_from k o item x)
+long_goes room o k item other e f one only sound x able =
+    repeated_goes room o (ranked relation room x ++ anywhere k ∷ []) (operator_at k o) k item e f (one_word o k other only) sound x able
     (ap (λ (ps : List Piece). ranked relation room x ++ ps) (sym one))
 
 pub logical_goes : (room : ℕ) (item : Reader ExpressionTree) → Sound (ranked relation room) item → (x : ExpressionTree) → Able (ranked relation room x) → Goes (ranked relation room x) (expression_pieces room) (logical_from item x)
 unfolding logical_from
 logical_goes room item sound x able =
     choose_goes (ranked relation room x) (expression_pieces room) (at (reserved word.And)) _ _ (λ t ts us. refl)
-    (after_goes (ranked relation room x) (expression_pieces room) (reserved word.And) _
+    (after_goes (ranked relation room x) (expression_pieces room) (reserved word.And) _ refl
     (choose_goes (ranked relation room x ++ anywhere (reserved word.And) ∷ []) (expression_pieces room) (at (reserved word.Then)) _ _ (λ t ts us. refl)
-    (short_goes room binary.AndThen (reserved word.And) (reserved word.Then) item refl refl refl refl sound x able)
-    (long_goes room binary.And (reserved word.And) item refl refl refl refl sound x able)))
+    (short_goes room binary.AndThen (reserved word.And) (reserved word.Then) item refl refl refl refl refl refl sound x able)
+    (long_goes room binary.And (reserved word.And) item refl refl refl refl refl sound x able)))
     (choose_goes (ranked relation room x) (expression_pieces room) (at (reserved word.Or)) _ _ (λ t ts us. refl)
-    (after_goes (ranked relation room x) (expression_pieces room) (reserved word.Or) _
+    (after_goes (ranked relation room x) (expression_pieces room) (reserved word.Or) _ refl
     (choose_goes (ranked relation room x ++ anywhere (reserved word.Or) ∷ []) (expression_pieces room) (at (reserved word.Else)) _ _ (λ t ts us. refl)
-    (short_goes room binary.OrElse (reserved word.Or) (reserved word.Else) item refl refl refl refl sound x able)
-    (long_goes room binary.Or (reserved word.Or) item refl refl refl refl sound x able)))
+    (short_goes room binary.OrElse (reserved word.Or) (reserved word.Else) item refl refl refl refl refl refl sound x able)
+    (long_goes room binary.Or (reserved word.Or) item refl refl refl refl refl sound x able)))
     (choose_goes (ranked relation room x) (expression_pieces room) (at (reserved word.Xor)) _ _ (λ t ts us. refl)
-    (after_goes (ranked relation room x) (expression_pieces room) (reserved word.Xor) _
-    (long_goes room binary.Xor (reserved word.Xor) item refl refl refl refl sound x able))
+    (after_goes (ranked relation room x) (expression_pieces room) (reserved word.Xor) _ refl
+    (long_goes room binary.Xor (reserved word.Xor) item refl refl refl refl refl sound x able))
     (ends_here (ranked relation room x) (expression_pieces room) x (sym (ranked_is relation room x able)))))
 
 -- ---- the phrases, of what stands inside a level
@@ -205,29 +205,29 @@ pub record InsideSound (room : ℕ) (inner : Reader ExpressionTree) (listed : Re
   pub items : Sound (items_pieces (room - 1)) listed
 
 close_sound : Sound (λ _. anywhere (delimiter mark.RightParenthesis) ∷ []) (after (delimiter mark.RightParenthesis) nothing)
-close_sound = after_sound (delimiter mark.RightParenthesis) nothing_sound
+close_sound = after_sound (delimiter mark.RightParenthesis) refl nothing_sound
 
 abbrev enclosed_items_pieces : ℕ → ItemsTree → List Piece
 enclosed_items_pieces room items = opening room (delimiter mark.LeftParenthesis) ∷ items_pieces (room - 1) items ++ anywhere (delimiter mark.RightParenthesis) ∷ []
 
 pub enclosed_items_sound : {inner : Reader ExpressionTree} {items : Reader ItemsTree} (room : ℕ) → InsideSound room inner items → Sound (enclosed_items_pieces room) (enclosed_items_in room items)
 unfolding enclosed_items_in
-enclosed_items_sound room deeper = opened_sound room (delimiter mark.LeftParenthesis)
+enclosed_items_sound room deeper = opened_sound room (delimiter mark.LeftParenthesis) refl
     (mapped_sound (λ is. items_pieces (room - 1) is ++ anywhere (delimiter mark.RightParenthesis) ∷ []) (λ (x : ItemsTree × Unit {0}). x.0) (both_sound deeper.items close_sound) (λ x able. refl))
 
 pub led_goes : {inner : Reader ExpressionTree} {items : Reader ItemsTree} (room : ℕ) → InsideSound room inner items → (first : Ident) → Goes (ident_pieces first) (ranked primary room) (primary_led room items first)
 unfolding primary_led
 led_goes room deeper first = choose_goes (ident_pieces first) (ranked primary room) (at (delimiter mark.Tick)) _ _ (λ t ts us. refl)
-    (after_goes (ident_pieces first) (ranked primary room) (delimiter mark.Tick) _
+    (after_goes (ident_pieces first) (ranked primary room) (delimiter mark.Tick) _ refl
     (mapped_goes (ident_pieces first ++ anywhere (delimiter mark.Tick) ∷ []) (ranked primary room) (aggregate_expression first) (enclosed_items_sound room deeper) (λ x able. refl)))
     (goes_mapped (ranked primary room) path_expression (tt, tt) (path_goes first) (λ x able. refl))
 
 pub primary_sound : {inner : Reader ExpressionTree} {items : Reader ItemsTree} (room : ℕ) → InsideSound room inner items → Sound (ranked primary room) (primary_in room inner items)
 unfolding primary_in
 primary_sound room deeper = choose_sound (ranked primary room) (is_at is_number) _ _ (λ t ts us. refl) (mapped_sound (ranked primary room) number_from_parts number_sound (λ x able. refl))
-    (choose_sound (ranked primary room) (at (reserved word.Null)) _ _ (λ t ts us. refl) (mapped_sound (ranked primary room) null_expression (placed_sound (reserved word.Null)) (λ x able. refl))
+    (choose_sound (ranked primary room) (at (reserved word.Null)) _ _ (λ t ts us. refl) (mapped_sound (ranked primary room) null_expression (placed_sound (reserved word.Null) refl) (λ x able. refl))
     (choose_sound (ranked primary room) (at (delimiter mark.LeftParenthesis)) _ _ (λ t ts us. refl)
-    (mapped_sound (ranked primary room) enclosed_from (both_sound (opening_sound room (delimiter mark.LeftParenthesis)) (both_sound deeper.expression close_sound)) (λ x able. refl))
+    (mapped_sound (ranked primary room) enclosed_from (both_sound (opening_sound room (delimiter mark.LeftParenthesis) refl) (both_sound deeper.expression close_sound)) (λ x able. refl))
     (continued_sound (ranked primary room) _ identifier_sound (λ i able. led_goes room deeper i))))
 
 -- what stands behind a sign or `not`
@@ -239,7 +239,7 @@ operand_is p room r e able =
 pub factor_sound : {inner : Reader ExpressionTree} {items : Reader ItemsTree} (room : ℕ) → InsideSound room inner items → Sound (ranked factor room) (factor_in room inner items)
 unfolding factor_in
 factor_sound room deeper = choose_sound (ranked factor room) (at (reserved word.Not)) _ _ (λ t ts us. refl)
-    (mapped_sound (ranked factor room) not_from (both_sound (placed_sound (reserved word.Not)) (primary_sound room deeper))
+    (mapped_sound (ranked factor room) not_from (both_sound (placed_sound (reserved word.Not) refl) (primary_sound room deeper))
     (λ x able. operand_is (placed (reserved word.Not) x.0) room primary x.1 able))
     (sound_as (ranked factor room) (primary_sound room deeper) (λ x able. ranked_wider primary factor room x refl able))
 
@@ -254,8 +254,8 @@ sign_pieces x = guarded (eqb (number_of (unary_rank x.0)) (number_of sum)) (plac
 sign_sound : Sound sign_pieces sign_at
 unfolding sign_at
 sign_sound = choose_sound sign_pieces (at (delimiter mark.Plus)) _ _ (λ t ts us. refl)
-    (mapped_sound sign_pieces (λ spot. (unary.Plus, spot)) (placed_sound (delimiter mark.Plus)) (λ x able. refl))
-    (mapped_sound sign_pieces (λ spot. (unary.Minus, spot)) (placed_sound (delimiter mark.Minus)) (λ x able. refl))
+    (mapped_sound sign_pieces (λ spot. (unary.Plus, spot)) (placed_sound (delimiter mark.Plus) refl) (λ x able. refl))
+    (mapped_sound sign_pieces (λ spot. (unary.Minus, spot)) (placed_sound (delimiter mark.Minus) refl) (λ x able. refl))
 
 signed_is : (room : ℕ) (operator : UnaryOperator) (spot : Spot) (e : ExpressionTree) → Able (sign_pieces (operator, spot) ++ ranked term room e) → ranked sum room (unary_expression operator spot e) ≡ sign_pieces (operator, spot) ++ ranked term room e
 signed_is room unary.Plus spot e able = operand_is (placed (delimiter mark.Plus) spot) room term e able
@@ -315,7 +315,7 @@ unfolding item_in
 item_sound room deeper = choose_sound (item_pieces room) (is_at is_identifier) _ _ (λ t ts us. refl)
     (continued_sound (item_pieces room) _ identifier_sound
     (λ first able. choose_goes (ident_pieces first) (item_pieces room) (at (delimiter mark.Arrow)) _ _ (λ t ts us. refl)
-    (mapped_goes (ident_pieces first) (item_pieces room) (labelled first) (after_sound (delimiter mark.Arrow) (expression_in_sound room deeper)) (λ x able_x. refl))
+    (mapped_goes (ident_pieces first) (item_pieces room) (labelled first) (after_sound (delimiter mark.Arrow) refl (expression_in_sound room deeper)) (λ x able_x. refl))
     (goes_mapped (item_pieces room) positional able (expression_led_goes room deeper first) (λ x able_x. refl))))
     (mapped_sound (item_pieces room) positional (expression_in_sound room deeper) (λ x able. refl))
 
@@ -331,7 +331,7 @@ all_items_are room x = ap (λ (ps : List Piece). (label_pieces x.0.0 ++ expressi
 pub items_in_sound : {inner : Reader ExpressionTree} {items : Reader ItemsTree} (room : ℕ) → InsideSound room inner items → Sound (items_pieces room) (items_in room inner items)
 unfolding items_in
 items_in_sound room deeper = mapped_sound (items_pieces room) all_items_from
-    (both_sound (item_sound room deeper) (both_sound (all_sound (at (delimiter mark.Comma)) (λ t ts us. refl) (λ x able. refl) (after_sound (delimiter mark.Comma) (item_sound room deeper))) nothing_sound))
+    (both_sound (item_sound room deeper) (both_sound (all_sound (at (delimiter mark.Comma)) (λ t ts us. refl) (λ x able. refl) (after_sound (delimiter mark.Comma) refl (item_sound room deeper))) nothing_sound))
     (λ x able. all_items_are room x)
 
 -- ---- by the room
@@ -342,8 +342,8 @@ less_one room = omega arith
 pub inside_sound : (room : ℕ) → InsideSound room (inside room).expression (inside room).items
 unfolding inside
 inside_sound zero = record {
-  expression = refuses_sound (expression_pieces 0) (null_expression some_spot, (tt, tt));
-  items = refuses_sound (items_pieces 0) (an_item None (null_expression some_spot) no_more_items, (tt, tt));
+  expression = refuses_sound (expression_pieces 0) (null_expression some_spot, ((tt, tt), refl));
+  items = refuses_sound (items_pieces 0) (an_item None (null_expression some_spot) no_more_items, ((tt, tt), refl));
 }
 inside_sound (suc room) = record {
   expression = subst (λ (n : ℕ). Sound (expression_pieces n) (inside (suc room)).expression) (less_one room) (expression_in_sound room (inside_sound room));
@@ -353,7 +353,3 @@ inside_sound (suc room) = record {
 pub expression_sound : (room : ℕ) → Sound (expression_pieces room) (expression_at room)
 unfolding expression_at
 expression_sound room = expression_in_sound room (inside_sound room)
-
-pub items_sound : (room : ℕ) → Sound (items_pieces room) (items_at room)
-unfolding items_at
-items_sound room = items_in_sound room (inside_sound room)

@@ -1,25 +1,25 @@
 -- What is written so is read so: names and expressions.
-use Rattle.std.proofs.Common.{◌≡◌, ℕ, zero, suc, Bool, true, false, cond, ◌&&◌, ◌||◌, List, [], ◌∷◌, ◌++◌, Option, Some, None, Result, Ok, Err, inl, inr, length, ◌<◌, lt-suc_self, refl, sym, ap, subst, ◌∙◌, append_assoc, append-nil, arith}
+use Rattle.std.proofs.Common.{◌≡◌, ℕ, zero, suc, Bool, true, false, ◌&&◌, ◌||◌, List, [], ◌∷◌, ◌++◌, Option, Some, None, Ok, Err, inl, inr, length, ◌<◌, lt-suc_self, refl, sym, ap, subst, ◌∙◌, append_assoc, append-nil, arith}
 use Rattle.std.specs.Prelude.{◌-◌, leb, eqb}
 use Rattle.std.specs.List.{flat_map}
 use Rattle.ada_text.specs.declared.spot.Spot.{Spot}
 use Rattle.ada_text.specs.declared.word.Word.TheVariants as word
 use Rattle.ada_text.specs.declared.delimiter.Delimiter.TheVariants as mark
-use Rattle.ada_text.specs.Token.{Kind, identifier, number, string, reserved, delimiter, Lexeme}
+use Rattle.ada_text.specs.Token.{Kind, identifier, number, reserved, delimiter, Lexeme}
 use Rattle.ada_grammar.specs.declared.operators.UnaryOperator.{UnaryOperator}
 use Rattle.ada_grammar.specs.declared.operators.UnaryOperator.TheVariants as unary
 use Rattle.ada_grammar.specs.declared.operators.BinaryOperator.{BinaryOperator}
 use Rattle.ada_grammar.specs.declared.operators.BinaryOperator.TheVariants as binary
 use denote.Enum.Bare.{sameb, same_true}
 use Rattle.ada_grammar.specs.contracts.operators.BinaryOperator.{the_type as operators}
-use Rattle.ada_grammar.specs.Piece.{Piece, anywhere, placed, deep, never, Spelled, opening, opening_at, guarded}
-use Rattle.ada_grammar.specs.Names.{Ident, NameTree, SelectorTree, component, dereference, PathTree, ident_pieces, part_pieces, name_pieces, selector_pieces, path_pieces}
-use Rattle.ada_grammar.specs.Expressions.{ExpressionTree, number_expression, null_expression, path_expression, aggregate_expression, enclosed_expression, unary_expression, binary_expression, ItemsTree, no_more_items, an_item, Rank, primary, factor, term, sum, relation, logical, number_of, unary_rank, binary_rank, rank_of, is_at_most, left_rank, right_rank, operand_rank, repeats, joins, unary_kind, binary_pieces, label_pieces, expression_pieces, items_pieces, more_items_pieces}
-use Rattle.ada_syntax.specs.Step.{◌>>=◌, Reader, Outcome, here, spot_of, is_kind, is_identifier, is_number, is_at, at, fixed, identifier_at, number_at, nothing, continued, mapped, both, after, choose, all_of, opening_in, opened, chain}
-use Rattle.ada_syntax.specs.Expressions.{part_at, name_from, name_at, selector_at, selectors_at, path_from, path_led, at_multiplying, operator_at, multiplying_at, at_adding, adding_at, at_comparing, comparing_at, beside, sign_at, signed_from, not_from, number_from_parts, enclosed_from, term_from, sum_from, relation_from, repeated_from, short_from, logical_from, enclosed_items_in, primary_led, primary_in, factor_in, term_in, first_term_in, sum_in, relation_in, expression_in, behind_primary, expression_led}
+use Rattle.ada_grammar.specs.Piece.{Piece, anywhere, placed, never, Spelled, opening, opening_at, guarded}
+use Rattle.ada_grammar.specs.Names.{Ident, NameTree, SelectorTree, component, dereference, PathTree, part_pieces, name_pieces, selector_pieces}
+use Rattle.ada_grammar.specs.Expressions.{ExpressionTree, number_expression, null_expression, path_expression, aggregate_expression, enclosed_expression, unary_expression, binary_expression, ItemsTree, Rank, primary, factor, term, sum, relation, logical, number_of, unary_rank, binary_rank, rank_of, is_at_most, left_rank, right_rank, operand_rank, repeats, joins, unary_kind, binary_pieces, expression_pieces, items_pieces}
+use Rattle.ada_syntax.specs.Step.{◌>>=◌, Reader, here, spot_of, is_kind, is_at, at, fixed, nothing, continued, mapped, both, after, choose, all_of, opening_in, chain}
+use Rattle.ada_syntax.specs.Expressions.{part_at, name_from, name_at, selector_at, selectors_at, path_from, path_led, at_multiplying, operator_at, multiplying_at, at_adding, adding_at, at_comparing, comparing_at, beside, sign_at, signed_from, not_from, number_from_parts, enclosed_from, term_from, sum_from, relation_from, logical_from, enclosed_items_in, primary_led, primary_in, factor_in, term_in, first_term_in, sum_in, relation_in, expression_in}
 use Rattle.ada_syntax.proofs.Sound.{bind_ok, chosen, ok_is, is_filled}
 use Rattle.ada_syntax.proofs.Local.{Plain, Advances, chain_unfold}
-use Rattle.ada_syntax.proofs.Complete.{Follow, Next, any, any_next, unless, before, Leads, Complete, sinks, expected, or_else, append_spelled, sinks_append, leads_first, leads_any, leads_same, leads_through, leads_front, complete_as, weaken, never_complete, guarded_complete, nothing_complete, mapped_complete, continued_complete, both_complete, choose_true, choose_false, placed_complete, after_complete, opened_complete, opened_at_complete, identifier_complete, number_complete, all_complete, while_items}
+use Rattle.ada_syntax.proofs.Complete.{Follow, Next, any, any_next, unless, before, Leads, Complete, sinks, expected, or_else, append_spelled, sinks_append, leads_first, leads_any, leads_same, leads_front, complete_as, weaken, guarded_complete, nothing_complete, mapped_complete, continued_complete, both_complete, choose_true, choose_false, placed_complete, after_complete, opened_complete, opened_at_complete, identifier_complete, number_complete, all_complete, while_items}
 
 -- ---- names and paths
 

@@ -1,19 +1,17 @@
 -- What is written so is read so: items, and expressions at any depth of nesting.
-use Rattle.std.proofs.Common.{◌≡◌, ℕ, zero, suc, Bool, true, false, cond, ◌||◌, List, [], ◌∷◌, ◌++◌, Option, Some, None, Result, Ok, Err, inl, inr, refl, sym, ap, subst, ◌∙◌, append_assoc, append-nil}
+use Rattle.std.proofs.Common.{◌≡◌, ℕ, Bool, true, false, ◌||◌, List, [], ◌∷◌, ◌++◌, Option, Some, None, Ok, Err, refl, sym, ap, subst, ◌∙◌, append-nil}
 use Rattle.std.specs.List.{flat_map}
 use Rattle.std.proofs.lemmas.List.Concat.{flat_map-cons}
 use Rattle.ada_text.specs.declared.spot.Spot.{Spot}
-use Rattle.ada_text.specs.declared.word.Word.TheVariants as word
 use Rattle.ada_text.specs.declared.delimiter.Delimiter.TheVariants as mark
 use Rattle.ada_text.specs.Token.{Kind, identifier, number, string, reserved, delimiter, Lexeme}
-use Rattle.ada_grammar.specs.Piece.{Piece, anywhere, placed, never, Spelled}
-use Rattle.ada_grammar.specs.Names.{Ident, ident_pieces}
-use Rattle.ada_grammar.specs.Expressions.{ExpressionTree, path_expression, ItemsTree, no_more_items, an_item, primary, factor, term, sum, relation, logical, label_pieces, expression_pieces, items_pieces, more_items_pieces}
-use Rattle.ada_syntax.specs.Step.{◌>>=◌, Reader, Outcome, Stopped, here, too_deep, spot_of, is_kind, is_identifier, is_at, at, identifier_at, nothing, continued, mapped, both, after, choose, all_of, chain}
-use Rattle.ada_syntax.specs.Expressions.{items_from, all_items_from, labelled, positional, path_led, selectors_at, primary_led, primary_in, factor_in, term_in, first_term_in, sum_in, relation_in, expression_in, term_from, sum_from, relation_from, logical_from, behind_primary, expression_led, item_in, items_in, Inside, inside, expression_at, items_at}
-use Rattle.ada_syntax.proofs.Sound.{ok_is, done, is_filled}
-use Rattle.ada_syntax.proofs.Local.{Plain}
-use Rattle.ada_syntax.proofs.Complete.{Follow, Next, any, unless, before, Leads, Complete, sinks, expected, kind_is, before_next, leads_first, leads_any, leads_same, leads_before, complete_as, weaken, never_complete, nothing_complete, mapped_complete, continued_complete, both_complete, choose_true, after_complete, identifier_complete, all_complete, while_items}
+use Rattle.ada_grammar.specs.Piece.{Piece, anywhere}
+use Rattle.ada_grammar.specs.Names.{Ident}
+use Rattle.ada_grammar.specs.Expressions.{ExpressionTree, path_expression, ItemsTree, no_more_items, an_item, logical, label_pieces, expression_pieces, items_pieces, more_items_pieces}
+use Rattle.ada_syntax.specs.Step.{◌>>=◌, Reader, Outcome, spot_of, is_kind, is_identifier, is_at, at, identifier_at, after, all_of, chain}
+use Rattle.ada_syntax.specs.Expressions.{items_from, all_items_from, labelled, positional, path_led, selectors_at, primary_led, primary_in, factor_in, term_in, first_term_in, sum_in, relation_in, expression_in, term_from, sum_from, relation_from, logical_from, behind_primary, expression_led, item_in, items_in}
+use Rattle.ada_syntax.proofs.Sound.{ok_is, done, is_filled, kind_is}
+use Rattle.ada_syntax.proofs.Complete.{Follow, Next, before, Leads, Complete, sinks, expected, leads_first, leads_any, leads_same, leads_before, complete_as, weaken, never_complete, nothing_complete, mapped_complete, continued_complete, both_complete, choose_true, after_complete, identifier_complete, all_complete, while_items}
 use Rattle.ada_syntax.proofs.ExpressionTexts.{continues, past, narrower, or_left, or_right, Inner, expression_complete}
 
 -- before what g allows, if that is what f allows

@@ -7,6 +7,7 @@ pub mod Nesting
 pub mod Local
 -- what is read is written so, and where reading stops some tree goes on from there
 pub mod Sound
+pub mod Shallow
 pub mod Ranks
 pub mod ExpressionPhrases
 pub mod RightPhrases
@@ -28,6 +29,12 @@ pub mod DeclarationTexts
 pub mod StatementTexts
 pub mod ProcedureTexts
 pub mod UnitTexts
--- one tree at most, and what a fault says
+-- chains of operators, as the code keeps them
+pub mod Links
+-- one tree at most, one first fault at most, and what a fault says
+pub mod Located
+pub mod Reading
+pub mod Depth
+pub mod OneFault
 pub mod Exact
 pub mod Whole

@@ -7,7 +7,7 @@ use Rattle.ada_grammar.specs.Piece.{Piece, never, Written}
 use Rattle.ada_syntax.specs.Step.{◌>>=◌, Stopped, here, Reader, choose, many, all_of}
 use Rattle.ada_syntax.specs.Expressions.{refuses}
 use Rattle.ada_syntax.proofs.Local.{Peeks, choose_plain}
-use Rattle.ada_syntax.proofs.Sound.{bind_ok, chosen, ok_is, Able, is_filled, Reached, Stuck, Sound, refuses_sound, all_sound}
+use Rattle.ada_syntax.proofs.Sound.{bind_ok, chosen, ok_is, Able, Ready, is_filled, Reached, Stuck, choose_stuck, Sound, refuses_sound, all_sound}
 
 -- One phrase or more.
 abbrev pub some_pieces : {A : Type 0} → (A → List Piece) → List A → List Piece
@@ -34,41 +34,37 @@ none_begun : (begun more : List Piece) → [] ≡ begun ++ more → begun ≡ []
 none_begun [] more e = refl
 none_begun (p ∷ begun) more e = absurd cc
 
-some_stuck : {A : Type 0} (pA : A → List Piece) (x : A) → Able (pA x) → (ts : List Lexeme) (s : Stopped) (xs : List A) (begun more : List Piece) → flat_map pA xs ≡ begun ++ more → Reached begun ts s → Able more → Stuck [] (some_pieces pA) ts s
-some_stuck pA x able ts s [] begun more e reached rest = record {
+some_stuck : {A : Type 0} (read : Reader (List A)) (pA : A → List Piece) (x : A) → Ready (pA x) → (ts : List Lexeme) (s : Stopped) (xs : List A) (begun more : List Piece) → flat_map pA xs ≡ begun ++ more → Reached read begun ts s → Ready more → Stuck read [] (some_pieces pA) ts s
+some_stuck read pA x ready ts s [] begun more e reached rest = record {
   tree = x ∷ [];
   begun = [];
   more = pA x;
   whole = flat_map-cons pA x [] ∙ append-nil (pA x);
-  reached = subst (λ (ps : List Piece). Reached ps ts s) (none_begun begun more e) reached;
-  able = able;
+  reached = subst (λ (ps : List Piece). Reached read ps ts s) (none_begun begun more e) reached;
+  ready = ready;
 }
-some_stuck pA x able ts s (y ∷ ys) begun more e reached rest = record { tree = y ∷ ys; begun = begun; more = more; whole = e; reached = reached; able = rest }
+some_stuck read pA x ready ts s (y ∷ ys) begun more e reached rest = record { tree = y ∷ ys; begun = begun; more = more; whole = e; reached = reached; ready = rest }
 
-some_fails : {A : Type 0} (pA : A → List Piece) (rA : Reader A) (goes : List Lexeme → Bool) → (x : A) → Able (pA x) → Sound (flat_map pA) (all_of goes rA) → (ts : List Lexeme) (s : Stopped) → all_of goes rA ts ≡ Err s → Stuck [] (some_pieces pA) ts s
-some_fails {A} pA rA goes x able sound ts s e =
-    let k : Stuck [] (flat_map pA) ts s = sound.fails ts s e in
-    some_stuck pA x able ts s k.tree k.begun k.more k.whole k.reached k.able
+some_fails : {A : Type 0} (pA : A → List Piece) (rA : Reader A) (goes : List Lexeme → Bool) → (x : A) → Ready (pA x) → Sound (flat_map pA) (all_of goes rA) → (ts : List Lexeme) (s : Stopped) → all_of goes rA ts ≡ Err s → Stuck (all_of goes rA) [] (some_pieces pA) ts s
+some_fails {A} pA rA goes x ready sound ts s e =
+    let k : Stuck (all_of goes rA) [] (flat_map pA) ts s = sound.fails ts s e in
+    some_stuck (all_of goes rA) pA x ready ts s k.tree k.begun k.more k.whole k.reached k.ready
 
-one_able : {A : Type 0} (pA : A → List Piece) (x : A) → Able (pA x) → Able (some_pieces pA (x ∷ []))
-one_able pA x able = subst Able (sym (flat_map-cons pA x [] ∙ append-nil (pA x))) able
+one_ready : {A : Type 0} (pA : A → List Piece) (x : A) → Ready (pA x) → Ready (some_pieces pA (x ∷ []))
+one_ready pA x ready = subst Ready (sym (flat_map-cons pA x [] ∙ append-nil (pA x))) ready
 
 -- where the test holds, as many phrases as there are, and else none
 pub some_sound : {A : Type 0} {pA : A → List Piece} {rA : Reader A} (goes : List Lexeme → Bool) → Peeks goes → ((x : A) → Able (pA x) → is_filled (pA x) ≡ true) → Sound pA rA → Sound (some_pieces pA) (choose goes (all_of goes rA) refuses)
 some_sound {A} {pA} {rA} goes peeks filled sound =
     let listed : Sound (flat_map pA) (all_of goes rA) = all_sound goes peeks filled sound in
-    let none : Sound (some_pieces pA) (refuses {A = List A}) = refuses_sound (some_pieces pA) (sound.some.0 ∷ [], one_able pA sound.some.0 sound.some.1) in
+    let none : Sound (some_pieces pA) (refuses {A = List A}) = refuses_sound (some_pieces pA) (sound.some.0 ∷ [], one_ready pA sound.some.0 sound.some.1) in
     record {
       takes = λ ts xs rest e.
           elim (chosen (goes ts) (all_of goes rA ts) (Err (here ts)) (Ok (xs, rest)) e) [
             | inl h ↦ some_takes pA rA goes listed ts xs rest h.0 h.1
             | inr h ↦ none.takes ts xs rest h.1
           ];
-      fails = λ ts s e.
-          elim (chosen (goes ts) (all_of goes rA ts) (Err (here ts)) (Err s) e) [
-            | inl h ↦ some_fails pA rA goes sound.some.0 sound.some.1 listed ts s h.1
-            | inr h ↦ none.fails ts s h.1
-          ];
+      fails = λ ts s e. choose_stuck [] (some_pieces pA) goes (all_of goes rA) refuses peeks ts s (λ h d. some_fails pA rA goes sound.some.0 sound.some.1 listed ts s d) (λ h d. none.fails ts s d) e;
       some = none.some;
       plain = choose_plain goes (all_of goes rA) refuses peeks listed.plain none.plain;
     }
@@ -80,18 +76,14 @@ not_false b e = ap not e
 pub unended_sound : {A : Type 0} {pA : A → List Piece} {rA : Reader A} (ends goes : List Lexeme → Bool) → Peeks ends → Peeks goes → ((ts : List Lexeme) → goes ts ≡ not (ends ts)) → ((x : A) → Able (pA x) → is_filled (pA x) ≡ true) → Sound pA rA → Sound (some_pieces pA) (choose ends refuses (all_of goes rA))
 unended_sound {A} {pA} {rA} ends goes peeks looks opposite filled sound =
     let listed : Sound (flat_map pA) (all_of goes rA) = all_sound goes looks filled sound in
-    let none : Sound (some_pieces pA) (refuses {A = List A}) = refuses_sound (some_pieces pA) (sound.some.0 ∷ [], one_able pA sound.some.0 sound.some.1) in
+    let none : Sound (some_pieces pA) (refuses {A = List A}) = refuses_sound (some_pieces pA) (sound.some.0 ∷ [], one_ready pA sound.some.0 sound.some.1) in
     record {
       takes = λ ts xs rest e.
           elim (chosen (ends ts) (Err (here ts)) (all_of goes rA ts) (Ok (xs, rest)) e) [
             | inl h ↦ none.takes ts xs rest h.1
             | inr h ↦ some_takes pA rA goes listed ts xs rest (opposite ts ∙ not_false (ends ts) h.0) h.1
           ];
-      fails = λ ts s e.
-          elim (chosen (ends ts) (Err (here ts)) (all_of goes rA ts) (Err s) e) [
-            | inl h ↦ none.fails ts s h.1
-            | inr h ↦ some_fails pA rA goes sound.some.0 sound.some.1 listed ts s h.1
-          ];
+      fails = λ ts s e. choose_stuck [] (some_pieces pA) ends refuses (all_of goes rA) peeks ts s (λ h d. none.fails ts s d) (λ h d. some_fails pA rA goes sound.some.0 sound.some.1 listed ts s d) e;
       some = none.some;
       plain = choose_plain ends refuses (all_of goes rA) peeks none.plain listed.plain;
     }

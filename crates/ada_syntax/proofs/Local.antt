@@ -63,7 +63,7 @@ pub mapped_plain : {A B : Type 0} (f : A → B) (p : Reader A) → Plain p → P
 mapped_plain f p plain = continued_plain p (λ x ts. Ok (f x, ts)) plain (λ ts x rest e. done_plain f x)
 
 -- a test answers the same whatever stands behind t
-peeked : (test : List Lexeme → Bool) → Peeks test → (u : List Lexeme) (t : Lexeme) → (b : Bool) × ((a : List Lexeme) → test (u ++ t ∷ a) ≡ b)
+pub peeked : (test : List Lexeme → Bool) → Peeks test → (u : List Lexeme) (t : Lexeme) → (b : Bool) × ((a : List Lexeme) → test (u ++ t ∷ a) ≡ b)
 peeked test peeks [] t = (test (t ∷ []), λ a. peeks t a [])
 peeked test peeks (x ∷ u) t = (test (x ∷ []), λ a. peeks x (u ++ t ∷ a) [])
 
@@ -159,7 +159,7 @@ all_plain goes item peeks advances plain = record {
 abbrev pub one_joined : {A O : Type 0} → (List Lexeme → Bool) → Reader O → Reader A → (A → O → A → A) → A → Reader A
 one_joined goes operator item join x = choose goes (continued operator (λ o. continued item (λ y. chain goes operator item join (join x o y)))) (λ ts. Ok (x, ts))
 
-rest_shorter : {A O : Type 0} (operator : Reader O) (item : Reader A) → Advances operator → Plain item → (ts mid rest : List Lexeme) (o : O) (y : A) → operator ts ≡ Ok (o, mid) → item mid ≡ Ok (y, rest) → length rest < length ts
+pub rest_shorter : {A O : Type 0} (operator : Reader O) (item : Reader A) → Advances operator → Plain item → (ts mid rest : List Lexeme) (o : O) (y : A) → operator ts ≡ Ok (o, mid) → item mid ≡ Ok (y, rest) → length rest < length ts
 rest_shorter operator item advances plain ts mid rest o y e f =
     let less : length mid < length ts = advances ts o mid e in
     let no_more : length rest ≤ length mid = subst (λ r. length (left_of r) ≤ length mid) f (plain.shrinks mid) in

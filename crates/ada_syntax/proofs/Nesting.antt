@@ -1,5 +1,5 @@
 -- What stands inside a level of nesting of declarations and statements.
-use Rattle.std.proofs.Common.{◌≡◌, ℕ, zero, suc, ◌-◌, Bool, true, false, List, if◌then◌else◌, Result, Ok, Err, refl, sym, ap, arith}
+use Rattle.std.proofs.Common.{◌≡◌, ℕ, zero, suc, ◌-◌, Bool, true, false, List, if◌then◌else◌, Ok, Err, refl, sym, ap, arith}
 use Rattle.ada_text.specs.declared.spot.Spot.{Spot}
 use Rattle.ada_text.specs.declared.word.Word.TheVariants as word
 use Rattle.ada_text.specs.Token.{Kind, Lexeme, reserved}

@@ -16,25 +16,25 @@ pub static_sound : Sound static_pieces static_at
 unfolding static_at
 static_sound = choose_sound static_pieces (is_at is_identifier) _ _ (λ t ts us. refl) (mapped_sound static_pieces named identifier_sound (λ x able. refl))
     (choose_sound static_pieces (at (delimiter mark.Minus)) _ _ (λ t ts us. refl)
-    (mapped_sound static_pieces minus_from (both_sound (placed_sound (delimiter mark.Minus)) amount_sound) (λ x able. refl))
+    (mapped_sound static_pieces minus_from (both_sound (placed_sound (delimiter mark.Minus) refl) amount_sound) (λ x able. refl))
     (mapped_sound static_pieces plain_from number_sound (λ x able. refl)))
 
 initial_static_sound : Sound initial_static_pieces initial_static_at
 unfolding initial_static_at
 initial_static_sound = choose_sound initial_static_pieces (at (delimiter mark.Assign)) _ _ (λ t ts us. refl)
-    (mapped_sound initial_static_pieces Some (after_sound (delimiter mark.Assign) static_sound) (λ x able. refl))
+    (mapped_sound initial_static_pieces Some (after_sound (delimiter mark.Assign) refl static_sound) (λ x able. refl))
     (mapped_sound initial_static_pieces (λ _. None) nothing_sound (λ x able. refl))
 
 component_sound : Sound component_pieces component_at
 unfolding component_at
 component_sound = mapped_sound component_pieces component_from
-    (both_sound identifier_sound (after_sound (delimiter mark.Colon)
-    (both_sound identifier_sound (both_sound initial_static_sound (after_sound (delimiter mark.Semicolon) nothing_sound)))))
+    (both_sound identifier_sound (after_sound (delimiter mark.Colon) refl
+    (both_sound identifier_sound (both_sound initial_static_sound (after_sound (delimiter mark.Semicolon) refl nothing_sound)))))
     (λ x able. simp append_assoc)
 
 end_record_sound : Sound (λ _. anywhere (reserved word.End) ∷ anywhere (reserved word.Record) ∷ []) end_record_at
 unfolding end_record_at
-end_record_sound = after_sound (reserved word.End) (after_sound (reserved word.Record) nothing_sound)
+end_record_sound = after_sound (reserved word.End) refl (after_sound (reserved word.Record) refl nothing_sound)
 
 components_goes : Goes (anywhere (reserved word.Record) ∷ []) record_pieces components_at
 unfolding components_at
@@ -45,9 +45,9 @@ components_goes = mapped_goes (anywhere (reserved word.Record) ∷ []) record_pi
 pub record_sound : Sound record_pieces record_at
 unfolding record_at
 record_sound = choose_sound record_pieces (at (reserved word.Null)) _ _ (λ t ts us. refl)
-    (mapped_sound record_pieces (λ _. null_record) (after_sound (reserved word.Null) (after_sound (reserved word.Record) nothing_sound)) (λ x able. refl))
-    (sound_of (after_goes [] record_pieces (reserved word.Record) _
+    (mapped_sound record_pieces (λ _. null_record) (after_sound (reserved word.Null) refl (after_sound (reserved word.Record) refl nothing_sound)) (λ x able. refl))
+    (sound_of (after_goes [] record_pieces (reserved word.Record) _ refl
     (choose_goes (anywhere (reserved word.Record) ∷ []) record_pieces (at (reserved word.Null)) _ _ (λ t ts us. refl)
     (mapped_goes (anywhere (reserved word.Record) ∷ []) record_pieces (λ _. null_components)
-    (after_sound (reserved word.Null) (after_sound (delimiter mark.Semicolon) end_record_sound)) (λ x able. refl))
+    (after_sound (reserved word.Null) refl (after_sound (delimiter mark.Semicolon) refl end_record_sound)) (λ x able. refl))
     components_goes)))

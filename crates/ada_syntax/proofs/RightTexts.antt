@@ -1,19 +1,19 @@
 -- What is written so is read so: expressions at any depth of nesting, right sides and arguments.
-use Rattle.std.proofs.Common.{◌≡◌, ℕ, zero, suc, Bool, true, false, cond, ◌||◌, List, [], ◌∷◌, ◌++◌, Option, Some, None, Result, Ok, Err, refl, sym, ap, subst, ◌∙◌, append_assoc, append-nil}
+use Rattle.std.proofs.Common.{◌≡◌, ℕ, zero, suc, Bool, true, false, List, [], ◌∷◌, ◌++◌, Option, Some, None, Ok, Err, refl, sym, ap, subst, ◌∙◌, append_assoc}
 use Rattle.std.specs.Prelude.{◌-◌}
 use Rattle.std.specs.List.{flat_map}
 use Rattle.ada_text.specs.declared.spot.Spot.{Spot}
 use Rattle.ada_text.specs.declared.word.Word.TheVariants as word
 use Rattle.ada_text.specs.declared.delimiter.Delimiter.TheVariants as mark
 use Rattle.ada_text.specs.Token.{Kind, identifier, number, string, reserved, delimiter, Lexeme}
-use Rattle.ada_grammar.specs.Piece.{Piece, anywhere, placed, never, opening, guarded, Spelled}
-use Rattle.ada_grammar.specs.Names.{Ident, SelectorTree, component, dereference, PathTree, is_name, ident_pieces, selector_pieces, path_pieces}
+use Rattle.ada_grammar.specs.Piece.{Piece, anywhere, opening}
+use Rattle.ada_grammar.specs.Names.{Ident, SelectorTree, component, dereference, PathTree, is_name, ident_pieces, selector_pieces}
 use Rattle.ada_grammar.specs.Expressions.{ExpressionTree, path_expression, aggregate_expression, ItemsTree, no_more_items, an_item, RightTree, expression_right, allocator_right, creation_right, ArgumentTree, expression_argument, text_argument, attribute_argument, logical, expression_pieces, items_pieces, aggregate_pieces, handle_pieces, right_pieces, initial_pieces, argument_pieces}
-use Rattle.ada_syntax.specs.Step.{◌>>=◌, Reader, Outcome, Stopped, here, too_deep, spot_of, is_kind, is_identifier, is_string, is_at, at, fixed, identifier_at, string_at, nothing, continued, mapped, both, after, choose, opened, opening_in}
-use Rattle.ada_syntax.specs.Expressions.{path_led, primary_led, factor_in, term_in, relation_in, expression_in, behind_primary, expression_led, enclosed_items_in, Inside, inside, expression_at, items_at, aggregate_at, enclosed_identifier_at, handle_at, allocator_from, allocator_at, creation_from, behind_path, right_led, right_at, initial_at, text_from, attribute_from, behind_tick, argument_led, argument_at}
-use Rattle.ada_syntax.proofs.Sound.{ok_is, done}
+use Rattle.ada_syntax.specs.Step.{◌>>=◌, Reader, Outcome, Stopped, here, too_deep, spot_of, is_kind, is_identifier, is_string, is_at, at, fixed, identifier_at, continued, mapped, choose}
+use Rattle.ada_syntax.specs.Expressions.{path_led, primary_led, factor_in, term_in, relation_in, behind_primary, expression_led, enclosed_items_in, inside, expression_at, aggregate_at, enclosed_identifier_at, handle_at, allocator_from, allocator_at, creation_from, behind_path, right_led, right_at, initial_at, text_from, attribute_from, behind_tick, argument_led, argument_at}
+use Rattle.ada_syntax.proofs.Sound.{ok_is, done, kind_is}
 use Rattle.ada_syntax.proofs.Local.{Plain}
-use Rattle.ada_syntax.proofs.Complete.{Follow, Next, any, unless, before, Leads, Complete, sinks, expected, kind_is, before_next, leads_first, leads_any, leads_same, leads_before, complete_as, weaken, guarded_complete, nothing_complete, mapped_complete, continued_complete, both_complete, choose_true, choose_false, placed_complete, after_complete, opened_complete, identifier_complete, string_complete}
+use Rattle.ada_syntax.proofs.Complete.{Follow, Next, any, unless, before, Leads, Complete, sinks, expected, before_next, leads_first, leads_any, leads_same, leads_before, complete_as, weaken, guarded_complete, nothing_complete, mapped_complete, continued_complete, both_complete, choose_true, choose_false, placed_complete, after_complete, opened_complete, identifier_complete, string_complete}
 use Rattle.ada_syntax.proofs.ExpressionTexts.{past, Unopened, Inner, one_less, closing_complete, enclosed_items_complete, path_complete, expression_leads, expression_complete}
 use Rattle.ada_syntax.proofs.ItemTexts.{complete_before, led_same, ends_at_parenthesis, past_item, past_is, mapped_same, items_complete}
 

@@ -26,7 +26,7 @@ path_sound = continued_sound path_pieces _ identifier_sound (λ i able. path_goe
 
 next_argument_sound : (room : ℕ) → Sound (next_argument_pieces room) (next_argument_at room)
 unfolding next_argument_at
-next_argument_sound room = after_sound (delimiter mark.Comma) (argument_sound room)
+next_argument_sound room = after_sound (delimiter mark.Comma) refl (argument_sound room)
 
 -- what stands behind the `(` of a call
 abbrev inside_arguments_pieces : ℕ → List ArgumentTree → List Piece
@@ -37,7 +37,7 @@ arguments_sound : (room : ℕ) → Sound (inside_arguments_pieces room) (argumen
 unfolding arguments_at
 arguments_sound room = mapped_sound (inside_arguments_pieces room) arguments_from
     (both_sound (argument_sound room) (both_sound (all_sound (at (delimiter mark.Comma)) (λ t ts us. refl) (λ x able. refl) (next_argument_sound room))
-    (after_sound (delimiter mark.RightParenthesis) nothing_sound)))
+    (after_sound (delimiter mark.RightParenthesis) refl nothing_sound)))
     (λ x able. refl)
 
 opened_arguments : (opened first more close : List Piece) → opened ++ first ++ more ++ close ≡ opened ++ (first ++ (more ++ close))
@@ -48,13 +48,13 @@ arguments_are room [] able = absurd able.1.0
 arguments_are room (a ∷ rest) able = opened_arguments (opening room (delimiter mark.LeftParenthesis) ∷ []) (argument_pieces (room - 1) a) (flat_map (next_argument_pieces (room - 1)) rest) (anywhere (delimiter mark.RightParenthesis) ∷ [])
 
 opened_arguments_sound : (room : ℕ) → Sound (arguments_pieces room) (opened room (delimiter mark.LeftParenthesis) (arguments_at (room - 1)))
-opened_arguments_sound room = sound_as (arguments_pieces room) (opened_sound room (delimiter mark.LeftParenthesis) (arguments_sound (room - 1))) (arguments_are room)
+opened_arguments_sound room = sound_as (arguments_pieces room) (opened_sound room (delimiter mark.LeftParenthesis) refl (arguments_sound (room - 1))) (arguments_are room)
 
 path_statement_goes : (room : ℕ) (path : PathTree) → Goes (path_pieces path) (statement_pieces room) (path_statement_at room path)
 unfolding path_statement_at
 path_statement_goes room path =
     choose_goes (path_pieces path) (statement_pieces room) (at (delimiter mark.Assign)) _ _ (λ t ts us. refl)
-    (mapped_goes (path_pieces path) (statement_pieces room) (assignment_from path) (after_sound (delimiter mark.Assign) (both_sound (right_sound room) end_sound)) (λ x able. simp append_assoc))
+    (mapped_goes (path_pieces path) (statement_pieces room) (assignment_from path) (after_sound (delimiter mark.Assign) refl (both_sound (right_sound room) end_sound)) (λ x able. simp append_assoc))
     (choose_goes (path_pieces path) (statement_pieces room) (at (delimiter mark.LeftParenthesis)) _ _ (λ t ts us. refl)
     (mapped_goes (path_pieces path) (statement_pieces room) (call_from path) (both_sound (opened_arguments_sound room) end_sound)
     (λ x able. append_assoc (path_pieces path) (arguments_pieces room x.0) ending_pieces))
@@ -63,20 +63,20 @@ path_statement_goes room path =
 optional_when_sound : (room : ℕ) → Sound (when_pieces room) (optional_when_at room)
 unfolding optional_when_at
 optional_when_sound room = choose_sound (when_pieces room) (at (reserved word.When)) _ _ (λ t ts us. refl)
-    (mapped_sound (when_pieces room) Some (after_sound (reserved word.When) (expression_sound room)) (λ x able. refl))
+    (mapped_sound (when_pieces room) Some (after_sound (reserved word.When) refl (expression_sound room)) (λ x able. refl))
     (mapped_sound (when_pieces room) (λ _. None) nothing_sound (λ x able. refl))
 
 pub simple_statement_sound : (room : ℕ) → Sound (statement_pieces room) (simple_statement_at room)
 unfolding simple_statement_at
 simple_statement_sound room =
     choose_sound (statement_pieces room) (at (reserved word.Null)) _ _ (λ t ts us. refl)
-    (mapped_sound (statement_pieces room) null_from (both_sound (placed_sound (reserved word.Null)) end_sound) (λ x able. refl))
+    (mapped_sound (statement_pieces room) null_from (both_sound (placed_sound (reserved word.Null) refl) end_sound) (λ x able. refl))
     (choose_sound (statement_pieces room) (at (reserved word.Exit)) _ _ (λ t ts us. refl)
-    (mapped_sound (statement_pieces room) exit_from (both_sound (placed_sound (reserved word.Exit)) (both_sound (optional_when_sound room) end_sound)) (λ x able. refl))
+    (mapped_sound (statement_pieces room) exit_from (both_sound (placed_sound (reserved word.Exit) refl) (both_sound (optional_when_sound room) end_sound)) (λ x able. refl))
     (choose_sound (statement_pieces room) (at (reserved word.Return)) _ _ (λ t ts us. refl)
-    (mapped_sound (statement_pieces room) return_from (both_sound (placed_sound (reserved word.Return)) end_sound) (λ x able. refl))
+    (mapped_sound (statement_pieces room) return_from (both_sound (placed_sound (reserved word.Return) refl) end_sound) (λ x able. refl))
     (choose_sound (statement_pieces room) (at (reserved word.Raise)) _ _ (λ t ts us. refl)
-    (mapped_sound (statement_pieces room) raise_from (both_sound (placed_sound (reserved word.Raise)) (both_sound name_sound end_sound)) (λ x able. simp append_assoc))
+    (mapped_sound (statement_pieces room) raise_from (both_sound (placed_sound (reserved word.Raise) refl) (both_sound name_sound end_sound)) (λ x able. simp append_assoc))
     (continued_sound (statement_pieces room) (path_statement_at room) path_sound (λ path able. path_statement_goes room path)))))
 
 -- ---- what stands inside a level
@@ -107,20 +107,20 @@ unfolding scheme_at
 scheme_sound room =
     choose_sound (placed_scheme_pieces room) (at (reserved word.While)) _ _ (λ t ts us. refl)
     (mapped_sound (placed_scheme_pieces room) while_from
-    (both_sound (opening_sound room (reserved word.While)) (both_sound (expression_sound (room - 1)) (after_sound (reserved word.Loop) nothing_sound))) (λ x able. refl))
+    (both_sound (opening_sound room (reserved word.While) refl) (both_sound (expression_sound (room - 1)) (after_sound (reserved word.Loop) refl nothing_sound))) (λ x able. refl))
     (choose_sound (placed_scheme_pieces room) (at (reserved word.For)) _ _ (λ t ts us. refl)
     (mapped_sound (placed_scheme_pieces room) for_from
-    (both_sound (opening_sound room (reserved word.For)) (both_sound identifier_sound (after_sound (reserved word.«In»)
-    (both_sound (expression_sound (room - 1)) (after_sound (delimiter mark.DoubleDot) (both_sound (expression_sound (room - 1)) (after_sound (reserved word.Loop) nothing_sound)))))))
+    (both_sound (opening_sound room (reserved word.For) refl) (both_sound identifier_sound (after_sound (reserved word.«In») refl
+    (both_sound (expression_sound (room - 1)) (after_sound (delimiter mark.DoubleDot) refl (both_sound (expression_sound (room - 1)) (after_sound (reserved word.Loop) refl nothing_sound)))))))
     (λ x able. for_parts (opening_at room (reserved word.For) x.0 ∷ []) (placed (identifier x.1.0.text) x.1.0.spot ∷ []) (expression_pieces (room - 1) x.1.1.0) (expression_pieces (room - 1) x.1.1.1.0) (anywhere (reserved word.«In»)) (anywhere (delimiter mark.DoubleDot)) (anywhere (reserved word.Loop))))
-    (mapped_sound (placed_scheme_pieces room) endless_from (opening_sound room (reserved word.Loop)) (λ x able. refl)))
+    (mapped_sound (placed_scheme_pieces room) endless_from (opening_sound room (reserved word.Loop) refl) (λ x able. refl)))
 
 abbrev end_loop_pieces : Spot × Unit {0} → List Piece
 end_loop_pieces x = placed (reserved word.End) x.0 ∷ anywhere (reserved word.Loop) ∷ ending_pieces
 
 end_loop_sound : Sound end_loop_pieces end_loop_at
 unfolding end_loop_at
-end_loop_sound = both_sound (placed_sound (reserved word.End)) (after_sound (reserved word.Loop) end_sound)
+end_loop_sound = both_sound (placed_sound (reserved word.End) refl) (after_sound (reserved word.Loop) refl end_sound)
 
 loop_sound : {statements : Reader (List StatementTree)} (room : ℕ) → Sound (listed_statements (room - 1)) statements → Sound (statement_pieces room) (loop_in room statements)
 unfolding loop_in
@@ -137,11 +137,11 @@ next_branch_pieces room b = anywhere (reserved word.Elsif) ∷ branch_pieces roo
 
 branch_sound : {statements : Reader (List StatementTree)} (room : ℕ) → Sound (listed_statements (room - 1)) statements → Sound (branch_pieces (room - 1)) (branch_in room statements)
 unfolding branch_in
-branch_sound room sound = mapped_sound (branch_pieces (room - 1)) branch_from (both_sound (expression_sound (room - 1)) (after_sound (reserved word.Then) sound)) (λ x able. refl)
+branch_sound room sound = mapped_sound (branch_pieces (room - 1)) branch_from (both_sound (expression_sound (room - 1)) (after_sound (reserved word.Then) refl sound)) (λ x able. refl)
 
 next_branch_sound : {statements : Reader (List StatementTree)} (room : ℕ) → Sound (listed_statements (room - 1)) statements → Sound (next_branch_pieces (room - 1)) (next_branch_in room statements)
 unfolding next_branch_in
-next_branch_sound room sound = after_sound (reserved word.Elsif) (branch_sound room sound)
+next_branch_sound room sound = after_sound (reserved word.Elsif) refl (branch_sound room sound)
 
 branch_parts : (condition statements more : List Piece) (then : Piece) → condition ++ then ∷ statements ++ more ≡ (condition ++ then ∷ statements) ++ more
 branch_parts condition statements more then = simp append_assoc
@@ -179,7 +179,7 @@ else_is room (s ∷ ss) able = refl
 otherwise_sound : {statements : Reader (List StatementTree)} (room : ℕ) → Sound (listed_statements room) statements → Sound (listed_otherwise room) (otherwise_in statements)
 unfolding otherwise_in
 otherwise_sound room sound = choose_sound (listed_otherwise room) (at (reserved word.Else)) _ _ (λ t ts us. refl)
-    (sound_as (listed_otherwise room) (after_sound (reserved word.Else) sound) (else_is room))
+    (sound_as (listed_otherwise room) (after_sound (reserved word.Else) refl sound) (else_is room))
     (mapped_sound (listed_otherwise room) (λ _. []) nothing_sound (λ x able. refl))
 
 abbrev end_if_pieces : Spot × Unit {0} → List Piece
@@ -187,7 +187,7 @@ end_if_pieces x = placed (reserved word.End) x.0 ∷ anywhere (reserved word.If)
 
 end_if_sound : Sound end_if_pieces end_if_at
 unfolding end_if_at
-end_if_sound = both_sound (placed_sound (reserved word.End)) (after_sound (reserved word.If) end_sound)
+end_if_sound = both_sound (placed_sound (reserved word.End) refl) (after_sound (reserved word.If) refl end_sound)
 
 four_parts : (first second third fourth : List Piece) → first ++ second ++ third ++ fourth ≡ first ++ (second ++ (third ++ fourth))
 four_parts first second third fourth = simp append_assoc
@@ -195,7 +195,7 @@ four_parts first second third fourth = simp append_assoc
 if_sound : {statements : Reader (List StatementTree)} (room : ℕ) → Sound (listed_statements (room - 1)) statements → Sound (statement_pieces room) (if_in room statements)
 unfolding if_in
 if_sound room sound = mapped_sound (statement_pieces room) if_from
-    (both_sound (opening_sound room (reserved word.If)) (both_sound (branches_sound room sound) (both_sound (otherwise_sound (room - 1) sound) end_if_sound)))
+    (both_sound (opening_sound room (reserved word.If) refl) (both_sound (branches_sound room sound) (both_sound (otherwise_sound (room - 1) sound) end_if_sound)))
     (λ x able. four_parts (opening_at room (reserved word.If) x.0 ∷ []) (listed_branches (room - 1) x.1.0) (listed_otherwise (room - 1) x.1.1.0) (end_if_pieces x.1.1.1))
 
 -- ---- handlers and blocks
@@ -206,7 +206,7 @@ handler_pieces room h = placed (reserved word.When) h.spot ∷ (choices_pieces h
 handler_sound : {statements : Reader (List StatementTree)} (room : ℕ) → Sound (listed_statements room) statements → Sound (handler_pieces room) (handler_in statements)
 unfolding handler_in
 handler_sound room sound = mapped_sound (handler_pieces room) handler_from
-    (both_sound (placed_sound (reserved word.When)) (both_sound choices_sound (after_sound (delimiter mark.Arrow) sound))) (λ x able. refl)
+    (both_sound (placed_sound (reserved word.When) refl) (both_sound choices_sound (after_sound (delimiter mark.Arrow) refl sound))) (λ x able. refl)
 
 handlers_are : (room : ℕ) (hs : List HandlerTree) → handlers_pieces room (handlers_from hs) ≡ flat_map (handler_pieces room) hs
 handlers_are room [] = refl
@@ -228,13 +228,13 @@ some_handlers_sound room sound = some_sound (at (reserved word.When)) (λ t ts u
 handlers_sound : {statements : Reader (List StatementTree)} (room : ℕ) → Sound (listed_statements room) statements → Sound (listed_handlers room) (handlers_in statements)
 unfolding handlers_in
 handlers_sound room sound = choose_sound (listed_handlers room) (at (reserved word.Exception)) _ _ (λ t ts us. refl)
-    (sound_as (listed_handlers room) (after_sound (reserved word.Exception) (some_handlers_sound room sound)) (exception_is room))
+    (sound_as (listed_handlers room) (after_sound (reserved word.Exception) refl (some_handlers_sound room sound)) (exception_is room))
     (mapped_sound (listed_handlers room) (λ _. []) nothing_sound (λ x able. refl))
 
 sequence_goes : {statements : Reader (List StatementTree)} (room : ℕ) (front : List Piece) (pieces : SequenceTree → List Piece) (start : Spot) → ((x : List StatementTree × (List HandlerTree × Spot)) → pieces (sequence_from start x) ≡ front ++ sequence_pieces room (sequence_from start x)) → Sound (listed_statements room) statements → Goes front pieces (sequence_in statements start)
 unfolding sequence_in
 sequence_goes room front pieces start e sound = mapped_goes front pieces (sequence_from start)
-    (both_sound sound (both_sound (handlers_sound room sound) (placed_sound (reserved word.End))))
+    (both_sound sound (both_sound (handlers_sound room sound) (placed_sound (reserved word.End) refl)))
     (λ x able. e x ∙ ap (λ (ps : List Piece). front ++ ps) (append_assoc (listed_statements room x.0) (listed_handlers room x.1.0) (placed (reserved word.End) x.1.1 ∷ [])))
 
 -- `begin .. end`
@@ -243,7 +243,7 @@ begin_pieces room body = placed (reserved word.Begin) (begin_of body) ∷ sequen
 
 pub begin_sound : {statements : Reader (List StatementTree)} (room : ℕ) → Sound (listed_statements room) statements → Sound (begin_pieces room) (begin_in statements)
 unfolding begin_in
-begin_sound room sound = continued_sound (begin_pieces room) _ (placed_sound (reserved word.Begin))
+begin_sound room sound = continued_sound (begin_pieces room) _ (placed_sound (reserved word.Begin) refl)
     (λ start able. sequence_goes room (placed (reserved word.Begin) start ∷ []) (begin_pieces room) start (λ x. refl) sound)
 
 abbrev opened_begin_pieces : ℕ → SequenceTree → List Piece
@@ -252,7 +252,7 @@ opened_begin_pieces room body = opening_at room (reserved word.Begin) (begin_of 
 block_sound : {statements : Reader (List StatementTree)} (room : ℕ) → Sound (listed_statements (room - 1)) statements → Sound (statement_pieces room) (block_in room statements)
 unfolding block_in
 block_sound room sound = mapped_sound (statement_pieces room) block_from
-    (both_sound (continued_sound (opened_begin_pieces room) _ (opening_sound room (reserved word.Begin))
+    (both_sound (continued_sound (opened_begin_pieces room) _ (opening_sound room (reserved word.Begin) refl)
     (λ start able. sequence_goes (room - 1) (opening_at room (reserved word.Begin) start ∷ []) (opened_begin_pieces room) start (λ x. refl) sound)) end_sound)
     (λ x able. refl)
 
@@ -262,7 +262,7 @@ declare_parts first declarations body last start = simp append_assoc
 declare_block_sound : {inner : Inner} (room : ℕ) → InnerSound room inner → Sound (statement_pieces room) (declare_block_in room inner)
 unfolding declare_block_in
 declare_block_sound room sound = mapped_sound (statement_pieces room) declare_block_from
-    (both_sound (opening_sound room (reserved word.Declare)) (both_sound sound.declarations (both_sound (begin_sound (room - 1) sound.statements) end_sound)))
+    (both_sound (opening_sound room (reserved word.Declare) refl) (both_sound sound.declarations (both_sound (begin_sound (room - 1) sound.statements) end_sound)))
     (λ x able. declare_parts (opening_at room (reserved word.Declare) x.0 ∷ []) (listed_declarations (room - 1) x.1.0) (sequence_pieces (room - 1) x.1.1.0) ending_pieces (placed (reserved word.Begin) (begin_of x.1.1.0)))
 
 -- ---- statements

@@ -16,8 +16,8 @@ use Rattle.ada_syntax.specs.Step.{◌>>=◌, Reader, Outcome, is_kind, is_at, at
 use Rattle.ada_syntax.specs.Expressions.{path_led}
 use Rattle.ada_syntax.specs.Declarations.{cons_from}
 use Rattle.ada_syntax.specs.Statements.{Inner, path_at, next_argument_at, arguments_from, arguments_at, assignment_from, call_from, path_statement_at, optional_when_at, null_from, return_from, exit_from, raise_from, simple_statement_at, endless_from, while_from, for_from, scheme_at, at_loop, loop_from, end_loop_at, loop_in, branch_from, branch_in, next_branch_in, branches_in, otherwise_in, end_if_at, if_from, if_in, handler_from, handler_in, some_handlers_in, handlers_in, sequence_from, sequence_in, begin_in, block_from, block_in, declare_block_from, declare_block_in, statement_in, ends_statements, goes_on, statements_in}
-use Rattle.ada_syntax.proofs.Sound.{is_filled}
-use Rattle.ada_syntax.proofs.Complete.{Follow, Next, any, any_next, unless, before, Leads, Complete, Items, sinks, expected, append_spelled, kind_is, before_next, leads_first, leads_any, leads_before, complete_as, weaken, never_complete, nothing_complete, mapped_complete, continued_complete, both_complete, choose_true, choose_false, placed_complete, after_complete, opened_complete, opened_at_complete, identifier_complete, all_complete, while_items}
+use Rattle.ada_syntax.proofs.Sound.{is_filled, kind_is}
+use Rattle.ada_syntax.proofs.Complete.{Follow, Next, any, any_next, unless, before, Leads, Complete, Items, sinks, expected, append_spelled, before_next, leads_first, leads_any, leads_before, complete_as, weaken, never_complete, nothing_complete, mapped_complete, continued_complete, both_complete, choose_true, choose_false, placed_complete, after_complete, opened_complete, opened_at_complete, identifier_complete, all_complete, while_items}
 use Rattle.ada_syntax.proofs.ExpressionTexts.{past, closing_complete, name_complete, path_complete}
 use Rattle.ada_syntax.proofs.ItemTexts.{complete_before, past_item}
 use Rattle.ada_syntax.proofs.RightTexts.{Looks, expression_at_complete, right_complete, argument_complete}

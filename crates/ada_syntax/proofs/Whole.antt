@@ -1,5 +1,5 @@
 -- What the phrases give, together: what `parse` answers, and the laws of it.
-use Rattle.std.proofs.Common.{◌≡◌, List, [], Result, Ok, Err, IfOk, IfErr, refl}
+use Rattle.std.proofs.Common.{◌≡◌, ◌≢◌, List, [], Result, Ok, Err, IfOk, IfErr, refl}
 use Rattle.ada_text.specs.Token.{Lexeme}
 use Rattle.ada_grammar.specs.declared.unit.Unit.{Unit as UnitOf}
 use Rattle.ada_grammar.specs.Statements.{UnitTree, IsTextOf, deepest}
@@ -12,7 +12,9 @@ use Rattle.ada_syntax.specs.Units.{whole_at}
 use Rattle.ada_syntax.proofs.ExpressionLooks.{looks}
 use Rattle.ada_syntax.proofs.UnitPhrases.{unit_sound, whole_plain}
 use Rattle.ada_syntax.proofs.UnitTexts.{whole_complete}
-use Rattle.ada_syntax.proofs.Exact.{Parts, whole_takes, one_tree, fault_without_tree, is_told}
+use Rattle.ada_syntax.proofs.Reading.{Parts, whole_takes, one_tree}
+use Rattle.ada_syntax.proofs.OneFault.{fault_without_tree, one_fault}
+use Rattle.ada_syntax.proofs.Exact.{is_told}
 
 parts : Parts
 parts = record { sound = unit_sound deepest; plain = whole_plain; complete = whole_complete looks }
@@ -29,4 +31,7 @@ pub has_one_tree : (ts : List Lexeme) (t u : UnitTree) → IsTextOf ts t → IsT
 has_one_tree = one_tree parts
 
 pub has_fault_or_tree : (ts : List Lexeme) (fault : SyntaxFault) (tree : UnitTree) → IsFirstFault ts fault → IsTextOf ts tree → fault ≡ NoMemory
-has_fault_or_tree = fault_without_tree parts
+has_fault_or_tree = fault_without_tree
+
+pub has_one_fault : (ts : List Lexeme) (f g : SyntaxFault) → IsFirstFault ts f → IsFirstFault ts g → f ≢ NoMemory → g ≢ NoMemory → f ≡ g
+has_one_fault = one_fault

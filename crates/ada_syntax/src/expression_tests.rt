@@ -54,28 +54,33 @@ fn write_shape(shape: &mut String, expression: &Expression<'_>) -> Result<(), Fa
             write_shape(shape, operand)?;
             shape.push(']')?;
         }
-        Expression::Binary {
-            operator,
-            left,
-            right,
-        } => {
-            shape.push('[')?;
-            write_shape(shape, left)?;
-            shape.push(match operator {
-                BinaryOperator::Add => '+',
-                BinaryOperator::Subtract => '-',
-                BinaryOperator::Multiply => '*',
-                BinaryOperator::Less => '<',
-                BinaryOperator::And => '&',
-                BinaryOperator::AndThen => 'a',
-                BinaryOperator::Or => '|',
-                _ => '?',
-            })?;
-            write_shape(shape, right)?;
-            shape.push(']')?;
+        Expression::Chain { first, links } => {
+            for _ in links {
+                shape.push('[')?;
+            }
+            write_shape(shape, first)?;
+            for link in links {
+                shape.push(mark_of(link.operator))?;
+                write_shape(shape, &link.operand)?;
+                shape.push(']')?;
+            }
         }
     }
     Ok(())
+}
+
+/// A mark for an operator.
+fn mark_of(operator: BinaryOperator) -> char {
+    match operator {
+        BinaryOperator::Add => '+',
+        BinaryOperator::Subtract => '-',
+        BinaryOperator::Multiply => '*',
+        BinaryOperator::Less => '<',
+        BinaryOperator::And => '&',
+        BinaryOperator::AndThen => 'a',
+        BinaryOperator::Or => '|',
+        _ => '?',
+    }
 }
 
 #[test]

@@ -15,14 +15,14 @@ use crate::operators::{
 };
 use crate::primaries::{read_factor, read_primary_led};
 use crate::reader::{Reader, Stop};
-use ada_grammar::expressions::Expression;
+use ada_grammar::expressions::{Expression, Link};
 use ada_grammar::names::Identifier;
 use ada_grammar::operators::BinaryOperator;
 use ada_text::Word;
 use std::alloc::Global;
 
-/// An operator beside its operands.
-#[tactic(auto, using(std::proofs::lemmas::Grind::common_steps, ada_grammar::specs::ExpressionView::tree_rules))]
+/// An operator beside its operands: a chain goes on.
+#[tactic(auto, using(std::proofs::lemmas::Grind::common_steps, ada_grammar::specs::ExpressionView::tree_rules, crate::proofs::Links::linked_more))]
 fn joined<'t>(
     alloc: Global,
     left: Expression<'t>,
@@ -31,13 +31,22 @@ fn joined<'t>(
 ) -> Result<Expression<'t>, Stop>
     ensures { Builds (binary_expression operator (expression_of left.entry) (expression_of right.entry)) result }
 {
-    let left = Box::new(alloc, left)?;
-    let right = Box::new(alloc, right)?;
-    Ok(Expression::Binary {
+    let link = Link {
         operator,
-        left,
-        right,
-    })
+        operand: right,
+    };
+    match left {
+        Expression::Chain { first, mut links } => {
+            links.push(link)?;
+            Ok(Expression::Chain { first, links })
+        }
+        alone => {
+            let mut links = Vec::new(alloc);
+            links.push(link)?;
+            let first = Box::new(alloc, alone)?;
+            Ok(Expression::Chain { first, links })
+        }
+    }
 }
 
 /// An expression (4.4).

@@ -23,7 +23,7 @@ use std::alloc::Global;
 pub fn parse<'t>(alloc: Global, tokens: &'t [Token]) -> Result<Unit<'t>, SyntaxFault>
     // What is read is written so.
     ensures found { IfOk result (λ unit. IsTextOf (lexemes_of tokens.now) (unit_of unit)) }
-    // A fault is one of the tokens; want of memory tells nothing.
+    // A fault is the first one of the tokens; want of memory tells nothing.
     ensures refused { IfErr result (λ fault. IsFirstFault (lexemes_of tokens.now) fault) }
 {
     read_tokens(alloc, tokens)

@@ -166,6 +166,11 @@ fn counts_a_body_as_a_level(rt: HostRuntime) -> Result<(), Fail> {
         (62, "procedure Q (X : T);", None),
         (62, "procedure Q (X : T) is begin null; end;", Some(393)),
         (61, "procedure Q (X : T) is begin null; end;", None),
+        // What follows `is` is no instance, and formals that break off are no body.
+        (63, "overriding procedure Q is begin null; end;", Some(387)),
+        (63, "procedure Q is null;", Some(387)),
+        (63, "procedure Q (X T);", Some(399)),
+        (63, "procedure Q (X : T) begin", Some(399)),
     ];
     for (levels, declaration, column) in cases {
         let mut block = String::new(rt.alloc());

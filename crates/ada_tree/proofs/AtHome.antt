@@ -4,13 +4,16 @@ use Rattle.std.proofs.Common.{◌≡◌, ℕ, ◌+◌, ◌<◌, ◌⊎◌, Bool,
 use Rattle.std.specs.Prelude.{Option, Some, None, is_some, count_by}
 use Rattle.std.specs.List.{list_all}
 use Rattle.std.proofs.lemmas.Grind.{common_steps}
-use Rattle.ada_tree.specs.Form.{Source, nothing, value_of, allocates, Form, skips, assigns, frees, writes, Elaboration, collects, declares}
+use Rattle.ada_tree.specs.Form.{ItemForm, Source, nothing, value_of, allocates, computes, Form, skips, assigns, frees, writes, writes_text, Elaboration, collects, declares}
 use Rattle.ada_tree.specs.ProgramForm.{TypeForm, record_of, access_to, ObjectForm, program_form}
 use Rattle.ada_tree.specs.Homes.{is_among, SourceIsHomed, FormIsHomed, StatementsAreHomed, DeclarationsAreHomed, HasHomes}
 use Rattle.ada_tree.specs.WellFormed as fits
 use Rattle.ada_tree.specs.WellFormed.{IsWellFormed}
+use Rattle.ada_tree.specs.declared.program.ObjectKind.{ObjectKind}
+use Rattle.ada_tree.specs.declared.program.ObjectKind.TheVariants as object
 use Rattle.ada_tree.specs.declared.program.Program.{Program}
-use Rattle.ada_tree.specs.declared.program.Item.{Item}
+use Rattle.ada_tree.specs.declared.program.ScalarType.{ScalarType}
+use Rattle.ada_tree.specs.declared.program.ScalarType.TheVariants.{Integer, Boolean}
 
 -- both parts of a test
 first_part : (a b : Bool) → (a && b) ≡ true → a ≡ true
@@ -51,48 +54,58 @@ has_one es k (record_of name components ∷ types) (suc t) h e = grind (arith, c
 has_one es k (access_to name designated ∷ types) (suc t) h e = grind (arith, common_steps, has_one es (k + 1) types t (second_part (eqb (count_by (fits.is_collection k) es) 1) (fits.has_collections es (k + 1) types) h) e)
 
 -- an object that is allocated is of an access type
-filled : (types : List TypeForm) (d : Option ℕ) (items : List Item) → fits.object_is_filled (fits.components_reached types d) items ≡ true → is_some d ≡ true
-filled types None items e = absurd (cc e)
-filled types (Some t) items e = refl
+filled : (types : List TypeForm) (objects : List ObjectForm) (d : Option ℕ) (items : List ItemForm) → fits.object_is_filled types objects (fits.components_reached types d) items ≡ true → is_some d ≡ true
+filled types objects None items e = absurd (cc e)
+filled types objects (Some t) items e = refl
 
-module _ (types : List TypeForm) (objects : List ObjectForm) where
-  source_homed : (homes : List ℕ) (access : ℕ) (s : Source) → ((a : ℕ) → fits.is_access types a ≡ true → is_among a homes ≡ true) → fits.source_fits types objects access s ≡ true → SourceIsHomed homes s
-  source_homed homes access nothing all e = tt
-  source_homed homes access (value_of y spot) all e = tt
-  source_homed homes access (allocates t items) all e =
-      let same : t ≡ access = eqb-true t access (first_part (eqb t access) (fits.object_is_filled (fits.reached_components types access) items) e) in
-      let there : fits.is_access types access ≡ true = filled types (fits.designated_type types access) items (second_part (eqb t access) (fits.object_is_filled (fits.reached_components types access) items) e) in
+module _ (types : List TypeForm) (objects : List ObjectForm) (texts : List (List ℕ)) where
+  access_homed : (homes : List ℕ) (access : ℕ) (s : Source) → ((a : ℕ) → fits.is_access types a ≡ true → is_among a homes ≡ true) → fits.access_fits types objects access s ≡ true → SourceIsHomed homes s
+  access_homed homes access nothing all e = tt
+  access_homed homes access (value_of y spot) all e = tt
+  access_homed homes access (computes c) all e = tt
+  access_homed homes access (allocates t items) all e =
+      let same : t ≡ access = eqb-true t access (first_part (eqb t access) (fits.object_is_filled types objects (fits.reached_components types access) items) e) in
+      let there : fits.is_access types access ≡ true = filled types objects (fits.designated_type types access) items (second_part (eqb t access) (fits.object_is_filled types objects (fits.reached_components types access) items) e) in
       all t (rw same there)
 
-  value_homed : (homes : List ℕ) (access : Option ℕ) (s : Source) → ((a : ℕ) → fits.is_access types a ≡ true → is_among a homes ≡ true) → fits.value_fits types objects access s ≡ true → SourceIsHomed homes s
+  scalar_homed : (homes : List ℕ) (type : ScalarType) (s : Source) → fits.scalar_fits types objects type s ≡ true → SourceIsHomed homes s
+  scalar_homed homes type nothing e = tt
+  scalar_homed homes type (value_of y spot) e = tt
+  scalar_homed homes type (allocates t items) e = absurd (cc e)
+  scalar_homed homes type (computes c) e = tt
+
+  value_homed : (homes : List ℕ) (kind : Option ObjectKind) (s : Source) → ((a : ℕ) → fits.is_access types a ≡ true → is_among a homes ≡ true) → fits.value_fits types objects kind s ≡ true → SourceIsHomed homes s
   value_homed homes None s all e = absurd (cc e)
-  value_homed homes (Some access) s all e = source_homed homes access s all e
+  value_homed homes (Some object.Integer) s all e = scalar_homed homes Integer s e
+  value_homed homes (Some object.Boolean) s all e = scalar_homed homes Boolean s e
+  value_homed homes (Some (object.Access access)) s all e = access_homed homes access.0 s all e
 
-  form_homed : (homes : List ℕ) (f : Form) → ((a : ℕ) → fits.is_access types a ≡ true → is_among a homes ≡ true) → fits.form_fits types objects f ≡ true → FormIsHomed homes f
+  form_homed : (homes : List ℕ) (f : Form) → ((a : ℕ) → fits.is_access types a ≡ true → is_among a homes ≡ true) → fits.form_fits types objects texts f ≡ true → FormIsHomed homes f
   form_homed homes skips all e = tt
-  form_homed homes (assigns x s) all e = value_homed homes (fits.object_access objects x) s all e
+  form_homed homes (assigns x s) all e = value_homed homes (fits.object_kind objects x) s all e
   form_homed homes (frees access x spot) all e = tt
-  form_homed homes (writes x c spot) all e = tt
+  form_homed homes (writes c) all e = tt
+  form_homed homes (writes_text text) all e = tt
 
-  forms_homed : (homes : List ℕ) (fs : List Form) → ((a : ℕ) → fits.is_access types a ≡ true → is_among a homes ≡ true) → list_all (fits.form_fits types objects) fs ≡ true → StatementsAreHomed homes fs
+  forms_homed : (homes : List ℕ) (fs : List Form) → ((a : ℕ) → fits.is_access types a ≡ true → is_among a homes ≡ true) → list_all (fits.form_fits types objects texts) fs ≡ true → StatementsAreHomed homes fs
   forms_homed homes [] all e = tt
   forms_homed homes (f ∷ fs) all e = (
-    form_homed homes f all (first_part (fits.form_fits types objects f) (list_all (fits.form_fits types objects) fs) e),
-    forms_homed homes fs all (second_part (fits.form_fits types objects f) (list_all (fits.form_fits types objects) fs) e),
+    form_homed homes f all (first_part (fits.form_fits types objects texts f) (list_all (fits.form_fits types objects texts) fs) e),
+    forms_homed homes fs all (second_part (fits.form_fits types objects texts f) (list_all (fits.form_fits types objects texts) fs) e),
   )
 
   -- what is not to come is there
   all_there : (homes : List ℕ) (es : List Elaboration) → ((a : ℕ) → count_by (fits.is_collection a) es ≡ 0) → ((a : ℕ) → fits.is_access types a ≡ true → (is_among a homes ≡ true) ⊎ (0 < count_by (fits.is_collection a) es)) → (a : ℕ) → fits.is_access types a ≡ true → is_among a homes ≡ true
   all_there homes es none some a e = elim (some a e) [ inl h ↦ h | inr p ↦ absurd (omega (arith, none a)) ]
 
-  declared_homed : (count k : ℕ) (homes : List ℕ) (es : List Elaboration) (fs : List Form) → fits.creates_from count k es ≡ true → list_all (fits.initial_fits types objects) es ≡ true → list_all (fits.form_fits types objects) fs ≡ true → ((a : ℕ) → fits.is_access types a ≡ true → (is_among a homes ≡ true) ⊎ (0 < count_by (fits.is_collection a) es)) → DeclarationsAreHomed homes es fs
+  declared_homed : (count k : ℕ) (homes : List ℕ) (es : List Elaboration) (fs : List Form) → fits.creates_from count k es ≡ true → list_all (fits.initial_fits types objects) es ≡ true → list_all (fits.form_fits types objects texts) fs ≡ true → ((a : ℕ) → fits.is_access types a ≡ true → (is_among a homes ≡ true) ⊎ (0 < count_by (fits.is_collection a) es)) → DeclarationsAreHomed homes es fs
   declared_homed count k homes [] fs c i f some = forms_homed homes fs (all_there homes [] (λ a. refl) some) f
   declared_homed count k homes (collects t ∷ es) fs c i f some =
       declared_homed count k (t ∷ homes) es fs (second_part (eqb k 0) (fits.creates_from count k es) c) i f (λ a e. next_home a t homes es (some a e))
   declared_homed count k homes (declares x s ∷ es) fs c i f some =
       let rest : fits.creates_from count (k + 1) es ≡ true = second_part (eqb x k) (fits.creates_from count (k + 1) es) c in
       let own : (fits.names_before x s && fits.assignment_fits types objects x s) ≡ true = first_part (fits.initial_fits types objects (declares x s)) (list_all (fits.initial_fits types objects) es) i in (
-        value_homed homes (fits.object_access objects x) s (all_there homes es (λ a. none_after count (k + 1) a es (omega arith) rest) some) (second_part (fits.names_before x s) (fits.assignment_fits types objects x s) own),
+        value_homed homes (fits.object_kind objects x) s (all_there homes es (λ a. none_after count (k + 1) a es (omega arith) rest) some) (second_part (fits.names_before x s) (fits.assignment_fits types objects x s) own),
         declared_homed count (k + 1) homes es fs rest (second_part (fits.initial_fits types objects (declares x s)) (list_all (fits.initial_fits types objects) es) i) f some,
       )
 
@@ -100,5 +113,5 @@ module _ (types : List TypeForm) (objects : List ObjectForm) where
 pub at_home : (program : Program) → IsWellFormed (program_form program) → HasHomes program
 at_home program w =
     let p = program_form program in
-    declared_homed p.types p.objects (length p.objects) 0 [] p.elaborations p.forms w.creates_in_order w.initials_fit w.statements_fit
+    declared_homed p.types p.objects p.texts (length p.objects) 0 [] p.elaborations p.forms w.creates_in_order w.initials_fit w.statements_fit
     (λ a e. let one : count_by (fits.is_collection (0 + a)) p.elaborations ≡ 1 = has_one p.elaborations 0 p.types a w.has_one_each e in inr (grind (arith, one)))

@@ -1,3 +1,4 @@
 -- lemmas of this crate
 mod AtHome
 mod Items
+mod Viewed

@@ -2,7 +2,7 @@
 
 use Rattle.std.specs.Prelude.{◌≡◌, ℕ, Bool, true, false, ◌||◌, ◌==◌, List, [], ◌∷◌}
 use Rattle.ada_tree.specs.declared.program.Program.{Program}
-use Rattle.ada_tree.specs.Form.{Source, nothing, value_of, allocates, Form, skips, assigns, frees, writes, Elaboration, collects, declares, elaborations, forms}
+use Rattle.ada_tree.specs.Form.{Source, nothing, value_of, allocates, computes, Form, skips, assigns, frees, writes, writes_text, Elaboration, collects, declares, elaborations, forms}
 
 -- Whether an access type is one of these.
 abbrev pub is_among : ℕ → List ℕ → Bool
@@ -14,12 +14,14 @@ abbrev pub SourceIsHomed : List ℕ → Source → Type 0
 SourceIsHomed homes nothing = Unit {0}
 SourceIsHomed homes (value_of y spot) = Unit {0}
 SourceIsHomed homes (allocates access items) = is_among access homes ≡ true
+SourceIsHomed homes (computes e) = Unit {0}
 
 abbrev pub FormIsHomed : List ℕ → Form → Type 0
 FormIsHomed homes skips = Unit {0}
 FormIsHomed homes (assigns x source) = SourceIsHomed homes source
 FormIsHomed homes (frees access x spot) = Unit {0}
-FormIsHomed homes (writes x c spot) = Unit {0}
+FormIsHomed homes (writes e) = Unit {0}
+FormIsHomed homes (writes_text text) = Unit {0}
 
 abbrev pub StatementsAreHomed : List ℕ → List Form → Type 0
 StatementsAreHomed homes [] = Unit {0}

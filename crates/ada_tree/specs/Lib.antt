@@ -1,7 +1,5 @@
 -- The definitions that several crates cite, in the order in which they are read.
 
--- which tokens a tree is written with (2, 3, 5, 6)
-pub mod Grammar
 -- statements and declarations as plain data
 pub mod Form
 -- a whole program as plain data

@@ -1,5 +1,6 @@
 //! The program that a tree means: names are numbers, types are known, and nothing is left to look up.
 
+use ada_grammar::operators::{BinaryOperator, UnaryOperator};
 use ada_text::Spot;
 
 /// The number of a type in `Program::types`.
@@ -10,6 +11,10 @@ pub struct TypeNo(pub usize);
 #[derive(Clone, Copy, Debug, PartialEq, Eq)]
 pub struct PlaceNo(pub usize);
 
+/// The number of a text in `Program::texts`.
+#[derive(Clone, Copy, Debug, PartialEq, Eq)]
+pub struct TextNo(pub usize);
+
 /// The number of a component in its record type, from 0.
 #[derive(Clone, Copy, Debug, PartialEq, Eq)]
 pub struct ComponentNo(pub usize);
@@ -19,6 +24,8 @@ pub struct ComponentNo(pub usize);
 pub struct Program {
     pub types: Vec<TypeDefinition>,
     pub objects: Vec<Object>,
+    /// The string literals that it writes, in the order of the text (2.6).
+    pub texts: Vec<String>,
     /// What is elaborated before the statements, in order (3.11).
     pub declarations: Vec<Declaration>,
     pub statements: Vec<Stmt>,
@@ -50,15 +57,32 @@ pub struct Component {
 #[derive(Clone, Copy, Debug, PartialEq, Eq)]
 pub enum ComponentKind {
     Integer { initial: i32 },
+    Boolean { initial: bool },
     /// Null at first.
     Access(TypeNo),
 }
 
-/// A declared object of an access type.
+/// A declared object.
 #[derive(Debug, Drop)]
 pub struct Object {
     pub name: String,
-    pub access: TypeNo,
+    pub kind: ObjectKind,
+}
+
+/// What a declared object holds (3.3.1).
+#[derive(Clone, Copy, Debug, PartialEq, Eq)]
+pub enum ObjectKind {
+    Integer,
+    Boolean,
+    /// A value of an access type.
+    Access(TypeNo),
+}
+
+/// A type that an expression can have (3.5.3, 3.5.4).
+#[derive(Clone, Copy, Debug, PartialEq, Eq)]
+pub enum ScalarType {
+    Integer,
+    Boolean,
 }
 
 /// What one step of the elaboration of the declarations does (3.11).
@@ -78,37 +102,66 @@ pub enum Declaration {
 pub enum Stmt {
     Null,
     /// The value goes to a declared object (5.2).
-    Assign {
-        target: PlaceNo,
-        value: Right,
-    },
+    Assign { target: PlaceNo, value: Right },
     /// A call of the instance of Unchecked_Deallocation for an access type (13.11.2).
-    Free {
-        access: TypeNo,
-        variable: Path,
-    },
-    /// `Ada.Text_IO.Put_Line (Integer'Image (X.C));` the component of the object that X gives access to.
-    PutLine {
-        variable: Path,
-        component: ComponentNo,
-    },
+    Free { access: TypeNo, variable: Path },
+    /// `Ada.Text_IO.Put_Line (Integer'Image (..));` (A.10.7)
+    PutImage(Expression),
+    /// `Ada.Text_IO.Put_Line ("..");` (A.10.7)
+    PutText(TextNo),
 }
 
 /// What is assigned.
 #[derive(Debug, Drop)]
 pub enum Right {
     Null,
-    /// The value of a declared object.
+    /// The value of a declared object of an access type.
     Variable(Path),
-    /// A new object of the type that the access type designates (4.8).
+    /// A new object of the type that the access type designates; its items in the order of the components (4.8).
     Allocator { access: TypeNo, items: Vec<Item> },
+    /// An Integer or a Boolean (4.4).
+    Value(Expression),
 }
 
 /// An item of an allocator, for one component.
-#[derive(Clone, Copy, Debug, PartialEq, Eq)]
+#[derive(Debug, Drop)]
 pub enum Item {
-    Integer(i32),
     Null,
+    /// An Integer or a Boolean (4.4).
+    Value(Expression),
+}
+
+/// An expression of type Integer or Boolean (4.4). Parentheses, named numbers and enumeration literals are gone.
+#[derive(Debug, Drop)]
+#[cycle(expression)]
+pub enum Expression {
+    Integer(i32),
+    Boolean(bool),
+    /// The value of a declared object.
+    Object(PlaceNo),
+    /// `X.C`: a component of the object that X gives access to (4.1.3).
+    Component {
+        variable: Path,
+        component: ComponentNo,
+    },
+    /// `-X`, `not X` (4.5.4, 4.5.6)
+    Unary {
+        operator: UnaryOperator,
+        operand: Box<Expression>,
+    },
+    /// `A + B - C`: operators of one level, which are applied from left to right (4.5).
+    Chain {
+        first: Box<Expression>,
+        links: Vec<Link>,
+    },
+}
+
+/// An operator of a chain, and its right operand (4.5).
+#[derive(Debug, Drop)]
+#[cycle(expression)]
+pub struct Link {
+    pub operator: BinaryOperator,
+    pub operand: Expression,
 }
 
 /// A declared object that is named, and where (4.1).

@@ -3,6 +3,7 @@
 ghost use Rattle.std.specs.Prelude.{◌≡◌, ◌≢◌, ◌/◌, ◌↔◌, ℤ, pos, neg_ℤ, ◌+ℤ◌, ◌*ℤ◌, unsigned_abs, FitsSigned};
 ghost use Rattle.std.specs.Int.{w32};
 ghost use Rattle.ada_values.specs.Operators.{first_integer, IsInRange, HasSign, IsQuotient, IsRemainder, IsModulus, Overflows, UnaryOverflows, IsOutcome, UnaryIsOutcome};
+ghost use Rattle.ada_values.specs.Outcome.{outcome_of, unary_outcome_of};
 ghost use Rattle.ada_values.specs.One.{HasOne, HasOneOutcome};
 
 use crate::value::Value;
@@ -12,6 +13,12 @@ use ada_grammar::operators::{BinaryOperator, UnaryOperator};
 pub fn each_operator_has_one_outcome()
     ensures unary { (operator : UnaryOperator) (operand : Value) → HasOneOutcome (UnaryIsOutcome operator operand) }
     ensures binary { (operator : BinaryOperator) (left right : Value) → HasOneOutcome (IsOutcome operator left right) }
+{}
+
+/// The outcome as a function is the outcome, whatever the operands are.
+pub fn the_outcome_is_that_of_the_operator()
+    ensures unary { (operator : UnaryOperator) (operand : Value) → UnaryIsOutcome operator operand (unary_outcome_of operator operand) }
+    ensures binary { (operator : BinaryOperator) (left right : Value) → IsOutcome operator left right (outcome_of operator left right) }
 {}
 
 /// A division by a number other than 0 has one quotient, one remainder and one modulus (4.5.5).

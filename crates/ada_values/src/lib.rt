@@ -3,6 +3,7 @@
 //! To the crate above it promises:
 //! - [`unary`] and [`binary`] give exactly the value that the definition in `specs/Operators.antt` gives, or exactly
 //!   the fault that it has, and every operator has just one of these for any operands ([`laws`]);
+//! - that value or fault is also a function of the operands, in `specs/Outcome.antt`, which the crate above cites;
 //! - `/`, `rem` and `mod` are defined by the manual's sentences on them, and its notes follow ([`laws`]).
 //!
 //! Both operands were evaluated before: a short-circuit form combines two truth values as its operator does.

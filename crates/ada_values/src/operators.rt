@@ -2,6 +2,7 @@
 
 ghost use Rattle.std.specs.Prelude.{◌≡◌, ◌≢◌, ◌↔◌, pos, IsTrue, MatchOption, IsErrOf};
 ghost use Rattle.ada_values.specs.Operators.{HaveOppositeSigns, IsModulus, IsComparison, IsCombination, is_relational, is_for_booleans, Gives, Overflows, DividesByZero, IsFor, IsOutcome, UnaryGives, UnaryOverflows, UnaryIsFor};
+ghost use Rattle.ada_values.specs.Outcome.{outcome_of, unary_outcome_of};
 
 use crate::fault::OperatorFault;
 use crate::value::Value;
@@ -17,6 +18,7 @@ pub fn unary(operator: UnaryOperator, operand: Value) -> Result<Value, OperatorF
     ensures overflow { IsErrOf result OperatorFault.Overflow ↔ UnaryOverflows operator operand }
     ensures division { result ≢ Err OperatorFault.DivisionByZero }
     ensures types { IsErrOf result OperatorFault.WrongType ↔ (¬ UnaryIsFor operator operand) }
+    ensures outcome { result ≡ unary_outcome_of operator operand }
 {
     match (operator, operand) {
         (UnaryOperator::Plus, Value::Integer(_)) => Ok(operand),
@@ -39,6 +41,7 @@ pub fn binary(operator: BinaryOperator, left: Value, right: Value) -> Result<Val
     ensures overflow { IsErrOf result OperatorFault.Overflow ↔ Overflows operator left right }
     ensures division { IsErrOf result OperatorFault.DivisionByZero ↔ DividesByZero operator left right }
     ensures types { IsErrOf result OperatorFault.WrongType ↔ (¬ IsFor operator left right) }
+    ensures outcome { result ≡ outcome_of operator left right }
 {
     match (left, right) {
         (Value::Integer(left), Value::Integer(right)) => of_integers(operator, left, right),

@@ -1,5 +1,5 @@
 -- A source has one program at most, one first fault at most, and never both.
-use Rattle.std.proofs.Common.{◌≡◌, ◌≢◌, ℕ, List, [], ◌∷◌, length, map, Option, Some, None, Result, Ok, Err, IfErr, refl, sym, ap, subst, ◌∙◌}
+use Rattle.std.proofs.Common.{◌≡◌, ◌≢◌, ℕ, List, length, None, Result, Ok, Err, IfErr, refl, sym, ap, subst, ◌∙◌}
 use Rattle.ada_text.specs.declared.spot.Spot.{Spot}
 use Rattle.ada_text.specs.declared.fault.TextFault.{TextFault}
 use Rattle.ada_text.specs.declared.fault.TextFault.TheVariants as text
@@ -12,21 +12,19 @@ use Rattle.ada_tree.specs.declared.rule.Hold.TheVariants.{Lost}
 use Rattle.ada_tree.specs.declared.rule.Rule.{Rule}
 use Rattle.ada_tree.specs.Form.{elaborations, forms}
 use Rattle.ada_tree.specs.declared.program.Program.{Program}
-use Rattle.ada_tree.specs.Grammar.{UnitTree, IsTextOf, Kept, kept_of}
+use Rattle.ada_grammar.specs.Statements.{UnitTree, IsTextOf}
 use Rattle.ada_tree.specs.ProgramForm.{ProgramForm, object_form, program_form}
-use Rattle.ada_tree.specs.Flow.{Outcome, ObeysRules, faults, goes, then_flow, statements_flow, elaborations_flow, program_flow}
-use Rattle.ada_parser.specs.declared.fault.SyntaxFault.{SyntaxFault}
-use Rattle.ada_parser.specs.declared.fault.SyntaxFault.TheVariants as syntax
-use Rattle.ada_parser.specs.FirstFault.{IsFirstFault as IsFirstSyntaxFault}
-use Rattle.ada_resolve.specs.declared.fault.NameFault.{NameFault}
+use Rattle.ada_tree.specs.Flow.{Outcome, faults, goes, then_flow, statements_flow, elaborations_flow, program_flow}
+use Rattle.ada_syntax.specs.declared.fault.SyntaxFault.{SyntaxFault}
+use Rattle.ada_syntax.specs.declared.fault.SyntaxFault.TheVariants as syntax
+use Rattle.ada_syntax.specs.FirstFault.{IsFirstFault as IsFirstSyntaxFault}
 use Rattle.ada_resolve.specs.declared.fault.NameFault.TheVariants as names
 use Rattle.ada_resolve.specs.declared.fault.NameRule.{NameRule}
-use Rattle.ada_resolve.specs.Resolution.{Told, broken, gives, resolution, Resolves, IsFirstNameFault}
-use Rattle.ada_verdict.specs.declared.fault.FlowFault.{FlowFault}
+use Rattle.ada_resolve.specs.Resolution.{Told, broken, gives, resolution}
 use Rattle.ada_verdict.specs.declared.fault.FlowFault.TheVariants as flow
 use Rattle.ada_verdict.specs.declared.fault.Verdict.{Verdict}
 use Rattle.ada_verdict.specs.declared.fault.Verdict.TheVariants as verdict
-use Rattle.ada_verdict.specs.First.{IsSourceOf, IsProgramOf, IsAccepted, IsFirstOfSyntax, IsFirstOfNames, IsFirstOfFlow, IsFirst}
+use Rattle.ada_verdict.specs.First.{IsSourceOf, IsProgramOf, IsAccepted, IsFirstOfSyntax, IsFirstOfNames, IsFirst}
 use Rattle.ada_verdict.specs.Refusal.{refusal_of}
 
 -- The laws of the crates below.
@@ -34,7 +32,7 @@ abbrev pub OneTokens : Type 0
 OneTokens = (source : List ℕ) (ts us : List Lexeme) → Spells source ts → Spells source us → ts ≡ us
 
 abbrev pub OneTree : Type 0
-OneTree = (tokens : List Lexeme) (t u : UnitTree) → IsTextOf tokens t → IsTextOf tokens u → kept_of t ≡ kept_of u
+OneTree = (tokens : List Lexeme) (t u : UnitTree) → IsTextOf tokens t → IsTextOf tokens u → t ≡ u
 
 abbrev pub OneTextFault : Type 0
 OneTextFault = (source : List ℕ) (f g : TextFault) → IsFirstTextFault source f → IsFirstTextFault source g → f ≢ text.NoMemory → g ≢ text.NoMemory → f ≡ g
@@ -55,14 +53,14 @@ no_text f e = rw e refl
 no_syntax : (f : SyntaxFault) → f ≡ syntax.NoMemory → refusal_of (verdict.Syntax f) ≡ None
 no_syntax f e = rw e refl
 
--- One tree, and what it keeps.
+-- One tree.
 
-one_kept : OneTokens → OneTree → (source : List ℕ) (t u : UnitTree) → IsSourceOf source t → IsSourceOf source u → kept_of t ≡ kept_of u
-one_kept tokens tree source t u a b =
+same_tree : OneTokens → OneTree → (source : List ℕ) (t u : UnitTree) → IsSourceOf source t → IsSourceOf source u → t ≡ u
+same_tree tokens tree source t u a b =
     tree b.tokens t u (subst (λ (ts : List Lexeme). IsTextOf ts t) (tokens source a.tokens b.tokens a.spelled b.spelled) a.written) b.written
 
-one_resolution : OneTokens → OneTree → (source : List ℕ) (t u : UnitTree) → IsSourceOf source t → IsSourceOf source u → resolution (kept_of t) ≡ resolution (kept_of u)
-one_resolution tokens tree source t u a b = ap resolution (one_kept tokens tree source t u a b)
+one_resolution : OneTokens → OneTree → (source : List ℕ) (t u : UnitTree) → IsSourceOf source t → IsSourceOf source u → resolution t ≡ resolution u
+one_resolution tokens tree source t u a b = ap resolution (same_tree tokens tree source t u a b)
 
 -- The flow of a program, from its plain data.
 abbrev pub flow_by : ProgramForm → Outcome

@@ -4,11 +4,11 @@ use Rattle.std.specs.Prelude.{◌≡◌, ℕ, List}
 use Rattle.ada_text.specs.Token.{Lexeme}
 use Rattle.ada_text.specs.Reading.{Spells, IsFirstFault as IsFirstTextFault}
 use Rattle.ada_tree.specs.declared.program.Program.{Program}
-use Rattle.ada_tree.specs.Grammar.{UnitTree, IsTextOf, kept_of}
+use Rattle.ada_grammar.specs.Statements.{UnitTree, IsTextOf}
 use Rattle.ada_tree.specs.ProgramForm.{program_form}
 use Rattle.ada_tree.specs.Flow.{ObeysRules, faults, program_flow}
-use Rattle.ada_parser.specs.declared.fault.SyntaxFault.{SyntaxFault}
-use Rattle.ada_parser.specs.FirstFault.{IsFirstFault as IsFirstSyntaxFault}
+use Rattle.ada_syntax.specs.declared.fault.SyntaxFault.{SyntaxFault}
+use Rattle.ada_syntax.specs.FirstFault.{IsFirstFault as IsFirstSyntaxFault}
 use Rattle.ada_resolve.specs.declared.fault.NameFault.{NameFault}
 use Rattle.ada_resolve.specs.declared.fault.NameFault.TheVariants as names
 use Rattle.ada_resolve.specs.Resolution.{Resolves, IsFirstNameFault}
@@ -27,7 +27,7 @@ pub record IsSourceOf (source : List ℕ) (tree : UnitTree) : Type 0 where
 pub record IsProgramOf (source : List ℕ) (program : Program) : Type 0 where
   pub tree : UnitTree
   pub text : IsSourceOf source tree
-  pub resolved : Resolves (kept_of tree) (program_form program)
+  pub resolved : Resolves tree (program_form program)
 
 -- The program is that of the source, and obeys the rules.
 abbrev pub IsAccepted : List ℕ → Program → Type 0
@@ -39,7 +39,7 @@ IsFirstOfSyntax source fault = (tokens : List Lexeme) × Spells source tokens ×
 
 -- The first fault of the names of a source.
 abbrev pub IsFirstOfNames : List ℕ → NameFault → Type 0
-IsFirstOfNames source (names.Broken spot rule) = (tree : UnitTree) × IsSourceOf source tree × IsFirstNameFault (kept_of tree) spot rule
+IsFirstOfNames source (names.Broken spot rule) = (tree : UnitTree) × IsSourceOf source tree × IsFirstNameFault tree spot rule
 IsFirstOfNames source names.NoMemory = Unit {0}
 
 -- The first fault of the flow of values in the program of a source.

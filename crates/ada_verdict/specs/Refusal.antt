@@ -10,8 +10,8 @@ use Rattle.ada_verdict.specs.declared.fault.FlowFault.TheVariants as flow
 use Rattle.ada_resolve.specs.declared.fault.NameFault.TheVariants as names
 use Rattle.ada_resolve.specs.declared.fault.NameRule.{NameRule}
 use Rattle.ada_resolve.specs.declared.fault.NameRule.TheVariants as name
-use Rattle.ada_parser.specs.declared.fault.SyntaxFault.{SyntaxFault}
-use Rattle.ada_parser.specs.declared.fault.SyntaxFault.TheVariants as syntax
+use Rattle.ada_syntax.specs.declared.fault.SyntaxFault.{SyntaxFault}
+use Rattle.ada_syntax.specs.declared.fault.SyntaxFault.TheVariants as syntax
 use Rattle.ada_verdict.specs.declared.fault.Verdict.{Verdict}
 use Rattle.ada_verdict.specs.declared.fault.Verdict.TheVariants as verdict
 
@@ -37,6 +37,7 @@ text_told text.NoMemory = None
 -- A fault of the syntax.
 abbrev pub syntax_told : SyntaxFault → Option Told
 syntax_told (syntax.UnexpectedToken spot) = told spot (codes "F10 unexpected-token")
+syntax_told (syntax.TooDeep spot) = told spot (codes "F11 too-deep")
 syntax_told (syntax.EndOfSource spot) = told spot (codes "F12 end-of-source")
 syntax_told syntax.NoMemory = None
 

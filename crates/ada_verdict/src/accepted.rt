@@ -12,9 +12,9 @@ ghost use Rattle.ada_verdict.specs.Refusal.{refusal_of};
 use crate::fault::{FlowFault, Verdict};
 use crate::flow::flow;
 use crate::laws::accepted_sources_have_no_fault;
-use ada_parser::parse;
 use ada_resolve::resolve;
 use ada_sound::laws::well_formed_programs_are_safe;
+use ada_syntax::parse;
 use ada_tree::Program;
 use std::alloc::Global;
 use std::marker::Model;
@@ -29,6 +29,10 @@ impl Model for Accepted {
     ghost use Rattle.ada_tree.specs.declared.program.Program.{Program};
 
     ghost Value = { Program };
+
+    ghost use Rattle.ada_tree.specs.contracts.program.Program as contract;
+
+    ghost coded = { contract.the_row.coded };
 
     ghost use Rattle.ada_tree.specs.Flow.{ObeysRules};
     ghost use Rattle.ada_tree.specs.ProgramForm.{program_form};

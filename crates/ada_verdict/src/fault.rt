@@ -2,8 +2,8 @@
 
 ghost use Rattle.std.specs.Prelude.{◌≡◌};
 
-use ada_parser::SyntaxFault;
 use ada_resolve::NameFault;
+use ada_syntax::SyntaxFault;
 use ada_text::TextFault;
 use ada_tree::{Rule, Spot};
 use std::alloc::{AllocError, AllocFailed};

@@ -1,33 +1,16 @@
 //! The flow of values: what each variable may be relied on for, from statement to statement.
 
-ghost use Rattle.std.specs.Prelude.{◌≡◌, slice_set, map};
-ghost use Rattle.ada_tree.specs.Flow.{hold_at, moves, gives, released, followed, statement_flow, elaboration_flow, statements_flow, elaborations_flow, program_flow};
-ghost use Rattle.ada_tree.specs.Form.{form_of, elaboration_of, source_of, forms, elaborations};
+ghost use Rattle.std.specs.Prelude.{◌≡◌, map};
+ghost use Rattle.ada_tree.specs.Flow.{hold_at, moves, gives, released, statement_flow, elaboration_flow, statements_flow, elaborations_flow, program_flow};
+ghost use Rattle.ada_tree.specs.Form.{form_of, elaboration_of, source_of};
 ghost use Rattle.ada_verdict.specs.Told.{Tells, Answers};
 
 use crate::fault::FlowFault;
+use crate::follow::{follow, follow_items};
+use crate::holds::{hold_of, put};
 use ada_tree::program::{Declaration, Right};
 use ada_tree::{Hold, Path, PlaceNo, Program, Rule, Stmt};
 use std::alloc::Global;
-
-/// What a variable holds; one that is not declared yet is lost.
-fn hold_of(holds: &[Hold], place: PlaceNo) -> Hold
-    ensures { result ≡ hold_at holds.now place.0 }
-{
-    match holds.get(place.0) {
-        Some(hold) => *hold,
-        None => Hold::Lost,
-    }
-}
-
-/// A variable holds this from now on.
-fn put(holds: &mut [Hold], place: PlaceNo, hold: Hold)
-    ensures { holds.new ≡ slice_set holds.old place.0 hold }
-{
-    if place.0 < holds.len() {
-        holds[place.0] = hold;
-    }
-}
 
 /// `X := Y`: what Y owned goes to X; neither a lost value nor an alias is moved.
 fn move_value(holds: &mut [Hold], target: PlaceNo, path: Path) -> Result<(), FlowFault>
@@ -55,14 +38,21 @@ fn broken(path: Path, rule: Rule) -> FlowFault
     }
 }
 
-/// An assignment or an initial value.
+/// An assignment or an initial value: what it follows is followed first.
 fn give(holds: &mut [Hold], target: PlaceNo, value: &Right) -> Result<(), FlowFault>
     ensures { Tells result holds.new (gives target.0 (source_of value.now) holds.old) }
 {
     match value {
         Right::Null => put(holds, target, Hold::Null),
         Right::Variable(path) => return move_value(holds, target, *path),
-        Right::Allocator { .. } => put(holds, target, Hold::Own),
+        Right::Allocator { access: _, items } => {
+            follow_items(holds, items)?;
+            put(holds, target, Hold::Own);
+        }
+        Right::Value(expression) => {
+            follow(holds, expression)?;
+            put(holds, target, Hold::Lost);
+        }
     }
     Ok(())
 }
@@ -81,31 +71,18 @@ fn release(holds: &mut [Hold], path: Path) -> Result<(), FlowFault>
     }
 }
 
-/// `X.C`: what is lost is not followed.
-fn follow(holds: &[Hold], path: Path) -> Result<(), FlowFault>
-    ensures { Tells result holds.now (followed path.spot holds.now (hold_at holds.now path.root.0)) }
-{
-    match hold_of(holds, path.root) {
-        Hold::Null | Hold::Own | Hold::Alias => Ok(()),
-        Hold::Lost => Err(broken(path, Rule::LostValue)),
-    }
-}
-
 /// One statement.
 fn statement(holds: &mut [Hold], statement: &Stmt) -> Result<(), FlowFault>
     ensures { Tells result holds.new (statement_flow (form_of statement.now) holds.old) }
 {
     match statement {
-        Stmt::Null => Ok(()),
+        Stmt::Null | Stmt::PutText(_) => Ok(()),
         Stmt::Assign { target, value } => give(holds, *target, value),
         Stmt::Free {
             access: _,
             variable,
         } => release(holds, *variable),
-        Stmt::PutLine {
-            variable,
-            component: _,
-        } => follow(holds, *variable),
+        Stmt::PutImage(expression) => follow(holds, expression),
     }
 }
 

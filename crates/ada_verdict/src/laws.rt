@@ -7,7 +7,7 @@ ghost use Rattle.ada_verdict.specs.First.{IsAccepted, IsFirst, IsProgramOf};
 ghost use Rattle.ada_verdict.specs.Refusal.{refusal_of};
 
 use crate::fault::Verdict;
-use ada_parser::{faults_exclude_trees, tokens_have_one_first_fault, tokens_have_one_tree};
+use ada_syntax::{faults_exclude_trees, tokens_have_one_first_fault, tokens_have_one_tree};
 use ada_text::{one_first_fault, one_list_of_tokens};
 
 /// A source has at most one program, wherever it lies in memory.

@@ -7,6 +7,8 @@
 mod accepted;
 mod fault;
 mod flow;
+mod follow;
+mod holds;
 pub mod laws;
 mod refusal;
 

@@ -5,8 +5,8 @@ ghost use Rattle.ada_verdict.specs.Refusal.{refusal_of, text_told, syntax_told, 
 ghost use Rattle.ada_verdict.specs.Shown.{shown_if};
 
 use crate::fault::{FlowFault, Verdict};
-use ada_parser::SyntaxFault;
 use ada_resolve::{NameFault, NameRule};
+use ada_syntax::SyntaxFault;
 use ada_text::TextFault;
 use ada_tree::{Rule, Spot};
 
@@ -62,6 +62,7 @@ fn syntax_refusal(fault: &SyntaxFault) -> Option<Refusal>
 {
     match fault {
         SyntaxFault::UnexpectedToken(spot) => refused(*spot, "F10 unexpected-token"),
+        SyntaxFault::TooDeep(spot) => refused(*spot, "F11 too-deep"),
         SyntaxFault::EndOfSource(spot) => refused(*spot, "F12 end-of-source"),
         SyntaxFault::NoMemory => None,
     }

@@ -7,7 +7,7 @@ use Rattle.std.proofs.lemmas.List.Sums.{sum_by-cons, sum_by-append}
 use Rattle.ada_tree.specs.Form.{Elaboration, collects, declares}
 use Rattle.ada_tree.specs.ProgramForm.{TypeForm, record_of, access_to}
 use Rattle.ada_tree.specs.WellFormed as fits
-use Rattle.ada_resolve.specs.Types.{is_collected}
+use Rattle.ada_resolve.specs.Instances.{is_collected}
 use Rattle.ada_resolve.specs.Objects.{collections_of}
 use Rattle.ada_resolve.proofs.WellFormed.Tables.{left_fails, right_fails, both_parts, first_part, second_part}
 

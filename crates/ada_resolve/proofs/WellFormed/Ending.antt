@@ -7,7 +7,7 @@ use Rattle.ada_tree.specs.ProgramForm.{TypeForm, record_of, access_to, ObjectFor
 use Rattle.ada_tree.specs.WellFormed as fits
 use Rattle.ada_resolve.specs.Known.{Known, is_empty}
 use Rattle.ada_resolve.specs.Objects.{collections_of, ends_types, after_types}
-use Rattle.ada_resolve.specs.Types.{is_collected}
+use Rattle.ada_resolve.specs.Instances.{is_collected}
 use Rattle.ada_resolve.proofs.WellFormed.Tables.{all_more, all_weaker, both_parts}
 use Rattle.ada_resolve.proofs.WellFormed.Names.{NamesFit}
 use Rattle.ada_resolve.proofs.WellFormed.Counts.{count, count_more, count_known, one_made, at_most_made, has_from_counts}

@@ -16,14 +16,15 @@ use Rattle.ada_resolve.specs.Library.{predefined}
 abbrev pub EntityFits : List TypeForm → List ObjectForm → List ℕ → Entity → Type 0
 EntityFits types objects text entity.Integer = Unit {0}
 EntityFits types objects text entity.Boolean = Unit {0}
-EntityFits types objects text entity.Truth = Unit {0}
+EntityFits types objects text (entity.Truth b) = Unit {0}
+EntityFits types objects text (entity.Number n) = Unit {0}
 EntityFits types objects text entity.Exception = Unit {0}
 EntityFits types objects text entity.Procedure = Unit {0}
 EntityFits types objects text (entity.Incomplete t) = slice_get types t.0 ≡ Some (record_of text [])
 EntityFits types objects text (entity.Record t) = (cs : List ComponentForm) × (slice_get types t.0 ≡ Some (record_of text cs))
 EntityFits types objects text (entity.Access t) = (d : ℕ) × (slice_get types t.0 ≡ Some (access_to text d))
 EntityFits types objects text (entity.Instance t) = fits.is_access types t.0 ≡ true
-EntityFits types objects text (entity.Object place access) = fits.object_access objects place.0 ≡ Some access.0
+EntityFits types objects text (entity.Object place kind) = (fits.object_kind objects place.0 ≡ Some kind) × (fits.object_kind_fits types kind ≡ true)
 
 abbrev pub NamesFit : List TypeForm → List ObjectForm → List Named → Type 0
 NamesFit types objects names = (text : List ℕ) (e : Entity) → named text names ≡ Some e → EntityFits types objects text e
@@ -65,17 +66,18 @@ names_entered types objects ns text e own old t x h = entered_fits (bytes_eq t t
     entered_fits false off is = old t x (no_text t text off) is
 
 -- what is predefined has no number
-standard_fits : (types : List TypeForm) (objects : List ObjectForm) (text : List ℕ) (x : Entity) (a b c d : Bool) → cond a (Some entity.Integer) (cond b (Some entity.Boolean) (cond c (Some entity.Truth) (cond d (Some entity.Exception) None))) ≡ Some x → EntityFits types objects text x
-standard_fits types objects text x true b c d e = let is : entity.Integer ≡ x = cc e in rw (sym is) tt
-standard_fits types objects text x false true c d e = let is : entity.Boolean ≡ x = cc e in rw (sym is) tt
-standard_fits types objects text x false false true d e = let is : entity.Truth ≡ x = cc e in rw (sym is) tt
-standard_fits types objects text x false false false true e = let is : entity.Exception ≡ x = cc e in rw (sym is) tt
-standard_fits types objects text x false false false false e = absurd (cc e)
+standard_fits : (types : List TypeForm) (objects : List ObjectForm) (text : List ℕ) (x : Entity) (a b c d f : Bool) → cond a (Some entity.Integer) (cond b (Some entity.Boolean) (cond c (Some (entity.Truth true)) (cond d (Some (entity.Truth false)) (cond f (Some entity.Exception) None)))) ≡ Some x → EntityFits types objects text x
+standard_fits types objects text x true b c d f e = let is : entity.Integer ≡ x = cc e in rw (sym is) tt
+standard_fits types objects text x false true c d f e = let is : entity.Boolean ≡ x = cc e in rw (sym is) tt
+standard_fits types objects text x false false true d f e = let is : entity.Truth true ≡ x = cc e in rw (sym is) tt
+standard_fits types objects text x false false false true f e = let is : entity.Truth false ≡ x = cc e in rw (sym is) tt
+standard_fits types objects text x false false false false true e = let is : entity.Exception ≡ x = cc e in rw (sym is) tt
+standard_fits types objects text x false false false false false e = absurd (cc e)
 
 predefined_fits : (types : List TypeForm) (objects : List ObjectForm) (text : List ℕ) (x : Entity) → predefined text ≡ Some x → EntityFits types objects text x
 unfolding predefined
 predefined_fits types objects text x e =
-    standard_fits types objects text x (bytes_eq text (codes "INTEGER")) (bytes_eq text (codes "BOOLEAN")) (bytes_eq text (codes "TRUE") || bytes_eq text (codes "FALSE"))
+    standard_fits types objects text x (bytes_eq text (codes "INTEGER")) (bytes_eq text (codes "BOOLEAN")) (bytes_eq text (codes "TRUE")) (bytes_eq text (codes "FALSE"))
     (bytes_eq text (codes "CONSTRAINT_ERROR") || (bytes_eq text (codes "PROGRAM_ERROR") || bytes_eq text (codes "STORAGE_ERROR"))) e
 
 inner_fits : (types : List TypeForm) (objects : List ObjectForm) (text : List ℕ) (x : Entity) (own : Option Entity) (b : Bool) → ((y : Entity) → own ≡ Some y → EntityFits types objects text y) → inner_first own b (predefined text) ≡ Some x → EntityFits types objects text x

@@ -5,6 +5,8 @@ use Rattle.std.specs.Prelude.{Option, Some, None, is_some}
 use Rattle.std.specs.List.{list_all, slice_get, slice_set}
 use Rattle.ada_tree.specs.declared.program.ComponentKind.{ComponentKind}
 use Rattle.ada_tree.specs.declared.program.ComponentKind.TheVariants as kind
+use Rattle.ada_tree.specs.declared.program.ObjectKind.{ObjectKind}
+use Rattle.ada_tree.specs.declared.program.ObjectKind.TheVariants as object
 use Rattle.ada_tree.specs.ProgramForm.{ComponentForm, TypeForm, record_of, access_to}
 use Rattle.ada_tree.specs.WellFormed as fits
 use Rattle.ada_resolve.specs.Types.{is_designated}
@@ -69,7 +71,13 @@ Keeps types more = (t : ℕ) → fits.is_access types t ≡ true → fits.is_acc
 -- what fits these types fits types that keep the access types
 kind_kept : (types more : List TypeForm) → Keeps types more → (k : ComponentKind) → fits.kind_fits types k ≡ true → fits.kind_fits more k ≡ true
 kind_kept types more w (kind.Integer initial) e = refl
+kind_kept types more w (kind.Boolean initial) e = refl
 kind_kept types more w (kind.Access t) e = w t.0 e
+
+pub object_kind_kept : (types more : List TypeForm) → Keeps types more → (k : ObjectKind) → fits.object_kind_fits types k ≡ true → fits.object_kind_fits more k ≡ true
+object_kind_kept types more w object.Integer e = refl
+object_kind_kept types more w object.Boolean e = refl
+object_kind_kept types more w (object.Access t) e = w t.0 e
 
 pub components_kept : (types more : List TypeForm) → Keeps types more → (cs : List ComponentForm) → list_all (fits.component_fits types) cs ≡ true → list_all (fits.component_fits more) cs ≡ true
 components_kept types more w cs e = all_weaker (fits.component_fits types) (fits.component_fits more) (λ c. kind_kept types more w c.kind) cs e

@@ -6,16 +6,21 @@ use Rattle.std.specs.List.{list_all, slice_get, slice_set}
 use Rattle.ada_text.specs.declared.spot.Spot.{Spot}
 use Rattle.ada_tree.specs.declared.program.TypeNo.{TypeNo}
 use Rattle.ada_tree.specs.Form.{Elaboration, collects, declares}
-use Rattle.ada_tree.specs.Grammar.{Ident, NameTree, StaticTree, ComponentTree, RecordTree}
+use Rattle.ada_grammar.specs.Names.{Ident, NameTree}
+use Rattle.ada_grammar.specs.Records.{StaticTree, ComponentTree, RecordTree}
+use Rattle.ada_grammar.specs.Declarations.{AspectTree}
 use Rattle.ada_tree.specs.ProgramForm.{ComponentForm, TypeForm, record_of, access_to, ObjectForm}
 use Rattle.ada_tree.specs.WellFormed as fits
 use Rattle.ada_resolve.specs.declared.fault.NameRule.TheVariants.{WrongType, Layout}
 use Rattle.ada_resolve.specs.declared.scope.Entity.{Entity}
 use Rattle.ada_resolve.specs.declared.scope.Entity.TheVariants as entity
 use Rattle.ada_resolve.specs.Known.{Known, named, declared, visible}
-use Rattle.ada_resolve.specs.Types.{incomplete_of, completed, record_in, record_found, is_designated, number_of, defined, incomplete_known, completion_remark, access_remark, access_defined, access_known, kind_in, component_meant, components_written, record_type_known, access_if, access_in, freed_found, designates_if_known, is_collected, one_instance, instance_remark, instance_of, instance_known}
+use Rattle.ada_resolve.specs.Types.{incomplete_of, completed, record_in, record_found, is_designated, number_of, defined, incomplete_known, completion_remark, access_remark, access_defined, access_known}
+use Rattle.ada_resolve.specs.Records.{kind_in, component_meant, components_written, record_type_known}
+use Rattle.ada_resolve.specs.Statics.{constant_known, static_value}
+use Rattle.ada_resolve.specs.Instances.{access_if, access_in, freed_found, designates_if_known, is_collected, one_instance, instance_remark, instance_of, instance_known}
 use Rattle.ada_resolve.proofs.WellFormed.Remarks.{Quiet, quiet_if}
-use Rattle.ada_resolve.proofs.WellFormed.Tables.{Keeps, all_more, all_set, get_more, get_last, get_set, get_other, access_more, record_more, access_set, record_set, record_other, types_kept, types_without, components_kept, all_weaker, both_parts}
+use Rattle.ada_resolve.proofs.WellFormed.Tables.{Keeps, all_more, all_set, get_more, get_last, get_set, get_other, access_more, record_more, access_set, record_set, record_other, types_kept, types_without, components_kept, object_kind_kept, all_weaker, both_parts}
 use Rattle.ada_resolve.proofs.WellFormed.Counts.{one_more}
 use Rattle.ada_resolve.proofs.WellFormed.Names.{EntityFits, NamesFit, names_entered, visible_fits, no_text}
 
@@ -49,6 +54,7 @@ entity_kept types more objects text other g ne (entity.Incomplete t) f = g.keeps
 entity_kept types more objects text other g ne (entity.Record t) f = (f.0, g.keeps t.0 (record_of other f.0) ne f.1)
 entity_kept types more objects text other g ne (entity.Access t) f = (f.0, g.keeps t.0 (access_to other f.0) ne f.1)
 entity_kept types more objects text other g ne (entity.Instance t) f = g.accesses t.0 f
+entity_kept types more objects text other g ne (entity.Object place kind) f = (f.0, object_kind_kept types more g.accesses kind f.1)
 entity_kept types more objects text other g ne e f = f
 
 collection_kept : (types more : List TypeForm) → Keeps types more → (e : Elaboration) → fits.collection_fits types e ≡ true → fits.collection_fits more e ≡ true
@@ -130,20 +136,20 @@ record_defined types objects text cs (Some t) h all own =
     )
 
 -- a component is of what its type's name stands for
-kind_fits : (types : List TypeForm) (objects : List ObjectForm) (text : List ℕ) (e : Entity) (initial : Option StaticTree) → EntityFits types objects text e → fits.kind_fits types (kind_in (Some e) initial) ≡ true
-kind_fits types objects text (entity.Access t) initial f = access_is types t.0 text f.0 f.1
-kind_fits types objects text e initial f = refl
+kind_fits : (k : Known) (text : List ℕ) (e : Entity) (initial : Option StaticTree) → EntityFits k.types k.objects text e → fits.kind_fits k.types (kind_in (Some e) k initial) ≡ true
+kind_fits k text (entity.Access t) initial f = access_is k.types t.0 text f.0 f.1
+kind_fits k text e initial f = refl
 
-kinds_fit : (types : List TypeForm) (objects : List ObjectForm) (text : List ℕ) (o : Option Entity) (initial : Option StaticTree) → ((e : Entity) → o ≡ Some e → EntityFits types objects text e) → fits.kind_fits types (kind_in o initial) ≡ true
-kinds_fit types objects text (Some e) initial w = kind_fits types objects text e initial (w e refl)
-kinds_fit types objects text None initial w = refl
+kinds_fit : (k : Known) (text : List ℕ) (o : Option Entity) (initial : Option StaticTree) → ((e : Entity) → o ≡ Some e → EntityFits k.types k.objects text e) → fits.kind_fits k.types (kind_in o k initial) ≡ true
+kinds_fit k text (Some e) initial w = kind_fits k text e initial (w e refl)
+kinds_fit k text None initial w = refl
 
 components_fit : (k : Known) → Early k → (cs : List ComponentTree) → list_all (fits.component_fits k.types) (map (component_meant k) cs) ≡ true
 unfolding component_meant
 components_fit k w [] = refl
 components_fit k w (c ∷ cs) =
     both_parts (fits.component_fits k.types (component_meant k c)) (list_all (fits.component_fits k.types) (map (component_meant k) cs))
-    (kinds_fit k.types k.objects c.type_name.text (visible k c.type_name.text) c.initial (visible_fits k w.names c.type_name.text))
+    (kinds_fit k c.type_name.text (visible k c.type_name.text) c.initial (visible_fits k w.names c.type_name.text))
     (components_fit k w cs)
 
 pub record_early : (k : Known) (name : Ident) (definition : RecordTree) → Early k → Early (record_type_known k name definition)
@@ -208,8 +214,8 @@ access_early_at k name designated (Some d) w r q =
     early_type k name.text (entity.Access (number_of c k.types)) (defined c (access_to name.text d.0) k.types) w done.0 done.1
 
 -- `type A is access T;`
-pub access_early : (k : Known) (spot : Spot) (name designated : Ident) → Early k → Quiet (access_remark k spot name designated) → Early (access_known k name designated)
-access_early k spot name designated w q = access_early_at k name designated (record_found k designated) w (found_record k designated w) q.1.0
+pub access_early : (k : Known) (spot : Spot) (name designated : Ident) (aspect : Option AspectTree) → Early k → Quiet (access_remark k spot name designated aspect) → Early (access_known k name designated)
+access_early k spot name designated aspect w q = access_early_at k name designated (record_found k designated) w (found_record k designated w) q.1.0
 
 -- the access type of an instance is there
 abbrev pub IsAccessIn : List TypeForm → Option TypeNo → Type 0
@@ -246,3 +252,14 @@ instance_early_at k spot name (Some t) w f q = record {
 -- `procedure Free is new Ada.Unchecked_Deallocation (T, A);`
 pub instance_early : (k : Known) (spot : Spot) (name : Ident) (generic : NameTree) (object access : Ident) → Early k → Quiet (instance_remark k spot name generic object access) → Early (instance_known k name object access)
 instance_early k spot name generic object access w q = instance_early_at k spot name (freed_found k access (record_found k object)) w (found_access k access (record_found k object) w) q.1.1.1.1.1.1
+
+-- `N : constant := 1;`
+pub constant_early : (k : Known) (name : Ident) (value : StaticTree) → Early k → Early (constant_known k name value)
+constant_early k name value w = record {
+  no_objects = w.no_objects;
+  types_fit = w.types_fit;
+  collections_fit = w.collections_fit;
+  only_collections = w.only_collections;
+  at_most_one = w.at_most_one;
+  names = names_entered k.types k.objects k.names name.text (entity.Number (static_value k value)) tt (λ other x ne is. w.names other x is);
+}

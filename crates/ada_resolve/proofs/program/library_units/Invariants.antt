@@ -1,9 +1,10 @@
 use Rattle.std.proofs.Common.{◌≡◌, map, drop, false}
-use Rattle.ada_tree.specs.Grammar.{name_of}
-use Rattle.ada_resolve.specs.Resolution.{units_of}
+use Rattle.ada_grammar.specs.Declarations.{clause_of}
+use Rattle.ada_resolve.specs.Resolution.{clauses_told}
 use Rattle.ada_resolve.proofs.program.library_units.Given as goal
 
 -- what is left, with the units so far, is what comes of all
-abbrev pub invariant-loop-name : goal.invariant-loop-name
-invariant-loop-name l =
-    units_of (map name_of (drop l.name-index l.withs)) l.units ≡ units_of (map name_of l.withs) (record { text_io = false; deallocation = false })
+abbrev pub invariant-loop-clause : goal.invariant-loop-clause
+invariant-loop-clause l =
+    clauses_told (map clause_of (drop l.clause-index l.clauses)) l.units ≡
+    clauses_told (map clause_of l.clauses) (record { text_io = false; deallocation = false })

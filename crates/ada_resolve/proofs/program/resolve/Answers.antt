@@ -1,6 +1,6 @@
 -- The program that a tree means is well formed.
 use Rattle.std.proofs.lemmas.Result.{IfOk-weaker}
-use Rattle.ada_tree.specs.Grammar.{unit_of}
+use Rattle.ada_grammar.specs.StatementView.{unit_of}
 use Rattle.ada_tree.specs.ProgramForm.{program_form}
 use Rattle.ada_tree.specs.WellFormed.{IsWellFormed}
 use Rattle.ada_resolve.specs.Resolution.{Resolves}

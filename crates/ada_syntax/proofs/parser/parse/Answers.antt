@@ -1,10 +1,4 @@
-use Rattle.std.proofs.Common.{rules, ◌≡◌, ◌-◌, [], min, IfErr, IfOk, Ok, Err, ℕ, ◌+◌, ◌*◌, ◌<◌, ◌≤◌, length, ◌/◌, ◌%◌, Bool, true, false, nat_eq, nat_lt, List, ◌∷◌, ◌++◌, slice_index_or, slice_set, bit_and, bit_or, Fits, w8, w32, w64, Bor, MutBor}
 use Rattle.ada_text.specs.Token.{lexemes_of}
-use Rattle.ada_grammar.specs.StatementView.{unit_of}
-use Rattle.ada_grammar.specs.Statements.{IsTextOf}
-use Rattle.ada_syntax.specs.Faults.{IsFaultAt, TellsStop, end_spot}
-use Rattle.ada_syntax.specs.FirstFault.{IsFirstFault}
-use Rattle.ada_syntax.specs.Units.{whole_at}
 use Rattle.ada_syntax.proofs.Whole.{is_found, is_refused}
 use Rattle.ada_syntax.proofs.parser.parse.Goals as goal
 

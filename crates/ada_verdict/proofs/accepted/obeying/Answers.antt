@@ -1,4 +1,4 @@
-use Rattle.std.proofs.Common.{◌≡◌, subst}
+use Rattle.std.proofs.Common.{subst}
 use Rattle.ada_tree.specs.Flow.{program_flow}
 use Rattle.ada_verdict.specs.Told.{RefusesUnlessMemory}
 use Rattle.ada_verdict.proofs.accepted.obeying.Goals as goal

@@ -1,6 +1,6 @@
 use Rattle.std.proofs.Common.{◌≡◌, map, drop}
 use Rattle.ada_tree.specs.Form.{elaboration_of}
-use Rattle.ada_resolve.specs.Types.{is_collected}
+use Rattle.ada_resolve.specs.Instances.{is_collected}
 use Rattle.ada_resolve.proofs.resolver.Resolver.is_collected.Given as goal
 
 -- what is left decides

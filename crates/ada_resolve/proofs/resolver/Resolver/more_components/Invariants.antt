@@ -1,8 +1,8 @@
 use Rattle.std.proofs.Common.{◌≡◌, ◌++◌, map, drop}
-use Rattle.ada_tree.specs.Grammar.{component_of}
+use Rattle.ada_grammar.specs.Records.{component_of}
 use Rattle.ada_tree.specs.ProgramForm.{component_form}
 use Rattle.ada_resolve.specs.Remark.{noted}
-use Rattle.ada_resolve.specs.Types.{component_meant, components_remark}
+use Rattle.ada_resolve.specs.Records.{component_meant, components_remark}
 use Rattle.ada_resolve.specs.View.{known_of}
 use Rattle.ada_resolve.proofs.resolver.Resolver.more_components.Given as goal
 

@@ -1,5 +1,0 @@
-use Rattle.ada_parser.proofs.Exact.{one_fault}
-use Rattle.ada_parser.proofs.laws.tokens_have_one_first_fault.Goals as goal
-
-pub returns : goal.returns
-returns c = one_fault

@@ -1,0 +1,9 @@
+use Rattle.std.proofs.Common.{◌≡◌, map}
+use Rattle.std.specs.Prelude.{None}
+use Rattle.std.proofs.Math.ListN.{replicate}
+use Rattle.ada_resolve.specs.View.{item_in}
+use Rattle.ada_resolve.proofs.items.empty_slots.Given as goal
+
+-- so many are none so far
+abbrev pub invariant-loop : goal.invariant-loop
+invariant-loop l = map item_in l.slots.items ≡ replicate l.counter None

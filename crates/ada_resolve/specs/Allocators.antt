@@ -1,0 +1,89 @@
+-- Allocators: what is wrong with each, and what it allocates.
+
+use Rattle.std.specs.Prelude.{ℕ, Bool, true, false, ◌&&◌, not, if◌then◌else◌, List, map, Option, Some, None, is_none}
+use Rattle.ada_text.specs.declared.spot.Spot.{Spot}
+use Rattle.ada_tree.specs.Form.{Source, allocates}
+use Rattle.ada_grammar.specs.Names.{Ident}
+use Rattle.ada_grammar.specs.Expressions.{ItemsTree, no_more_items, an_item}
+use Rattle.ada_tree.specs.ProgramForm.{ComponentForm, TypeForm}
+use Rattle.ada_tree.specs.declared.program.TypeNo.{TypeNo}
+use Rattle.ada_resolve.specs.declared.fault.NameRule.TheVariants.{WrongType, NotInProfile}
+use Rattle.ada_resolve.specs.declared.scope.Entity.{Entity}
+use Rattle.ada_resolve.specs.declared.scope.Entity.TheVariants as entity
+use Rattle.ada_resolve.specs.Known.{Known, visible, missing}
+use Rattle.ada_resolve.specs.Remark.{Remark, wrong, ◌also◌, wrong_if}
+use Rattle.ada_resolve.specs.Items.{count_remark, filling_of, first_filling, item_or_null, items_remark, names_component}
+use Rattle.ada_resolve.specs.Paths.{components_of}
+use Rattle.ada_resolve.specs.Types.{designates}
+
+-- An allocator names a complete record type, which the access type that is wanted designates, where that is known (4.8).
+abbrev pub designated_if_known : List TypeForm → Option TypeNo → TypeNo → Bool
+designated_if_known types (Some access) record_type = designates types access.0 record_type.0
+designated_if_known types None record_type = true
+
+-- A complete record type is wanted, and the one that is designated: another thing of that name is of the wrong kind (8.6).
+abbrev pub allocated_wanted : Option Entity → List TypeForm → Option TypeNo → Spot → Ident → Remark
+allocated_wanted (Some (entity.Record t)) types access spot name = wrong_if (not (designated_if_known types access t)) spot WrongType
+allocated_wanted (Some other) types access spot name = wrong spot WrongType
+allocated_wanted None types access spot name = missing None name
+
+-- What is wrong with the type that an allocator names.
+unfoldable pub allocated_remark : Known → Option TypeNo → Spot → Ident → Remark
+allocated_remark known access spot name = allocated_wanted (visible known name.text) known.types access spot name
+
+-- That record type.
+abbrev pub complete_in : Option Entity → Option TypeNo
+complete_in (Some (entity.Record t)) = Some t
+complete_in (Some other) = None
+complete_in None = None
+
+-- The record type that an allocator names; none where something is wrong.
+unfoldable pub allocated_found : Known → Ident → Option TypeNo
+allocated_found known name = complete_in (visible known name.text)
+
+-- The components of the record type that an allocator names, where that is known.
+abbrev pub filled_components : Known → Option TypeNo → Option (List ComponentForm)
+filled_components known (Some t) = Some (components_of known.types t.0)
+filled_components known None = None
+
+-- What is wrong with `new T'(..)`: its type, an item, or how many items there are.
+unfoldable pub aggregate_remark : Known → Option TypeNo → Spot → Ident → ItemsTree → Remark
+aggregate_remark known access spot type_name items =
+    allocated_remark known access spot type_name also
+    items_remark known (filled_components known (allocated_found known type_name)) (names_component items)
+    (first_filling (filled_components known (allocated_found known type_name))) items also
+    count_remark (names_component items) (filling_of known (filled_components known (allocated_found known type_name)) items) type_name.spot
+
+-- A new object of the access type that is wanted, where that is known.
+abbrev pub wanted_or : Option TypeNo → TypeNo → ℕ
+wanted_or (Some access) t = access.0
+wanted_or None t = t.0
+
+-- The allocation of these items, in the order of the components; none where the record type is not known.
+abbrev pub allocation : Known → Option TypeNo → Option TypeNo → ItemsTree → Option Source
+allocation known access (Some t) items =
+    Some (allocates (wanted_or access t) (map item_or_null (filling_of known (Some (components_of known.types t.0)) items).slots))
+allocation known access None items = None
+
+-- The allocation that `new T'(..)` makes; none where its type is wrong.
+unfoldable pub aggregate_found : Known → Option TypeNo → Ident → ItemsTree → Option Source
+aggregate_found known access type_name items = allocation known access (allocated_found known type_name) items
+
+-- Whether there is an item.
+abbrev pub has_items : ItemsTree → Bool
+has_items no_more_items = false
+has_items (an_item label value rest) = true
+
+-- Whether an allocator is in the profile: it has no handle (13.11.4), and items.
+unfoldable pub is_in_use : Option Ident → ItemsTree → Bool
+is_in_use handle items = is_none handle && has_items items
+
+-- What is wrong with an allocator.
+unfoldable pub allocator_remark : Known → Option TypeNo → Spot → Option Ident → Ident → ItemsTree → Remark
+allocator_remark known access spot handle type_name items =
+    if is_in_use handle items then aggregate_remark known access spot type_name items else wrong spot NotInProfile
+
+-- The allocation that an allocator makes; none where something is wrong.
+unfoldable pub allocator_found : Known → Option TypeNo → Option Ident → Ident → ItemsTree → Option Source
+allocator_found known access handle type_name items =
+    if is_in_use handle items then aggregate_found known access type_name items else None

@@ -1,0 +1,103 @@
+-- Instances of Unchecked_Deallocation: what is wrong with each, and what is known after it.
+
+use Rattle.std.specs.Prelude.{ℕ, Bool, true, false, ◌||◌, ◌==◌, not, if◌then◌else◌, List, [], ◌∷◌, ◌++◌, Option, Some, None}
+use Rattle.ada_text.specs.declared.spot.Spot.{Spot}
+use Rattle.ada_tree.specs.Form.{Elaboration, collects, declares}
+use Rattle.ada_grammar.specs.Names.{Ident, NameTree}
+use Rattle.ada_tree.specs.ProgramForm.{TypeForm}
+use Rattle.ada_tree.specs.declared.program.TypeNo.{TypeNo}
+use Rattle.ada_resolve.specs.declared.fault.NameRule.TheVariants.{WrongType, Layout}
+use Rattle.ada_resolve.specs.declared.library.LibraryName.{LibraryName}
+use Rattle.ada_resolve.specs.declared.library.LibraryName.TheVariants.{UncheckedDeallocation}
+use Rattle.ada_resolve.specs.declared.scope.Entity.{Entity}
+use Rattle.ada_resolve.specs.declared.scope.Entity.TheVariants as entity
+use Rattle.ada_resolve.specs.Known.{Known, declared, visible, missing, new_name_remark, library_remark, library_found, type_begins}
+use Rattle.ada_resolve.specs.Library.{is_library_root}
+use Rattle.ada_resolve.specs.Remark.{Remark, fine, wrong, ◌also◌, wrong_if}
+use Rattle.ada_resolve.specs.Types.{record_found, record_remark, designates}
+
+-- The generic of an instance is Ada.Unchecked_Deallocation (12.3, 13.11.2): another unit or another name is of the wrong kind.
+abbrev pub deallocation_wanted : Option LibraryName → Spot → Remark
+deallocation_wanted (Some UncheckedDeallocation) spot = fine
+deallocation_wanted (Some other) spot = wrong spot WrongType
+deallocation_wanted None spot = fine
+
+-- A declared name stands for no generic: it is of the wrong kind (8.6).
+abbrev pub no_generic : Option Entity → Ident → Remark
+no_generic (Some entity) name = wrong name.spot WrongType
+no_generic None name = missing None name
+
+-- What is wrong with the generic that an instance names.
+unfoldable pub generic_remark : Known → NameTree → Remark
+generic_remark known generic =
+    if is_library_root generic.first.text
+    then library_remark known generic.first generic.rest also deallocation_wanted (library_found known generic.first generic.rest) generic.first.spot
+    else no_generic (visible known generic.first.text) generic.first
+
+-- The record type of an instance is complete there (13.11.2, 3.10.1).
+abbrev pub complete_wanted : Option Entity → Spot → Remark
+complete_wanted (Some (entity.Incomplete t)) spot = wrong spot WrongType
+complete_wanted (Some other) spot = fine
+complete_wanted None spot = fine
+
+-- The access type of an instance designates its record type, where that is known.
+abbrev pub designates_if_known : List TypeForm → ℕ → Option TypeNo → Bool
+designates_if_known types access (Some record_type) = designates types access record_type.0
+designates_if_known types access None = true
+
+-- The access type, if the test holds.
+abbrev pub access_if : Bool → TypeNo → Option TypeNo
+access_if true t = Some t
+access_if false t = None
+
+-- The access type that a name stands for, where it designates the record type.
+abbrev pub access_in : Option Entity → List TypeForm → Option TypeNo → Option TypeNo
+access_in (Some (entity.Access t)) types record_type = access_if (designates_if_known types t.0 record_type) t
+access_in (Some other) types record_type = None
+access_in None types record_type = None
+
+-- The access type of an instance; none where something is wrong.
+unfoldable pub freed_found : Known → Ident → Option TypeNo → Option TypeNo
+freed_found known access record_type = access_in (visible known access.text) known.types record_type
+
+-- An access type is wanted that designates the record type (8.6).
+abbrev pub access_wanted : Option Entity → List TypeForm → Option TypeNo → Ident → Remark
+access_wanted (Some (entity.Access t)) types record_type name = wrong_if (not (designates_if_known types t.0 record_type)) name.spot WrongType
+access_wanted (Some other) types record_type name = wrong name.spot WrongType
+access_wanted None types record_type name = missing None name
+
+-- What is wrong with the access type of an instance.
+unfoldable pub freed_remark : Known → Ident → Option TypeNo → Remark
+freed_remark known access record_type = access_wanted (visible known access.text) known.types record_type access
+
+-- Whether the collection of an access type is created already (7.6.1): an instance creates it, or the first object does.
+abbrev pub is_collected : ℕ → List Elaboration → Bool
+is_collected access [] = false
+is_collected access (collects t ∷ es) = t == access || is_collected access es
+is_collected access (declares place value ∷ es) = is_collected access es
+
+-- An access type has at most one instance (the profile's).
+abbrev pub one_instance : Option TypeNo → List Elaboration → Spot → Remark
+one_instance (Some t) elaborated spot = wrong_if (is_collected t.0 elaborated) spot Layout
+one_instance None elaborated spot = fine
+
+-- `procedure Free is new Ada.Unchecked_Deallocation (T, A);` (13.11.2): a new name, the generic, a complete record type, and an access type
+-- to it that has no other instance.
+abbrev pub instance_remark : Known → Spot → Ident → NameTree → Ident → Ident → Remark
+instance_remark known spot name generic object access =
+    type_begins known spot also
+    new_name_remark known name spot also
+    generic_remark known generic also
+    record_remark known object also
+    complete_wanted (visible known object.text) object.spot also
+    freed_remark known access (record_found known object) also
+    one_instance (freed_found known access (record_found known object)) known.elaborated spot
+
+-- After it the collection of the access type is created (the profile's place for it), and the instance is known.
+abbrev pub instance_of : Known → Ident → Option TypeNo → Known
+instance_of known name (Some t) = declared (record known { elaborated = known.elaborated ++ collects t.0 ∷ [] }) name.text (entity.Instance t)
+instance_of known name None = known
+
+-- What is known after an instance.
+abbrev pub instance_known : Known → Ident → Ident → Ident → Known
+instance_known known name object access = instance_of known name (freed_found known access (record_found known object))

@@ -1,0 +1,156 @@
+-- The items of aggregates: what is wrong with each, and which component it is for.
+
+use Rattle.std.specs.Prelude.{ℕ, ◌+◌, Bool, true, false, ◌==◌, ◌&&◌, not, if◌then◌else◌, List, [], length, Option, Some, None, is_some, is_none}
+use Rattle.std.specs.List.{slice_get, slice_set, slice_index_or, list_all}
+use Rattle.std.proofs.Math.ListN.{replicate}
+use Rattle.ada_text.specs.declared.spot.Spot.{Spot}
+use Rattle.ada_tree.specs.Form.{ItemForm, null_item, item_of_value}
+use Rattle.ada_grammar.specs.Names.{Ident}
+use Rattle.ada_grammar.specs.Expressions.{ExpressionTree, ItemsTree, no_more_items, an_item}
+use Rattle.ada_tree.specs.ProgramForm.{ComponentForm}
+use Rattle.ada_tree.specs.declared.program.ComponentKind.{ComponentKind}
+use Rattle.ada_tree.specs.declared.program.ComponentKind.TheVariants as kind
+use Rattle.ada_resolve.specs.declared.fault.NameRule.TheVariants.{UnknownName, WrongType, NotInProfile}
+use Rattle.ada_resolve.specs.Known.{Known}
+use Rattle.ada_resolve.specs.Remark.{Remark, fine, wrong, ◌also◌, wrong_if}
+use Rattle.ada_resolve.specs.Spots.{expression_spot}
+use Rattle.ada_resolve.specs.Expressions.{expression_meant, expression_remark}
+use Rattle.ada_resolve.specs.Operators.{boolean_wanted, integer_wanted}
+use Rattle.ada_resolve.specs.Paths.{Meant, boolean_value, component_named, integer_value, null_value, other_access, unknown, variable}
+
+-- What is known before an item: how many items come before it, which components have their items, and whether each item so far names a
+-- component of its own.
+pub record Filling : Type 0 where
+  pub count : ℕ
+  pub slots : List (Option ItemForm)
+  pub whole : Bool
+
+-- A component by its number, and what it holds.
+abbrev pub component_at : ℕ → Option ComponentForm → Option (ℕ × ComponentKind)
+component_at at (Some c) = Some (at, c.kind)
+component_at at None = None
+
+-- The component that an item is for: that of its name, or the one at its place.
+abbrev pub component_for : List ComponentForm → Option Ident → ℕ → Option (ℕ × ComponentKind)
+component_for components (Some label) at = component_named 0 label.text components
+component_for components None at = component_at at (slice_get components at)
+
+-- Where an item begins.
+abbrev pub item_spot : Option Ident → ExpressionTree → Spot
+item_spot (Some label) value = label.spot
+item_spot None value = expression_spot value
+
+-- What an item gives its component.
+abbrev pub item_meant : Meant → ItemForm
+item_meant (integer_value e) = item_of_value e
+item_meant (boolean_value e) = item_of_value e
+item_meant other = null_item
+
+-- An access component is given null; no other value of an access type is in the profile yet there.
+abbrev pub null_wanted : Meant → Spot → Remark
+null_wanted unknown spot = fine
+null_wanted null_value spot = fine
+null_wanted (variable path t) spot = wrong spot NotInProfile
+null_wanted other_access spot = wrong spot NotInProfile
+null_wanted (integer_value e) spot = wrong spot WrongType
+null_wanted (boolean_value e) spot = wrong spot WrongType
+
+-- A value is of its component's type.
+abbrev pub fits_remark : ComponentKind → Meant → Spot → Remark
+fits_remark (kind.Integer initial) value spot = integer_wanted value spot
+fits_remark (kind.Boolean initial) value spot = boolean_wanted value spot
+fits_remark (kind.Access t) value spot = null_wanted value spot
+
+-- No component has that name (4.1.3), or there are too many items.
+abbrev pub no_component : Option Ident → ExpressionTree → Remark
+no_component (Some label) value = wrong label.spot UnknownName
+no_component None value = wrong (expression_spot value) WrongType
+
+-- Whether the component of this number has its item.
+abbrev pub is_filled : ℕ → List (Option ItemForm) → Bool
+is_filled c slots = is_some (slice_index_or slots c None)
+
+-- What is wrong with the component of an item, and with its value for it: a component has one item.
+abbrev pub for_remark : Option (ℕ × ComponentKind) → Filling → Option Ident → ExpressionTree → Meant → Remark
+for_remark (Some found) filling label value meant =
+    wrong_if (is_filled found.0 filling.slots) (item_spot label value) WrongType also fits_remark found.1 meant (expression_spot value)
+for_remark None filling label value meant = no_component label value
+
+-- The same where the record type is known.
+abbrev pub component_item_remark : Option (List ComponentForm) → Filling → Option Ident → ExpressionTree → Meant → Remark
+component_item_remark (Some components) filling label value meant = for_remark (component_for components label filling.count) filling label value meant
+component_item_remark None filling label value meant = fine
+
+-- Whether an item names its component where the first item does, and doesn't where that does not.
+abbrev pub is_alike : Bool → Option Ident → Bool
+is_alike true label = is_some label
+is_alike false label = is_none label
+
+-- What is wrong with an item: the first item tells whether all name their components, and its component and value are as they should be.
+unfoldable pub item_remark : Known → Option (List ComponentForm) → Bool → Filling → Option Ident → ExpressionTree → Remark
+item_remark known components is_named filling label value =
+    wrong_if (not (is_alike is_named label)) (item_spot label value) WrongType also
+    expression_remark known value also
+    component_item_remark components filling label value (expression_meant known value)
+
+-- What is known after an item for this component.
+abbrev pub filled_for : Option (ℕ × ComponentKind) → Filling → Bool → ItemForm → Filling
+filled_for (Some found) filling alike item = record {
+  count = filling.count + 1;
+  slots = slice_set filling.slots found.0 (Some item);
+  whole = filling.whole && (alike && not (is_filled found.0 filling.slots));
+}
+filled_for None filling alike item = record { count = filling.count + 1; slots = filling.slots; whole = false }
+
+-- The same where the record type is known.
+abbrev pub filled_by : Option (List ComponentForm) → Filling → Option Ident → Bool → ItemForm → Filling
+filled_by (Some components) filling label alike item = filled_for (component_for components label filling.count) filling alike item
+filled_by None filling label alike item = record { count = filling.count + 1; slots = filling.slots; whole = false }
+
+-- What is known after an item.
+unfoldable pub after_item : Known → Option (List ComponentForm) → Bool → Filling → Option Ident → ExpressionTree → Filling
+after_item known components is_named filling label value =
+    filled_by components filling label (is_alike is_named label) (item_meant (expression_meant known value))
+
+-- What is wrong with items.
+abbrev pub items_remark : Known → Option (List ComponentForm) → Bool → Filling → ItemsTree → Remark
+items_remark known components is_named filling no_more_items = fine
+items_remark known components is_named filling (an_item label value rest) =
+    item_remark known components is_named filling label value also
+    items_remark known components is_named (after_item known components is_named filling label value) rest
+
+-- What is known after them.
+abbrev pub after_items : Known → Option (List ComponentForm) → Bool → Filling → ItemsTree → Filling
+after_items known components is_named filling no_more_items = filling
+after_items known components is_named filling (an_item label value rest) =
+    after_items known components is_named (after_item known components is_named filling label value) rest
+
+-- No component has its item yet.
+abbrev pub empty_slots : Option (List ComponentForm) → List (Option ItemForm)
+empty_slots (Some components) = replicate (length components) None
+empty_slots None = []
+
+-- What is known before the first item.
+abbrev pub first_filling : Option (List ComponentForm) → Filling
+first_filling components = record { count = 0; slots = empty_slots components; whole = is_some components }
+
+-- Whether the first item names its component.
+abbrev pub names_component : ItemsTree → Bool
+names_component no_more_items = false
+names_component (an_item label value rest) = is_some label
+
+-- What is wrong with how many items there are: an aggregate of one item names its component (4.3.1); and where each item has a component of
+-- its own, each component has its item.
+abbrev pub count_remark : Bool → Filling → Spot → Remark
+count_remark is_named filling spot =
+    if not is_named && (filling.count == 1) then wrong spot NotInProfile
+    else wrong_if (filling.whole && not (list_all is_some filling.slots)) spot WrongType
+
+-- The item of a component; null where there is none.
+abbrev pub item_or_null : Option ItemForm → ItemForm
+item_or_null (Some item) = item
+item_or_null None = null_item
+
+-- The items of `new T'(..)`, looked at in order.
+unfoldable pub filling_of : Known → Option (List ComponentForm) → ItemsTree → Filling
+filling_of known components items = after_items known components (names_component items) (first_filling components) items

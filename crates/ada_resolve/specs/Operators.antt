@@ -1,0 +1,131 @@
+-- Operators: what each means with its operands, and what is wrong with these.
+
+use Rattle.std.specs.Prelude.{Bool, true, false, ◌||◌, if◌then◌else◌, pos}
+use Rattle.ada_text.specs.declared.spot.Spot.{Spot}
+use Rattle.ada_grammar.specs.declared.operators.UnaryOperator.{UnaryOperator}
+use Rattle.ada_grammar.specs.declared.operators.UnaryOperator.TheVariants as unary
+use Rattle.ada_grammar.specs.declared.operators.BinaryOperator.{BinaryOperator}
+use Rattle.ada_grammar.specs.declared.operators.BinaryOperator.TheVariants as binary
+use Rattle.ada_tree.specs.Form.{ExpressionForm, integer, boolean, applied_to, chained, LinksForm, no_more_links, a_link}
+use Rattle.ada_resolve.specs.declared.fault.NameRule.TheVariants.{WrongType, NotInProfile}
+use Rattle.ada_resolve.specs.Remark.{Remark, fine, wrong, ◌also◌, wrong_if}
+use Rattle.ada_resolve.specs.Paths.{Meant, boolean_value, integer_value, null_value, other_access, unknown, variable}
+
+-- The Integer of a meaning; 0 where it is none.
+abbrev pub integer_in : Meant → ExpressionForm
+integer_in (integer_value e) = e
+integer_in other = integer (pos 0)
+
+-- The Boolean of a meaning; False where it is none.
+abbrev pub boolean_in : Meant → ExpressionForm
+boolean_in (boolean_value e) = e
+boolean_in other = boolean false
+
+-- The Integer or the Boolean of a meaning; 0 where it is neither.
+abbrev pub scalar_in : Meant → ExpressionForm
+scalar_in (integer_value e) = e
+scalar_in (boolean_value e) = e
+scalar_in other = integer (pos 0)
+
+-- Links with one more behind them.
+abbrev pub one_link_more : LinksForm → BinaryOperator → ExpressionForm → LinksForm
+one_link_more no_more_links operator right = a_link operator right no_more_links
+one_link_more (a_link o e links) operator right = a_link o e (one_link_more links operator right)
+
+-- An operator with its operands: a chain goes on, for its operators are applied from left to right.
+abbrev pub joined : ExpressionForm → BinaryOperator → ExpressionForm → ExpressionForm
+joined (chained e links) operator right = chained e (one_link_more links operator right)
+joined left operator right = chained left (a_link operator right no_more_links)
+
+-- What operands an operator wants, and what it gives (4.5).
+pub data Signature : Type 0 where
+  -- `+` `-` `*` `/` `mod` `rem`: two Integers give an Integer
+  arithmetic : Signature
+  -- `<` `<=` `>` `>=`: two Integers give a Boolean
+  ordering : Signature
+  -- `=` `/=`: two values of one type give a Boolean
+  equality : Signature
+  -- `and` `or` `xor` `and then` `or else`: two Booleans give a Boolean
+  logical : Signature
+
+abbrev pub signature_of : BinaryOperator → Signature
+signature_of binary.And = logical
+signature_of binary.Or = logical
+signature_of binary.Xor = logical
+signature_of binary.AndThen = logical
+signature_of binary.OrElse = logical
+signature_of binary.Equal = equality
+signature_of binary.NotEqual = equality
+signature_of binary.Less = ordering
+signature_of binary.LessOrEqual = ordering
+signature_of binary.Greater = ordering
+signature_of binary.GreaterOrEqual = ordering
+signature_of binary.Add = arithmetic
+signature_of binary.Subtract = arithmetic
+signature_of binary.Multiply = arithmetic
+signature_of binary.Divide = arithmetic
+signature_of binary.Modulo = arithmetic
+signature_of binary.Remainder = arithmetic
+
+-- What an operator means with its operands.
+abbrev pub binary_by : Signature → BinaryOperator → Meant → Meant → Meant
+binary_by arithmetic operator left right = integer_value (joined (integer_in left) operator (integer_in right))
+binary_by ordering operator left right = boolean_value (joined (integer_in left) operator (integer_in right))
+binary_by equality operator left right = boolean_value (joined (scalar_in left) operator (scalar_in right))
+binary_by logical operator left right = boolean_value (joined (boolean_in left) operator (boolean_in right))
+
+abbrev pub binary_meant : BinaryOperator → Meant → Meant → Meant
+binary_meant operator left right = binary_by (signature_of operator) operator left right
+
+-- What an operator means with its one operand.
+abbrev pub unary_meant : UnaryOperator → Meant → Meant
+unary_meant unary.Plus operand = integer_value (applied_to unary.Plus (integer_in operand))
+unary_meant unary.Minus operand = integer_value (applied_to unary.Minus (integer_in operand))
+unary_meant unary.Not operand = boolean_value (applied_to unary.Not (boolean_in operand))
+
+-- An Integer is wanted, where the meaning is known.
+abbrev pub integer_wanted : Meant → Spot → Remark
+integer_wanted unknown spot = fine
+integer_wanted (integer_value e) spot = fine
+integer_wanted other spot = wrong spot WrongType
+
+-- A Boolean is wanted, where the meaning is known.
+abbrev pub boolean_wanted : Meant → Spot → Remark
+boolean_wanted unknown spot = fine
+boolean_wanted (boolean_value e) spot = fine
+boolean_wanted other spot = wrong spot WrongType
+
+-- Whether a value is of an access type.
+abbrev pub is_access_value : Meant → Bool
+is_access_value null_value = true
+is_access_value (variable path t) = true
+is_access_value other_access = true
+is_access_value other = false
+
+-- Whether the one is an Integer and the other a Boolean.
+abbrev pub are_apart : Meant → Meant → Bool
+are_apart (integer_value e) (boolean_value f) = true
+are_apart (boolean_value e) (integer_value f) = true
+are_apart left right = false
+
+-- Operands of an equality are of one type; no comparison of access values is in the profile yet.
+abbrev pub equal_wanted : Meant → Spot → Meant → Spot → Remark
+equal_wanted left left_spot right right_spot =
+    if is_access_value left || is_access_value right then wrong left_spot NotInProfile
+    else wrong_if (are_apart left right) right_spot WrongType
+
+-- What is wrong with the operands of an operator, which begin here.
+abbrev pub operands_by : Signature → Meant → Spot → Meant → Spot → Remark
+operands_by arithmetic left left_spot right right_spot = integer_wanted left left_spot also integer_wanted right right_spot
+operands_by ordering left left_spot right right_spot = integer_wanted left left_spot also integer_wanted right right_spot
+operands_by equality left left_spot right right_spot = equal_wanted left left_spot right right_spot
+operands_by logical left left_spot right right_spot = boolean_wanted left left_spot also boolean_wanted right right_spot
+
+abbrev pub operands_remark : BinaryOperator → Meant → Spot → Meant → Spot → Remark
+operands_remark operator left left_spot right right_spot = operands_by (signature_of operator) left left_spot right right_spot
+
+-- What is wrong with the one operand of an operator.
+abbrev pub operand_remark : UnaryOperator → Meant → Spot → Remark
+operand_remark unary.Plus operand spot = integer_wanted operand spot
+operand_remark unary.Minus operand spot = integer_wanted operand spot
+operand_remark unary.Not operand spot = boolean_wanted operand spot

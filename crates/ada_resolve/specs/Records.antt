@@ -1,0 +1,110 @@
+-- Record types: what is wrong with a declaration, and what is known after it.
+
+use Rattle.std.specs.Prelude.{ℕ, Bool, false, ◌||◌, ◌==◌, List, [], ◌∷◌, ◌++◌, length, map, Option, Some, None, bytes_eq, ℤ, pos}
+use Rattle.ada_text.specs.declared.spot.Spot.{Spot}
+use Rattle.ada_grammar.specs.Names.{Ident}
+use Rattle.ada_grammar.specs.Records.{StaticTree, plain, minus, named as static_name, ComponentTree, RecordTree, null_record, null_components, components}
+use Rattle.ada_tree.specs.ProgramForm.{ComponentForm, record_of}
+use Rattle.ada_tree.specs.declared.program.ComponentKind.{ComponentKind}
+use Rattle.ada_tree.specs.declared.program.ComponentKind.TheVariants as kind
+use Rattle.ada_resolve.specs.declared.fault.NameRule.TheVariants.{DeclaredTwice, WrongType, NotInProfile, NoInitialValue, Limit}
+use Rattle.ada_resolve.specs.declared.scope.Entity.{Entity}
+use Rattle.ada_resolve.specs.declared.scope.Entity.TheVariants as entity
+use Rattle.ada_resolve.specs.Known.{Known, declared, visible, missing, name_remark, new_name_remark, type_begins}
+use Rattle.ada_resolve.specs.Library.{is_taken, is_primitive}
+use Rattle.ada_resolve.specs.Remark.{Remark, fine, wrong, node, ◌also◌, wrong_if}
+use Rattle.ada_resolve.specs.Statics.{static_remark, static_truth, static_truth_remark, static_value}
+use Rattle.ada_resolve.specs.Types.{completed, defined, new_unless, number_of}
+
+-- An Integer component has an initial value, a static Integer (3.8; the profile wants one).
+abbrev pub integer_remark : Known → Ident → Option StaticTree → Remark
+integer_remark known name (Some value) = static_remark known value
+integer_remark known name None = wrong name.spot NoInitialValue
+
+-- A Boolean component has one too.
+abbrev pub boolean_remark : Known → Ident → Option StaticTree → Remark
+boolean_remark known name (Some value) = static_truth_remark known value
+boolean_remark known name None = wrong name.spot NoInitialValue
+
+-- What an Integer component holds at first.
+abbrev pub initial_value : Known → Option StaticTree → ℤ
+initial_value known (Some value) = static_value known value
+initial_value known None = pos 0
+
+-- What a Boolean component holds at first.
+abbrev pub initial_truth : Known → Option StaticTree → Bool
+initial_truth known (Some value) = static_truth known value
+initial_truth known None = false
+
+-- An access component has no initial value: neither a number nor a name is of its type.
+abbrev pub no_value_remark : Known → Option StaticTree → Remark
+no_value_remark known (Some (plain spot n)) = wrong spot WrongType
+no_value_remark known (Some (minus spot n)) = wrong spot WrongType
+no_value_remark known (Some (static_name value)) = name_remark known value also wrong value.spot WrongType
+no_value_remark known None = fine
+
+-- A component is an Integer, a Boolean or of an access type (3.8); record components are not in the profile yet.
+abbrev pub kind_wanted : Option Entity → Known → ComponentTree → Remark
+kind_wanted (Some entity.Integer) known c = integer_remark known c.name c.initial
+kind_wanted (Some (entity.Access t)) known c = no_value_remark known c.initial
+kind_wanted (Some entity.Boolean) known c = boolean_remark known c.name c.initial
+kind_wanted (Some (entity.Record t)) known c = wrong c.type_name.spot NotInProfile
+kind_wanted (Some other) known c = wrong c.type_name.spot WrongType
+kind_wanted None known c = missing None c.type_name
+
+-- What a component holds (3.8); an Integer where something is wrong.
+abbrev pub kind_in : Option Entity → Known → Option StaticTree → ComponentKind
+kind_in (Some (entity.Access t)) known initial = kind.Access t
+kind_in (Some entity.Integer) known initial = kind.Integer (initial_value known initial)
+kind_in (Some entity.Boolean) known initial = kind.Boolean (initial_truth known initial)
+kind_in (Some other) known initial = kind.Integer (pos 0)
+kind_in None known initial = kind.Integer (pos 0)
+
+-- Whether one of the components has the name.
+abbrev pub is_component : List ℕ → List ComponentForm → Bool
+is_component text [] = false
+is_component text (c ∷ cs) = bytes_eq c.name text || is_component text cs
+
+-- The most components of a record.
+abbrev pub most_components : ℕ
+most_components = 4096
+
+-- What is wrong with a component, after these: its name is predefined, or that of one before it (8.3), or that of a primitive; there are
+-- too many; or what it holds is wrong.
+unfoldable pub component_remark : Known → List ComponentForm → ComponentTree → Remark
+component_remark known before c =
+    node c.name.spot also
+    wrong_if (is_taken c.name.text) c.name.spot DeclaredTwice also
+    wrong_if (is_component c.name.text before) c.name.spot DeclaredTwice also
+    wrong_if (is_primitive c.name.text) c.name.spot NotInProfile also
+    wrong_if (length before == most_components) c.name.spot Limit also
+    kind_wanted (visible known c.type_name.text) known c
+
+-- The component.
+unfoldable pub component_meant : Known → ComponentTree → ComponentForm
+component_meant known c = record { name = c.name.text; kind = kind_in (visible known c.type_name.text) known c.initial }
+
+-- What is wrong with components, after these.
+abbrev pub components_remark : Known → List ComponentForm → List ComponentTree → Remark
+components_remark known before [] = fine
+components_remark known before (c ∷ cs) = component_remark known before c also components_remark known (before ++ component_meant known c ∷ []) cs
+
+-- The components that a record type is written with (3.8).
+abbrev pub components_written : RecordTree → List ComponentTree
+components_written null_record = []
+components_written null_components = []
+components_written (components first rest) = first ∷ rest
+
+-- `type T is record .. end record;` (3.8): its name is new or completes an incomplete type, and each component is as it should be.
+abbrev pub record_type_remark : Known → Spot → Ident → RecordTree → Remark
+record_type_remark known spot name definition =
+    type_begins known spot also
+    new_unless (completed known name) (new_name_remark known name spot) also
+    components_remark known [] (components_written definition)
+
+-- After it the record type is known.
+abbrev pub record_type_known : Known → Ident → RecordTree → Known
+record_type_known known name definition =
+    declared
+    (record known { types = defined (completed known name) (record_of name.text (map (component_meant known) (components_written definition))) known.types })
+    name.text (entity.Record (number_of (completed known name) known.types))

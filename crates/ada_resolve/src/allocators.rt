@@ -1,0 +1,92 @@
+//! Resolution of allocators (4.8).
+
+ghost use Rattle.std.specs.Prelude.{◌≡◌, IfOk, OnOk, IfErr};
+ghost use Rattle.ada_grammar.specs.ExpressionView.{items_of};
+ghost use Rattle.ada_grammar.specs.Names.{ident_of, optional_ident_of};
+ghost use Rattle.ada_resolve.specs.Allocators.{aggregate_found, aggregate_remark, allocated_found, allocated_remark, designated_if_known, is_in_use};
+ghost use Rattle.ada_resolve.specs.Remark.{noted};
+ghost use Rattle.ada_resolve.specs.View.{known_of, source_in};
+
+use crate::fault::{NameFault, NameRule};
+use crate::items::names_component;
+use crate::notes::Notes;
+use crate::resolver::Resolver;
+use crate::scope::Entity;
+use ada_grammar::expressions::Item;
+use ada_grammar::names::Identifier;
+use ada_tree::{Spot, TypeNo, program};
+
+impl<'t> Resolver<'t> {
+    /// `new T'(..)` (4.8): a new object of the access type that is wanted, where that is known.
+    #[tactic(auto, unfolding(crate::specs::Allocators::aggregate_remark, crate::specs::Allocators::aggregate_found))]
+    pub(crate) fn aggregate(
+        &self,
+        spot: Spot,
+        type_name: Identifier<'t>,
+        items: &[Item<'t>],
+        access: Option<TypeNo>,
+        notes: &mut Notes,
+    ) -> Result<Option<program::Right>, NameFault>
+        ensures found { IfOk result (λ v. source_in v ≡ aggregate_found (known_of self.now) access (ident_of type_name.entry) (items_of items.now)) }
+        ensures remark { OnOk result (notes.new ≡ noted (aggregate_remark (known_of self.now) access spot (ident_of type_name.entry) (items_of items.now)) notes.old) }
+        ensures memory { IfErr result (λ e. e ≡ NameFault.NoMemory) }
+    {
+        let found = self.allocated(spot, type_name, access, notes);
+        let filling = self.items(items, found, notes)?;
+        filling.all_given(names_component(items), type_name.spot, notes);
+        match found {
+            Some(number) => Ok(Some(program::Right::Allocator {
+                access: access.unwrap_or(number),
+                items: filling.into_items(self.alloc)?,
+            })),
+            None => Ok(None),
+        }
+    }
+
+    /// The complete record type that an allocator names and the access type designates.
+    #[tactic(auto, unfolding(crate::specs::Allocators::allocated_found, crate::specs::Allocators::allocated_remark))]
+    fn allocated(
+        &self,
+        spot: Spot,
+        name: Identifier<'t>,
+        access: Option<TypeNo>,
+        notes: &mut Notes,
+    ) -> Option<TypeNo>
+        ensures found { result ≡ allocated_found (known_of self.now) (ident_of name.entry) }
+        ensures remark { notes.new ≡ noted (allocated_remark (known_of self.now) access spot (ident_of name.entry)) notes.old }
+    {
+        match self.lookup(name, notes) {
+            Some(Entity::Record(number)) => {
+                notes.note_if(
+                    !self.designated_if_known(access, number),
+                    spot,
+                    NameRule::WrongType,
+                );
+                Some(number)
+            }
+            Some(_) => {
+                notes.note(spot, NameRule::WrongType);
+                None
+            }
+            None => None,
+        }
+    }
+
+    /// Whether the access type designates a record type, where it is known.
+    fn designated_if_known(&self, access: Option<TypeNo>, number: TypeNo) -> bool
+        ensures { result ≡ designated_if_known (known_of self.now).types access number }
+    {
+        match access {
+            Some(access) => self.designates(access, number),
+            None => true,
+        }
+    }
+}
+
+/// Whether an allocator is in use: it has no handle (13.11.4), and items.
+#[tactic(auto, unfolding(crate::specs::Allocators::is_in_use), using(crate::proofs::ItemLists::items_some))]
+pub(crate) fn is_in_use(handle: &Option<Identifier<'_>>, items: &[Item<'_>]) -> bool
+    ensures { result ≡ is_in_use (optional_ident_of handle.now) (items_of items.now) }
+{
+    handle.is_none() && !items.is_empty()
+}

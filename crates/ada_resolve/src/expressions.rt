@@ -1,0 +1,118 @@
+//! Expressions (4.4).
+
+ghost use Rattle.std.specs.Prelude.{◌≡◌, IfOk, OnOk, IfErr};
+ghost use Rattle.ada_grammar.specs.ExpressionView.{expression_of};
+ghost use Rattle.ada_grammar.specs.Expressions.{unary_expression};
+ghost use Rattle.ada_resolve.specs.Chains.{links_meant, links_remark, nodes_remark};
+ghost use Rattle.ada_resolve.specs.Expressions.{expression_meant, expression_remark};
+ghost use Rattle.ada_resolve.specs.Remark.{noted};
+ghost use Rattle.ada_resolve.specs.View.{known_of, meant_of};
+
+use crate::fault::{NameFault, NameRule};
+use crate::meant::Meant;
+use crate::notes::Notes;
+use crate::operators::{binary_meant, operand_wanted, operands_wanted, unary_meant};
+use crate::resolver::Resolver;
+use crate::spots::expression_spot;
+use crate::statics::integer;
+use ada_grammar::expressions::{Expression, Link};
+use ada_grammar::operators::UnaryOperator;
+use ada_tree::{Spot, program};
+
+impl<'t> Resolver<'t> {
+    /// What an expression means, with what is wrong with it noted.
+    #[cycle(expression)]
+    #[tactic(auto, using(std::proofs::lemmas::Grind::common_steps, ada_grammar::specs::ExpressionView::tree_rules, ada_tree::specs::Form::expression_rules, crate::proofs::Chains::linked_meant, crate::proofs::Chains::linked_noted), unfolding(crate::specs::Expressions::expression_meant, crate::specs::Expressions::expression_remark))]
+    pub(crate) fn expression(
+        &self,
+        expression: &Expression<'t>,
+        notes: &mut Notes,
+    ) -> Result<Meant, NameFault>
+        ensures found { IfOk result (λ m. meant_of m ≡ expression_meant (known_of self.now) (expression_of expression.now)) }
+        ensures remark { OnOk result (notes.new ≡ noted (expression_remark (known_of self.now) (expression_of expression.now)) notes.old) }
+        ensures memory { IfErr result (λ e. e ≡ NameFault.NoMemory) }
+    {
+        match expression {
+            Expression::Number { spot, value } => {
+                notes.node(*spot);
+                Ok(Meant::Integer(program::Expression::Integer(integer(false, *value))))
+            }
+            Expression::Null(spot) => {
+                notes.node(*spot);
+                Ok(Meant::Null)
+            }
+            Expression::Path(path) => {
+                notes.node(path.root.spot);
+                self.path(path, notes)
+            }
+            Expression::Aggregate { type_name, .. } => {
+                notes.note(type_name.spot, NameRule::NotInProfile);
+                Ok(Meant::Unknown)
+            }
+            Expression::Enclosed { inner, .. } => self.expression(inner, notes),
+            Expression::Unary {
+                operator,
+                spot,
+                operand,
+            } => self.unary(*operator, *spot, operand, notes),
+            Expression::Chain { first, links } => {
+                let spot = expression_spot(first);
+                nodes(spot, links, notes);
+                let left = self.expression(first, notes)?;
+                self.chain(left, spot, links, notes)
+            }
+        }
+    }
+
+    /// What an operator with its one operand means.
+    #[cycle(expression)]
+    #[tactic(auto, unfolding(crate::specs::Expressions::expression_meant, crate::specs::Expressions::expression_remark))]
+    fn unary(
+        &self,
+        operator: UnaryOperator,
+        spot: Spot,
+        operand: &Expression<'t>,
+        notes: &mut Notes,
+    ) -> Result<Meant, NameFault>
+        ensures found { IfOk result (λ m. meant_of m ≡ expression_meant (known_of self.now) (unary_expression operator spot (expression_of operand.now))) }
+        ensures remark { OnOk result (notes.new ≡ noted (expression_remark (known_of self.now) (unary_expression operator spot (expression_of operand.now))) notes.old) }
+        ensures memory { IfErr result (λ e. e ≡ NameFault.NoMemory) }
+    {
+        notes.node(spot);
+        let meant = self.expression(operand, notes)?;
+        operand_wanted(operator, &meant, expression_spot(operand), notes);
+        unary_meant(self.alloc, operator, meant)
+    }
+
+    /// What operators mean behind a left operand, which begins at the spot: they are applied from left to right.
+    #[cycle(expression)]
+    fn chain(
+        &self,
+        first: Meant,
+        spot: Spot,
+        links: &[Link<'t>],
+        notes: &mut Notes,
+    ) -> Result<Meant, NameFault>
+        ensures found { IfOk result (λ m. meant_of m ≡ links_meant (known_of self.now) (meant_of first) links.now) }
+        ensures remark { OnOk result (notes.new ≡ noted (links_remark (known_of self.now) (meant_of first) spot links.now) notes.old) }
+        ensures memory { IfErr result (λ e. e ≡ NameFault.NoMemory) }
+    {
+        let mut left = first;
+        'links: for link in links {
+            let right = self.expression(&link.operand, notes)?;
+            let right_spot = expression_spot(&link.operand);
+            operands_wanted(link.operator, &left, spot, &right, right_spot, notes);
+            left = binary_meant(self.alloc, link.operator, left, right)?;
+        }
+        Ok(left)
+    }
+}
+
+/// Each operator of a chain is a node of the source, where the chain begins.
+fn nodes(spot: Spot, links: &[Link<'_>], notes: &mut Notes)
+    ensures { notes.new ≡ noted (nodes_remark spot links.now) notes.old }
+{
+    for _link in links {
+        notes.node(spot);
+    }
+}

@@ -1,0 +1,282 @@
+//! Resolution of the items of aggregates (4.3.1).
+
+ghost use Rattle.std.specs.Prelude.{◌≡◌, ◌+◌, ◌<◌, map, is_some, IfOk, OnOk, IfErr};
+ghost use Rattle.std.specs.List.{list_all, slice_set};
+ghost use Rattle.std.proofs.Math.ListN.{replicate};
+ghost use Rattle.ada_grammar.specs.ExpressionView.{expression_of, items_of};
+ghost use Rattle.ada_grammar.specs.Names.{optional_ident_of};
+ghost use Rattle.ada_tree.specs.Form.{item_form};
+ghost use Rattle.ada_tree.specs.ProgramForm.{component_form};
+ghost use Rattle.ada_resolve.specs.Allocators.{filled_components};
+ghost use Rattle.ada_resolve.specs.Items.{after_item, component_for, count_remark, filled_for, filling_of, first_filling, fits_remark, for_remark, is_filled, item_meant, item_or_null, item_remark, item_spot, items_remark, names_component, no_component, null_wanted};
+ghost use Rattle.ada_resolve.specs.Remark.{noted};
+ghost use Rattle.ada_resolve.specs.View.{filling_in, item_in, known_of, meant_of};
+
+use crate::fault::{NameFault, NameRule};
+use crate::meant::Meant;
+use crate::notes::Notes;
+use crate::paths::component_named;
+use crate::resolver::Resolver;
+use crate::spots::expression_spot;
+use ada_grammar::expressions::Item;
+use ada_grammar::names::Identifier;
+use ada_tree::program::{self, Component, ComponentKind};
+use ada_tree::{Spot, TypeNo};
+use std::alloc::Global;
+
+/// What is known before an item of an aggregate.
+#[derive(Drop)]
+pub(crate) struct Filling {
+    /// How many items come before it.
+    count: usize,
+    /// Which components have their items.
+    slots: Vec<Option<program::Item>>,
+    /// Whether each item so far names a component of its own.
+    whole: bool,
+}
+
+impl<'t> Resolver<'t> {
+    /// The items of `new T'(..)`, in order, for the components of this record type, where that is known.
+    #[tactic(auto, unfolding(crate::specs::Items::filling_of))]
+    pub(crate) fn items(
+        &self,
+        written: &[Item<'t>],
+        found: Option<TypeNo>,
+        notes: &mut Notes,
+    ) -> Result<Filling, NameFault>
+        ensures filling { IfOk result (λ f. filling_in f ≡ filling_of (known_of self.now) (filled_components (known_of self.now) found) (items_of written.now)) }
+        ensures remark { OnOk result (notes.new ≡ noted (items_remark (known_of self.now) (filled_components (known_of self.now) found) (names_component (items_of written.now)) (first_filling (filled_components (known_of self.now) found)) (items_of written.now)) notes.old) }
+        ensures memory { IfErr result (λ e. e ≡ NameFault.NoMemory) }
+    {
+        let is_named = names_component(written);
+        let mut filling = self.first_filling(found)?;
+        for item in written {
+            self.item(item, is_named, found, &mut filling, notes)?;
+        }
+        Ok(filling)
+    }
+
+    /// What is known before the first item.
+    fn first_filling(&self, found: Option<TypeNo>) -> Result<Filling, NameFault>
+        ensures filling { IfOk result (λ f. filling_in f ≡ first_filling (filled_components (known_of self.now) found)) }
+        ensures memory { IfErr result (λ e. e ≡ NameFault.NoMemory) }
+    {
+        let components = match found {
+            Some(number) => self.components_of(number),
+            None => &[],
+        };
+        Ok(Filling {
+            count: 0,
+            slots: empty_slots(self.alloc, components.len())?,
+            whole: found.is_some(),
+        })
+    }
+
+    /// One item.
+    #[tactic(auto, unfolding(crate::specs::Items::item_remark, crate::specs::Items::after_item))]
+    fn item(
+        &self,
+        item: &Item<'t>,
+        is_named: bool,
+        found: Option<TypeNo>,
+        filling: &mut Filling,
+        notes: &mut Notes,
+    ) -> Result<(), NameFault>
+        requires room { filling.old.count < usize.MAX }
+        ensures count { OnOk result (filling.new.count ≡ filling.old.count + 1) }
+        ensures filling { OnOk result (filling_in filling.new ≡ after_item (known_of self.now) (filled_components (known_of self.now) found) is_named (filling_in filling.old) (optional_ident_of item.now.label) (expression_of item.now.value)) }
+        ensures remark { OnOk result (notes.new ≡ noted (item_remark (known_of self.now) (filled_components (known_of self.now) found) is_named (filling_in filling.old) (optional_ident_of item.now.label) (expression_of item.now.value)) notes.old) }
+        ensures memory { IfErr result (λ e. e ≡ NameFault.NoMemory) }
+    {
+        let alike = item.label.is_some() == is_named;
+        notes.note_if(!alike, item_spot(item), NameRule::WrongType);
+        let value = self.expression(&item.value, notes)?;
+        let component = match found {
+            Some(number) => {
+                let component = component_for(
+                    self.components_of(number),
+                    item.label,
+                    filling.count,
+                );
+                filling.component_item(component, item, &value, notes);
+                component
+            }
+            None => None,
+        };
+        filling.fill(component, alike, item_meant(value));
+        Ok(())
+    }
+}
+
+impl Filling {
+    /// What is wrong with the component of an item, and with its value for it: a component has one item.
+    fn component_item(
+        &self,
+        component: Option<(usize, ComponentKind)>,
+        item: &Item<'_>,
+        value: &Meant,
+        notes: &mut Notes,
+    )
+        ensures { notes.new ≡ noted (for_remark component (filling_in self.now) (optional_ident_of item.now.label) (expression_of item.now.value) (meant_of value.now)) notes.old }
+    {
+        match component {
+            Some((at, kind)) => {
+                notes.note_if(self.is_filled(at), item_spot(item), NameRule::WrongType);
+                fits(kind, value, expression_spot(&item.value), notes);
+            }
+            None => no_component(item, notes),
+        }
+    }
+
+    /// What is known after an item for this component.
+    fn fill(&mut self, component: Option<(usize, ComponentKind)>, alike: bool, item: program::Item)
+        requires room { self.old.count < usize.MAX }
+        ensures filling { filling_in self.new ≡ filled_for component (filling_in self.old) alike (item_form item) }
+        ensures count { self.new.count ≡ self.old.count + 1 }
+    {
+        self.count += 1;
+        match component {
+            Some((at, _)) => {
+                self.whole = self.whole && alike && !self.is_filled(at);
+                self.set(at, item);
+            }
+            None => self.whole = false,
+        }
+    }
+
+    /// The component of this number has this item now.
+    #[tactic(auto, using(crate::proofs::Names::map_set, crate::proofs::Names::set_beyond))]
+    fn set(&mut self, at: usize, item: program::Item)
+        ensures { filling_in self.new ≡ record (filling_in self.old) { slots = slice_set (filling_in self.old).slots at (Some (item_form item)) } }
+    {
+        if let Some(slot) = self.slots.get_mut(at) {
+            *slot = Some(item);
+        }
+    }
+
+    /// Whether the component of this number has its item.
+    fn is_filled(&self, at: usize) -> bool
+        ensures { result ≡ is_filled at (filling_in self.now).slots }
+    {
+        matches!(self.slots.get(at), Some(Some(_)))
+    }
+
+    /// What is wrong with how many items there are: one item names its component, and each component has its item.
+    pub(crate) fn all_given(&self, is_named: bool, spot: Spot, notes: &mut Notes)
+        ensures { notes.new ≡ noted (count_remark is_named (filling_in self.now) spot) notes.old }
+    {
+        if !is_named && self.count == 1 {
+            notes.note(spot, NameRule::NotInProfile);
+        } else {
+            notes.note_if(self.whole && !self.is_full(), spot, NameRule::WrongType);
+        }
+    }
+
+    /// Whether each component has its item.
+    fn is_full(&self) -> bool
+        ensures { result ≡ list_all is_some (filling_in self.now).slots }
+    {
+        self.slots.iter().all(|slot| slot.is_some())
+    }
+
+    /// The items in the order of the components; null where one has none.
+    pub(crate) fn into_items(self, alloc: Global) -> Result<Vec<program::Item>, NameFault>
+        ensures items { IfOk result (λ v. map item_form v.items ≡ map item_or_null (filling_in self).slots) }
+        ensures memory { IfErr result (λ e. e ≡ NameFault.NoMemory) }
+    {
+        let mut items = Vec::new(alloc);
+        for slot in self.slots {
+            items.push(slot.unwrap_or(program::Item::Null))?;
+        }
+        Ok(items)
+    }
+}
+
+/// As many components, of which none has its item yet.
+fn empty_slots(alloc: Global, count: usize) -> Result<Vec<Option<program::Item>>, NameFault>
+    ensures slots { IfOk result (λ v. map item_in v.items ≡ replicate count None) }
+    ensures memory { IfErr result (λ e. e ≡ NameFault.NoMemory) }
+{
+    let mut slots = Vec::new(alloc);
+    for _ in 0..count {
+        slots.push(None)?;
+    }
+    Ok(slots)
+}
+
+/// Whether the first item names its component.
+pub(crate) fn names_component(written: &[Item<'_>]) -> bool
+    ensures { result ≡ names_component (items_of written.now) }
+{
+    match written.first() {
+        Some(item) => item.label.is_some(),
+        None => false,
+    }
+}
+
+/// Where an item begins.
+fn item_spot(item: &Item<'_>) -> Spot
+    ensures { result ≡ item_spot (optional_ident_of item.now.label) (expression_of item.now.value) }
+{
+    match item.label {
+        Some(label) => label.spot,
+        None => expression_spot(&item.value),
+    }
+}
+
+/// The component that an item is for: that of its name, or the one at its place.
+#[tactic(auto, using(crate::proofs::Names::map_get))]
+fn component_for(
+    components: &[Component],
+    label: Option<Identifier<'_>>,
+    at: usize,
+) -> Option<(usize, ComponentKind)>
+    ensures { result ≡ component_for (map component_form components.now) (optional_ident_of label.entry) at }
+{
+    match label {
+        Some(label) => component_named(label.text, components),
+        None => Some((at, components.get(at)?.kind)),
+    }
+}
+
+/// No component has that name (4.1.3), or there are too many items.
+fn no_component(item: &Item<'_>, notes: &mut Notes)
+    ensures { notes.new ≡ noted (no_component (optional_ident_of item.now.label) (expression_of item.now.value)) notes.old }
+{
+    match item.label {
+        Some(label) => notes.note(label.spot, NameRule::UnknownName),
+        None => notes.note(expression_spot(&item.value), NameRule::WrongType),
+    }
+}
+
+/// A value is of its component's type.
+fn fits(kind: ComponentKind, value: &Meant, spot: Spot, notes: &mut Notes)
+    ensures { notes.new ≡ noted (fits_remark kind (meant_of value.now) spot) notes.old }
+{
+    match kind {
+        ComponentKind::Integer { .. } => value.integer_wanted(spot, notes),
+        ComponentKind::Boolean { .. } => value.boolean_wanted(spot, notes),
+        ComponentKind::Access(_) => null_wanted(value, spot, notes),
+    }
+}
+
+/// An access component is given null; no other value of an access type is in use there.
+fn null_wanted(value: &Meant, spot: Spot, notes: &mut Notes)
+    ensures { notes.new ≡ noted (null_wanted (meant_of value.now) spot) notes.old }
+{
+    match value {
+        Meant::Unknown | Meant::Null => {}
+        Meant::Variable(..) | Meant::OtherAccess => notes.note(spot, NameRule::NotInProfile),
+        Meant::Integer(_) | Meant::Boolean(_) => notes.note(spot, NameRule::WrongType),
+    }
+}
+
+/// What an item gives its component; null where its value is neither an Integer nor a Boolean.
+fn item_meant(value: Meant) -> program::Item
+    ensures { item_form result ≡ item_meant (meant_of value) }
+{
+    match value {
+        Meant::Integer(expression) | Meant::Boolean(expression) => program::Item::Value(expression),
+        _ => program::Item::Null,
+    }
+}
