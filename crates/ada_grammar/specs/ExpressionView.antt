@@ -7,7 +7,6 @@ use Rattle.ada_text.specs.declared.spot.Spot.{Spot}
 use Rattle.ada_grammar.specs.declared.names.Identifier.{Identifier}
 use Rattle.ada_grammar.specs.declared.names.Path.{Path as PathIn}
 use Rattle.ada_grammar.specs.declared.operators.UnaryOperator.{UnaryOperator}
-use Rattle.ada_grammar.specs.declared.operators.BinaryOperator.{BinaryOperator}
 use Rattle.ada_grammar.specs.declared.expressions.Item.{Item}
 use Rattle.ada_grammar.specs.declared.expressions.Link.{Link}
 use Rattle.ada_grammar.specs.declared.expressions.Expression.{Expression, Number, Null, Path, Aggregate, Enclosed, Unary, Chain, Aggregate', Enclosed', Unary', Chain', Row_of-Item, end_of-Item, more_of-Item, items-the_row-Item, items_hidden-the_row-Item-0, Row_of-Link, end_of-Link, more_of-Link, items-the_row-Link, items_hidden-the_row-Link-1}

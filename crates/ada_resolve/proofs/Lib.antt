@@ -5,6 +5,5 @@ pub mod Incomplete
 pub mod Chains
 pub mod ItemLists
 pub mod First
-pub mod Begins
 pub mod Actuals
 mod WellFormed
