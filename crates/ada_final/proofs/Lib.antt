@@ -2,3 +2,4 @@
 pub mod ItemLemmas
 -- The numbers that wait for a list.
 pub mod UnusedLemmas
+pub mod Following

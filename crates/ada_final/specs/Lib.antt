@@ -6,3 +6,5 @@ pub mod Slot
 pub mod Lists
 -- The numbers that wait for a list.
 pub mod Unused
+-- Lists that blocks of a pool hold by their links.
+pub mod Linked

@@ -21,11 +21,11 @@
 //! ```
 #![tactic(auto)]
 
+mod chain;
 mod item;
 mod lists;
 mod slot;
-#[cfg(test)]
-mod tests;
 
+pub use chain::{Chain, chains_stay};
 pub use item::Item;
 pub use lists::{ListNo, Lists};

@@ -1,8 +1,10 @@
--- a list that is kept oldest first, and read newest first
-pub mod StackLemmas
--- what one changed entry is in the view of the objects
-pub mod ObjectLemmas
--- a walk over a list that changes each element in its place
-pub mod WalkLemmas
--- what one step does to the objects, and what follows for runs
-pub mod LifeLemmas
+-- the members of a collection, and what becomes of them
+pub mod Members
+-- each step makes a state lighter
+pub mod Weight
+-- what one step does to the heap
+pub mod Deeds
+-- objects over any run
+pub mod Lives
+-- where a statement begins
+pub mod Beginnings

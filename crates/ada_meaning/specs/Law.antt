@@ -1,76 +1,149 @@
--- The laws of finalization over whole runs, and what a safe program is.
+-- The laws of storage over whole runs, and what a safe program is.
 
-use Rattle.std.specs.Prelude.{◌≡◌, ◌≢◌, ◌≤◌, ℤ, false, List, Option, Some, None}
-use Rattle.std.specs.List.{All, AllPairs, Contains}
-use Rattle.std.specs.Option.{IfSome}
-use Rattle.ada_meaning.specs.declared.state.Name.{Name}
+use Rattle.std.specs.Prelude.{◌≡◌, ◌≢◌, ◌⊎◌, ◌↔◌, ℕ, ℤ, true, false, ◌<◌, ◌≤◌, List, [], ◌∷◌, ◌++◌, Option, Some, None, All, AllPairs, Contains, IfSome}
+use Rattle.ada_program.specs.declared.program.Program.{Program}
+use Rattle.ada_meaning.specs.declared.state.Id.{Id}
+use Rattle.ada_meaning.specs.declared.state.Value.{Value}
+use Rattle.ada_meaning.specs.declared.state.Value.TheVariants.{Null, Names, Scalar}
 use Rattle.ada_meaning.specs.declared.event.Cause.{Cause}
-use Rattle.ada_meaning.specs.declared.event.Cause.TheVariants.{Leaving, Free}
-use Rattle.ada_meaning.specs.declared.event.Event.{Event}
-use Rattle.ada_meaning.specs.declared.event.Event.TheVariants as event
-use Rattle.ada_meaning.specs.declared.event.Halt.TheVariants.{Erroneous}
+use Rattle.ada_meaning.specs.declared.event.Cause.TheVariants.{Leaving, Freeing, Assigning, Undoing}
+use Rattle.ada_meaning.specs.declared.event.Halt.{Halt}
+use Rattle.ada_meaning.specs.declared.event.Halt.TheVariants.{Finished, Unhandled, Erroneous, Stuck, Memory}
 use Rattle.ada_meaning.specs.declared.event.Why.{Why}
-use Rattle.ada_tree.specs.declared.program.Program.{Program}
-use Rattle.ada_meaning.specs.State.{Thing, State}
-use Rattle.ada_meaning.specs.Run.{first_state, Run, Halts}
+use Rattle.ada_meaning.specs.Event.{Finalized, Back, Followed}
+use Rattle.ada_meaning.specs.State.{Item, Master}
+use Rattle.ada_meaning.specs.Heap.{Home}
+use Rattle.ada_meaning.specs.Named.{Object, State, object_at}
+use Rattle.ada_meaning.specs.Run.{Event, Run, Halts, first_state}
 
--- What made a value or an object go, where an event says that one goes.
-abbrev pub cause_of : Event → Option Cause
-cause_of (event.Born value) = None
-cause_of (event.Finalized value cause) = Some cause
-cause_of (event.Back object cause) = Some cause
-cause_of (event.Followed object) = None
-cause_of (event.Left master) = None
-cause_of (event.Line line) = None
-cause_of event.Quiet = None
+-- What an event is about.
+
+-- The object that a value names.
+abbrev pub named_by : Value → Option Id
+named_by Null = None
+named_by (Names o) = Some o
+named_by (Scalar v) = None
 
 -- The object whose words go back.
-abbrev pub back_of : Event → Option Name
-back_of (event.Born value) = None
-back_of (event.Finalized value cause) = None
-back_of (event.Back object cause) = Some object
-back_of (event.Followed object) = None
-back_of (event.Left master) = None
-back_of (event.Line line) = None
-back_of event.Quiet = None
+abbrev pub back_of : Event → Option Id
+back_of (Back object access number pool subpool cause) = named_by object
+back_of e = None
+
+-- The object that is followed.
+abbrev pub followed_of : Event → Option Id
+followed_of (Followed object) = named_by object
+followed_of e = None
+
+-- A controlled value: a part of an object, and how often that part had a value before.
+pub record ControlledValue : Type 0 where
+  pub object : Id
+  pub part : ℕ
+  pub turn : ℕ
+
+abbrev pub controlled_by : Option Id → (part turn : ℕ) → Option ControlledValue
+controlled_by None part turn = None
+controlled_by (Some o) part turn = Some (record { object = o; part = part; turn = turn })
 
 -- The controlled value whose Finalize begins.
-abbrev pub finalized_of : Event → Option Name
-finalized_of (event.Born value) = None
-finalized_of (event.Finalized value cause) = Some value
-finalized_of (event.Back object cause) = None
-finalized_of (event.Followed object) = None
-finalized_of (event.Left master) = None
-finalized_of (event.Line line) = None
-finalized_of event.Quiet = None
+abbrev pub finalized_of : Event → Option ControlledValue
+finalized_of (Finalized object part turn type number cause) = controlled_by (named_by object) part turn
+finalized_of e = None
 
--- Two names that are there are two names.
-abbrev pub Differ : Option Name → Option Name → Type 0
-Differ None b = Unit {0}
-Differ (Some a) None = Unit {0}
-Differ (Some a) (Some b) = a ≢ b
+-- What ended an object or a value, where an event says that one was ended.
+abbrev pub cause_of : Event → Option Cause
+cause_of (Finalized object part turn type number cause) = Some cause
+cause_of (Back object access number pool subpool cause) = Some cause
+cause_of e = None
 
--- Of one leaving, the items come in reverse order of their creation (7.6.1).
-abbrev pub InReverse : Option Cause → Option Cause → Type 0
-InReverse None b = Unit {0}
-InReverse (Some (Free number)) b = Unit {0}
-InReverse (Some (Leaving m item)) None = Unit {0}
-InReverse (Some (Leaving m item)) (Some (Free number)) = Unit {0}
-InReverse (Some (Leaving m item)) (Some (Leaving n other)) = m ≡ n → other.0 ≤ item.0
+-- The leaving of a master at one of its items.
+pub record AtItem : Type 0 where
+  pub master : ℕ
+  pub item : ℕ
 
--- Two events, the first before the second.
+abbrev pub leaving_by : Option Cause → Option AtItem
+leaving_by None = None
+leaving_by (Some (Leaving master item)) = Some (record { master = master; item = item })
+leaving_by (Some (Freeing number)) = None
+leaving_by (Some (Assigning number)) = None
+leaving_by (Some (Undoing number)) = None
+
+-- The leaving that an event belongs to.
+abbrev pub leaving_of : Event → Option AtItem
+leaving_of e = leaving_by (cause_of e)
+
+-- Laws of two events, the first before the second.
+
+-- Of two things that are there, this holds.
+abbrev pub Between : {X Y : Type 0} → (X → Y → Type 0) → Option X → Option Y → Type 0
+Between R None b = Unit {0}
+Between R (Some a) None = Unit {0}
+Between R (Some a) (Some b) = R a b
+
+abbrev pub Differ : {X : Type 0} → Option X → Option X → Type 0
+Differ {X} a b = Between (λ (x y : X). x ≢ y) a b
+
+-- The words of two objects go back.
 abbrev pub BackTwoObjects : Event → Event → Type 0
 BackTwoObjects e f = Differ (back_of e) (back_of f)
 
+-- Two controlled values are finalized.
 abbrev pub FinalizedTwoValues : Event → Event → Type 0
 FinalizedTwoValues e f = Differ (finalized_of e) (finalized_of f)
 
+-- What is followed is not an object whose words went back before.
+abbrev pub FollowedBeforeBack : Event → Event → Type 0
+FollowedBeforeBack e f = Differ (back_of e) (followed_of f)
+
+-- At the leaving of one master, items come in reverse order of their creation: their numbers never rise.
+abbrev pub NeverRises : AtItem → AtItem → Type 0
+NeverRises a b = a.master ≡ b.master → b.item ≤ a.item
+
 abbrev pub InReverseOrder : Event → Event → Type 0
-InReverseOrder e f = InReverse (cause_of e) (cause_of f)
+InReverseOrder e f = Between NeverRises (leaving_of e) (leaving_of f)
+
+-- Laws of one event, and of the state that the events lead to.
+
+-- A leaving ends an object at the item that is its home.
+abbrev pub LeavesHome : Home → Option AtItem → Type 0
+LeavesHome home leaving = IfSome leaving (λ at_item. at_item.item ≡ home.item)
+
+-- The words of this object go back: it is there, with this trace number, and the pool and the subpool are those of its home.
+abbrev pub GoesHome : List Object → Option Id → (number pool : ℕ) → Option ℕ → Option AtItem → Type 0
+GoesHome objects None number pool subpool leaving = ⊥
+GoesHome objects (Some o) number pool subpool leaving =
+    (object : Object) × (object_at objects o ≡ Some object) × (object.cell.number ≡ number) × (object.cell.home.pool ≡ pool) × (object.cell.home.subpool ≡ subpool) × LeavesHome object.cell.home leaving
+
+abbrev pub IsBackHome : List Object → Event → Type 0
+IsBackHome objects (Back object access number pool subpool cause) = GoesHome objects (named_by object) number pool subpool (leaving_by (Some cause))
+IsBackHome objects e = Unit {0}
+
+-- An event gives the words of this object back.
+abbrev pub GivesBackOf : Id → Event → Type 0
+GivesBackOf o e = back_of e ≡ Some o
+
+-- There is such an event among these.
+abbrev pub Happened : (Event → Type 0) → List Event → Type 0
+Happened P [] = ⊥
+Happened P (e ∷ es) = P e ⊎ Happened P es
+
+-- The items of all masters, innermost first, newest first.
+abbrev pub items_of : List Master → List Item
+items_of [] = []
+items_of (m ∷ ms) = m.items ++ items_of ms
+
+abbrev pub Falls : Item → Item → Type 0
+Falls i j = j.number < i.number
+
+abbrev pub MastersFall : Master → Master → Type 0
+MastersFall m n = n.number < m.number
+
+-- The home of an object is an item that is still there.
+abbrev pub IsHoused : List Master → Object → Type 0
+IsHoused masters object = (i : Item) × Contains (items_of masters) i × (i.number ≡ object.cell.home.item)
 
 -- The words of an object are back.
-abbrev pub IsBack : Option Thing → Type 0
-IsBack o = IfSome o (λ thing. thing.out ≡ false)
+abbrev pub IsBack : Object → Type 0
+IsBack object = object.out ≡ false
 
 -- What every run keeps: the events so far, and the state that they lead to.
 pub record Law (events : List Event) (last : State) : Type 0 where
@@ -78,12 +151,31 @@ pub record Law (events : List Event) (last : State) : Type 0 where
   pub back_once : AllPairs BackTwoObjects events
   -- a controlled value is finalized at most once (7.6.1)
   pub finalized_once : AllPairs FinalizedTwoValues events
+  -- nothing is followed after its words went back (13.11.2)
+  pub followed_before_back : AllPairs FollowedBeforeBack events
   -- at the leaving of a master, what was created later goes earlier (7.6.1)
   pub in_reverse : AllPairs InReverseOrder events
-  -- when the main procedure has been left, the words of each object are back
-  pub all_back : (m : Name) → Contains events (event.Left m) → All IsBack last.objects
+  -- words go back to the pool that they came from, and at a leaving with the item that is the object's home (13.11, 7.6.1)
+  pub back_home : All (IsBackHome last.heap) events
+  -- the words of an object are back exactly where an event says so
+  pub back_is_told : (o : Id) (object : Object) → object_at last.heap o ≡ Some object → IsBack object ↔ Happened (GivesBackOf o) events
+  -- numbers fall along the masters that are entered, and along their items: what was created later has a greater one (7.6.1)
+  pub items_fall : AllPairs Falls (items_of last.masters)
+  pub masters_fall : AllPairs MastersFall last.masters
+  -- as long as the words of an object are out, its home is an item of a master that is entered: so they are back once that one was left (7.6.1)
+  pub housed : (o : Id) (object : Object) → object_at last.heap o ≡ Some object → object.out ≡ true → IsHoused last.masters object
 
--- Every run, whatever its input and whatever is granted and picked, is not at an erroneous action and keeps the laws.
+-- A run has come to its end.
+abbrev pub HasEnded : Halt → Type 0
+HasEnded Finished = Unit {0}
+HasEnded (Unhandled e) = Unit {0}
+HasEnded (Erroneous why) = ⊥
+HasEnded Stuck = ⊥
+HasEnded Memory = ⊥
+
+-- Every run, whatever its input and whatever is granted and picked, is not at an erroneous action and keeps the laws; where it has come to
+-- its end, each master has been left, and the words of each object are back.
 pub record Safe (program : Program) : Type 0 where
   pub never_erroneous : (input : List ℤ) (events : List Event) (last : State) (why : Why) → Run program (first_state program input) events last → Halts program last (Erroneous why) → ⊥
   pub keeps : (input : List ℤ) (events : List Event) (last : State) → Run program (first_state program input) events last → Law events last
+  pub ends : (input : List ℤ) (events : List Event) (last : State) (halt : Halt) → Run program (first_state program input) events last → Halts program last halt → HasEnded halt → (last.masters ≡ []) × All IsBack last.heap

@@ -1,24 +1,28 @@
 -- The meaning of programs, in the order in which it is read.
 
--- objects, masters and what is left to do
+-- what is left to do
+pub mod Frame
+-- what a step shows and tells
+pub mod Event
+-- activations, masters, states
 pub mod State
+-- what a step asks of values and of the heap
+pub mod Heap
 -- the small steps (4 to 13)
 pub mod Step
+-- the heap of names
+pub mod Named
 -- runs, and the states that they end in
 pub mod Run
--- the laws of finalization, and what a safe program is (7.6.1, 13.11.2)
+-- runs in which somebody answers what is open
+pub mod Chosen
+-- the laws of storage, and what a safe program is (7.6.1, 13.11.2)
 pub mod Law
 -- laws of names and objects over any run (4.8, 7.6.1, 13.11.2)
 pub mod Life
--- the objects and masters that the machine's tables stand for
-pub mod View
--- the leaving of a master, by what it comes upon
-pub mod Leaving
--- the state that a run in progress stands for, and what a turn of it does
-pub mod Process
--- what a step of the machine makes, with the answers to what it leaves open
-pub mod Machine
--- choices that follow a list of answers
-pub mod Listed
+-- where a statement begins (5.1)
+pub mod Beginning
+-- every run ends
+pub mod Ending
 -- what the run's words print
 pub mod Text

@@ -1,16 +1,21 @@
 -- Runs: lists of steps from the first state, with the answers to what they leave open.
 
-use Rattle.std.specs.Prelude.{◌≡◌, ℕ, ◌<◌, ℤ, Bool, List, [], ◌∷◌, ◌++◌, length, None}
+use Rattle.std.specs.Prelude.{◌≡◌, ℕ, ℤ, Bool, ◌<◌, List, [], ◌∷◌, ◌++◌, length}
 use Rattle.std.proofs.Math.ListN.{replicate}
+use Rattle.ada_program.specs.declared.program.Program.{Program}
+use Rattle.ada_program.specs.Form.{declaration_forms, stmt_forms}
+use Rattle.ada_meaning.specs.declared.state.Value.{Value}
 use Rattle.ada_meaning.specs.declared.state.Value.TheVariants.{Null}
 use Rattle.ada_meaning.specs.declared.state.Mode.TheVariants.{Running}
-use Rattle.ada_meaning.specs.declared.event.Event.{Event}
-use Rattle.ada_meaning.specs.declared.event.Event.TheVariants.{Quiet}
 use Rattle.ada_meaning.specs.declared.event.Halt.{Halt}
-use Rattle.ada_tree.specs.declared.program.Program.{Program}
-use Rattle.ada_tree.specs.Form.{elaborations, forms}
-use Rattle.ada_meaning.specs.State.{stops, elaborates, does, closes, State}
-use Rattle.ada_meaning.specs.Step.{Next, halts, moves, tells, asks, picks, next}
+use Rattle.ada_meaning.specs.Event.{Event as EventOver, Quiet}
+use Rattle.ada_meaning.specs.Frame as frame
+use Rattle.ada_meaning.specs.Step.{halts, moves, tells, asks, picks}
+use Rattle.ada_meaning.specs.Named.{State, Next, next}
+
+-- An event over names.
+abbrev pub Event : Type 0
+Event = EventOver Value
 
 -- The answer to what a step leaves open: nothing, a request granted or refused, one of the members.
 pub data Choice : Type 0 where
@@ -41,13 +46,15 @@ Step program before choice event after = Leads (next program.types.items before)
 -- The first state (10.2): the main procedure is entered, and all of it is left to do.
 abbrev pub first_state : Program → List ℤ → State
 first_state program input = record {
-  objects = None ∷ [];
-  places = replicate (length program.objects.items) Null;
-  operands = [];
-  masters = record { number = record { 0 = 0 }; items = [] } ∷ [];
-  control = elaborates (elaborations program) (does (forms program) (closes stops));
+  activations = record { places = replicate (length program.variables.items) Null; operands = [] } ∷ [];
+  masters = record { number = 0; items = [] } ∷ [];
+  control = frame.Elaborates (declaration_forms program) (stmt_forms program) ∷ [];
   mode = Running;
   input = input;
+  next = 1;
+  allocated = 0;
+  born = 0;
+  heap = [];
 }
 
 -- Steps one after another, with their events.

@@ -1,104 +1,81 @@
--- States: objects, masters, what is left to do, and the input that is left.
+-- States: activations, masters, what is left to do, and a heap that nothing here looks into.
 
-use Rattle.std.specs.Prelude.{ℕ, ℤ, Bool, false, List, length, Option, Some, None}
-use Rattle.std.specs.List.{slice_get, slice_index_or}
-use Rattle.ada_meaning.specs.declared.state.Name.{Name}
-use Rattle.ada_meaning.specs.declared.state.Value.{Value}
-use Rattle.ada_meaning.specs.declared.state.Value.TheVariants.{Null}
-use Rattle.ada_meaning.specs.declared.state.Stage.{Stage}
-use Rattle.ada_meaning.specs.declared.state.Stage.TheVariants.{Gone}
-use Rattle.ada_meaning.specs.declared.state.Home.{Home}
+use Rattle.std.specs.Prelude.{ℕ, ℤ, List, [], ◌∷◌, length, ◌+◌, Option, Some, None, ◌==◌, if◌then◌else◌, Bool, false}
 use Rattle.ada_meaning.specs.declared.state.Mode.{Mode}
-use Rattle.ada_meaning.specs.declared.event.Cause.{Cause}
-use Rattle.ada_grammar.specs.declared.operators.BinaryOperator.{BinaryOperator}
-use Rattle.ada_grammar.specs.declared.operators.UnaryOperator.{UnaryOperator}
-use Rattle.ada_tree.specs.Form.{ExpressionForm, LinksForm, ItemForm, Source, Form, Elaboration}
+use Rattle.ada_meaning.specs.declared.state.Mode.TheVariants.{Running, Raising}
+use Rattle.ada_meaning.specs.Frame.{Frame, begins_by}
 
--- An allocated object (3.3, 4.8): its components, where its words lie, its stage, and whether its words are still out.
-pub record Thing : Type 0 where
-  pub values : List Value
-  pub home : Home
-  pub stage : Stage
-  pub out : Bool
+-- An activation of a body (6.4): what each of its variables holds, by number, and what pending forms have computed, newest first.
+pub record Activation (V : Type 0) : Type 0 where
+  pub places : List V
+  pub operands : List V
 
--- What a master owns (7.6.1): a declared object, or the collection of an access type with the objects of it that exist, newest first.
+-- What a master owns (7.6.1): a variable, or the collection of an access type.
 pub data Owned : Type 0 where
-  declared : ℕ → Owned
-  collection : ℕ → List Name → Owned
+  declared : (variable : ℕ) → Owned
+  collection : (access : ℕ) → Owned
 
--- An item of a master, with its number: an item created later has a greater one.
+-- An item of a master, with its number: what is created later has a greater one.
 pub record Item : Type 0 where
-  pub number : Name
+  pub number : ℕ
   pub owned : Owned
 
 -- A master that is entered (7.6.1), with its number and its items, newest first.
 pub record Master : Type 0 where
-  pub number : Name
+  pub number : ℕ
   pub items : List Item
 
--- What is left to do, innermost first.
-pub data Control : Type 0 where
-  stops : Control
-  elaborates : List Elaboration → Control → Control
-  does : List Form → Control → Control
-  evaluates : Source → Control → Control
-  computing : ExpressionForm → Control → Control
-  continues : LinksForm → Control → Control
-  applies : BinaryOperator → Control → Control
-  applies_alone : UnaryOperator → Control → Control
-  fills : List ItemForm → Control → Control
-  creates_new : ℕ → ℕ → Control → Control
-  stores : ℕ → Control → Control
-  creates : ℕ → Control → Control
-  prints : Control → Control
-  releases : ℕ → Name → Control → Control
-  ends : Name → Cause → Control → Control
-  closes : Control → Control
-  leaves : Mode → Control → Control
-
--- A state of a run. Each name is a place in `objects`: none where it is the name of a master, an item or a cause.
-pub record State : Type 0 where
-  pub objects : List (Option Thing)
-  -- what each declared object holds, by its number
-  pub places : List Value
-  -- what pending forms have computed, newest first
-  pub operands : List Value
+-- A state of a run.
+pub record State (V H : Type 0) : Type 0 where
+  -- the running one first
+  pub activations : List (Activation V)
   -- innermost first
   pub masters : List Master
-  pub control : Control
+  -- what is left to do, innermost first
+  pub control : List (Frame V)
   pub mode : Mode
   pub input : List ℤ
+  -- the next number of a master or a cause
+  pub next : ℕ
+  -- how many objects have been allocated, and how many controlled values born
+  pub allocated : ℕ
+  pub born : ℕ
+  pub heap : H
 
--- The next name: the one that no object, master, item or cause has had yet.
-abbrev pub next_name : State → Name
-next_name s = record { 0 = length s.objects }
+-- The number of a new item: how many items there are, over all masters. So numbers fall along the stack of masters and along their items.
+abbrev pub height : List Master → ℕ
+height [] = 0
+height (m ∷ ms) = length m.items + height ms
 
--- What a declared object holds.
-abbrev pub held : State → ℕ → Value
-held s x = slice_index_or s.places x Null
+-- The collection that an access type denotes: the newest of it that is open (7.6.1), by its item's number.
+abbrev pub collection_in : ℕ → Item → Owned → Option ℕ → Option ℕ
+collection_in access item (declared x) outer = outer
+collection_in access item (collection t) outer = if access == t then Some item.number else outer
 
--- The object of a name, if the name was ever an object's.
-abbrev pub found : Option (Option Thing) → Option Thing
-found None = None
-found (Some thing) = thing
+abbrev pub home_among : ℕ → List Item → Option ℕ → Option ℕ
+home_among access [] outer = outer
+home_among access (i ∷ is) outer = collection_in access i i.owned (home_among access is outer)
 
-abbrev pub thing_at : State → Name → Option Thing
-thing_at s o = found (slice_get s.objects o.0)
+abbrev pub home_of : ℕ → List Master → Option ℕ
+home_of access [] = None
+home_of access (m ∷ ms) = home_among access m.items (home_of access ms)
 
--- The stage of what a name is for; what is no object's name is gone.
-abbrev pub stage_by : Option Thing → Stage
-stage_by None = Gone
-stage_by (Some thing) = thing.stage
+-- The pool of an access type (13.11): the standard pool, of number 0, for each, until programs can declare pools.
+abbrev pub pool_of : ℕ → ℕ
+pool_of access = 0
 
-abbrev pub stage_at : State → Name → Stage
-stage_at s o = stage_by (thing_at s o)
+-- A trace number counts from 1; past 64 bits it stays.
+abbrev pub counted : ℕ → ℕ
+counted n = if n == 18446744073709551615 then n else n + 1
 
--- A component of the object of a name.
-abbrev pub component_by : Option Thing → ℕ → Value
-component_by None c = Null
-component_by (Some thing) c = slice_index_or thing.values c Null
+-- Does the next step begin a statement? No exception is on its way, and a statement is first of what is left to do.
+abbrev pub begins_among : {V : Type 0} → List (Frame V) → Bool
+begins_among [] = false
+begins_among (f ∷ fs) = begins_by f
 
--- An object that is gone, and its words back (13.11.2).
-abbrev pub ended : Option Thing → Option Thing
-ended None = None
-ended (Some thing) = Some (record thing { stage = Gone; out = false })
+abbrev pub begins_in : {V : Type 0} → Mode → List (Frame V) → Bool
+begins_in Running k = begins_among k
+begins_in (Raising e) k = false
+
+abbrev pub begins : {V H : Type 0} → State V H → Bool
+begins s = begins_in s.mode s.control

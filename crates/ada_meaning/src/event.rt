@@ -1,39 +1,87 @@
 //! What a step shows to the outside, and how a run ends.
 
-use crate::state::Name;
-use ada_tree::program::TextNo;
+use crate::state::Id;
+use ada_program::TypeNo;
+use ada_program::program::TextNo;
 use std::fmt;
 
 /// What one step does that can be seen from outside.
-#[derive(Clone, Copy, Debug, PartialEq, Eq)]
+#[derive(Clone, Copy)]
 pub enum Event {
-    /// A controlled value has come to exist (7.6).
-    Born { value: Name },
-    /// Finalize of a controlled value begins (7.6.1).
-    Finalized { value: Name, cause: Cause },
-    /// The words of an allocated object go back to its pool (13.11.2).
-    Back { object: Name, cause: Cause },
+    /// A controlled value has come to exist (7.6). No program has one yet.
+    Born {
+        value: Controlled,
+        record: TypeNo,
+        /// The trace number: births are counted from 1.
+        number: u64,
+        by: Birth,
+    },
+    /// Finalize of a controlled value begins (7.6.1). No program has one yet.
+    Finalized {
+        value: Controlled,
+        record: TypeNo,
+        number: u64,
+        cause: Cause,
+    },
+    /// The words of an allocated object go back to a pool, or to one of its subpools (13.11.2).
+    Back {
+        object: Id,
+        access: TypeNo,
+        /// The trace number: allocations are counted from 1.
+        number: u64,
+        /// The pool's number; 0 is the standard pool.
+        pool: usize,
+        /// The number of the subpool; none yet.
+        subpool: Option<usize>,
+        cause: Cause,
+    },
     /// An access value is followed (4.1).
-    Followed { object: Name },
+    Followed {
+        object: Id,
+    },
     /// A master has been left; nothing of it exists any more (7.6.1).
-    Left { master: Name },
+    Left {
+        master: u64,
+    },
     /// A line is written.
     Line(Line),
     /// Nothing that can be seen.
     Quiet,
 }
 
-/// What makes an object go. Each is numbered when it begins, so that two of them are told apart.
-#[derive(Clone, Copy, Debug, PartialEq, Eq)]
+/// A controlled value: a part of an object, and how often that part had a value before.
+#[derive(Clone, Copy)]
+pub struct Controlled {
+    pub object: Id,
+    /// The number of the part in the object's type; 0 is the whole.
+    pub part: usize,
+    pub turn: u64,
+}
+
+/// How a controlled value comes to exist (7.6).
+#[derive(Clone, Copy)]
+pub enum Birth {
+    /// Its object is created, and it has been initialized.
+    Creation,
+    /// It was copied by an assignment, and has been adjusted.
+    Adjustment,
+}
+
+/// What ends an object or a value, each with a number of its own, so that two of them are told apart.
+#[derive(Clone, Copy)]
 pub enum Cause {
     /// The leaving of a master, at one of its items.
-    Leaving { master: Name, item: Name },
+    Leaving { master: u64, item: usize },
     /// A call of an instance of Unchecked_Deallocation.
-    Free { number: Name },
+    Freeing { number: u64 },
+    /// An assignment. Nothing is ended by one yet.
+    Assigning { number: u64 },
+    /// An Initialize that raised an exception. No program has one yet.
+    Undoing { number: u64 },
 }
 
 /// A line of output, without its line feed.
-#[derive(Clone, Copy, Debug, PartialEq, Eq)]
+#[derive(Clone, Copy)]
 pub enum Line {
     /// `Integer'Image`: a blank or a minus sign, then digits.
     Image(i32),
@@ -42,7 +90,7 @@ pub enum Line {
 }
 
 /// How a run ends. After it the machine answers the same again.
-#[derive(Clone, Copy, Debug, PartialEq, Eq)]
+#[derive(Clone, Copy)]
 pub enum Halt {
     /// The main procedure has been left, and everything in it.
     Finished,
@@ -50,19 +98,21 @@ pub enum Halt {
     Unhandled(Exception),
     /// The next action would be erroneous (13.11.2).
     Erroneous(Why),
-    /// The machine's own memory could not grow.
+    /// The next action has no meaning: the program is not well formed.
+    Stuck,
+    /// The machine's own memory could not grow, or one of its counters, of 64 bits, is used up.
     Memory,
 }
 
 /// An exception; it prints its name in upper case.
-#[derive(Clone, Copy, Debug, PartialEq, Eq)]
+#[derive(Clone, Copy)]
 pub enum Exception {
     ConstraintError,
     StorageError,
 }
 
 /// Why an action would be erroneous (13.11.2); it prints its number.
-#[derive(Clone, Copy, Debug, PartialEq, Eq)]
+#[derive(Clone, Copy)]
 pub enum Why {
     /// It would follow an access value whose object is gone.
     FollowsGone,
@@ -70,7 +120,7 @@ pub enum Why {
     EndsTwice,
     /// It would give words to another pool than the object's own.
     GivesElsewhere,
-    /// It would finalize a controlled value that is not alive.
+    /// It would finalize a controlled value that is not alive. No program has one yet.
     FinalizesTwice,
 }
 

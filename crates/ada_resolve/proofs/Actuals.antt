@@ -1,11 +1,11 @@
 -- An operator between operands is no path.
 
 use Rattle.std.proofs.Common.{◌≡◌, List, [], ◌∷◌, length, None, false, ◌==◌, refl}
-use Rattle.ada_grammar.specs.declared.operators.BinaryOperator.{BinaryOperator}
-use Rattle.ada_grammar.specs.declared.expressions.Link.{Link}
-use Rattle.ada_grammar.specs.Expressions.{ExpressionTree, binary_expression, expression_argument}
-use Rattle.ada_grammar.specs.ExpressionView.{expression_of, linked}
-use Rattle.ada_tree.specs.declared.program.TypeNo.{TypeNo}
+use Rattle.ada_values.specs.declared.operator.BinaryOperator.{BinaryOperator}
+use Rattle.ada_tree.specs.declared.expressions.Link.{Link}
+use Rattle.ada_tree.specs.Expressions.{ExpressionTree, binary_expression, expression_argument}
+use Rattle.ada_tree.specs.ExpressionView.{expression_of, linked}
+use Rattle.ada_program.specs.declared.program.TypeNo.{TypeNo}
 use Rattle.ada_resolve.specs.declared.fault.NameRule.TheVariants.{WrongType}
 use Rattle.ada_resolve.specs.Calls.{actual_found, actual_remark}
 use Rattle.ada_resolve.specs.Expressions.{expression_remark}

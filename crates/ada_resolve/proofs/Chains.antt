@@ -2,11 +2,11 @@
 
 use Rattle.std.proofs.Common.{◌≡◌, List, [], ◌∷◌, ◌++◌, refl, ap, sym, ◌∙◌}
 use Rattle.ada_text.specs.declared.spot.Spot.{Spot}
-use Rattle.ada_tree.specs.Form.{expression_form, links_form, a_link}
-use Rattle.ada_tree.specs.declared.program.Link.{Link}
-use Rattle.ada_grammar.specs.declared.expressions.Link.{Link as LinkTree}
-use Rattle.ada_grammar.specs.Expressions.{ExpressionTree, binary_expression}
-use Rattle.ada_grammar.specs.ExpressionView.{expression_of, linked}
+use Rattle.ada_program.specs.Form.{expression_form, links_form, a_link}
+use Rattle.ada_program.specs.declared.program.Link.{Link}
+use Rattle.ada_tree.specs.declared.expressions.Link.{Link as LinkTree}
+use Rattle.ada_tree.specs.Expressions.{ExpressionTree, binary_expression}
+use Rattle.ada_tree.specs.ExpressionView.{expression_of, linked}
 use Rattle.ada_resolve.specs.declared.notes.Notes.{Notes}
 use Rattle.ada_resolve.specs.Chains.{links_meant, links_remark, nodes_remark}
 use Rattle.ada_resolve.specs.Expressions.{expression_meant, expression_remark}

@@ -2,8 +2,8 @@
 
 use Rattle.std.proofs.Common.{◌≡◌, List, [], ◌∷◌, length, ◌==◌, refl, arith}
 use Rattle.std.specs.Prelude.{not}
-use Rattle.ada_grammar.specs.declared.expressions.Item.{Item}
-use Rattle.ada_grammar.specs.ExpressionView.{items_of}
+use Rattle.ada_tree.specs.declared.expressions.Item.{Item}
+use Rattle.ada_tree.specs.ExpressionView.{items_of}
 use Rattle.ada_resolve.specs.Allocators.{has_items}
 
 -- whether there are items

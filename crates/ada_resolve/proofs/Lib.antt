@@ -1,9 +1,10 @@
 pub mod Names
 pub mod Views
 pub mod Told
-pub mod Incomplete
+pub mod ComponentLists
 pub mod Chains
 pub mod ItemLists
 pub mod First
 pub mod Actuals
-mod WellFormed
+pub mod WellFormed
+pub mod Reading

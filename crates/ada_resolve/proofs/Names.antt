@@ -8,14 +8,14 @@ use Rattle.indexmap.specs.IndexMap.{insert_entry}
 use Rattle.ada_resolve.specs.declared.scope.Entity.{Entity}
 use Rattle.ada_resolve.specs.Known.{named, entered}
 use Rattle.ada_resolve.specs.View.{named_of}
-use Rattle.ada_grammar.specs.Names.{ident_of}
-use Rattle.ada_grammar.specs.declared.names.Identifier.{Identifier}
+use Rattle.ada_tree.specs.Names.{ident_of}
+use Rattle.ada_tree.specs.declared.names.Identifier.{Identifier}
 use Rattle.ada_resolve.specs.Library.{spelled}
-use Rattle.ada_tree.specs.Form.{initial_of}
-use Rattle.ada_tree.specs.declared.program.Right.{Right}
+use Rattle.ada_program.specs.Form.{initial_form}
+use Rattle.ada_program.specs.declared.program.Right.{Right}
 use Rattle.ada_resolve.specs.Objects.{initial_source}
 use Rattle.ada_resolve.specs.Resolution.{entity_in}
-use Rattle.ada_resolve.specs.View.{source_in}
+use Rattle.ada_resolve.specs.View.{right_in}
 use denote.Ref.{Bor}
 
 -- what a name stands for is what the map has for it
@@ -78,7 +78,7 @@ set_beyond (y ∷ ys) zero x h = absurd (omega arith)
 set_beyond (y ∷ ys) (suc i) x h = ap (λ zs. y ∷ zs) (set_beyond ys i x (omega arith))
 
 -- the value that is given at first, where one is known
-pub initial_same : (initial : Option Right) → initial_of initial ≡ initial_source (source_in initial)
+pub initial_same : (initial : Option Right) → initial_form initial ≡ initial_source (right_in initial)
 initial_same None = refl
 initial_same (Some value) = refl
 

@@ -1,9 +1,9 @@
 -- The parts of a body, as plain data.
 
 use Rattle.std.proofs.Common.{◌≡◌, map, ap, sym, ◌∙◌}
-use Rattle.ada_grammar.specs.declared.statements.Sequence.{Sequence, out-Sequence, roll-out-Sequence}
-use Rattle.ada_grammar.specs.Statements.{a_sequence, begin_of, handlers_from}
-use Rattle.ada_grammar.specs.StatementView.{sequence_of, sequence_view, statements_of, handler_of}
+use Rattle.ada_tree.specs.declared.statements.Sequence.{Sequence, out-Sequence, roll-out-Sequence}
+use Rattle.ada_tree.specs.Statements.{a_sequence, begin_of, handlers_from}
+use Rattle.ada_tree.specs.StatementView.{sequence_of, sequence_view, statements_of, handler_of}
 
 -- a body is made of its parts
 pub body_view : (body : Sequence) → sequence_of body ≡ a_sequence (out-Sequence body).begin (statements_of (out-Sequence body).statements.items) (handlers_from (map handler_of (out-Sequence body).handlers.items)) (out-Sequence body).«end»

@@ -2,11 +2,11 @@
 
 use Rattle.std.specs.Prelude.{ℕ, Bool, true, false, ◌&&◌, not, if◌then◌else◌, List, map, Option, Some, None, is_none}
 use Rattle.ada_text.specs.declared.spot.Spot.{Spot}
-use Rattle.ada_tree.specs.Form.{Source, allocates}
-use Rattle.ada_grammar.specs.Names.{Ident}
-use Rattle.ada_grammar.specs.Expressions.{ItemsTree, no_more_items, an_item}
-use Rattle.ada_tree.specs.ProgramForm.{ComponentForm, TypeForm}
-use Rattle.ada_tree.specs.declared.program.TypeNo.{TypeNo}
+use Rattle.ada_program.specs.Form.{RightForm, allocates}
+use Rattle.ada_tree.specs.Names.{Ident}
+use Rattle.ada_tree.specs.Expressions.{ItemsTree, no_more_items, an_item}
+use Rattle.ada_program.specs.ProgramForm.{ComponentForm, TypeForm}
+use Rattle.ada_program.specs.declared.program.TypeNo.{TypeNo}
 use Rattle.ada_resolve.specs.declared.fault.NameRule.TheVariants.{WrongType, NotInProfile}
 use Rattle.ada_resolve.specs.declared.scope.Entity.{Entity}
 use Rattle.ada_resolve.specs.declared.scope.Entity.TheVariants as entity
@@ -60,13 +60,13 @@ wanted_or (Some access) t = access.0
 wanted_or None t = t.0
 
 -- The allocation of these items, in the order of the components; none where the record type is not known.
-abbrev pub allocation : Known → Option TypeNo → Option TypeNo → ItemsTree → Option Source
+abbrev pub allocation : Known → Option TypeNo → Option TypeNo → ItemsTree → Option RightForm
 allocation known access (Some t) items =
     Some (allocates (wanted_or access t) (map item_or_null (filling_of known (Some (components_of known.types t.0)) items).slots))
 allocation known access None items = None
 
 -- The allocation that `new T'(..)` makes; none where its type is wrong.
-unfoldable pub aggregate_found : Known → Option TypeNo → Ident → ItemsTree → Option Source
+unfoldable pub aggregate_found : Known → Option TypeNo → Ident → ItemsTree → Option RightForm
 aggregate_found known access type_name items = allocation known access (allocated_found known type_name) items
 
 -- Whether there is an item.
@@ -84,6 +84,6 @@ allocator_remark known access spot handle type_name items =
     if is_in_use handle items then aggregate_remark known access spot type_name items else wrong spot NotInProfile
 
 -- The allocation that an allocator makes; none where something is wrong.
-unfoldable pub allocator_found : Known → Option TypeNo → Option Ident → Ident → ItemsTree → Option Source
+unfoldable pub allocator_found : Known → Option TypeNo → Option Ident → Ident → ItemsTree → Option RightForm
 allocator_found known access handle type_name items =
     if is_in_use handle items then aggregate_found known access type_name items else None

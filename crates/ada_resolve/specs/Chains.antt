@@ -2,8 +2,8 @@
 
 use Rattle.std.specs.Prelude.{List, [], ◌∷◌}
 use Rattle.ada_text.specs.declared.spot.Spot.{Spot}
-use Rattle.ada_grammar.specs.ExpressionView.{expression_of}
-use Rattle.ada_grammar.specs.declared.expressions.Link.{Link}
+use Rattle.ada_tree.specs.ExpressionView.{expression_of}
+use Rattle.ada_tree.specs.declared.expressions.Link.{Link}
 use Rattle.ada_resolve.specs.Expressions.{expression_meant, expression_remark}
 use Rattle.ada_resolve.specs.Known.{Known}
 use Rattle.ada_resolve.specs.Operators.{binary_meant, operands_remark}

@@ -1,8 +1,8 @@
 -- Expressions: what is wrong with each, and what it means.
 
 use Rattle.std.specs.Prelude.{false}
-use Rattle.ada_grammar.specs.Expressions.{ExpressionTree, number_expression, null_expression, path_expression, aggregate_expression, enclosed_expression, unary_expression, binary_expression}
-use Rattle.ada_tree.specs.Form.{integer}
+use Rattle.ada_tree.specs.Expressions.{ExpressionTree, number_expression, null_expression, path_expression, aggregate_expression, enclosed_expression, unary_expression, binary_expression}
+use Rattle.ada_program.specs.Form.{integer}
 use Rattle.ada_resolve.specs.declared.fault.NameRule.TheVariants.{NotInProfile}
 use Rattle.ada_resolve.specs.Known.{Known}
 use Rattle.ada_resolve.specs.Remark.{Remark, wrong, node, ◌also◌}

@@ -2,10 +2,10 @@
 
 use Rattle.std.specs.Prelude.{ℕ, Bool, true, false, ◌||◌, ◌==◌, not, if◌then◌else◌, List, [], ◌∷◌, ◌++◌, Option, Some, None}
 use Rattle.ada_text.specs.declared.spot.Spot.{Spot}
-use Rattle.ada_tree.specs.Form.{Elaboration, collects, declares}
-use Rattle.ada_grammar.specs.Names.{Ident, NameTree}
-use Rattle.ada_tree.specs.ProgramForm.{TypeForm}
-use Rattle.ada_tree.specs.declared.program.TypeNo.{TypeNo}
+use Rattle.ada_program.specs.Form.{DeclarationForm, collects, declares}
+use Rattle.ada_tree.specs.Names.{Ident, NameTree}
+use Rattle.ada_program.specs.ProgramForm.{TypeForm}
+use Rattle.ada_program.specs.declared.program.TypeNo.{TypeNo}
 use Rattle.ada_resolve.specs.declared.fault.NameRule.TheVariants.{WrongType, Layout}
 use Rattle.ada_resolve.specs.declared.library.LibraryName.{LibraryName}
 use Rattle.ada_resolve.specs.declared.library.LibraryName.TheVariants.{UncheckedDeallocation}
@@ -71,13 +71,19 @@ unfoldable pub freed_remark : Known → Ident → Option TypeNo → Remark
 freed_remark known access record_type = access_wanted (visible known access.text) known.types record_type access
 
 -- Whether the collection of an access type is created already (7.6.1): an instance creates it, or the first object does.
-abbrev pub is_collected : ℕ → List Elaboration → Bool
+abbrev pub is_collected : ℕ → List DeclarationForm → Bool
 is_collected access [] = false
 is_collected access (collects t ∷ es) = t == access || is_collected access es
 is_collected access (declares place value ∷ es) = is_collected access es
 
--- An access type has at most one instance (the profile's).
-abbrev pub one_instance : Option TypeNo → List Elaboration → Spot → Remark
+-- The access type that a name stands for, whatever it designates.
+abbrev pub access_type_in : Option Entity → Option TypeNo
+access_type_in (Some (entity.Access t)) = Some t
+access_type_in (Some other) = None
+access_type_in None = None
+
+-- An access type has at most one instance (the profile's), whatever else is wrong with the second one.
+abbrev pub one_instance : Option TypeNo → List DeclarationForm → Spot → Remark
 one_instance (Some t) elaborated spot = wrong_if (is_collected t.0 elaborated) spot Layout
 one_instance None elaborated spot = fine
 
@@ -91,7 +97,7 @@ instance_remark known spot name generic object access =
     record_remark known object also
     complete_wanted (visible known object.text) object.spot also
     freed_remark known access (record_found known object) also
-    one_instance (freed_found known access (record_found known object)) known.elaborated spot
+    one_instance (access_type_in (visible known access.text)) known.elaborated spot
 
 -- After it the collection of the access type is created (the profile's place for it), and the instance is known.
 abbrev pub instance_of : Known → Ident → Option TypeNo → Known

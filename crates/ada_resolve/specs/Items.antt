@@ -1,22 +1,23 @@
 -- The items of aggregates: what is wrong with each, and which component it is for.
 
-use Rattle.std.specs.Prelude.{ℕ, ◌+◌, Bool, true, false, ◌==◌, ◌&&◌, not, if◌then◌else◌, List, [], length, Option, Some, None, is_some, is_none}
+use Rattle.std.specs.Prelude.{ℕ, ◌+◌, Bool, true, false, ◌==◌, ◌&&◌, not, nat_lt, if◌then◌else◌, List, [], length, Option, Some, None, is_some, is_none}
 use Rattle.std.specs.List.{slice_get, slice_set, slice_index_or, list_all}
 use Rattle.std.proofs.Math.ListN.{replicate}
 use Rattle.ada_text.specs.declared.spot.Spot.{Spot}
-use Rattle.ada_tree.specs.Form.{ItemForm, null_item, item_of_value}
-use Rattle.ada_grammar.specs.Names.{Ident}
-use Rattle.ada_grammar.specs.Expressions.{ExpressionTree, ItemsTree, no_more_items, an_item}
-use Rattle.ada_tree.specs.ProgramForm.{ComponentForm}
-use Rattle.ada_tree.specs.declared.program.ComponentKind.{ComponentKind}
-use Rattle.ada_tree.specs.declared.program.ComponentKind.TheVariants as kind
-use Rattle.ada_resolve.specs.declared.fault.NameRule.TheVariants.{UnknownName, WrongType, NotInProfile}
+use Rattle.ada_program.specs.Form.{ItemForm, null_item, item_of_value}
+use Rattle.ada_tree.specs.Names.{Ident}
+use Rattle.ada_tree.specs.Expressions.{ExpressionTree, ItemsTree, no_more_items, an_item}
+use Rattle.ada_program.specs.ProgramForm.{ComponentForm}
+use Rattle.ada_program.specs.declared.program.ComponentKind.{ComponentKind}
+use Rattle.ada_program.specs.declared.program.ComponentKind.TheVariants as kind
+use Rattle.ada_resolve.specs.declared.fault.NameRule.TheVariants.{WrongType, NotInProfile}
 use Rattle.ada_resolve.specs.Known.{Known}
+use Rattle.ada_resolve.specs.Library.{no_component_rule}
 use Rattle.ada_resolve.specs.Remark.{Remark, fine, wrong, ◌also◌, wrong_if}
 use Rattle.ada_resolve.specs.Spots.{expression_spot}
 use Rattle.ada_resolve.specs.Expressions.{expression_meant, expression_remark}
 use Rattle.ada_resolve.specs.Operators.{boolean_wanted, integer_wanted}
-use Rattle.ada_resolve.specs.Paths.{Meant, boolean_value, component_named, integer_value, null_value, other_access, unknown, variable}
+use Rattle.ada_resolve.specs.Paths.{Meant, boolean_value, component_at, component_named, integer_value, null_value, other_access, unknown, access_variable}
 
 -- What is known before an item: how many items come before it, which components have their items, and whether each item so far names a
 -- component of its own.
@@ -24,11 +25,6 @@ pub record Filling : Type 0 where
   pub count : ℕ
   pub slots : List (Option ItemForm)
   pub whole : Bool
-
--- A component by its number, and what it holds.
-abbrev pub component_at : ℕ → Option ComponentForm → Option (ℕ × ComponentKind)
-component_at at (Some c) = Some (at, c.kind)
-component_at at None = None
 
 -- The component that an item is for: that of its name, or the one at its place.
 abbrev pub component_for : List ComponentForm → Option Ident → ℕ → Option (ℕ × ComponentKind)
@@ -50,7 +46,7 @@ item_meant other = null_item
 abbrev pub null_wanted : Meant → Spot → Remark
 null_wanted unknown spot = fine
 null_wanted null_value spot = fine
-null_wanted (variable path t) spot = wrong spot NotInProfile
+null_wanted (access_variable path t) spot = wrong spot NotInProfile
 null_wanted other_access spot = wrong spot NotInProfile
 null_wanted (integer_value e) spot = wrong spot WrongType
 null_wanted (boolean_value e) spot = wrong spot WrongType
@@ -63,7 +59,7 @@ fits_remark (kind.Access t) value spot = null_wanted value spot
 
 -- No component has that name (4.1.3), or there are too many items.
 abbrev pub no_component : Option Ident → ExpressionTree → Remark
-no_component (Some label) value = wrong label.spot UnknownName
+no_component (Some label) value = wrong label.spot (no_component_rule label.text)
 no_component None value = wrong (expression_spot value) WrongType
 
 -- Whether the component of this number has its item.
@@ -139,11 +135,12 @@ abbrev pub names_component : ItemsTree → Bool
 names_component no_more_items = false
 names_component (an_item label value rest) = is_some label
 
--- What is wrong with how many items there are: an aggregate of one item names its component (4.3.1); and where each item has a component of
--- its own, each component has its item.
+-- What is wrong with how many items there are: an aggregate of one item names its component (4.3.1), and one is missing where there are more
+-- components; and where each item has a component of its own, each component has its item.
 abbrev pub count_remark : Bool → Filling → Spot → Remark
 count_remark is_named filling spot =
-    if not is_named && (filling.count == 1) then wrong spot NotInProfile
+    if not is_named && (filling.count == 1)
+    then wrong spot NotInProfile also wrong_if (nat_lt 1 (length filling.slots)) spot WrongType
     else wrong_if (filling.whole && not (list_all is_some filling.slots)) spot WrongType
 
 -- The item of a component; null where there is none.

@@ -2,16 +2,16 @@
 
 use Rattle.std.specs.Prelude.{ℕ, Bool, true, false, ◌==◌, not, nat_lt, if◌then◌else◌, List, [], ◌∷◌, length, Option, Some, None, is_some, bytes_eq}
 use Rattle.ada_text.specs.declared.spot.Spot.{Spot}
-use Rattle.ada_grammar.specs.Names.{Ident, SelectorTree, component, dereference, PathTree, is_name}
-use Rattle.ada_tree.specs.Form.{Elaboration}
-use Rattle.ada_tree.specs.ProgramForm.{TypeForm, ObjectForm}
+use Rattle.ada_tree.specs.Names.{Ident, SelectorTree, component, dereference, PathTree, is_name}
+use Rattle.ada_program.specs.Form.{DeclarationForm}
+use Rattle.ada_program.specs.ProgramForm.{TypeForm, VariableForm}
 use Rattle.ada_resolve.specs.declared.fault.NameRule.TheVariants.{UnknownName, DeclaredTwice, NotInProfile, Layout, Limit}
 use Rattle.ada_resolve.specs.declared.library.LibraryName.{LibraryName}
 use Rattle.ada_resolve.specs.declared.library.LibraryName.TheVariants.{TextIo, PutLine, UncheckedDeallocation, OtherUnit, Unknown}
 use Rattle.ada_resolve.specs.declared.library.Withs.{Withs}
 use Rattle.ada_resolve.specs.declared.scope.Entity.{Entity}
 use Rattle.ada_resolve.specs.declared.scope.Entity.TheVariants.{Procedure}
-use Rattle.ada_resolve.specs.Library.{predefined, is_primitive, is_taken, unknown, library_name}
+use Rattle.ada_resolve.specs.Library.{predefined, is_primitive, is_taken, missing_rule, library_name}
 use Rattle.ada_resolve.specs.Remark.{Remark, fine, wrong, node, ◌also◌, wrong_if}
 
 -- A name that is declared, and what it stands for.
@@ -20,14 +20,14 @@ pub record Named : Type 0 where
   pub entity : Entity
 
 -- What is known: the library units of the with clauses, the procedure's name, the names that it declares so far, in order, its types and
--- objects by their numbers, and what is elaborated so far (3.11).
+-- variables by their numbers, and what is elaborated so far (3.11).
 pub record Known : Type 0 where
   pub withs : Withs
   pub procedure : List ℕ
   pub names : List Named
   pub types : List TypeForm
-  pub objects : List ObjectForm
-  pub elaborated : List Elaboration
+  pub variables : List VariableForm
+  pub elaborated : List DeclarationForm
 
 -- What a name stands for among these.
 abbrev pub named : List ℕ → List Named → Option Entity
@@ -56,7 +56,7 @@ visible known text = inner_first (named text known.names) (bytes_eq text known.p
 -- A name of which nothing is visible is wrong (8.3).
 abbrev pub missing : Option Entity → Ident → Remark
 missing (Some entity) name = fine
-missing None name = wrong name.spot (unknown name.text)
+missing None name = wrong name.spot (missing_rule name.text)
 
 -- A lone name is wanted, whatever it stands for.
 abbrev pub name_remark : Known → Ident → Remark
@@ -121,6 +121,6 @@ library_path_found known path =
 abbrev pub is_empty : {X : Type 0} → List X → Bool
 is_empty xs = length xs == 0
 
--- A type or an instance begins: it is a node of the source, and none follows an object.
+-- A type or an instance begins: it is a node of the source, and none follows a variable.
 abbrev pub type_begins : Known → Spot → Remark
-type_begins known spot = node spot also wrong_if (not (is_empty known.objects)) spot Layout
+type_begins known spot = node spot also wrong_if (not (is_empty known.variables)) spot Layout

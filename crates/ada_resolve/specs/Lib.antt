@@ -42,7 +42,11 @@ pub mod Calls
 pub mod Statements
 -- the program of a tree, or its first fault
 pub mod Resolution
+-- a program read back as its tree
+pub mod Reading
 -- the first fault, told by what is remarked alone
 pub mod First
+-- types as the code keeps them while names are looked up
+pub mod Kept
 -- what the code keeps, in these words
 pub mod View

@@ -1,7 +1,7 @@
 -- The library's names, and those that are predefined.
 
 use Rattle.std.specs.Prelude.{ℕ, Bool, true, false, ◌||◌, ◌&&◌, if◌then◌else◌, List, [], ◌∷◌, Option, Some, None, is_some, codes, bytes_eq}
-use Rattle.ada_grammar.specs.Names.{Ident}
+use Rattle.ada_tree.specs.Names.{Ident}
 use Rattle.ada_resolve.specs.declared.fault.NameRule.{NameRule}
 use Rattle.ada_resolve.specs.declared.fault.NameRule.TheVariants.{UnknownName, NotInProfile}
 use Rattle.ada_resolve.specs.declared.library.LibraryName.{LibraryName}
@@ -32,9 +32,15 @@ is_primitive text = bytes_eq text (codes "INITIALIZE") || (bytes_eq text (codes 
 abbrev pub is_taken : List ℕ → Bool
 is_taken text = is_some (predefined text) || is_library_root text
 
--- The rule that a name breaks of which nothing is visible (8.3): a library's root that stands for nothing alone is not in the profile.
-unfoldable pub unknown : List ℕ → NameRule
-unknown text = if bytes_eq text (codes "ADA") || bytes_eq text (codes "SYSTEM") then NotInProfile else UnknownName
+-- The rule that a name breaks of which nothing is visible (8.3): a library's root that stands for nothing alone, and a primitive of
+-- controlled types (7.6), are not in the profile.
+unfoldable pub missing_rule : List ℕ → NameRule
+missing_rule text =
+    if is_primitive text || (bytes_eq text (codes "ADA") || bytes_eq text (codes "SYSTEM")) then NotInProfile else UnknownName
+
+-- The rule that a name breaks that no component has (4.1.3): the primitives' names are kept (7.6).
+abbrev pub no_component_rule : List ℕ → NameRule
+no_component_rule text = if is_primitive text then NotInProfile else UnknownName
 
 -- Whether identifiers are these.
 unfoldable pub spelled : List Ident → List (List ℕ) → Bool

@@ -2,8 +2,8 @@
 
 use Rattle.std.specs.Prelude.{ℕ, List, [], ◌∷◌, Option, Some, None}
 use Rattle.ada_text.specs.declared.spot.Spot.{Spot}
-use Rattle.ada_grammar.specs.Expressions.{ArgumentTree, expression_argument, text_argument, attribute_argument}
-use Rattle.ada_tree.specs.Form.{Form, writes, writes_text}
+use Rattle.ada_tree.specs.Expressions.{ArgumentTree, expression_argument, text_argument, attribute_argument}
+use Rattle.ada_program.specs.Form.{StmtForm, writes, writes_text}
 use Rattle.ada_resolve.specs.declared.fault.NameRule.TheVariants.{WrongType}
 use Rattle.ada_resolve.specs.Known.{Known}
 use Rattle.ada_resolve.specs.Remark.{Remark, fine, wrong, ◌also◌}
@@ -19,7 +19,7 @@ line_remark known (text_argument spot text) = fine
 line_remark known (attribute_argument prefix attribute value) = image_value_remark known prefix attribute value
 
 -- What is done with it, where so many texts come before; none where something is wrong.
-abbrev pub line_found : Known → ℕ → ArgumentTree → Option Form
+abbrev pub line_found : Known → ℕ → ArgumentTree → Option StmtForm
 line_found known texts (expression_argument e) = None
 line_found known texts (text_argument spot text) = Some (writes_text texts)
 line_found known texts (attribute_argument prefix attribute value) = Some (writes (integer_in (expression_meant known value)))
@@ -30,6 +30,6 @@ put_line_remark known called [] = wrong called WrongType
 put_line_remark known called (argument ∷ more) = line_remark known argument also none_wanted more also arguments_remark known more
 
 -- What a call of Put_Line does; none where something is wrong.
-unfoldable pub put_line_found : Known → ℕ → List ArgumentTree → Option Form
+unfoldable pub put_line_found : Known → ℕ → List ArgumentTree → Option StmtForm
 put_line_found known texts [] = None
 put_line_found known texts (argument ∷ more) = line_found known texts argument

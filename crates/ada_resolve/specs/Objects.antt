@@ -1,12 +1,12 @@
 -- Object declarations: what is wrong with each, and what is known after it.
 
 use Rattle.std.specs.Prelude.{ℕ, ◌+◌, Bool, true, false, not, if◌then◌else◌, List, [], ◌∷◌, ◌++◌, length, Option, Some, None, is_none}
-use Rattle.ada_tree.specs.Form.{Source, nothing, Elaboration, collects, declares}
-use Rattle.ada_grammar.specs.Names.{Ident, NameTree}
-use Rattle.ada_grammar.specs.Expressions.{RightTree}
-use Rattle.ada_tree.specs.ProgramForm.{TypeForm, record_of, access_to}
-use Rattle.ada_tree.specs.declared.program.ObjectKind.{ObjectKind}
-use Rattle.ada_tree.specs.declared.program.ObjectKind.TheVariants as object
+use Rattle.ada_program.specs.Form.{RightForm, nothing, DeclarationForm, collects, declares}
+use Rattle.ada_tree.specs.Names.{Ident, NameTree}
+use Rattle.ada_tree.specs.Expressions.{RightTree}
+use Rattle.ada_program.specs.ProgramForm.{TypeForm, record_of, access_to}
+use Rattle.ada_program.specs.declared.program.VariableKind.{VariableKind}
+use Rattle.ada_program.specs.declared.program.VariableKind.TheVariants as variable
 use Rattle.ada_resolve.specs.declared.fault.NameRule.TheVariants.{WrongType, NotInProfile, NoInitialValue}
 use Rattle.ada_resolve.specs.declared.scope.Entity.{Entity}
 use Rattle.ada_resolve.specs.declared.scope.Entity.TheVariants as entity
@@ -18,12 +18,12 @@ use Rattle.ada_resolve.specs.Paths.{library_is_no_value}
 use Rattle.ada_resolve.specs.Rights.{right_found, right_remark}
 
 -- What is wrong with an initial value, where one is written.
-abbrev pub initial_remark : Known → Option ObjectKind → Option RightTree → Remark
+abbrev pub initial_remark : Known → Option VariableKind → Option RightTree → Remark
 initial_remark known kind (Some right) = right_remark known kind right
 initial_remark known kind None = fine
 
 -- The initial value; none where none is written or something is wrong.
-abbrev pub initial_found : Known → Option ObjectKind → Option RightTree → Option Source
+abbrev pub initial_found : Known → Option VariableKind → Option RightTree → Option RightForm
 initial_found known kind (Some right) = right_found known kind right
 initial_found known kind None = None
 
@@ -57,10 +57,10 @@ object_type_remark known type_name =
     else type_wanted (visible known type_name.first.text) (is_empty type_name.rest) type_name.first
 
 -- What an object of a type holds: no record object is in the profile yet.
-abbrev pub kind_of : Option Entity → Option ObjectKind
-kind_of (Some entity.Integer) = Some object.Integer
-kind_of (Some entity.Boolean) = Some object.Boolean
-kind_of (Some (entity.Access t)) = Some (object.Access t)
+abbrev pub kind_of : Option Entity → Option VariableKind
+kind_of (Some entity.Integer) = Some variable.Integer
+kind_of (Some entity.Boolean) = Some variable.Boolean
+kind_of (Some (entity.Access t)) = Some (variable.Access t)
 kind_of (Some other) = None
 kind_of None = None
 
@@ -84,7 +84,7 @@ object_remark known name type_name initial =
     initial_wanted (object_type_found known type_name) name initial
 
 -- The collections of the access types that have none, in the order of the types, the first of which has this number.
-abbrev pub collections_of : ℕ → List TypeForm → List Elaboration → List Elaboration
+abbrev pub collections_of : ℕ → List TypeForm → List DeclarationForm → List DeclarationForm
 collections_of t [] elaborated = []
 collections_of t (record_of name parts ∷ types) elaborated = collections_of (t + 1) types elaborated
 collections_of t (access_to name designated ∷ types) elaborated =
@@ -97,22 +97,22 @@ ends_types false known = known
 
 -- What is known once the types end, if they have not ended before.
 unfoldable pub after_types : Known → Known
-after_types known = ends_types (is_empty known.objects) known
+after_types known = ends_types (is_empty known.variables) known
 
 -- The initial value, null where none is written (3.10).
-abbrev pub initial_source : Option Source → Source
+abbrev pub initial_source : Option RightForm → RightForm
 initial_source (Some source) = source
 initial_source None = nothing
 
 -- After it the object is known, and is created with its initial value.
-abbrev pub object_created : Known → Ident → Option ObjectKind → Option Source → Known
+abbrev pub object_created : Known → Ident → Option VariableKind → Option RightForm → Known
 object_created known name (Some kind) value =
     declared
     (record known {
-      objects = known.objects ++ record { name = name.text; kind = kind } ∷ [];
-      elaborated = known.elaborated ++ declares (length known.objects) (initial_source value) ∷ [];
+      variables = known.variables ++ record { name = name.text; kind = kind } ∷ [];
+      elaborated = known.elaborated ++ declares (length known.variables) (initial_source value) ∷ [];
     })
-    name.text (entity.Object (record { 0 = length known.objects }) kind)
+    name.text (entity.Variable (record { 0 = length known.variables }) kind)
 object_created known name None value = known
 
 -- What is known after the declaration of an object.

@@ -2,14 +2,14 @@
 
 use Rattle.std.specs.Prelude.{Bool, true, false, ◌||◌, if◌then◌else◌, pos}
 use Rattle.ada_text.specs.declared.spot.Spot.{Spot}
-use Rattle.ada_grammar.specs.declared.operators.UnaryOperator.{UnaryOperator}
-use Rattle.ada_grammar.specs.declared.operators.UnaryOperator.TheVariants as unary
-use Rattle.ada_grammar.specs.declared.operators.BinaryOperator.{BinaryOperator}
-use Rattle.ada_grammar.specs.declared.operators.BinaryOperator.TheVariants as binary
-use Rattle.ada_tree.specs.Form.{ExpressionForm, integer, boolean, applied_to, chained, LinksForm, no_more_links, a_link}
+use Rattle.ada_values.specs.declared.operator.UnaryOperator.{UnaryOperator}
+use Rattle.ada_values.specs.declared.operator.UnaryOperator.TheVariants as unary
+use Rattle.ada_values.specs.declared.operator.BinaryOperator.{BinaryOperator}
+use Rattle.ada_values.specs.declared.operator.BinaryOperator.TheVariants as binary
+use Rattle.ada_program.specs.Form.{ExpressionForm, integer, boolean, applied_to, chained, LinksForm, no_more_links, a_link}
 use Rattle.ada_resolve.specs.declared.fault.NameRule.TheVariants.{WrongType, NotInProfile}
 use Rattle.ada_resolve.specs.Remark.{Remark, fine, wrong, ◌also◌, wrong_if}
-use Rattle.ada_resolve.specs.Paths.{Meant, boolean_value, integer_value, null_value, other_access, unknown, variable}
+use Rattle.ada_resolve.specs.Paths.{Meant, boolean_value, integer_value, null_value, other_access, unknown, access_variable}
 
 -- The Integer of a meaning; 0 where it is none.
 abbrev pub integer_in : Meant → ExpressionForm
@@ -98,7 +98,7 @@ boolean_wanted other spot = wrong spot WrongType
 -- Whether a value is of an access type.
 abbrev pub is_access_value : Meant → Bool
 is_access_value null_value = true
-is_access_value (variable path t) = true
+is_access_value (access_variable path t) = true
 is_access_value other_access = true
 is_access_value other = false
 

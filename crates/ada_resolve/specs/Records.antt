@@ -1,12 +1,12 @@
 -- Record types: what is wrong with a declaration, and what is known after it.
 
-use Rattle.std.specs.Prelude.{ℕ, Bool, false, ◌||◌, ◌==◌, List, [], ◌∷◌, ◌++◌, length, map, Option, Some, None, bytes_eq, ℤ, pos}
+use Rattle.std.specs.Prelude.{ℕ, ◌+◌, Bool, false, ◌||◌, ◌==◌, List, [], ◌∷◌, ◌++◌, map, Option, Some, None, bytes_eq, ℤ, pos}
 use Rattle.ada_text.specs.declared.spot.Spot.{Spot}
-use Rattle.ada_grammar.specs.Names.{Ident}
-use Rattle.ada_grammar.specs.Records.{StaticTree, plain, minus, named as static_name, ComponentTree, RecordTree, null_record, null_components, components}
-use Rattle.ada_tree.specs.ProgramForm.{ComponentForm, record_of}
-use Rattle.ada_tree.specs.declared.program.ComponentKind.{ComponentKind}
-use Rattle.ada_tree.specs.declared.program.ComponentKind.TheVariants as kind
+use Rattle.ada_tree.specs.Names.{Ident}
+use Rattle.ada_tree.specs.Records.{StaticTree, plain, minus, named as static_name, ComponentTree, RecordTree, null_record, null_components, components}
+use Rattle.ada_program.specs.ProgramForm.{ComponentForm, record_of}
+use Rattle.ada_program.specs.declared.program.ComponentKind.{ComponentKind}
+use Rattle.ada_program.specs.declared.program.ComponentKind.TheVariants as kind
 use Rattle.ada_resolve.specs.declared.fault.NameRule.TheVariants.{DeclaredTwice, WrongType, NotInProfile, NoInitialValue, Limit}
 use Rattle.ada_resolve.specs.declared.scope.Entity.{Entity}
 use Rattle.ada_resolve.specs.declared.scope.Entity.TheVariants as entity
@@ -63,31 +63,33 @@ kind_in None known initial = kind.Integer (pos 0)
 -- Whether one of the components has the name.
 abbrev pub is_component : List ℕ → List ComponentForm → Bool
 is_component text [] = false
-is_component text (c ∷ cs) = bytes_eq c.name text || is_component text cs
+is_component text (c ∷ cs) = bytes_eq text c.name || is_component text cs
 
 -- The most components of a record.
 abbrev pub most_components : ℕ
 most_components = 4096
 
--- What is wrong with a component, after these: its name is predefined, or that of one before it (8.3), or that of a primitive; there are
--- too many; or what it holds is wrong.
-unfoldable pub component_remark : Known → List ComponentForm → ComponentTree → Remark
-component_remark known before c =
+-- What is wrong with a component, where so many stand before it, and where one of them may have its name: the name is predefined, or that of
+-- one before it (8.3), or that of a primitive; there are too many; or what it holds is wrong.
+unfoldable pub component_remark : Known → Bool → ℕ → ComponentTree → Remark
+component_remark known is_named count c =
     node c.name.spot also
     wrong_if (is_taken c.name.text) c.name.spot DeclaredTwice also
-    wrong_if (is_component c.name.text before) c.name.spot DeclaredTwice also
+    wrong_if is_named c.name.spot DeclaredTwice also
     wrong_if (is_primitive c.name.text) c.name.spot NotInProfile also
-    wrong_if (length before == most_components) c.name.spot Limit also
+    wrong_if (count == most_components) c.name.spot Limit also
     kind_wanted (visible known c.type_name.text) known c
 
 -- The component.
 unfoldable pub component_meant : Known → ComponentTree → ComponentForm
 component_meant known c = record { name = c.name.text; kind = kind_in (visible known c.type_name.text) known c.initial }
 
--- What is wrong with components, after these.
-abbrev pub components_remark : Known → List ComponentForm → List ComponentTree → Remark
-components_remark known before [] = fine
-components_remark known before (c ∷ cs) = component_remark known before c also components_remark known (before ++ component_meant known c ∷ []) cs
+-- What is wrong with components, behind these, which are so many.
+abbrev pub components_remark : Known → List ComponentForm → ℕ → List ComponentTree → Remark
+components_remark known before count [] = fine
+components_remark known before count (c ∷ cs) =
+    component_remark known (is_component c.name.text before) count c also
+    components_remark known (before ++ component_meant known c ∷ []) (count + 1) cs
 
 -- The components that a record type is written with (3.8).
 abbrev pub components_written : RecordTree → List ComponentTree
@@ -100,7 +102,7 @@ abbrev pub record_type_remark : Known → Spot → Ident → RecordTree → Rema
 record_type_remark known spot name definition =
     type_begins known spot also
     new_unless (completed known name) (new_name_remark known name spot) also
-    components_remark known [] (components_written definition)
+    components_remark known [] 0 (components_written definition)
 
 -- After it the record type is known.
 abbrev pub record_type_known : Known → Ident → RecordTree → Known

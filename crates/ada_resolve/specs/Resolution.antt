@@ -2,11 +2,11 @@
 
 use Rattle.std.specs.Prelude.{◌≡◌, ℕ, ◌+◌, Bool, true, false, ◌||◌, if◌then◌else◌, List, [], ◌∷◌, length, map, Option, Some, None, bytes_eq}
 use Rattle.ada_text.specs.declared.spot.Spot.{Spot}
-use Rattle.ada_grammar.specs.Names.{Ident, NameTree}
-use Rattle.ada_grammar.specs.Declarations.{ClauseTree}
-use Rattle.ada_grammar.specs.Statements.{DeclarationTree, constant_declaration, incomplete_type, access_type, record_type, instance, object_declaration, DeclarationsTree, no_declarations, a_declaration, StatementTree, StatementsTree, no_statements, a_statement, HandlersTree, no_handlers, a_handler, SequenceTree, a_sequence, begin_of, UnitTree}
-use Rattle.ada_tree.specs.Form.{Form}
-use Rattle.ada_tree.specs.ProgramForm.{ProgramForm}
+use Rattle.ada_tree.specs.Names.{Ident, NameTree}
+use Rattle.ada_tree.specs.Declarations.{ClauseTree}
+use Rattle.ada_tree.specs.Statements.{DeclarationTree, constant_declaration, incomplete_type, access_type, record_type, instance, object_declaration, DeclarationsTree, no_declarations, a_declaration, StatementTree, StatementsTree, no_statements, a_statement, HandlersTree, no_handlers, a_handler, SequenceTree, a_sequence, begin_of, UnitTree}
+use Rattle.ada_program.specs.Form.{StmtForm}
+use Rattle.ada_program.specs.ProgramForm.{ProgramForm}
 use Rattle.ada_resolve.specs.declared.fault.NameRule.{NameRule}
 use Rattle.ada_resolve.specs.declared.fault.NameRule.TheVariants.{UnknownName, DeclaredTwice, NotInProfile, BodyMissing}
 use Rattle.ada_resolve.specs.declared.library.LibraryName.{LibraryName}
@@ -76,7 +76,7 @@ known_first withs procedure = record {
   procedure = procedure;
   names = [];
   types = [];
-  objects = [];
+  variables = [];
   elaborated = [];
 }
 
@@ -142,20 +142,20 @@ abbrev pub at_begin : Spot → Known × Notes → Told (Known × Notes)
 at_begin spot at = settled (noted (begin_remark at.0 spot) at.1) (after_types at.0)
 
 -- What comes of a statement, where so many texts come before: the first of the rules that it breaks, or what it does.
-abbrev pub statement_told : Known → ℕ → Notes → StatementTree → Told (Form × Notes)
+abbrev pub statement_told : Known → ℕ → Notes → StatementTree → Told (StmtForm × Notes)
 statement_told known texts notes statement = settled (noted (statement_remark known statement) notes) (statement_meant known texts statement)
 
 -- One statement before others.
-abbrev pub form_first : Form → Told (List Form) → Told (List Form)
+abbrev pub form_first : StmtForm → Told (List StmtForm) → Told (List StmtForm)
 form_first form (broken spot rule) = broken spot rule
 form_first form (gives forms) = gives (form ∷ forms)
 
 -- One statement is done before others, with what is noted after it.
-abbrev pub forms_first : (Notes → Told (List Form)) → Form × Notes → Told (List Form)
+abbrev pub forms_first : (Notes → Told (List StmtForm)) → StmtForm × Notes → Told (List StmtForm)
 forms_first others done = form_first done.0 (others done.1)
 
 -- The statements, in order (5.1), where so many texts come before.
-abbrev pub statements_told : Known → ℕ → StatementsTree → Notes → Told (List Form)
+abbrev pub statements_told : Known → ℕ → StatementsTree → Notes → Told (List StmtForm)
 statements_told known texts no_statements notes = gives []
 statements_told known texts (a_statement statement statements) notes =
     and_then (statement_told known texts notes statement) (forms_first (statements_told known (texts + length (texts_in statement)) statements))
@@ -166,13 +166,13 @@ same_name procedure (Some name) x = if bytes_eq name.text procedure then gives x
 same_name procedure None x = gives x
 
 -- The program of what is known, of the texts, and of what the statements do.
-abbrev pub program_of : Known → List (List ℕ) → List Form → ProgramForm
+abbrev pub program_of : Known → List (List ℕ) → List StmtForm → ProgramForm
 program_of known texts forms = record {
   types = known.types;
-  objects = known.objects;
+  variables = known.variables;
   texts = texts;
-  elaborations = known.elaborated;
-  forms = forms;
+  declarations = known.elaborated;
+  statements = forms;
 }
 
 -- No handler is in the profile yet (11.2): the first is told.
@@ -181,7 +181,7 @@ unhandled no_handlers x = gives x
 unhandled (a_handler spot choices ss rest) x = broken spot NotInProfile
 
 -- The end of a tree whose declarations and statements are known: its handlers, and its name.
-abbrev pub end_told : UnitTree → HandlersTree → Known → List (List ℕ) → List Form → Told ProgramForm
+abbrev pub end_told : UnitTree → HandlersTree → Known → List (List ℕ) → List StmtForm → Told ProgramForm
 end_told tree handlers known texts forms = and_then (unhandled handlers (program_of known texts forms)) (same_name tree.name.text tree.end_name)
 
 -- The statements of a tree whose declarations are known, and what follows.
@@ -197,9 +197,13 @@ begin_told tree at = and_then (at_begin (begin_of tree.body) at) (statements_par
 abbrev pub part_told : UnitTree → Known × Notes → Told ProgramForm
 part_told tree at = and_then (declarations_told tree.declarations at) (begin_told tree)
 
--- The procedure of a tree, with these library units: its name, and what follows.
+-- The procedure of a tree, where this is known before its first declaration: its name, and what follows.
+abbrev pub procedure_from : UnitTree → Known → Told ProgramForm
+procedure_from tree known = and_then (settled (noted (procedure_remark tree.name tree.spot) no_notes) known) (part_told tree)
+
+-- The same with these library units.
 abbrev pub procedure_told : UnitTree → Withs → Told ProgramForm
-procedure_told tree withs = and_then (settled (noted (procedure_remark tree.name tree.spot) no_notes) (known_first withs tree.name.text)) (part_told tree)
+procedure_told tree withs = procedure_from tree (known_first withs tree.name.text)
 
 -- The program of a tree, or its first fault: the with clauses, the procedure's name, its declarations and its statements in order, its end.
 abbrev pub resolution : UnitTree → Told ProgramForm

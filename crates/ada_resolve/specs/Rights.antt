@@ -2,11 +2,11 @@
 
 use Rattle.std.specs.Prelude.{◌==◌, not, Option, Some, None}
 use Rattle.ada_text.specs.declared.spot.Spot.{Spot}
-use Rattle.ada_tree.specs.Form.{Source, nothing, value_of, computes}
-use Rattle.ada_grammar.specs.Expressions.{RightTree, expression_right, allocator_right, creation_right}
-use Rattle.ada_tree.specs.declared.program.ObjectKind.{ObjectKind}
-use Rattle.ada_tree.specs.declared.program.ObjectKind.TheVariants as object
-use Rattle.ada_tree.specs.declared.program.TypeNo.{TypeNo}
+use Rattle.ada_program.specs.Form.{RightForm, nothing, value_of, computes}
+use Rattle.ada_tree.specs.Expressions.{RightTree, expression_right, allocator_right, creation_right}
+use Rattle.ada_program.specs.declared.program.VariableKind.{VariableKind}
+use Rattle.ada_program.specs.declared.program.VariableKind.TheVariants as variable
+use Rattle.ada_program.specs.declared.program.TypeNo.{TypeNo}
 use Rattle.ada_resolve.specs.declared.fault.NameRule.TheVariants.{WrongType, NotInProfile}
 use Rattle.ada_resolve.specs.Known.{Known}
 use Rattle.ada_resolve.specs.Remark.{Remark, fine, wrong, ◌also◌, wrong_if}
@@ -14,55 +14,55 @@ use Rattle.ada_resolve.specs.Spots.{expression_spot}
 use Rattle.ada_resolve.specs.Allocators.{allocator_found, allocator_remark}
 use Rattle.ada_resolve.specs.Expressions.{expression_meant, expression_remark}
 use Rattle.ada_resolve.specs.Operators.{boolean_wanted, integer_wanted}
-use Rattle.ada_resolve.specs.Paths.{Meant, boolean_value, integer_value, null_value, other_access, unknown, variable}
+use Rattle.ada_resolve.specs.Paths.{Meant, boolean_value, integer_value, null_value, other_access, unknown, access_variable}
 
 -- The access type of an object of this kind.
-abbrev pub access_kind : Option ObjectKind → Option TypeNo
-access_kind (Some (object.Access t)) = Some t
-access_kind (Some object.Integer) = None
-access_kind (Some object.Boolean) = None
+abbrev pub access_kind : Option VariableKind → Option TypeNo
+access_kind (Some (variable.Access t)) = Some t
+access_kind (Some variable.Integer) = None
+access_kind (Some variable.Boolean) = None
 access_kind None = None
 
 -- What is assigned to an access object: null, the value of an object of that very type, where it is in the profile.
 abbrev pub access_wanted : TypeNo → Meant → Spot → Remark
 access_wanted access unknown spot = fine
 access_wanted access null_value spot = fine
-access_wanted access (variable path t) spot = wrong_if (not (access.0 == t.0)) spot WrongType
+access_wanted access (access_variable path t) spot = wrong_if (not (access.0 == t.0)) spot WrongType
 access_wanted access other_access spot = wrong spot NotInProfile
 access_wanted access (integer_value e) spot = wrong spot WrongType
 access_wanted access (boolean_value e) spot = wrong spot WrongType
 
 -- What is assigned is of the object's type, where that is known.
-abbrev pub assigned_wanted : Option ObjectKind → Meant → Spot → Remark
-assigned_wanted (Some object.Integer) value spot = integer_wanted value spot
-assigned_wanted (Some object.Boolean) value spot = boolean_wanted value spot
-assigned_wanted (Some (object.Access t)) value spot = access_wanted t value spot
+abbrev pub assigned_wanted : Option VariableKind → Meant → Spot → Remark
+assigned_wanted (Some variable.Integer) value spot = integer_wanted value spot
+assigned_wanted (Some variable.Boolean) value spot = boolean_wanted value spot
+assigned_wanted (Some (variable.Access t)) value spot = access_wanted t value spot
 assigned_wanted None value spot = fine
 
 -- No allocator is an Integer or a Boolean.
-abbrev pub access_object_wanted : Option ObjectKind → Spot → Remark
-access_object_wanted (Some object.Integer) spot = wrong spot WrongType
-access_object_wanted (Some object.Boolean) spot = wrong spot WrongType
-access_object_wanted (Some (object.Access t)) spot = fine
+abbrev pub access_object_wanted : Option VariableKind → Spot → Remark
+access_object_wanted (Some variable.Integer) spot = wrong spot WrongType
+access_object_wanted (Some variable.Boolean) spot = wrong spot WrongType
+access_object_wanted (Some (variable.Access t)) spot = fine
 access_object_wanted None spot = fine
 
 -- What is wrong with what is assigned to an object, where what that holds is known. No subpool is made yet (13.11.4).
-abbrev pub right_remark : Known → Option ObjectKind → RightTree → Remark
+abbrev pub right_remark : Known → Option VariableKind → RightTree → Remark
 right_remark known kind (expression_right e) = expression_remark known e also assigned_wanted kind (expression_meant known e) (expression_spot e)
 right_remark known kind (allocator_right spot handle type_name items) =
     access_object_wanted kind spot also allocator_remark known (access_kind kind) spot handle type_name items
 right_remark known kind (creation_right function argument) = wrong function.root.spot NotInProfile
 
 -- What an expression assigns; none where something is wrong.
-abbrev pub assigned : Meant → Option Source
+abbrev pub assigned : Meant → Option RightForm
 assigned null_value = Some nothing
-assigned (variable path t) = Some (value_of path.root.0 path.spot)
+assigned (access_variable path t) = Some (value_of path)
 assigned (integer_value e) = Some (computes e)
 assigned (boolean_value e) = Some (computes e)
 assigned other = None
 
 -- What is assigned; none where something is wrong.
-abbrev pub right_found : Known → Option ObjectKind → RightTree → Option Source
+abbrev pub right_found : Known → Option VariableKind → RightTree → Option RightForm
 right_found known kind (expression_right e) = assigned (expression_meant known e)
 right_found known kind (allocator_right spot handle type_name items) = allocator_found known (access_kind kind) handle type_name items
 right_found known kind (creation_right function argument) = None

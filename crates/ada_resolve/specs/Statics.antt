@@ -1,8 +1,8 @@
 -- Static values, which are known before the run: what is wrong with each, and its value.
 
 use Rattle.std.specs.Prelude.{ℕ, Bool, true, false, nat_le, if◌then◌else◌, Option, Some, None, ℤ, pos, neg_ℤ}
-use Rattle.ada_grammar.specs.Names.{Ident}
-use Rattle.ada_grammar.specs.Records.{StaticTree, plain, minus, named as static_name}
+use Rattle.ada_tree.specs.Names.{Ident}
+use Rattle.ada_tree.specs.Records.{StaticTree, plain, minus, named as static_name}
 use Rattle.ada_resolve.specs.declared.fault.NameRule.TheVariants.{WrongType}
 use Rattle.ada_resolve.specs.declared.scope.Entity.{Entity}
 use Rattle.ada_resolve.specs.declared.scope.Entity.TheVariants as entity

@@ -2,10 +2,10 @@
 
 use Rattle.std.specs.Prelude.{ℕ, Bool, false, ◌||◌, ◌==◌, List, [], ◌∷◌, ◌++◌, length, slice_get, slice_set, Option, Some, None, bytes_eq}
 use Rattle.ada_text.specs.declared.spot.Spot.{Spot}
-use Rattle.ada_grammar.specs.Names.{Ident}
-use Rattle.ada_grammar.specs.Declarations.{AspectTree}
-use Rattle.ada_tree.specs.ProgramForm.{TypeForm, record_of, access_to}
-use Rattle.ada_tree.specs.declared.program.TypeNo.{TypeNo}
+use Rattle.ada_tree.specs.Names.{Ident}
+use Rattle.ada_tree.specs.Declarations.{AspectTree}
+use Rattle.ada_program.specs.ProgramForm.{TypeForm, record_of, access_to}
+use Rattle.ada_program.specs.declared.program.TypeNo.{TypeNo}
 use Rattle.ada_resolve.specs.declared.fault.NameRule.TheVariants.{WrongType, NotInProfile}
 use Rattle.ada_resolve.specs.declared.scope.Entity.{Entity}
 use Rattle.ada_resolve.specs.declared.scope.Entity.TheVariants as entity

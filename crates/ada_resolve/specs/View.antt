@@ -1,12 +1,12 @@
 -- What the resolver's values stand for, and what it tells.
 
 use Rattle.std.specs.Prelude.{◌≡◌, ℕ, List, map, Option, Some, None, Result, Ok, Err}
-use Rattle.ada_grammar.specs.Statements.{UnitTree}
-use Rattle.ada_tree.specs.Form.{Source, Form, ItemForm, expression_form, source_of, item_form, form_of, elaboration_of}
-use Rattle.ada_tree.specs.ProgramForm.{type_form, object_form}
-use Rattle.ada_tree.specs.declared.program.Item.{Item}
-use Rattle.ada_tree.specs.declared.program.Right.{Right}
-use Rattle.ada_tree.specs.declared.program.Stmt.{Stmt}
+use Rattle.ada_tree.specs.Statements.{UnitTree}
+use Rattle.ada_program.specs.Form.{RightForm, StmtForm, ItemForm, path_form, expression_form, right_form, item_form, stmt_form, declaration_form}
+use Rattle.ada_program.specs.ProgramForm.{variable_form}
+use Rattle.ada_program.specs.declared.program.Item.{Item}
+use Rattle.ada_program.specs.declared.program.Right.{Right}
+use Rattle.ada_program.specs.declared.program.Stmt.{Stmt}
 use Rattle.ada_text.specs.declared.spot.Spot.{Spot}
 use Rattle.ada_resolve.specs.declared.fault.NameFault.{NameFault}
 use Rattle.ada_resolve.specs.declared.fault.NameFault.TheVariants.{Broken, NoMemory}
@@ -17,12 +17,13 @@ use Rattle.ada_resolve.specs.declared.scope.Entity.{Entity}
 use Rattle.ada_resolve.specs.declared.meant.Meant.{Meant as MeantOf}
 use Rattle.ada_resolve.specs.declared.meant.Meant.TheVariants as meant
 use Rattle.ada_resolve.specs.declared.items.Filling.{Filling as FillingOf}
+use Rattle.ada_resolve.specs.Kept.{known_type_form}
 use Rattle.ada_resolve.specs.Known.{Known, Named}
 use Rattle.ada_resolve.specs.Items.{Filling}
 use Rattle.ada_resolve.specs.declared.library.Withs.{Withs}
 use Rattle.std.specs.Global.{Vec}
 use denote.Ref.{Bor}
-use Rattle.ada_resolve.specs.Paths.{Meant, boolean_value, integer_value, null_value, other_access, unknown, variable}
+use Rattle.ada_resolve.specs.Paths.{Meant, boolean_value, integer_value, null_value, other_access, unknown, access_variable}
 use Rattle.ada_resolve.specs.Resolution.{IsFirstNameFault, Told, broken, gives}
 
 -- An entry of the names.
@@ -35,16 +36,16 @@ known_of r = record {
   withs = r.withs;
   procedure = r.procedure.now;
   names = map named_of r.names.entries;
-  types = map type_form r.types.items;
-  objects = map object_form r.objects.items;
-  elaborated = map elaboration_of r.declarations.items;
+  types = map known_type_form r.types.items;
+  variables = map variable_form r.variables.items;
+  elaborated = map declaration_form r.declarations.items;
 }
 
 -- What an expression means, as the code keeps it.
 abbrev pub meant_of : MeantOf → Meant
 meant_of meant.Unknown = unknown
 meant_of meant.Null = null_value
-meant_of (meant.Variable path access) = variable path access
+meant_of (meant.Variable path access) = access_variable (path_form path) access
 meant_of meant.OtherAccess = other_access
 meant_of (meant.Integer e) = integer_value (expression_form e)
 meant_of (meant.Boolean e) = boolean_value (expression_form e)
@@ -59,14 +60,14 @@ abbrev pub filling_in : FillingOf → Filling
 filling_in f = record { count = f.count; slots = map item_in f.slots.items; whole = f.whole }
 
 -- What is assigned, where that is known.
-abbrev pub source_in : Option Right → Option Source
-source_in (Some value) = Some (source_of value)
-source_in None = None
+abbrev pub right_in : Option Right → Option RightForm
+right_in (Some value) = Some (right_form value)
+right_in None = None
 
 -- What a statement does, where that is known.
-abbrev pub form_in : Option Stmt → Option Form
-form_in (Some statement) = Some (form_of statement)
-form_in None = None
+abbrev pub stmt_in : Option Stmt → Option StmtForm
+stmt_in (Some statement) = Some (stmt_form statement)
+stmt_in None = None
 
 -- The fault that is answered is the first that is noted.
 abbrev pub Blames : NameFault → Option (Spot × NameRule) → Type 0
@@ -99,8 +100,8 @@ AnswersWith (Ok x) view notes told = told ≡ gives (view x, notes)
 AnswersWith (Err e) view notes told = Refuses e told
 
 -- What the statements do.
-abbrev pub forms_in : Vec Stmt → List Form
-forms_in statements = map form_of statements.items
+abbrev pub statements_in : Vec Stmt → List StmtForm
+statements_in statements = map stmt_form statements.items
 
 -- The library units as they are kept.
 abbrev pub same_units : Withs → Withs

@@ -1,20 +1,20 @@
 //! Resolution of allocators (4.8).
 
 ghost use Rattle.std.specs.Prelude.{◌≡◌, IfOk, OnOk, IfErr};
-ghost use Rattle.ada_grammar.specs.ExpressionView.{items_of};
-ghost use Rattle.ada_grammar.specs.Names.{ident_of, optional_ident_of};
+ghost use Rattle.ada_tree.specs.ExpressionView.{items_of};
+ghost use Rattle.ada_tree.specs.Names.{ident_of, optional_ident_of};
 ghost use Rattle.ada_resolve.specs.Allocators.{aggregate_found, aggregate_remark, allocated_found, allocated_remark, designated_if_known, is_in_use};
 ghost use Rattle.ada_resolve.specs.Remark.{noted};
-ghost use Rattle.ada_resolve.specs.View.{known_of, source_in};
+ghost use Rattle.ada_resolve.specs.View.{known_of, right_in};
 
 use crate::fault::{NameFault, NameRule};
 use crate::items::names_component;
 use crate::notes::Notes;
 use crate::resolver::Resolver;
 use crate::scope::Entity;
-use ada_grammar::expressions::Item;
-use ada_grammar::names::Identifier;
-use ada_tree::{Spot, TypeNo, program};
+use ada_program::{Spot, TypeNo, program};
+use ada_tree::expressions::Item;
+use ada_tree::names::Identifier;
 
 impl<'t> Resolver<'t> {
     /// `new T'(..)` (4.8): a new object of the access type that is wanted, where that is known.
@@ -27,7 +27,7 @@ impl<'t> Resolver<'t> {
         access: Option<TypeNo>,
         notes: &mut Notes,
     ) -> Result<Option<program::Right>, NameFault>
-        ensures found { IfOk result (λ v. source_in v ≡ aggregate_found (known_of self.now) access (ident_of type_name.entry) (items_of items.now)) }
+        ensures found { IfOk result (λ v. right_in v ≡ aggregate_found (known_of self.now) access (ident_of type_name.entry) (items_of items.now)) }
         ensures remark { OnOk result (notes.new ≡ noted (aggregate_remark (known_of self.now) access spot (ident_of type_name.entry) (items_of items.now)) notes.old) }
         ensures memory { IfErr result (λ e. e ≡ NameFault.NoMemory) }
     {

@@ -1,9 +1,9 @@
 //! Resolution of the arguments of a call, whatever they are for (6.4).
 
 ghost use Rattle.std.specs.Prelude.{◌≡◌, map, IfOk, OnOk, IfErr};
-ghost use Rattle.ada_grammar.specs.ExpressionView.{expression_of, argument_of};
-ghost use Rattle.ada_grammar.specs.Names.{ident_of};
-ghost use Rattle.ada_tree.specs.Form.{expression_form};
+ghost use Rattle.ada_tree.specs.ExpressionView.{expression_of, argument_of};
+ghost use Rattle.ada_tree.specs.Names.{ident_of};
+ghost use Rattle.ada_program.specs.Form.{expression_form};
 ghost use Rattle.ada_resolve.specs.Arguments.{argument_remark, arguments_remark, image_remark, image_value_remark, none_wanted};
 ghost use Rattle.ada_resolve.specs.Expressions.{expression_meant, expression_remark};
 ghost use Rattle.ada_resolve.specs.Operators.{integer_in};
@@ -15,9 +15,9 @@ use crate::notes::Notes;
 use crate::resolver::Resolver;
 use crate::scope::Entity;
 use crate::spots::{argument_spot, expression_spot};
-use ada_grammar::expressions::{Argument, Expression};
-use ada_grammar::names::Identifier;
-use ada_tree::program;
+use ada_program::program;
+use ada_tree::expressions::{Argument, Expression};
+use ada_tree::names::Identifier;
 
 impl<'t> Resolver<'t> {
     /// The arguments, in order: what is wrong with each.

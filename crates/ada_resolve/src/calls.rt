@@ -1,28 +1,28 @@
 //! Resolution of calls: of instances of Unchecked_Deallocation, and of the library's procedures (6.4, 13.11.2).
 
 ghost use Rattle.std.specs.Prelude.{◌≡◌, map, IfOk, OnOk, IfErr};
-ghost use Rattle.ada_grammar.specs.Expressions.{expression_argument};
-ghost use Rattle.ada_grammar.specs.ExpressionView.{expression_of, argument_of};
-ghost use Rattle.ada_grammar.specs.Names.{ident_of, path_of};
+ghost use Rattle.ada_tree.specs.Expressions.{expression_argument};
+ghost use Rattle.ada_tree.specs.ExpressionView.{expression_of, argument_of};
+ghost use Rattle.ada_tree.specs.Names.{ident_of, path_of};
 ghost use Rattle.ada_resolve.specs.Calls.{freed_wanted, freeing, actual_remark, actual_found, free_remark, free_found, library_call_remark, library_call_found, own_call_remark, own_call_found, call_remark, call_found};
 ghost use Rattle.ada_resolve.specs.Expressions.{expression_remark};
 ghost use Rattle.ada_resolve.specs.Known.{visible};
 ghost use Rattle.ada_resolve.specs.Remark.{wrong, noted};
 ghost use Rattle.ada_resolve.specs.Spots.{expression_spot};
-ghost use Rattle.ada_resolve.specs.View.{known_of, form_in, meant_of};
+ghost use Rattle.ada_resolve.specs.View.{known_of, stmt_in, meant_of};
 
 use crate::arguments::none_wanted;
 use crate::fault::{NameFault, NameRule};
-use crate::library::{LibraryName, is_library_root, is_primitive};
+use crate::library::{LibraryName, is_library_root};
 use crate::meant::Meant;
 use crate::notes::Notes;
 use crate::resolver::Resolver;
 use crate::scope::Entity;
 use crate::spots::{argument_spot, expression_spot};
-use ada_grammar::expressions::{Argument, Expression};
-use ada_grammar::names::{Identifier, Path};
-use ada_tree::program::{Stmt, TextNo};
-use ada_tree::{Spot, TypeNo};
+use ada_program::program::{Stmt, TextNo};
+use ada_program::{Spot, TypeNo};
+use ada_tree::expressions::{Argument, Expression};
+use ada_tree::names::{Identifier, Path};
 
 impl<'t> Resolver<'t> {
     /// `P (..);` (6.4): an instance of Unchecked_Deallocation, or Put_Line. A text that it writes has this number.
@@ -33,7 +33,7 @@ impl<'t> Resolver<'t> {
         text: TextNo,
         notes: &mut Notes,
     ) -> Result<Option<Stmt>, NameFault>
-        ensures found { IfOk result (λ s. form_in s ≡ call_found (known_of self.now) text.0 (path_of procedure.now) (map argument_of arguments.now)) }
+        ensures found { IfOk result (λ s. stmt_in s ≡ call_found (known_of self.now) text.0 (path_of procedure.now) (map argument_of arguments.now)) }
         ensures remark { OnOk result (notes.new ≡ noted (call_remark (known_of self.now) (path_of procedure.now) (map argument_of arguments.now)) notes.old) }
         ensures memory { IfErr result (λ e. e ≡ NameFault.NoMemory) }
     {
@@ -42,10 +42,6 @@ impl<'t> Resolver<'t> {
         if is_library_root(root.text) {
             let found = self.library_path(procedure, notes)?;
             return self.library_call(found, root.spot, arguments, text, notes);
-        }
-        if is_primitive(root.text) {
-            notes.note(root.spot, NameRule::NotInProfile);
-            return Ok(None);
         }
         self.own_call(root, procedure.selectors.is_empty(), arguments, notes)
     }
@@ -59,7 +55,7 @@ impl<'t> Resolver<'t> {
         text: TextNo,
         notes: &mut Notes,
     ) -> Result<Option<Stmt>, NameFault>
-        ensures found { IfOk result (λ s. form_in s ≡ library_call_found found (known_of self.now) text.0 (map argument_of arguments.now)) }
+        ensures found { IfOk result (λ s. stmt_in s ≡ library_call_found found (known_of self.now) text.0 (map argument_of arguments.now)) }
         ensures remark { OnOk result (notes.new ≡ noted (library_call_remark found (known_of self.now) called (map argument_of arguments.now)) notes.old) }
         ensures memory { IfErr result (λ e. e ≡ NameFault.NoMemory) }
     {
@@ -81,7 +77,7 @@ impl<'t> Resolver<'t> {
         arguments: &[Argument<'t>],
         notes: &mut Notes,
     ) -> Result<Option<Stmt>, NameFault>
-        ensures found { IfOk result (λ s. form_in s ≡ own_call_found (visible (known_of self.now) name.entry.text.now) alone (known_of self.now) (map argument_of arguments.now)) }
+        ensures found { IfOk result (λ s. stmt_in s ≡ own_call_found (visible (known_of self.now) name.entry.text.now) alone (known_of self.now) (map argument_of arguments.now)) }
         ensures remark { OnOk result (notes.new ≡ noted (own_call_remark (visible (known_of self.now) name.entry.text.now) alone (known_of self.now) (ident_of name.entry) (map argument_of arguments.now)) notes.old) }
         ensures memory { IfErr result (λ e. e ≡ NameFault.NoMemory) }
     {
@@ -110,7 +106,7 @@ impl<'t> Resolver<'t> {
         arguments: &[Argument<'t>],
         notes: &mut Notes,
     ) -> Result<Option<Stmt>, NameFault>
-        ensures found { IfOk result (λ s. form_in s ≡ free_found (known_of self.now) access (map argument_of arguments.now)) }
+        ensures found { IfOk result (λ s. stmt_in s ≡ free_found (known_of self.now) access (map argument_of arguments.now)) }
         ensures remark { OnOk result (notes.new ≡ noted (free_remark (known_of self.now) access called (map argument_of arguments.now)) notes.old) }
         ensures memory { IfErr result (λ e. e ≡ NameFault.NoMemory) }
     {
@@ -120,6 +116,7 @@ impl<'t> Resolver<'t> {
         };
         let done = self.actual(access, argument, notes)?;
         none_wanted(more, notes);
+        self.arguments(more, notes)?;
         Ok(done)
     }
 
@@ -130,7 +127,7 @@ impl<'t> Resolver<'t> {
         argument: &Argument<'t>,
         notes: &mut Notes,
     ) -> Result<Option<Stmt>, NameFault>
-        ensures found { IfOk result (λ s. form_in s ≡ actual_found (known_of self.now) access (argument_of argument.now)) }
+        ensures found { IfOk result (λ s. stmt_in s ≡ actual_found (known_of self.now) access (argument_of argument.now)) }
         ensures remark { OnOk result (notes.new ≡ noted (actual_remark (known_of self.now) access (argument_of argument.now)) notes.old) }
         ensures memory { IfErr result (λ e. e ≡ NameFault.NoMemory) }
     {
@@ -145,14 +142,14 @@ impl<'t> Resolver<'t> {
     }
 
     /// The expression is a path.
-    #[tactic(auto, using(std::proofs::lemmas::Grind::common_steps, ada_grammar::specs::ExpressionView::tree_rules, crate::proofs::Actuals::linked_found, crate::proofs::Actuals::linked_remark), unfolding(crate::specs::Expressions::expression_remark))]
+    #[tactic(auto, using(std::proofs::lemmas::Grind::common_steps, ada_tree::specs::ExpressionView::tree_rules, crate::proofs::Actuals::linked_found, crate::proofs::Actuals::linked_remark), unfolding(crate::specs::Expressions::expression_remark))]
     fn actual_value(
         &self,
         access: TypeNo,
         value: &Expression<'t>,
         notes: &mut Notes,
     ) -> Result<Option<Stmt>, NameFault>
-        ensures found { IfOk result (λ s. form_in s ≡ actual_found (known_of self.now) access (expression_argument (expression_of value.now))) }
+        ensures found { IfOk result (λ s. stmt_in s ≡ actual_found (known_of self.now) access (expression_argument (expression_of value.now))) }
         ensures remark { OnOk result (notes.new ≡ noted (actual_remark (known_of self.now) access (expression_argument (expression_of value.now))) notes.old) }
         ensures memory { IfErr result (λ e. e ≡ NameFault.NoMemory) }
     {
@@ -188,9 +185,9 @@ impl<'t> Resolver<'t> {
     }
 }
 
-/// The object that is freed: a declared object of the instance's access type.
+/// What is freed: what a variable of the instance's access type gives access to.
 fn freed(access: TypeNo, meant: Meant, spot: Spot, notes: &mut Notes) -> Option<Stmt>
-    ensures found { form_in result ≡ freeing access (meant_of meant) }
+    ensures found { stmt_in result ≡ freeing access (meant_of meant) }
     ensures remark { notes.new ≡ noted (freed_wanted access (meant_of meant) spot) notes.old }
 {
     match meant {

@@ -1,7 +1,7 @@
 //! Resolution of declarations, in order, up to `begin` (3.1).
 
 ghost use Rattle.std.specs.Prelude.{◌≡◌, map};
-ghost use Rattle.ada_grammar.specs.StatementView.{declaration_of, declarations_of};
+ghost use Rattle.ada_tree.specs.StatementView.{declaration_of, declarations_of};
 ghost use Rattle.ada_resolve.specs.Known.{Named};
 ghost use Rattle.ada_resolve.specs.Resolution.{declaration_told, declarations_told, some_incomplete, entity_in, is_incomplete, begin_remark, at_begin};
 ghost use Rattle.ada_resolve.specs.Remark.{wrong, noted};
@@ -14,8 +14,8 @@ use crate::notes::Notes;
 use crate::resolver::Resolver;
 use crate::scope::Entity;
 use crate::spots::declaration_spot;
-use ada_grammar::declarations::Declaration;
-use ada_tree::Spot;
+use ada_program::Spot;
+use ada_tree::declarations::Declaration;
 
 impl<'t> Resolver<'t> {
     /// The declarations, in order.
@@ -33,7 +33,7 @@ impl<'t> Resolver<'t> {
     }
 
     /// One declaration.
-    #[tactic(auto, using(std::proofs::lemmas::Grind::common_steps, ada_grammar::specs::StatementView::statement_rules))]
+    #[tactic(auto, using(std::proofs::lemmas::Grind::common_steps, ada_tree::specs::StatementView::statement_rules))]
     fn declaration(
         &mut self,
         declaration: &Declaration<'t>,

@@ -1,8 +1,8 @@
 //! Expressions (4.4).
 
 ghost use Rattle.std.specs.Prelude.{◌≡◌, IfOk, OnOk, IfErr};
-ghost use Rattle.ada_grammar.specs.ExpressionView.{expression_of};
-ghost use Rattle.ada_grammar.specs.Expressions.{unary_expression};
+ghost use Rattle.ada_tree.specs.ExpressionView.{expression_of};
+ghost use Rattle.ada_tree.specs.Expressions.{unary_expression};
 ghost use Rattle.ada_resolve.specs.Chains.{links_meant, links_remark, nodes_remark};
 ghost use Rattle.ada_resolve.specs.Expressions.{expression_meant, expression_remark};
 ghost use Rattle.ada_resolve.specs.Remark.{noted};
@@ -15,14 +15,14 @@ use crate::operators::{binary_meant, operand_wanted, operands_wanted, unary_mean
 use crate::resolver::Resolver;
 use crate::spots::expression_spot;
 use crate::statics::integer;
-use ada_grammar::expressions::{Expression, Link};
-use ada_grammar::operators::UnaryOperator;
-use ada_tree::{Spot, program};
+use ada_program::{Spot, program};
+use ada_tree::expressions::{Expression, Link};
+use ada_values::operator::UnaryOperator;
 
 impl<'t> Resolver<'t> {
     /// What an expression means, with what is wrong with it noted.
     #[cycle(expression)]
-    #[tactic(auto, using(std::proofs::lemmas::Grind::common_steps, ada_grammar::specs::ExpressionView::tree_rules, ada_tree::specs::Form::expression_rules, crate::proofs::Chains::linked_meant, crate::proofs::Chains::linked_noted), unfolding(crate::specs::Expressions::expression_meant, crate::specs::Expressions::expression_remark))]
+    #[tactic(auto, using(std::proofs::lemmas::Grind::common_steps, ada_tree::specs::ExpressionView::tree_rules, ada_program::specs::Form::expression_rules, crate::proofs::Chains::linked_meant, crate::proofs::Chains::linked_noted), unfolding(crate::specs::Expressions::expression_meant, crate::specs::Expressions::expression_remark))]
     pub(crate) fn expression(
         &self,
         expression: &Expression<'t>,

@@ -2,7 +2,7 @@
 
 ghost use Rattle.std.specs.Prelude.{◌≡◌};
 
-use ada_tree::Spot;
+use ada_program::Spot;
 use std::alloc::{AllocError, AllocFailed};
 use thiserror::Error;
 

@@ -1,24 +1,25 @@
 //! Resolution of instances of Unchecked_Deallocation (12.3, 13.11.2).
 
 ghost use Rattle.std.specs.Prelude.{◌≡◌, map, OnOk, IfErr, ◌++◌, ◌∷◌, []};
-ghost use Rattle.ada_grammar.specs.Names.{ident_of, name_of};
-ghost use Rattle.ada_tree.specs.Form.{Elaboration, collects, elaboration_of};
-ghost use Rattle.ada_tree.specs.ProgramForm.{type_form};
+ghost use Rattle.ada_tree.specs.Names.{ident_of, name_of};
+ghost use Rattle.ada_program.specs.Form.{DeclarationForm, collects, declaration_form};
+ghost use Rattle.ada_program.specs.ProgramForm.{type_form};
 ghost use Rattle.ada_resolve.specs.Known.{visible};
 ghost use Rattle.ada_resolve.specs.Remark.{noted};
 ghost use Rattle.ada_resolve.specs.Resolution.{settled};
 ghost use Rattle.ada_resolve.specs.Types.{record_found, designates};
-ghost use Rattle.ada_resolve.specs.Instances.{designates_if_known, freed_found, freed_remark, is_collected, one_instance, complete_wanted, generic_remark, instance_remark, instance_known};
+ghost use Rattle.ada_resolve.specs.Instances.{access_type_in, designates_if_known, freed_found, freed_remark, is_collected, one_instance, complete_wanted, generic_remark, instance_remark, instance_known};
 ghost use Rattle.ada_resolve.specs.View.{known_of, Tells};
 
+use crate::components::KnownType;
 use crate::fault::{NameFault, NameRule};
 use crate::library::{LibraryName, is_library_root};
 use crate::notes::Notes;
 use crate::resolver::Resolver;
 use crate::scope::Entity;
-use ada_grammar::names::{Identifier, Name};
-use ada_tree::program::{Declaration, TypeDefinition};
-use ada_tree::{Spot, TypeNo};
+use ada_program::program::Declaration;
+use ada_program::{Spot, TypeNo};
+use ada_tree::names::{Identifier, Name};
 
 /// An instance as it is written: `procedure Free is new .. (T, A);`
 #[derive(Clone, Copy)]
@@ -69,7 +70,7 @@ impl<'t> Resolver<'t> {
         let record = self.record_name(written.object, notes);
         self.complete(written.object, notes);
         let freed = self.access_name(written.access, record, notes);
-        self.one_instance(freed, spot, notes);
+        self.one_instance(self.access_type_of(written.access), spot, notes);
         notes.settle()?;
         let Some(number) = freed else {
             return Ok(());
@@ -103,11 +104,21 @@ impl<'t> Resolver<'t> {
         }
     }
 
-    /// An access type has one instance at most.
-    fn one_instance(&self, freed: Option<TypeNo>, spot: Spot, notes: &mut Notes)
-        ensures { notes.new ≡ noted (one_instance freed (known_of self.now).elaborated spot) notes.old }
+    /// The access type that a name stands for.
+    fn access_type_of(&self, name: Identifier<'t>) -> Option<TypeNo>
+        ensures { result ≡ access_type_in (visible (known_of self.now) name.entry.text.now) }
     {
-        if let Some(number) = freed {
+        match self.visible(name.text) {
+            Some(Entity::Access(number)) => Some(number),
+            _ => None,
+        }
+    }
+
+    /// An access type has one instance at most.
+    fn one_instance(&self, access: Option<TypeNo>, spot: Spot, notes: &mut Notes)
+        ensures { notes.new ≡ noted (one_instance access (known_of self.now).elaborated spot) notes.old }
+    {
+        if let Some(number) = access {
             notes.note_if(self.is_collected(number), spot, NameRule::Layout);
         }
     }
@@ -157,7 +168,7 @@ impl<'t> Resolver<'t> {
     {
         match self.types.get(access.0) {
             Some(
-                TypeDefinition::Access {
+                KnownType::Access {
                     name: _,
                     designated,
                 },

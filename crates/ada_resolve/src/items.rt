@@ -1,27 +1,29 @@
 //! Resolution of the items of aggregates (4.3.1).
 
-ghost use Rattle.std.specs.Prelude.{◌≡◌, ◌+◌, ◌<◌, map, is_some, IfOk, OnOk, IfErr};
+ghost use Rattle.std.specs.Prelude.{◌≡◌, ◌+◌, ◌<◌, map, length, is_some, option_copied, IfOk, OnOk, IfErr};
 ghost use Rattle.std.specs.List.{list_all, slice_set};
 ghost use Rattle.std.proofs.Math.ListN.{replicate};
-ghost use Rattle.ada_grammar.specs.ExpressionView.{expression_of, items_of};
-ghost use Rattle.ada_grammar.specs.Names.{optional_ident_of};
-ghost use Rattle.ada_tree.specs.Form.{item_form};
-ghost use Rattle.ada_tree.specs.ProgramForm.{component_form};
+ghost use Rattle.ada_tree.specs.ExpressionView.{expression_of, items_of};
+ghost use Rattle.ada_tree.specs.Names.{optional_ident_of};
+ghost use Rattle.ada_program.specs.Form.{item_form};
 ghost use Rattle.ada_resolve.specs.Allocators.{filled_components};
 ghost use Rattle.ada_resolve.specs.Items.{after_item, component_for, count_remark, filled_for, filling_of, first_filling, fits_remark, for_remark, is_filled, item_meant, item_or_null, item_remark, item_spot, items_remark, names_component, no_component, null_wanted};
+ghost use Rattle.ada_resolve.specs.Kept.{forms_in};
+ghost use Rattle.ada_resolve.specs.Paths.{components_of};
 ghost use Rattle.ada_resolve.specs.Remark.{noted};
 ghost use Rattle.ada_resolve.specs.View.{filling_in, item_in, known_of, meant_of};
 
+use crate::components::Components;
 use crate::fault::{NameFault, NameRule};
+use crate::library::no_component_rule;
 use crate::meant::Meant;
 use crate::notes::Notes;
-use crate::paths::component_named;
 use crate::resolver::Resolver;
 use crate::spots::expression_spot;
-use ada_grammar::expressions::Item;
-use ada_grammar::names::Identifier;
-use ada_tree::program::{self, Component, ComponentKind};
-use ada_tree::{Spot, TypeNo};
+use ada_program::program::{self, ComponentKind};
+use ada_program::{Spot, TypeNo};
+use ada_tree::expressions::Item;
+use ada_tree::names::Identifier;
 use std::alloc::Global;
 
 /// What is known before an item of an aggregate.
@@ -61,15 +63,25 @@ impl<'t> Resolver<'t> {
         ensures filling { IfOk result (λ f. filling_in f ≡ first_filling (filled_components (known_of self.now) found)) }
         ensures memory { IfErr result (λ e. e ≡ NameFault.NoMemory) }
     {
-        let components = match found {
-            Some(number) => self.components_of(number),
-            None => &[],
+        let count = match found {
+            Some(number) => self.component_count(number),
+            None => 0,
         };
         Ok(Filling {
             count: 0,
-            slots: empty_slots(self.alloc, components.len())?,
+            slots: empty_slots(self.alloc, count)?,
             whole: found.is_some(),
         })
+    }
+
+    /// How many components a record type has.
+    fn component_count(&self, number: TypeNo) -> usize
+        ensures { result ≡ length (components_of (known_of self.now).types number.0) }
+    {
+        match self.components_of(number) {
+            Some(components) => components.count(),
+            None => 0,
+        }
     }
 
     /// One item.
@@ -167,6 +179,7 @@ impl Filling {
     {
         if !is_named && self.count == 1 {
             notes.note(spot, NameRule::NotInProfile);
+            notes.note_if(self.slots.len() > 1, spot, NameRule::WrongType);
         } else {
             notes.note_if(self.whole && !self.is_full(), spot, NameRule::WrongType);
         }
@@ -225,17 +238,16 @@ fn item_spot(item: &Item<'_>) -> Spot
 }
 
 /// The component that an item is for: that of its name, or the one at its place.
-#[tactic(auto, using(crate::proofs::Names::map_get))]
-fn component_for(
-    components: &[Component],
-    label: Option<Identifier<'_>>,
+fn component_for<'t>(
+    components: Option<&Components<'t>>,
+    label: Option<Identifier<'t>>,
     at: usize,
 ) -> Option<(usize, ComponentKind)>
-    ensures { result ≡ component_for (map component_form components.now) (optional_ident_of label.entry) at }
+    ensures { result ≡ component_for (forms_in (option_copied components.entry)) (optional_ident_of label.entry) at }
 {
     match label {
-        Some(label) => component_named(label.text, components),
-        None => Some((at, components.get(at)?.kind)),
+        Some(label) => components?.named(label.text),
+        None => components?.at(at),
     }
 }
 
@@ -244,7 +256,7 @@ fn no_component(item: &Item<'_>, notes: &mut Notes)
     ensures { notes.new ≡ noted (no_component (optional_ident_of item.now.label) (expression_of item.now.value)) notes.old }
 {
     match item.label {
-        Some(label) => notes.note(label.spot, NameRule::UnknownName),
+        Some(label) => notes.note(label.spot, no_component_rule(label.text)),
         None => notes.note(expression_spot(&item.value), NameRule::WrongType),
     }
 }

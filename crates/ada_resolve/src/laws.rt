@@ -1,14 +1,20 @@
 //! The laws of resolution. Each is a function that does nothing, and whose contract is the theorem.
 
-ghost use Rattle.ada_grammar.specs.Statements.{UnitTree};
-ghost use Rattle.ada_tree.specs.ProgramForm.{ProgramForm};
-ghost use Rattle.ada_tree.specs.WellFormed.{IsWellFormed};
+ghost use Rattle.ada_tree.specs.Statements.{UnitTree};
+ghost use Rattle.ada_program.specs.ProgramForm.{ProgramForm};
+ghost use Rattle.ada_program.specs.WellFormed.{IsWellFormed};
 ghost use Rattle.ada_resolve.specs.First.{NotesTheFirst};
+ghost use Rattle.ada_resolve.specs.Reading.{IsReadAs};
 ghost use Rattle.ada_resolve.specs.Resolution.{Resolves};
 
 /// The program that a tree means is well formed.
 pub fn programs_are_well_formed()
     ensures { (tree : UnitTree) (program : ProgramForm) → Resolves tree program → IsWellFormed program }
+{}
+
+/// The statements of the program that a tree means are those of the tree, name by name.
+pub fn programs_are_read_as_written()
+    ensures { (tree : UnitTree) (program : ProgramForm) → Resolves tree program → IsReadAs tree program }
 {}
 
 /// What is noted of a declaration or a statement, where nothing was wrong before it, is the first of the faults that are

@@ -4,6 +4,7 @@
 mod allocators;
 mod arguments;
 mod calls;
+mod components;
 mod declarations;
 mod expressions;
 mod fault;
@@ -25,8 +26,6 @@ mod scope;
 mod spots;
 mod statements;
 mod statics;
-#[cfg(test)]
-mod tests;
 mod types;
 
 pub use crate::fault::{NameFault, NameRule};

@@ -1,12 +1,12 @@
 //! The library's names, and those that are predefined.
 
 ghost use Rattle.std.specs.Prelude.{◌≡◌, map, [], ◌∷◌};
-ghost use Rattle.ada_grammar.specs.Names.{ident_of};
+ghost use Rattle.ada_tree.specs.Names.{ident_of};
 ghost use Rattle.ada_resolve.specs.Known.{is_with};
-ghost use Rattle.ada_resolve.specs.Library.{spelled, other_if, other_in_ada, in_ada, in_system, in_pools, in_input, library_name, is_library_root, is_primitive, unknown};
+ghost use Rattle.ada_resolve.specs.Library.{spelled, other_if, other_in_ada, in_ada, in_system, in_pools, in_input, library_name, is_library_root, is_primitive, missing_rule, no_component_rule};
 
 use crate::fault::NameRule;
-use ada_grammar::names::Identifier;
+use ada_tree::names::Identifier;
 
 /// What a name that begins with a library's root stands for.
 #[derive(Clone, Copy)]
@@ -198,11 +198,22 @@ pub(crate) fn is_primitive(text: &str) -> bool
 }
 
 /// The rule that a name breaks of which nothing is visible.
-#[tactic(auto, unfolding(crate::specs::Library::unknown))]
-pub(crate) fn unknown(text: &str) -> NameRule
-    ensures { result ≡ unknown text.now }
+#[tactic(auto, unfolding(crate::specs::Library::missing_rule))]
+pub(crate) fn missing_rule(text: &str) -> NameRule
+    ensures { result ≡ missing_rule text.now }
 {
-    if text == "ADA" || text == "SYSTEM" {
+    if is_primitive(text) || text == "ADA" || text == "SYSTEM" {
+        NameRule::NotInProfile
+    } else {
+        NameRule::UnknownName
+    }
+}
+
+/// The rule that a name breaks that no component has.
+pub(crate) fn no_component_rule(text: &str) -> NameRule
+    ensures { result ≡ no_component_rule text.now }
+{
+    if is_primitive(text) {
         NameRule::NotInProfile
     } else {
         NameRule::UnknownName

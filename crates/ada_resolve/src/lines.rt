@@ -1,19 +1,19 @@
 //! Resolution of what Put_Line writes (A.10.7).
 
 ghost use Rattle.std.specs.Prelude.{◌≡◌, map, IfOk, OnOk, IfErr};
-ghost use Rattle.ada_grammar.specs.ExpressionView.{argument_of};
+ghost use Rattle.ada_tree.specs.ExpressionView.{argument_of};
 ghost use Rattle.ada_resolve.specs.Lines.{line_remark, line_found, put_line_remark, put_line_found};
 ghost use Rattle.ada_resolve.specs.Remark.{noted};
-ghost use Rattle.ada_resolve.specs.View.{known_of, form_in};
+ghost use Rattle.ada_resolve.specs.View.{known_of, stmt_in};
 
 use crate::arguments::none_wanted;
 use crate::fault::{NameFault, NameRule};
 use crate::notes::Notes;
 use crate::resolver::Resolver;
 use crate::spots::expression_spot;
-use ada_grammar::expressions::Argument;
-use ada_tree::Spot;
-use ada_tree::program::{Stmt, TextNo};
+use ada_program::Spot;
+use ada_program::program::{Stmt, TextNo};
+use ada_tree::expressions::Argument;
 
 impl<'t> Resolver<'t> {
     /// `Ada.Text_IO.Put_Line (..);` where a text that it writes has this number.
@@ -25,7 +25,7 @@ impl<'t> Resolver<'t> {
         text: TextNo,
         notes: &mut Notes,
     ) -> Result<Option<Stmt>, NameFault>
-        ensures found { IfOk result (λ s. form_in s ≡ put_line_found (known_of self.now) text.0 (map argument_of arguments.now)) }
+        ensures found { IfOk result (λ s. stmt_in s ≡ put_line_found (known_of self.now) text.0 (map argument_of arguments.now)) }
         ensures remark { OnOk result (notes.new ≡ noted (put_line_remark (known_of self.now) called (map argument_of arguments.now)) notes.old) }
         ensures memory { IfErr result (λ e. e ≡ NameFault.NoMemory) }
     {
@@ -46,7 +46,7 @@ impl<'t> Resolver<'t> {
         text: TextNo,
         notes: &mut Notes,
     ) -> Result<Option<Stmt>, NameFault>
-        ensures found { IfOk result (λ s. form_in s ≡ line_found (known_of self.now) text.0 (argument_of argument.now)) }
+        ensures found { IfOk result (λ s. stmt_in s ≡ line_found (known_of self.now) text.0 (argument_of argument.now)) }
         ensures remark { OnOk result (notes.new ≡ noted (line_remark (known_of self.now) (argument_of argument.now)) notes.old) }
         ensures memory { IfErr result (λ e. e ≡ NameFault.NoMemory) }
     {

@@ -1,15 +1,15 @@
 //! What an expression means, where a value is wanted.
 
 ghost use Rattle.std.specs.Prelude.{◌≡◌};
-ghost use Rattle.ada_tree.specs.Form.{expression_form};
+ghost use Rattle.ada_program.specs.Form.{expression_form};
 ghost use Rattle.ada_resolve.specs.Operators.{integer_in, integer_wanted, boolean_in, boolean_wanted, is_access_value, scalar_in};
 ghost use Rattle.ada_resolve.specs.Remark.{noted};
 ghost use Rattle.ada_resolve.specs.View.{meant_of};
 
 use crate::fault::NameRule;
 use crate::notes::Notes;
-use ada_tree::program::Expression;
-use ada_tree::{Path, Spot, TypeNo};
+use ada_program::program::Expression;
+use ada_program::{Path, Spot, TypeNo};
 
 /// What an expression means (4.4).
 #[derive(Drop)]
@@ -60,7 +60,7 @@ impl Meant {
     }
 
     /// The Integer; 0 where it is none.
-    #[tactic(auto, using(std::proofs::lemmas::Grind::common_steps, ada_tree::specs::Form::expression_rules))]
+    #[tactic(auto, using(std::proofs::lemmas::Grind::common_steps, ada_program::specs::Form::expression_rules))]
     pub(crate) fn into_integer(self) -> Expression
         ensures { expression_form result ≡ integer_in (meant_of self) }
     {
@@ -71,7 +71,7 @@ impl Meant {
     }
 
     /// The Boolean; False where it is none.
-    #[tactic(auto, using(std::proofs::lemmas::Grind::common_steps, ada_tree::specs::Form::expression_rules))]
+    #[tactic(auto, using(std::proofs::lemmas::Grind::common_steps, ada_program::specs::Form::expression_rules))]
     pub(crate) fn into_boolean(self) -> Expression
         ensures { expression_form result ≡ boolean_in (meant_of self) }
     {
@@ -82,7 +82,7 @@ impl Meant {
     }
 
     /// The Integer or the Boolean; 0 where it is neither.
-    #[tactic(auto, using(std::proofs::lemmas::Grind::common_steps, ada_tree::specs::Form::expression_rules))]
+    #[tactic(auto, using(std::proofs::lemmas::Grind::common_steps, ada_program::specs::Form::expression_rules))]
     pub(crate) fn into_scalar(self) -> Expression
         ensures { expression_form result ≡ scalar_in (meant_of self) }
     {

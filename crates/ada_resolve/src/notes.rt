@@ -6,7 +6,7 @@ ghost use Rattle.ada_resolve.specs.Resolution.{no_notes};
 ghost use Rattle.ada_resolve.specs.View.{Settles};
 
 use crate::fault::{NameFault, NameRule};
-use ada_tree::Spot;
+use ada_program::Spot;
 
 /// The most declarations, components, statements and expressions of a program.
 const MOST_NODES: usize = 10_000;

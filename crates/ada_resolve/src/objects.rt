@@ -1,24 +1,25 @@
 //! Resolution of object declarations (3.3.1).
 
 ghost use Rattle.std.specs.Prelude.{◌≡◌, ◌++◌, ◌∷◌, [], map, length, not, IfOk, OnOk, IfErr};
-ghost use Rattle.ada_grammar.specs.ExpressionView.{optional_right_of};
-ghost use Rattle.ada_grammar.specs.Names.{ident_of, name_of};
-ghost use Rattle.ada_tree.specs.Form.{declares, elaboration_of};
+ghost use Rattle.ada_tree.specs.ExpressionView.{optional_right_of};
+ghost use Rattle.ada_tree.specs.Names.{ident_of, name_of};
+ghost use Rattle.ada_program.specs.Form.{declares, declaration_form};
 ghost use Rattle.ada_resolve.specs.Known.{is_empty};
 ghost use Rattle.ada_resolve.specs.Objects.{type_in, object_type_found, object_type_remark, kind_of, initial_found, initial_remark, initial_wanted, object_remark, object_known, object_created, initial_source, after_types, collections_of};
 ghost use Rattle.ada_resolve.specs.Remark.{noted};
 ghost use Rattle.ada_resolve.specs.Resolution.{settled};
-ghost use Rattle.ada_resolve.specs.View.{known_of, source_in, Tells};
+ghost use Rattle.ada_resolve.specs.View.{known_of, right_in, Tells};
 
+use crate::components::KnownType;
 use crate::fault::{NameFault, NameRule};
 use crate::library::is_library_root;
 use crate::notes::Notes;
 use crate::resolver::Resolver;
 use crate::scope::Entity;
-use ada_grammar::expressions;
-use ada_grammar::names::{Identifier, Name};
-use ada_tree::program::{self, Declaration, Object, ObjectKind, TypeDefinition};
-use ada_tree::{PlaceNo, TypeNo};
+use ada_program::program::{self, Declaration, Variable, VariableKind};
+use ada_program::{TypeNo, VariableNo};
+use ada_tree::expressions;
+use ada_tree::names::{Identifier, Name};
 
 impl<'t> Resolver<'t> {
     /// `X : T := ..;` (3.3.1)
@@ -48,42 +49,46 @@ impl<'t> Resolver<'t> {
     fn create(
         &mut self,
         name: Identifier<'t>,
-        kind: ObjectKind,
+        kind: VariableKind,
         value: Option<program::Right>,
     ) -> Result<(), NameFault>
-        ensures known { OnOk result (known_of self.new ≡ object_created (known_of self.old) (ident_of name.entry) (Some kind) (source_in value)) }
+        ensures known { OnOk result (known_of self.new ≡ object_created (known_of self.old) (ident_of name.entry) (Some kind) (right_in value)) }
         ensures memory { IfErr result (λ e. e ≡ NameFault.NoMemory) }
     {
-        let place = self.add_object(name, kind)?;
-        self.add_elaboration(place, value)?;
-        self.declare(name.text, Entity::Object { place, kind })
+        let variable = self.add_variable(name, kind)?;
+        self.add_elaboration(variable, value)?;
+        self.declare(name.text, Entity::Variable { variable, kind })
     }
 
     /// One more object.
     #[tactic(auto, unfolding(crate::specs::View::known_of), using(crate::proofs::Names::map_snoc))]
-    fn add_object(&mut self, name: Identifier<'t>, kind: ObjectKind) -> Result<PlaceNo, NameFault>
-        ensures known { OnOk result (known_of self.new ≡ record (known_of self.old) { objects = (known_of self.old).objects ++ record { name = name.entry.text.now; kind = kind } ∷ [] }) }
-        ensures place { IfOk result (λ p. p ≡ record { 0 = length (known_of self.old).objects }) }
+    fn add_variable(
+        &mut self,
+        name: Identifier<'t>,
+        kind: VariableKind,
+    ) -> Result<VariableNo, NameFault>
+        ensures known { OnOk result (known_of self.new ≡ record (known_of self.old) { variables = (known_of self.old).variables ++ record { name = name.entry.text.now; kind = kind } ∷ [] }) }
+        ensures variable { IfOk result (λ p. p ≡ record { 0 = length (known_of self.old).variables }) }
         ensures memory { IfErr result (λ e. e ≡ NameFault.NoMemory) }
     {
-        let place = PlaceNo(self.objects.len());
+        let variable = VariableNo(self.variables.len());
         let text = String::from_str(self.alloc, name.text)?;
-        self.objects.push(Object { name: text, kind })?;
-        Ok(place)
+        self.variables.push(Variable { name: text, kind })?;
+        Ok(variable)
     }
 
     /// An object is created with its initial value.
     #[tactic(auto, unfolding(crate::specs::View::known_of), using(crate::proofs::Names::map_snoc, crate::proofs::Names::initial_same))]
     fn add_elaboration(
         &mut self,
-        place: PlaceNo,
+        variable: VariableNo,
         initial: Option<program::Right>,
     ) -> Result<(), NameFault>
-        ensures known { OnOk result (known_of self.new ≡ record (known_of self.old) { elaborated = (known_of self.old).elaborated ++ declares place.0 (initial_source (source_in initial)) ∷ [] }) }
+        ensures known { OnOk result (known_of self.new ≡ record (known_of self.old) { elaborated = (known_of self.old).elaborated ++ declares variable.0 (initial_source (right_in initial)) ∷ [] }) }
         ensures memory { IfErr result (λ e. e ≡ NameFault.NoMemory) }
     {
         self.declarations
-            .push(Declaration::Object { place, initial })?;
+            .push(Declaration::Variable { variable, initial })?;
         Ok(())
     }
 
@@ -91,10 +96,10 @@ impl<'t> Resolver<'t> {
     fn initial(
         &self,
         initial: &Option<expressions::Right<'t>>,
-        kind: Option<ObjectKind>,
+        kind: Option<VariableKind>,
         notes: &mut Notes,
     ) -> Result<Option<program::Right>, NameFault>
-        ensures found { IfOk result (λ v. source_in v ≡ initial_found (known_of self.now) kind (optional_right_of initial.now)) }
+        ensures found { IfOk result (λ v. right_in v ≡ initial_found (known_of self.now) kind (optional_right_of initial.now)) }
         ensures remark { OnOk result (notes.new ≡ noted (initial_remark (known_of self.now) kind (optional_right_of initial.now)) notes.old) }
         ensures memory { IfErr result (λ e. e ≡ NameFault.NoMemory) }
     {
@@ -148,20 +153,20 @@ impl<'t> Resolver<'t> {
     /// Whether an object is declared.
     #[tactic(auto, unfolding(crate::specs::View::known_of))]
     fn has_objects(&self) -> bool
-        ensures { is_empty (known_of self.now).objects ≡ not result }
+        ensures { is_empty (known_of self.now).variables ≡ not result }
     {
-        !self.objects.is_empty()
+        !self.variables.is_empty()
     }
 
     /// The collections of the access types that have none yet, in text order.
     #[tactic(auto, unfolding(crate::specs::View::known_of))]
     fn collections(&self) -> Result<Vec<Declaration>, NameFault>
-        ensures made { IfOk result (λ v. map elaboration_of v.items ≡ collections_of 0 (known_of self.now).types (known_of self.now).elaborated) }
+        ensures made { IfOk result (λ v. map declaration_form v.items ≡ collections_of 0 (known_of self.now).types (known_of self.now).elaborated) }
         ensures memory { IfErr result (λ e. e ≡ NameFault.NoMemory) }
     {
         let mut made = Vec::new(self.alloc);
         for (i, definition) in self.types.iter().enumerate() {
-            if let TypeDefinition::Access { .. } = definition
+            if let KnownType::Access { .. } = definition
                 && !self.is_collected(TypeNo(i))
             {
                 made.push(Declaration::Collection(TypeNo(i)))?;
@@ -173,7 +178,7 @@ impl<'t> Resolver<'t> {
     /// These collections are created.
     #[tactic(auto, unfolding(crate::specs::View::known_of), using(crate::proofs::Names::map_append))]
     fn add_collections(&mut self, collections: Vec<Declaration>) -> Result<(), NameFault>
-        ensures known { OnOk result (known_of self.new ≡ record (known_of self.old) { elaborated = (known_of self.old).elaborated ++ map elaboration_of collections.items }) }
+        ensures known { OnOk result (known_of self.new ≡ record (known_of self.old) { elaborated = (known_of self.old).elaborated ++ map declaration_form collections.items }) }
         ensures memory { IfErr result (λ e. e ≡ NameFault.NoMemory) }
     {
         let mut collections = collections;
@@ -193,13 +198,13 @@ fn type_in(found: Entity) -> Option<Entity>
 }
 
 /// What an object of a type holds: no record object is in use.
-fn kind_of(found: Option<Entity>) -> Option<ObjectKind>
+fn kind_of(found: Option<Entity>) -> Option<VariableKind>
     ensures { result ≡ kind_of found }
 {
     match found? {
-        Entity::Integer => Some(ObjectKind::Integer),
-        Entity::Boolean => Some(ObjectKind::Boolean),
-        Entity::Access(access) => Some(ObjectKind::Access(access)),
+        Entity::Integer => Some(VariableKind::Integer),
+        Entity::Boolean => Some(VariableKind::Boolean),
+        Entity::Access(access) => Some(VariableKind::Access(access)),
         _ => None,
     }
 }

@@ -1,7 +1,7 @@
 //! Operators with their operands: what they mean, and what is wrong with these (4.5).
 
 ghost use Rattle.std.specs.Prelude.{◌≡◌, IfOk, IfErr};
-ghost use Rattle.ada_tree.specs.Form.{a_link, chained, expression_form, no_more_links};
+ghost use Rattle.ada_program.specs.Form.{a_link, chained, expression_form, no_more_links};
 ghost use Rattle.ada_resolve.specs.Operators.{are_apart, binary_meant, equal_wanted, integer_in, is_access_value, joined, operand_remark, operands_remark, unary_meant};
 ghost use Rattle.ada_resolve.specs.Remark.{noted};
 ghost use Rattle.ada_resolve.specs.View.{meant_of};
@@ -9,13 +9,13 @@ ghost use Rattle.ada_resolve.specs.View.{meant_of};
 use crate::fault::{NameFault, NameRule};
 use crate::meant::Meant;
 use crate::notes::Notes;
-use ada_grammar::operators::{BinaryOperator, UnaryOperator};
-use ada_tree::Spot;
-use ada_tree::program::{Expression, Link};
+use ada_program::Spot;
+use ada_program::program::{Expression, Link};
+use ada_values::operator::{BinaryOperator, UnaryOperator};
 use std::alloc::Global;
 
 /// What an operator means with its one operand (4.5.4, 4.5.6).
-#[tactic(auto, using(std::proofs::lemmas::Grind::common_steps, ada_tree::specs::Form::expression_rules))]
+#[tactic(auto, using(std::proofs::lemmas::Grind::common_steps, ada_program::specs::Form::expression_rules))]
 pub(crate) fn unary_meant(
     alloc: Global,
     operator: UnaryOperator,
@@ -90,7 +90,7 @@ fn of_integers(
 }
 
 /// An operator with its operands: a chain goes on.
-#[tactic(auto, using(std::proofs::lemmas::Grind::common_steps, ada_tree::specs::Form::expression_rules, crate::proofs::Chains::links_snoc))]
+#[tactic(auto, using(std::proofs::lemmas::Grind::common_steps, ada_program::specs::Form::expression_rules, crate::proofs::Chains::links_snoc))]
 fn joined(
     alloc: Global,
     left: Expression,
@@ -108,14 +108,13 @@ fn joined(
         }
         Expression::Integer(_)
         | Expression::Boolean(_)
-        | Expression::Object(_)
-        | Expression::Component { .. }
+        | Expression::Path(_)
         | Expression::Unary { .. } => chain(alloc, left, link),
     }
 }
 
 /// A chain of one operator.
-#[tactic(auto, using(std::proofs::lemmas::Grind::common_steps, ada_tree::specs::Form::expression_rules))]
+#[tactic(auto, using(std::proofs::lemmas::Grind::common_steps, ada_program::specs::Form::expression_rules))]
 fn chain(alloc: Global, first: Expression, link: Link) -> Result<Expression, NameFault>
     ensures found { IfOk result (λ e. expression_form e ≡ chained (expression_form first) (a_link link.operator (expression_form link.operand) no_more_links)) }
     ensures memory { IfErr result (λ e. e ≡ NameFault.NoMemory) }

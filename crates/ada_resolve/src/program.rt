@@ -1,29 +1,30 @@
 //! From the tree to the program: what each name stands for, and whether each form has the types that it wants.
 
-ghost use Rattle.std.specs.Prelude.{◌≡◌, false, map, IfOk, IfErr};
+ghost use Rattle.std.specs.Prelude.{◌≡◌, false, [], map, IfOk, IfErr};
 ghost use Rattle.std.specs.String.{string_bytes};
-ghost use Rattle.ada_grammar.specs.Declarations.{clause_of};
-ghost use Rattle.ada_grammar.specs.Names.{ident_of, optional_ident_of, name_of};
-ghost use Rattle.ada_grammar.specs.StatementView.{handler_of, unit_of};
-ghost use Rattle.ada_grammar.specs.Statements.{handlers_from};
-ghost use Rattle.ada_tree.specs.ProgramForm.{program_form};
-ghost use Rattle.ada_tree.specs.WellFormed.{IsWellFormed};
+ghost use Rattle.ada_tree.specs.Declarations.{clause_of};
+ghost use Rattle.ada_tree.specs.Names.{ident_of, optional_ident_of, name_of};
+ghost use Rattle.ada_tree.specs.StatementView.{handler_of, unit_of};
+ghost use Rattle.ada_tree.specs.Statements.{handlers_from};
+ghost use Rattle.ada_program.specs.ProgramForm.{program_form};
+ghost use Rattle.ada_program.specs.WellFormed.{IsWellFormed};
 ghost use Rattle.ada_resolve.specs.Library.{library_name};
 ghost use Rattle.ada_resolve.specs.Remark.{noted};
-ghost use Rattle.ada_resolve.specs.Resolution.{with_unit, units_of, clause_told, clauses_told, procedure_remark, unhandled, same_name, program_of, Resolves};
-ghost use Rattle.ada_resolve.specs.View.{known_of, forms_in, same_units, Answers, Tells, Faults};
+ghost use Rattle.ada_resolve.specs.Resolution.{with_unit, units_of, clause_told, clauses_told, procedure_from, procedure_remark, unhandled, same_name, program_of, Resolves};
+ghost use Rattle.ada_resolve.specs.View.{known_of, statements_in, same_units, Answers, Tells, Faults};
 
+use crate::components::definitions;
 use crate::fault::{NameFault, NameRule};
 use crate::laws::programs_are_well_formed;
 use crate::library::{LibraryName, Withs, is_primitive, library_name};
 use crate::notes::Notes;
 use crate::resolver::Resolver;
 use crate::scope::is_taken;
-use ada_grammar::names::{Identifier, Name};
-use ada_grammar::statements::Handler;
-use ada_grammar::unit::{Clause, Unit};
-use ada_tree::program::Stmt;
-use ada_tree::{Program, Spot};
+use ada_program::program::Stmt;
+use ada_program::{Program, Spot};
+use ada_tree::names::{Identifier, Name};
+use ada_tree::statements::Handler;
+use ada_tree::unit::{Clause, Unit};
 use std::alloc::Global;
 
 /// The program of a tree, which is well formed.
@@ -37,27 +38,40 @@ pub fn resolve(alloc: Global, unit: &Unit<'_>) -> Result<Program, NameFault>
     ensures well_formed { IfOk result (λ p. IsWellFormed (program_form p)) }
 {
     programs_are_well_formed();
-    resolved(alloc, unit)
+    whole_program(alloc, unit)
 }
 
 /// The program of a tree, from its parts in order.
-#[tactic(auto, using(crate::proofs::Views::body_view, crate::proofs::Views::begin_view))]
-fn resolved(alloc: Global, unit: &Unit<'_>) -> Result<Program, NameFault>
+fn whole_program(alloc: Global, unit: &Unit<'_>) -> Result<Program, NameFault>
     ensures resolves { IfOk result (λ p. Resolves (unit_of unit.now) (program_form p)) }
     ensures first { IfErr result (λ e. Faults e (unit_of unit.now)) }
 {
     let withs = library_units(&unit.clauses)?;
+    let mut resolver = Resolver::new(alloc, withs, unit.name.text);
+    let mut texts = Vec::new(alloc);
+    let statements = procedure(&mut resolver, unit, &mut texts)?;
+    assemble(resolver, texts, statements)
+}
+
+/// The statements of the procedure, behind its name and its declarations; and its end. The texts that they write are added.
+#[tactic(auto, using(crate::proofs::Views::body_view, crate::proofs::Views::begin_view))]
+fn procedure<'t>(
+    resolver: &mut Resolver<'t>,
+    unit: &Unit<'t>,
+    texts: &mut Vec<String>,
+) -> Result<Vec<Stmt>, NameFault>
+    requires { texts.old.items ≡ [] }
+    ensures { Answers result (λ ss. program_of (known_of resolver.new) (map string_bytes texts.new.items) (statements_in ss)) (procedure_from (unit_of unit.now) (known_of resolver.old)) }
+{
     let mut notes = Notes::new();
     procedure_name(unit.name, unit.spot, &mut notes);
     notes.settle()?;
-    let mut resolver = Resolver::new(alloc, withs, unit.name.text);
     resolver.declarations(&unit.declarations, &mut notes)?;
     resolver.begin(unit.body.begin, &mut notes)?;
-    let mut texts = Vec::new(alloc);
-    let statements = resolver.statements(&unit.body.statements, &mut texts, &mut notes)?;
+    let statements = resolver.statements(&unit.body.statements, texts, &mut notes)?;
     no_handlers(&unit.body.handlers)?;
     same_name(unit.name, unit.end_name)?;
-    Ok(finished(resolver, texts, statements))
+    Ok(statements)
 }
 
 /// The library units of the `with` clauses: each is one that is in use.
@@ -149,23 +163,29 @@ fn same_name(name: Identifier<'_>, last: Option<Identifier<'_>>) -> Result<(), N
 
 /// The program of what is resolved.
 #[tactic(auto, unfolding(crate::specs::View::known_of))]
-fn finished(resolver: Resolver<'_>, texts: Vec<String>, statements: Vec<Stmt>) -> Program
-    ensures { program_form result ≡ program_of (known_of resolver.entry) (map string_bytes texts.items) (forms_in statements) }
+fn assemble(
+    resolver: Resolver<'_>,
+    texts: Vec<String>,
+    statements: Vec<Stmt>,
+) -> Result<Program, NameFault>
+    ensures made { IfOk result (λ p. program_form p ≡ program_of (known_of resolver.entry) (map string_bytes texts.items) (statements_in statements)) }
+    ensures memory { IfErr result (λ e. e ≡ NameFault.NoMemory) }
 {
+    let types = definitions(resolver.alloc, &resolver.types)?;
     let Resolver {
         alloc: _,
         withs: _,
         procedure: _,
         names: _,
-        types,
-        objects,
+        types: _,
+        variables,
         declarations,
     } = resolver;
-    Program {
+    Ok(Program {
         types,
-        objects,
+        variables,
         texts,
         declarations,
         statements,
-    }
+    })
 }

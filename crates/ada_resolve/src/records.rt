@@ -1,9 +1,9 @@
 //! Resolution of record types (3.8).
 
-ghost use Rattle.std.specs.Prelude.{◌≡◌, ◌==◌, map, IfOk, IfErr, OnOk, ◌++◌, []};
-ghost use Rattle.ada_grammar.specs.Names.{ident_of};
-ghost use Rattle.ada_grammar.specs.Records.{component_of, record_of, initial_static_of};
-ghost use Rattle.ada_tree.specs.ProgramForm.{component_form};
+ghost use Rattle.std.specs.Prelude.{◌≡◌, ◌==◌, ◌∷◌, map, IfOk, IfErr, OnOk, []};
+ghost use Rattle.ada_tree.specs.Names.{ident_of};
+ghost use Rattle.ada_tree.specs.Records.{component_of, record_of, initial_static_of};
+ghost use Rattle.ada_resolve.specs.Kept.{forms_of, with_component, with_components};
 ghost use Rattle.ada_resolve.specs.Known.{visible};
 ghost use Rattle.ada_resolve.specs.Remark.{noted};
 ghost use Rattle.ada_resolve.specs.Resolution.{settled};
@@ -11,21 +11,23 @@ ghost use Rattle.ada_resolve.specs.Types.{completed, new_unless};
 ghost use Rattle.ada_resolve.specs.Records.{integer_remark, boolean_remark, initial_value, initial_truth, no_value_remark, kind_wanted, kind_in, component_remark, component_meant, components_remark, components_written, is_component, record_type_remark, record_type_known};
 ghost use Rattle.ada_resolve.specs.View.{known_of, Tells};
 
+use crate::components::{Components, KnownType};
 use crate::fault::{NameFault, NameRule};
 use crate::library::is_primitive;
 use crate::notes::Notes;
 use crate::resolver::Resolver;
 use crate::scope::{Entity, is_taken};
-use ada_grammar::names::Identifier;
-use ada_grammar::records::{ComponentDefinition, RecordDefinition, StaticValue};
-use ada_tree::Spot;
-use ada_tree::program::{Component, ComponentKind, TypeDefinition};
+use ada_program::Spot;
+use ada_program::program::ComponentKind;
+use ada_tree::names::Identifier;
+use ada_tree::records::{ComponentDefinition, RecordDefinition, StaticValue};
 
 /// The most components of a record.
 const MOST_COMPONENTS: usize = 4_096;
 
 impl<'t> Resolver<'t> {
     /// `type T is record .. end record;` (3.8)
+    #[tactic(auto, using(std::proofs::lemmas::Grind::common_steps, crate::proofs::ComponentLists::listed_once))]
     pub(crate) fn record_type(
         &mut self,
         spot: Spot,
@@ -40,8 +42,8 @@ impl<'t> Resolver<'t> {
         self.new_unless(completes, name, spot, notes);
         let components = self.components(definition, notes)?;
         notes.settle()?;
-        let definition = TypeDefinition::Record {
-            name: String::from_str(self.alloc, name.text)?,
+        let definition = KnownType::Record {
+            name: name.text,
             components,
         };
         let number = self.define(completes, definition)?;
@@ -53,63 +55,62 @@ impl<'t> Resolver<'t> {
         &self,
         definition: &RecordDefinition<'t>,
         notes: &mut Notes,
-    ) -> Result<Vec<Component>, NameFault>
-        ensures meant { IfOk result (λ v. map component_form v.items ≡ map (component_meant (known_of self.now)) (components_written (record_of definition.now))) }
-        ensures remark { OnOk result (notes.new ≡ noted (components_remark (known_of self.now) [] (components_written (record_of definition.now))) notes.old) }
+    ) -> Result<Components<'t>, NameFault>
+        ensures meant { IfOk result (λ v. forms_of v ≡ with_components [] (map (component_meant (known_of self.now)) (components_written (record_of definition.now)))) }
+        ensures remark { OnOk result (notes.new ≡ noted (components_remark (known_of self.now) [] 0 (components_written (record_of definition.now))) notes.old) }
         ensures memory { IfErr result (λ e. e ≡ NameFault.NoMemory) }
     {
-        let mut components = Vec::new(self.alloc);
-        if let RecordDefinition::Components { first, rest } = definition {
-            let one = self.component(first, &components, notes)?;
-            components.push(one)?;
-            self.more_components(rest, &mut components, notes)?;
+        match definition {
+            RecordDefinition::Components { first, rest } => self.listed(first, rest, notes),
+            _ => Ok(Components::new(self.alloc)),
+        }
+    }
+
+    /// The components that are listed.
+    #[tactic(auto, using(std::proofs::lemmas::Grind::common_steps, crate::proofs::ComponentLists::remark_next))]
+    fn listed(
+        &self,
+        first: &ComponentDefinition<'t>,
+        rest: &[ComponentDefinition<'t>],
+        notes: &mut Notes,
+    ) -> Result<Components<'t>, NameFault>
+        ensures meant { IfOk result (λ v. forms_of v ≡ with_components [] (map (component_meant (known_of self.now)) (map component_of (first.now ∷ rest.now)))) }
+        ensures remark { OnOk result (notes.new ≡ noted (components_remark (known_of self.now) [] 0 (map component_of (first.now ∷ rest.now))) notes.old) }
+        ensures memory { IfErr result (λ e. e ≡ NameFault.NoMemory) }
+    {
+        let mut components = Components::new(self.alloc);
+        self.component(first, 0, &mut components, notes)?;
+        for (i, definition) in rest.iter().enumerate() {
+            self.component(definition, i + 1, &mut components, notes)?;
         }
         Ok(components)
     }
 
-    /// Further components of a record type.
-    fn more_components(
-        &self,
-        definitions: &[ComponentDefinition<'t>],
-        components: &mut Vec<Component>,
-        notes: &mut Notes,
-    ) -> Result<(), NameFault>
-        ensures meant { OnOk result (map component_form components.new.items ≡ map component_form components.old.items ++ map (component_meant (known_of self.now)) (map component_of definitions.now)) }
-        ensures remark { OnOk result (notes.new ≡ noted (components_remark (known_of self.now) (map component_form components.old.items) (map component_of definitions.now)) notes.old) }
-        ensures memory { IfErr result (λ e. e ≡ NameFault.NoMemory) }
-    {
-        for definition in definitions {
-            let one = self.component(definition, components, notes)?;
-            components.push(one)?;
-        }
-        Ok(())
-    }
-
-    /// `C : T := 0;` (3.8): Integer or Boolean with an initial value, or an access type without one.
+    /// `C : T := 0;` (3.8), behind so many: Integer or Boolean with an initial value, or an access type without one.
     #[tactic(auto, unfolding(crate::specs::Records::component_remark, crate::specs::Records::component_meant))]
     fn component(
         &self,
         component: &ComponentDefinition<'t>,
-        before: &[Component],
+        count: usize,
+        components: &mut Components<'t>,
         notes: &mut Notes,
-    ) -> Result<Component, NameFault>
-        ensures meant { IfOk result (λ c. component_form c ≡ component_meant (known_of self.now) (component_of component.now)) }
-        ensures remark { OnOk result (notes.new ≡ noted (component_remark (known_of self.now) (map component_form before.now) (component_of component.now)) notes.old) }
+    ) -> Result<(), NameFault>
+        ensures meant { OnOk result (forms_of components.new ≡ with_component (component_meant (known_of self.now) (component_of component.now)) (forms_of components.old)) }
+        ensures remark { OnOk result (notes.new ≡ noted (component_remark (known_of self.now) (is_component component.now.name.text.now (forms_of components.old)) count (component_of component.now)) notes.old) }
         ensures memory { IfErr result (λ e. e ≡ NameFault.NoMemory) }
     {
         let name = component.name;
         notes.node(name.spot);
         notes.note_if(is_taken(name.text), name.spot, NameRule::DeclaredTwice);
         notes.note_if(
-            is_component(name.text, before),
+            components.has(name.text),
             name.spot,
             NameRule::DeclaredTwice,
         );
         notes.note_if(is_primitive(name.text), name.spot, NameRule::NotInProfile);
-        notes.note_if(before.len() == MOST_COMPONENTS, name.spot, NameRule::Limit);
+        notes.note_if(count == MOST_COMPONENTS, name.spot, NameRule::Limit);
         let kind = self.component_kind(component, notes);
-        let name = String::from_str(self.alloc, name.text)?;
-        Ok(Component { name, kind })
+        components.add(name.text, kind)
     }
 
     /// What a component holds; where that is wrong, whatever was noted comes first.
@@ -185,16 +186,4 @@ impl<'t> Resolver<'t> {
             }
         }
     }
-}
-
-/// Whether one of the components has the name.
-fn is_component(text: &str, components: &[Component]) -> bool
-    ensures { result ≡ is_component text.now (map component_form components.now) }
-{
-    for component in components {
-        if component.name.as_str() == text {
-            return true;
-        }
-    }
-    false
 }

@@ -1,22 +1,24 @@
 //! A resolution in progress: what is declared so far, and what names stand for.
 
 ghost use Rattle.std.specs.Prelude.{◌≡◌, ℕ, map, length, ◌++◌, ◌∷◌, [], slice_get, IfOk, OnOk, IfErr, bytes_eq};
-ghost use Rattle.ada_grammar.specs.Names.{ident_of};
-ghost use Rattle.ada_tree.specs.Form.{elaboration_of};
-ghost use Rattle.ada_tree.specs.ProgramForm.{type_form, object_form, component_form};
+ghost use Rattle.ada_tree.specs.Names.{ident_of};
+ghost use Rattle.ada_program.specs.Form.{declaration_form};
+ghost use Rattle.ada_program.specs.ProgramForm.{variable_form};
+ghost use Rattle.ada_resolve.specs.Kept.{known_type_form};
 ghost use Rattle.ada_resolve.specs.Known.{named, declared, visible, name_remark, new_name_remark, library_remark, library_found, is_with, type_begins, is_empty};
 ghost use Rattle.ada_resolve.specs.Remark.{noted};
 ghost use Rattle.ada_resolve.specs.Resolution.{known_first};
 ghost use Rattle.ada_resolve.specs.Types.{completed, defined, number_of, designates};
 ghost use Rattle.ada_resolve.specs.View.{known_of};
 
+use crate::components::KnownType;
 use crate::fault::{NameFault, NameRule};
-use crate::library::{LibraryName, Withs, is_primitive, library_name, unknown};
+use crate::library::{LibraryName, Withs, is_primitive, library_name, missing_rule};
 use crate::notes::Notes;
 use crate::scope::{Entity, is_taken, predefined};
-use ada_grammar::names::Identifier;
-use ada_tree::program::{Declaration, Object, TypeDefinition};
-use ada_tree::{Spot, TypeNo};
+use ada_program::program::{Declaration, Variable};
+use ada_program::{Spot, TypeNo};
+use ada_tree::names::Identifier;
 use indexmap::IndexMap;
 use std::alloc::Global;
 
@@ -33,8 +35,8 @@ pub(crate) struct Resolver<'t> {
     pub(crate) procedure: &'t str,
     /// The names that it declares, in order.
     pub(crate) names: IndexMap<&'t str, Entity>,
-    pub(crate) types: Vec<TypeDefinition>,
-    pub(crate) objects: Vec<Object>,
+    pub(crate) types: Vec<KnownType<'t>>,
+    pub(crate) variables: Vec<Variable>,
     pub(crate) declarations: Vec<Declaration>,
 }
 
@@ -50,7 +52,7 @@ impl<'t> Resolver<'t> {
             procedure,
             names: IndexMap::new(alloc),
             types: Vec::new(alloc),
-            objects: Vec::new(alloc),
+            variables: Vec::new(alloc),
             declarations: Vec::new(alloc),
         }
     }
@@ -108,7 +110,7 @@ impl<'t> Resolver<'t> {
     {
         let found = self.visible(name.text);
         if found.is_none() {
-            notes.note(name.spot, unknown(name.text));
+            notes.note(name.spot, missing_rule(name.text));
         }
         found
     }
@@ -164,13 +166,13 @@ impl<'t> Resolver<'t> {
         ensures { notes.new ≡ noted (type_begins (known_of self.now) spot) notes.old }
     {
         notes.node(spot);
-        notes.note_if(!self.objects.is_empty(), spot, NameRule::Layout);
+        notes.note_if(!self.variables.is_empty(), spot, NameRule::Layout);
     }
 
     /// A new type with the next number.
     #[tactic(auto, unfolding(crate::specs::View::known_of), using(crate::proofs::Names::map_snoc))]
-    pub(crate) fn add_type(&mut self, definition: TypeDefinition) -> Result<TypeNo, NameFault>
-        ensures known { OnOk result (known_of self.new ≡ record (known_of self.old) { types = (known_of self.old).types ++ type_form definition ∷ [] }) }
+    pub(crate) fn add_type(&mut self, definition: KnownType<'t>) -> Result<TypeNo, NameFault>
+        ensures known { OnOk result (known_of self.new ≡ record (known_of self.old) { types = (known_of self.old).types ++ known_type_form definition.entry ∷ [] }) }
         ensures number { IfOk result (λ t. t ≡ record { 0 = length (known_of self.old).types }) }
         ensures memory { IfErr result (λ e. e ≡ NameFault.NoMemory) }
     {

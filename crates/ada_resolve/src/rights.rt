@@ -1,10 +1,10 @@
 //! Resolution of what is assigned: a value, or a new object (5.2).
 
 ghost use Rattle.std.specs.Prelude.{◌≡◌, IfOk, OnOk, IfErr};
-ghost use Rattle.ada_grammar.specs.ExpressionView.{right_of};
+ghost use Rattle.ada_tree.specs.ExpressionView.{right_of};
 ghost use Rattle.ada_resolve.specs.Remark.{noted};
 ghost use Rattle.ada_resolve.specs.Rights.{access_kind, access_object_wanted, access_wanted, assigned, assigned_wanted, right_found, right_remark};
-ghost use Rattle.ada_resolve.specs.View.{known_of, meant_of, source_in};
+ghost use Rattle.ada_resolve.specs.View.{known_of, meant_of, right_in};
 
 use crate::allocators::is_in_use;
 use crate::fault::{NameFault, NameRule};
@@ -12,9 +12,9 @@ use crate::meant::Meant;
 use crate::notes::Notes;
 use crate::resolver::Resolver;
 use crate::spots::expression_spot;
-use ada_grammar::expressions;
-use ada_tree::program::{self, ObjectKind};
-use ada_tree::{Spot, TypeNo};
+use ada_program::program::{self, VariableKind};
+use ada_program::{Spot, TypeNo};
+use ada_tree::expressions;
 
 impl<'t> Resolver<'t> {
     /// What is assigned to an object, where what that holds is known.
@@ -22,10 +22,10 @@ impl<'t> Resolver<'t> {
     pub(crate) fn right(
         &self,
         right: &expressions::Right<'t>,
-        kind: Option<ObjectKind>,
+        kind: Option<VariableKind>,
         notes: &mut Notes,
     ) -> Result<Option<program::Right>, NameFault>
-        ensures found { IfOk result (λ v. source_in v ≡ right_found (known_of self.now) kind (right_of right.now)) }
+        ensures found { IfOk result (λ v. right_in v ≡ right_found (known_of self.now) kind (right_of right.now)) }
         ensures remark { OnOk result (notes.new ≡ noted (right_remark (known_of self.now) kind (right_of right.now)) notes.old) }
         ensures memory { IfErr result (λ e. e ≡ NameFault.NoMemory) }
     {
@@ -58,23 +58,23 @@ impl<'t> Resolver<'t> {
 }
 
 /// The access type of an object of this kind.
-fn access_kind(kind: Option<ObjectKind>) -> Option<TypeNo>
+fn access_kind(kind: Option<VariableKind>) -> Option<TypeNo>
     ensures { result ≡ access_kind kind }
 {
     match kind {
-        Some(ObjectKind::Access(access)) => Some(access),
+        Some(VariableKind::Access(access)) => Some(access),
         _ => None,
     }
 }
 
 /// What is assigned is of the object's type, where that is known.
-fn assigned_wanted(kind: Option<ObjectKind>, value: &Meant, spot: Spot, notes: &mut Notes)
+fn assigned_wanted(kind: Option<VariableKind>, value: &Meant, spot: Spot, notes: &mut Notes)
     ensures { notes.new ≡ noted (assigned_wanted kind (meant_of value.now) spot) notes.old }
 {
     match kind {
-        Some(ObjectKind::Integer) => value.integer_wanted(spot, notes),
-        Some(ObjectKind::Boolean) => value.boolean_wanted(spot, notes),
-        Some(ObjectKind::Access(access)) => access_wanted(access, value, spot, notes),
+        Some(VariableKind::Integer) => value.integer_wanted(spot, notes),
+        Some(VariableKind::Boolean) => value.boolean_wanted(spot, notes),
+        Some(VariableKind::Access(access)) => access_wanted(access, value, spot, notes),
         None => {}
     }
 }
@@ -94,17 +94,17 @@ fn access_wanted(access: TypeNo, value: &Meant, spot: Spot, notes: &mut Notes)
 }
 
 /// No allocator is an Integer or a Boolean.
-fn access_object_wanted(kind: Option<ObjectKind>, spot: Spot, notes: &mut Notes)
+fn access_object_wanted(kind: Option<VariableKind>, spot: Spot, notes: &mut Notes)
     ensures { notes.new ≡ noted (access_object_wanted kind spot) notes.old }
 {
-    if let Some(ObjectKind::Integer | ObjectKind::Boolean) = kind {
+    if let Some(VariableKind::Integer | VariableKind::Boolean) = kind {
         notes.note(spot, NameRule::WrongType);
     }
 }
 
 /// What a value assigns; none where something is wrong with it.
 fn assigned(value: Meant) -> Option<program::Right>
-    ensures { source_in result ≡ assigned (meant_of value) }
+    ensures { right_in result ≡ assigned (meant_of value) }
 {
     match value {
         Meant::Null => Some(program::Right::Null),

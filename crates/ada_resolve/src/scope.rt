@@ -4,8 +4,8 @@ ghost use Rattle.std.specs.Prelude.{◌≡◌};
 ghost use Rattle.ada_resolve.specs.Library.{predefined, is_taken};
 
 use crate::library::is_library_root;
-use ada_tree::program::ObjectKind;
-use ada_tree::{PlaceNo, TypeNo};
+use ada_program::program::VariableKind;
+use ada_program::{TypeNo, VariableNo};
 
 /// What a name stands for.
 #[derive(Clone, Copy)]
@@ -31,7 +31,10 @@ pub(crate) enum Entity {
     /// An instance of Unchecked_Deallocation for an access type (13.11.2).
     Instance(TypeNo),
     /// A declared object (3.3.1), and what it holds.
-    Object { place: PlaceNo, kind: ObjectKind },
+    Variable {
+        variable: VariableNo,
+        kind: VariableKind,
+    },
 }
 
 /// What a predefined name stands for.

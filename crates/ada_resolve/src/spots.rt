@@ -1,17 +1,17 @@
 //! Where a construct begins: the spot of its first token.
 
 ghost use Rattle.std.specs.Prelude.{◌≡◌};
-ghost use Rattle.ada_grammar.specs.ExpressionView.{expression_of, right_of, argument_of};
-ghost use Rattle.ada_grammar.specs.StatementView.{declaration_of, statement_of};
+ghost use Rattle.ada_tree.specs.ExpressionView.{expression_of, right_of, argument_of};
+ghost use Rattle.ada_tree.specs.StatementView.{declaration_of, statement_of};
 ghost use Rattle.ada_resolve.specs.Spots.{expression_spot, right_spot, argument_spot, declaration_spot, statement_spot, first_or};
 
-use ada_grammar::declarations::Declaration;
-use ada_grammar::expressions::{Argument, Expression, Right};
-use ada_grammar::statements::Statement;
-use ada_tree::Spot;
+use ada_program::Spot;
+use ada_tree::declarations::Declaration;
+use ada_tree::expressions::{Argument, Expression, Right};
+use ada_tree::statements::Statement;
 
 /// Where an expression begins: with an operator between operands, where the left one does (4.4).
-#[tactic(auto, using(std::proofs::lemmas::Grind::common_steps, ada_grammar::specs::ExpressionView::tree_rules, crate::proofs::Chains::linked_spot), unfolding(crate::specs::Spots::expression_spot))]
+#[tactic(auto, using(std::proofs::lemmas::Grind::common_steps, ada_tree::specs::ExpressionView::tree_rules, crate::proofs::Chains::linked_spot), unfolding(crate::specs::Spots::expression_spot))]
 pub(crate) fn expression_spot(expression: &Expression<'_>) -> Spot
     ensures { result ≡ expression_spot (expression_of expression.now) }
 {
@@ -49,7 +49,7 @@ pub(crate) fn argument_spot(argument: &Argument<'_>) -> Spot
 }
 
 /// Where a declaration begins (3.1).
-#[tactic(auto, using(std::proofs::lemmas::Grind::common_steps, ada_grammar::specs::StatementView::statement_rules), unfolding(crate::specs::Spots::declaration_spot))]
+#[tactic(auto, using(std::proofs::lemmas::Grind::common_steps, ada_tree::specs::StatementView::statement_rules), unfolding(crate::specs::Spots::declaration_spot))]
 pub(crate) fn declaration_spot(declaration: &Declaration<'_>) -> Spot
     ensures { result ≡ declaration_spot (declaration_of declaration.now) }
 {
@@ -79,7 +79,7 @@ fn first_or(overriding: Option<Spot>, procedure: Spot) -> Spot
 }
 
 /// Where a statement begins (5.1).
-#[tactic(auto, using(std::proofs::lemmas::Grind::common_steps, ada_grammar::specs::StatementView::statement_rules), unfolding(crate::specs::Spots::statement_spot))]
+#[tactic(auto, using(std::proofs::lemmas::Grind::common_steps, ada_tree::specs::StatementView::statement_rules), unfolding(crate::specs::Spots::statement_spot))]
 pub(crate) fn statement_spot(statement: &Statement<'_>) -> Spot
     ensures { result ≡ statement_spot (statement_of statement.now) }
 {

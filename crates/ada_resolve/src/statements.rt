@@ -2,27 +2,26 @@
 
 ghost use Rattle.std.specs.Prelude.{◌≡◌, ◌++◌, length, map, IfOk, OnOk, IfErr};
 ghost use Rattle.std.specs.String.{string_bytes};
-ghost use Rattle.ada_grammar.specs.ExpressionView.{argument_of, right_of};
-ghost use Rattle.ada_grammar.specs.Names.{ident_of, path_of};
-ghost use Rattle.ada_grammar.specs.StatementView.{statement_of, statements_of};
-ghost use Rattle.ada_tree.specs.Form.{form_of};
+ghost use Rattle.ada_tree.specs.ExpressionView.{argument_of, right_of};
+ghost use Rattle.ada_tree.specs.Names.{ident_of, path_of};
+ghost use Rattle.ada_tree.specs.StatementView.{statement_of, statements_of};
+ghost use Rattle.ada_program.specs.Form.{stmt_form};
 ghost use Rattle.ada_resolve.specs.Rights.{right_remark, right_found};
 ghost use Rattle.ada_resolve.specs.Remark.{noted};
 ghost use Rattle.ada_resolve.specs.Resolution.{statement_told, statements_told};
 ghost use Rattle.ada_resolve.specs.Statements.{target_found, target_remark, kind_of_target, assignment_remark, assignment_of, assignment_found, statement_remark, statement_found, form_or_null, text_in, texts_in, texts_of};
-ghost use Rattle.ada_resolve.specs.View.{known_of, form_in, forms_in, Answers, AnswersWith};
+ghost use Rattle.ada_resolve.specs.View.{known_of, stmt_in, statements_in, Answers, AnswersWith};
 
 use crate::fault::{NameFault, NameRule};
-use crate::library::is_primitive;
 use crate::notes::Notes;
 use crate::resolver::Resolver;
 use crate::scope::Entity;
 use crate::spots::statement_spot;
-use ada_grammar::expressions::{Argument, Right};
-use ada_grammar::names::{Identifier, Path};
-use ada_grammar::statements::Statement;
-use ada_tree::PlaceNo;
-use ada_tree::program::{ObjectKind, Stmt, TextNo};
+use ada_program::VariableNo;
+use ada_program::program::{self, Stmt, TextNo, VariableKind};
+use ada_tree::expressions::{Argument, Right};
+use ada_tree::names::{Identifier, Path};
+use ada_tree::statements::Statement;
 
 impl<'t> Resolver<'t> {
     /// The statements, in order; the texts that they write are added.
@@ -33,13 +32,13 @@ impl<'t> Resolver<'t> {
         texts: &mut Vec<String>,
         notes: &mut Notes,
     ) -> Result<Vec<Stmt>, NameFault>
-        ensures done { Answers result forms_in (statements_told (known_of self.now) (length texts.old.items) (statements_of statements.now) notes.old) }
+        ensures done { Answers result statements_in (statements_told (known_of self.now) (length texts.old.items) (statements_of statements.now) notes.old) }
         ensures texts { OnOk result (map string_bytes texts.new.items ≡ map string_bytes texts.old.items ++ texts_of (statements_of statements.now)) }
     {
         let mut made = Vec::new(self.alloc);
         for one in statements {
-            let resolved = self.statement(one, texts, notes)?;
-            made.push(resolved)?;
+            let next = self.statement(one, texts, notes)?;
+            made.push(next)?;
         }
         Ok(made)
     }
@@ -51,24 +50,24 @@ impl<'t> Resolver<'t> {
         texts: &mut Vec<String>,
         notes: &mut Notes,
     ) -> Result<Stmt, NameFault>
-        ensures done { AnswersWith result form_of notes.new (statement_told (known_of self.now) (length texts.old.items) notes.old (statement_of statement.now)) }
+        ensures done { AnswersWith result stmt_form notes.new (statement_told (known_of self.now) (length texts.old.items) notes.old (statement_of statement.now)) }
         ensures texts { OnOk result (map string_bytes texts.new.items ≡ map string_bytes texts.old.items ++ texts_in (statement_of statement.now)) }
     {
-        let found = self.resolved(statement, TextNo(texts.len()), notes)?;
+        let found = self.meaning(statement, TextNo(texts.len()), notes)?;
         notes.settle()?;
         self.add_text(statement, texts)?;
         Ok(or_null(found))
     }
 
     /// What a statement does, where nothing is wrong with it. A text that it writes has this number.
-    #[tactic(auto, using(std::proofs::lemmas::Grind::common_steps, ada_grammar::specs::StatementView::statement_rules))]
-    fn resolved(
+    #[tactic(auto, using(std::proofs::lemmas::Grind::common_steps, ada_tree::specs::StatementView::statement_rules))]
+    fn meaning(
         &self,
         statement: &Statement<'t>,
         text: TextNo,
         notes: &mut Notes,
     ) -> Result<Option<Stmt>, NameFault>
-        ensures found { IfOk result (λ s. form_in s ≡ statement_found (known_of self.now) text.0 (statement_of statement.now)) }
+        ensures found { IfOk result (λ s. stmt_in s ≡ statement_found (known_of self.now) text.0 (statement_of statement.now)) }
         ensures remark { OnOk result (notes.new ≡ noted (statement_remark (known_of self.now) (statement_of statement.now)) notes.old) }
         ensures memory { IfErr result (λ e. e ≡ NameFault.NoMemory) }
     {
@@ -96,7 +95,7 @@ impl<'t> Resolver<'t> {
     }
 
     /// The text that a statement writes is added, if it writes one.
-    #[tactic(auto, using(std::proofs::lemmas::Grind::common_steps, ada_grammar::specs::StatementView::statement_rules))]
+    #[tactic(auto, using(std::proofs::lemmas::Grind::common_steps, ada_tree::specs::StatementView::statement_rules))]
     fn add_text(&self, statement: &Statement<'t>, texts: &mut Vec<String>) -> Result<(), NameFault>
         ensures texts { OnOk result (map string_bytes texts.new.items ≡ map string_bytes texts.old.items ++ texts_in (statement_of statement.now)) }
         ensures memory { IfErr result (λ e. e ≡ NameFault.NoMemory) }
@@ -131,7 +130,7 @@ impl<'t> Resolver<'t> {
         Ok(())
     }
 
-    /// `X := ..;` (5.2): to a declared object alone.
+    /// `X := ..;` (5.2): to a variable alone.
     #[tactic(auto, unfolding(crate::specs::Statements::assignment_remark, crate::specs::Statements::assignment_found))]
     fn assignment(
         &self,
@@ -139,7 +138,7 @@ impl<'t> Resolver<'t> {
         value: &Right<'t>,
         notes: &mut Notes,
     ) -> Result<Option<Stmt>, NameFault>
-        ensures found { IfOk result (λ s. form_in s ≡ assignment_found (known_of self.now) (path_of target.now) (right_of value.now)) }
+        ensures found { IfOk result (λ s. stmt_in s ≡ assignment_found (known_of self.now) (path_of target.now) (right_of value.now)) }
         ensures remark { OnOk result (notes.new ≡ noted (assignment_remark (known_of self.now) (path_of target.now) (right_of value.now)) notes.old) }
         ensures memory { IfErr result (λ e. e ≡ NameFault.NoMemory) }
     {
@@ -153,20 +152,27 @@ impl<'t> Resolver<'t> {
         }
     }
 
-    /// The assignment of a value to the declared object of a name.
+    /// The assignment of a value to the variable of a name.
     fn assigned(
         &self,
         name: Identifier<'t>,
         value: &Right<'t>,
         notes: &mut Notes,
     ) -> Result<Option<Stmt>, NameFault>
-        ensures found { IfOk result (λ s. form_in s ≡ assignment_of (target_found (known_of self.now) (ident_of name.entry)) (right_found (known_of self.now) (kind_of_target (target_found (known_of self.now) (ident_of name.entry))) (right_of value.now))) }
+        ensures found { IfOk result (λ s. stmt_in s ≡ assignment_of name.entry.spot (target_found (known_of self.now) (ident_of name.entry)) (right_found (known_of self.now) (kind_of_target (target_found (known_of self.now) (ident_of name.entry))) (right_of value.now))) }
         ensures remark { OnOk result (notes.new ≡ noted (right_remark (known_of self.now) (kind_of_target (target_found (known_of self.now) (ident_of name.entry))) (right_of value.now)) (noted (target_remark (known_of self.now) (ident_of name.entry)) notes.old)) }
         ensures memory { IfErr result (λ e. e ≡ NameFault.NoMemory) }
     {
         match self.target(name, notes) {
             Some((target, kind)) => match self.right(value, Some(kind), notes)? {
-                Some(value) => Ok(Some(Stmt::Assign { target, value })),
+                Some(value) => {
+                    let target = program::Path {
+                        root: target,
+                        selectors: Vec::new(self.alloc),
+                        spot: name.spot,
+                    };
+                    Ok(Some(Stmt::Assign { target, value }))
+                }
                 None => Ok(None),
             },
             None => {
@@ -176,18 +182,13 @@ impl<'t> Resolver<'t> {
         }
     }
 
-    /// The declared object that is assigned to, and what it holds.
-    #[tactic(auto, unfolding(crate::specs::Statements::target_found, crate::specs::Statements::target_remark))]
-    fn target(&self, name: Identifier<'t>, notes: &mut Notes) -> Option<(PlaceNo, ObjectKind)>
+    /// The variable that is assigned to, and what it holds.
+    fn target(&self, name: Identifier<'t>, notes: &mut Notes) -> Option<(VariableNo, VariableKind)>
         ensures found { result ≡ target_found (known_of self.now) (ident_of name.entry) }
         ensures remark { notes.new ≡ noted (target_remark (known_of self.now) (ident_of name.entry)) notes.old }
     {
-        if is_primitive(name.text) {
-            notes.note(name.spot, NameRule::NotInProfile);
-            return None;
-        }
         match self.lookup(name, notes) {
-            Some(Entity::Object { place, kind }) => Some((place, kind)),
+            Some(Entity::Variable { variable, kind }) => Some((variable, kind)),
             Some(_) => {
                 notes.note(name.spot, NameRule::WrongType);
                 None
@@ -199,7 +200,7 @@ impl<'t> Resolver<'t> {
 
 /// What a statement does; nothing, where something is wrong with it.
 fn or_null(found: Option<Stmt>) -> Stmt
-    ensures { form_of result ≡ form_or_null (form_in found) }
+    ensures { stmt_form result ≡ form_or_null (stmt_in found) }
 {
     match found {
         Some(statement) => statement,

@@ -1,8 +1,8 @@
 //! Static values, which are known before the run (4.9), and named numbers (3.3.2).
 
 ghost use Rattle.std.specs.Prelude.{◌≡◌};
-ghost use Rattle.ada_grammar.specs.Names.{ident_of};
-ghost use Rattle.ada_grammar.specs.Records.{static_of};
+ghost use Rattle.ada_tree.specs.Names.{ident_of};
+ghost use Rattle.ada_tree.specs.Records.{static_of};
 ghost use Rattle.ada_resolve.specs.Known.{visible};
 ghost use Rattle.ada_resolve.specs.Remark.{noted};
 ghost use Rattle.ada_resolve.specs.Resolution.{settled};
@@ -13,8 +13,8 @@ use crate::fault::{NameFault, NameRule};
 use crate::notes::Notes;
 use crate::resolver::Resolver;
 use crate::scope::Entity;
-use ada_grammar::names::Identifier;
-use ada_grammar::records::StaticValue;
+use ada_tree::names::Identifier;
+use ada_tree::records::StaticValue;
 
 impl<'t> Resolver<'t> {
     /// `N : constant := 1;` (3.3.2): a named number.

@@ -1,23 +1,23 @@
 //! Resolution of incomplete types and access types (3.10).
 
 ghost use Rattle.std.specs.Prelude.{◌≡◌, ◌==◌, slice_set, IfOk, IfErr, OnOk};
-ghost use Rattle.ada_grammar.specs.Declarations.{optional_aspect_of};
-ghost use Rattle.ada_grammar.specs.Names.{ident_of};
-ghost use Rattle.ada_tree.specs.ProgramForm.{type_form};
+ghost use Rattle.ada_tree.specs.Declarations.{optional_aspect_of};
+ghost use Rattle.ada_tree.specs.Names.{ident_of};
+ghost use Rattle.ada_resolve.specs.Kept.{known_type_form};
 ghost use Rattle.ada_resolve.specs.Known.{new_name_remark};
 ghost use Rattle.ada_resolve.specs.Remark.{noted};
 ghost use Rattle.ada_resolve.specs.Resolution.{settled};
 ghost use Rattle.ada_resolve.specs.Types.{completed, defined, number_of, is_designated, record_found, record_remark, completion_remark, new_unless, incomplete_remark, incomplete_known, aspect_remark, access_remark, access_known};
 ghost use Rattle.ada_resolve.specs.View.{known_of, Tells};
 
+use crate::components::{Components, KnownType};
 use crate::fault::{NameFault, NameRule};
 use crate::notes::Notes;
 use crate::resolver::Resolver;
 use crate::scope::Entity;
-use ada_grammar::declarations::Aspect;
-use ada_grammar::names::Identifier;
-use ada_tree::program::TypeDefinition;
-use ada_tree::{Spot, TypeNo};
+use ada_program::{Spot, TypeNo};
+use ada_tree::declarations::Aspect;
+use ada_tree::names::Identifier;
 
 impl<'t> Resolver<'t> {
     /// `type T;` (3.10.1)
@@ -32,10 +32,9 @@ impl<'t> Resolver<'t> {
         self.type_begins(spot, notes);
         self.new_name(name, spot, notes);
         notes.settle()?;
-        let text = String::from_str(self.alloc, name.text)?;
-        let number = self.add_type(TypeDefinition::Record {
-            name: text,
-            components: Vec::new(self.alloc),
+        let number = self.add_type(KnownType::Record {
+            name: name.text,
+            components: Components::new(self.alloc),
         })?;
         self.declare(name.text, Entity::Incomplete(number))
     }
@@ -61,8 +60,8 @@ impl<'t> Resolver<'t> {
         let Some(designated) = record else {
             return Ok(());
         };
-        let definition = TypeDefinition::Access {
-            name: String::from_str(self.alloc, name.text)?,
+        let definition = KnownType::Access {
+            name: name.text,
             designated,
         };
         let number = self.define(completes, definition)?;
@@ -115,9 +114,9 @@ impl<'t> Resolver<'t> {
     pub(crate) fn define(
         &mut self,
         completes: Option<TypeNo>,
-        definition: TypeDefinition,
+        definition: KnownType<'t>,
     ) -> Result<TypeNo, NameFault>
-        ensures known { OnOk result (known_of self.new ≡ record (known_of self.old) { types = defined completes (type_form definition) (known_of self.old).types }) }
+        ensures known { OnOk result (known_of self.new ≡ record (known_of self.old) { types = defined completes (known_type_form definition.entry) (known_of self.old).types }) }
         ensures number { IfOk result (λ t. t ≡ number_of completes (known_of self.old).types) }
         ensures memory { IfErr result (λ e. e ≡ NameFault.NoMemory) }
     {
@@ -130,8 +129,8 @@ impl<'t> Resolver<'t> {
 
     /// The definition of a type that was incomplete.
     #[tactic(auto, unfolding(crate::specs::View::known_of), using(crate::proofs::Names::map_set, crate::proofs::Names::set_beyond))]
-    fn replace_type(&mut self, number: TypeNo, definition: TypeDefinition)
-        ensures { known_of self.new ≡ record (known_of self.old) { types = slice_set (known_of self.old).types number.0 (type_form definition) } }
+    fn replace_type(&mut self, number: TypeNo, definition: KnownType<'t>)
+        ensures { known_of self.new ≡ record (known_of self.old) { types = slice_set (known_of self.old).types number.0 (known_type_form definition.entry) } }
     {
         if let Some(slot) = self.types.get_mut(number.0) {
             *slot = definition;
@@ -144,7 +143,7 @@ impl<'t> Resolver<'t> {
         ensures { result ≡ is_designated number.0 (known_of self.now).types }
     {
         for definition in &self.types {
-            if let TypeDefinition::Access {
+            if let KnownType::Access {
                 name: _,
                 designated,
             } = definition

@@ -1,26 +1,13 @@
-//! `ada_run check|run [--source FILE]`: checks a source, or runs it where it is accepted.
+//! `ada_run check|run [--source FILE]`: checks a source, or runs it if it is accepted.
 //!
-//! The exit status tells how that ended, whatever the standard error takes of its text.
+//! The exit status tells how that ended, even where the standard error cannot be written.
 #![tactic(auto)]
 
-mod command_line;
-mod exit;
-mod output;
-mod serve;
-mod settings;
-#[cfg(test)]
-mod stream_tests;
-mod streams;
-#[cfg(test)]
-mod tests;
-mod texts;
-#[cfg(test)]
-mod usage_tests;
-
-use crate::command_line::UsageFault;
-use crate::exit::{NO_MEMORY, USAGE, code_of, fault_code};
-use crate::settings::Options;
-use crate::streams::{ByteReader, MemoryReader, SystemReader, SystemWriter};
+use ada_serve::command_line::{UsageFault, options};
+use ada_serve::exit::{NO_MEMORY, USAGE, code_of, fault_code};
+use ada_serve::serve::serve;
+use ada_serve::settings::Options;
+use ada_serve::streams::{ByteReader, MemoryReader, SystemReader, SystemWriter};
 use std::fs::File;
 use std::io;
 use std::process::ExitCode;
@@ -37,10 +24,10 @@ fn main(rt: HostRuntime) -> ExitCode {
     ExitCode::from(code)
 }
 
-/// Does what the words say, and gives the exit status.
+/// Does what the words say, and returns the exit status.
 ///
 /// # Errors
-/// Where the words are no text, or memory ran out for them.
+/// Where the words are not text, or memory ran out for them.
 fn obey(rt: &HostRuntime) -> io::Result<u8> {
     let mut words = Vec::new(rt.alloc());
     for word in std::env::args(rt)?.skip(1) {
@@ -50,7 +37,7 @@ fn obey(rt: &HostRuntime) -> io::Result<u8> {
     for word in &words {
         texts.push(word.as_str())?;
     }
-    Ok(match command_line::options(rt.alloc(), &texts) {
+    Ok(match options(rt.alloc(), &texts) {
         Ok((options, paths)) => open(rt, &options, paths.source),
         Err(UsageFault::Usage(error)) => {
             let _ = eprint!(rt; "{error}");
@@ -60,13 +47,13 @@ fn obey(rt: &HostRuntime) -> io::Result<u8> {
     })
 }
 
-/// Tells that memory ran out.
+/// Reports that memory ran out.
 fn no_memory(rt: &HostRuntime) -> u8 {
     let _ = eprintln!(rt; "failed F90 no-memory");
     NO_MEMORY
 }
 
-/// Answers to the source in this file; none is the standard input.
+/// Answers the source in this file, or the one on the standard input where no file is named.
 fn open(rt: &HostRuntime, options: &Options, source: Option<&str>) -> u8 {
     match source {
         Some(path) => answer(
@@ -78,11 +65,11 @@ fn open(rt: &HostRuntime, options: &Options, source: Option<&str>) -> u8 {
     }
 }
 
-/// Answers to a source on the standard output, and tells a fault on the standard error.
+/// Answers a source on the standard output, and reports a fault on the standard error.
 fn answer<S: ByteReader>(rt: &HostRuntime, source: &mut S, options: &Options) -> u8 {
     let mut out = SystemWriter::new(rt.stdout());
     let mut input = MemoryReader::new(b"");
-    match serve::serve(rt.alloc(), source, &mut input, options, &mut out) {
+    match serve(rt.alloc(), source, &mut input, options, &mut out) {
         Ok(status) => code_of(status),
         Err(fault) => {
             let _ = eprintln!(rt; "failed {fault}");

@@ -1,121 +1,140 @@
 -- What is assigned is evaluated and stored, and what is read is written.
 
-use Rattle.std.proofs.Common.{◌≡◌, ℕ, Bool, true, false, List, [], ◌∷◌, ◌++◌, length, refl, sym, ap, ◌∙◌}
-use Rattle.std.specs.Prelude.{Option, Some, None}
+use Rattle.std.proofs.Common.{◌≡◌, ℕ, Bool, true, false, List, [], ◌∷◌, ◌++◌, length, refl, sym, ◌∙◌}
+use Rattle.std.specs.Prelude.{ℤ, Option, Some, None}
 use Rattle.std.specs.List.{slice_set}
 use Rattle.ada_text.specs.declared.spot.Spot.{Spot}
-use Rattle.ada_tree.specs.declared.rule.Hold.{Hold}
-use Rattle.ada_tree.specs.declared.rule.Hold.TheVariants as hold
-use Rattle.ada_tree.specs.Form.{ExpressionForm, ItemForm, Source, nothing, value_of, allocates, computes, Form}
-use Rattle.ada_tree.specs.Flow.{hold_at, followed_in, followed_in_items, owns, loses, moves as flow_moves}
-use Rattle.ada_meaning.specs.declared.state.Name.{Name}
+use Rattle.ada_program.specs.Form.{PathForm, ExpressionForm, ItemForm, RightForm, nothing, value_of, allocates, computes, StmtForm}
+use Rattle.ada_flow.specs.declared.rule.Hold.{Hold}
+use Rattle.ada_flow.specs.declared.rule.Hold.TheVariants as hold
+use Rattle.ada_flow.specs.declared.rule.Region.TheVariants.{Whole}
+use Rattle.ada_flow.specs.Flow.{Holds, hold_at, paths_in, paths_in_items, moves as flow_moves, moves_path}
 use Rattle.ada_meaning.specs.declared.state.Value.{Value}
-use Rattle.ada_meaning.specs.declared.state.Value.TheVariants.{Null, Names, Scalar}
-use Rattle.ada_values.specs.declared.value.Value.TheVariants as scalar
+use Rattle.ada_meaning.specs.declared.state.Value.TheVariants.{Null, Names}
 use Rattle.ada_meaning.specs.declared.state.Mode.TheVariants.{Running}
-use Rattle.ada_meaning.specs.declared.event.Event.TheVariants as event
 use Rattle.ada_meaning.specs.declared.event.Exception.TheVariants.{StorageError}
-use Rattle.ada_meaning.specs.State.{Thing, declared, Master, Control, computing, fills, creates_new, stores, creates, prints, State, stage_by}
-use Rattle.ada_meaning.specs.Step.{running_next, source_next, answered, abandoned, line_next, newest, new_thing}
-use Rattle.ada_sound.proofs.Objects.{ended_more, new_is, next_is_none}
-use Rattle.ada_sound.proofs.Values.{Fits, Fit, place_at, IsFree, fit_more, put, lose, other_owner, owner_exists}
-use Rattle.ada_sound.proofs.Invariant.{Passes, Goes, RunsOn, StoresTo, Gives, Takes, NoneIsLost, Owns, Awaits, Working, ReadyIn, Stepped, Fine}
-use Rattle.ada_sound.proofs.Masters.{housed_created, housed_new, open_created, open_joined}
-use Rattle.ada_sound.proofs.Ready.{running, at_work, runs_passes, runs_ready, raising_ready}
-use Rattle.ada_sound.proofs.Followings.{then_goes}
-use Rattle.ada_sound.proofs.Expressions.{goes_on}
+use Rattle.ada_meaning.specs.Frame.{Computes, Fills, Creates, Stores, Declares}
+use Rattle.ada_meaning.specs.Event.{Line, Quiet}
+use Rattle.ada_meaning.specs.Heap.{Cell}
+use Rattle.ada_meaning.specs.State.{declared, Activation, Master, home_of}
+use Rattle.ada_meaning.specs.Step.{owned, path_next, right_next, new_cell, answered, new_next, line_next}
+use Rattle.ada_meaning.specs.Named.{Object, State, named, new_object}
+use Rattle.ada_sound.specs.Agreement.{Exists}
+use Rattle.ada_sound.proofs.Objects.{get_new, get_past}
+use Rattle.ada_sound.proofs.Items.{home_has}
+use Rattle.ada_sound.proofs.Stored.{stored_new, stored_owning}
+use Rattle.ada_sound.proofs.Values.{Fits, IsOwn, Fit, place_at, HasNoOther, fit_more, put_fit, lose, other_owner}
+use Rattle.ada_sound.proofs.Alters.{alters_new}
+use Rattle.ada_sound.proofs.Invariant.{Control, Goes, RunsOn, StoresTo, Gives, Takes, NoneIsLost, Owns, Awaits, Working, ReadyIn, Stepped, Fine}
+use Rattle.ada_sound.proofs.Ready.{running, at_work, new_passes, stays, goes_on, runs_on, raises}
+use Rattle.ada_sound.proofs.Followings.{following_goes}
 
-module _ (At : List Form → List Hold → Type 0) (Homed : Type 0) where
-  -- What is evaluated is what a store awaits.
-  stores_ready : (k : Control) (more : ℕ → Control → Type 0) (v : Value) (objects : List (Option Thing)) (places operands : List Value) (ms : List Master) → StoresTo k more → ((x : ℕ) (k' : Control) → more x k' → Working Homed objects (slice_set places x v) ms (RunsOn At Homed k')) → ReadyIn At Homed Running k objects places (v ∷ operands) ms
-  stores_ready (stores x k) more v objects places operands ms h then = then x k h
-  stores_ready (creates x k) more v objects places operands ms h then = then x k h
-  stores_ready k more v objects places operands ms h then = absurd h
+module _ (At : List StmtForm → Holds → Type 0) where
+  -- What is evaluated is what a variable awaits.
+  stores_ready : (k : Control) (more : ℕ → Control → Type 0) (v : Value) (heap : List Object) (places operands : List Value) (ms : List Master) → StoresTo k more → ((x : ℕ) (k' : Control) → more x k' → Working heap (slice_set places x v) ms (RunsOn At k')) → ReadyIn At Running k heap places (v ∷ operands) ms
+  stores_ready [] more v heap places operands ms h stored = absurd h
+  stores_ready (Stores x ∷ k) more v heap places operands ms h stored = stored x k h
+  stores_ready (Declares x ∷ k) more v heap places operands ms h stored = stored x k h
+  stores_ready (f ∷ k) more v heap places operands ms h stored = absurd h
 
-  module _ (y : ℕ) (spot : Spot) (homes : List ℕ) (holds : List Hold) (objects : List (Option Thing)) (places : List Value) (fit : Fit objects places holds) (x : ℕ) (more : List Hold → Type 0) where
-    move_one : hold_at holds y ≡ hold.Own → IsFree places (slice_set holds y hold.Lost) x hold.Own (place_at places y)
-    move_one own _ z o p ne a b c e = let h = other_owner holds y z a in fit.apart z y o p h.0 h.1 own b c e
+  -- What an owner held is moved to another variable.
+  module _ (y : ℕ) (spot : Spot) (holds : Holds) (heap : List Object) (places : List Value) (fit : Fit heap places holds) (x : ℕ) (more : Holds → Type 0) where
+    moved_alone : IsOwn (hold_at holds y) → HasNoOther places (slice_set holds y hold.Lost) x (hold.Own Whole) (place_at places y)
+    moved_alone own _ z o ne a b c = let h = other_owner holds y z hold.Lost (λ none. none) a in fit.apart z y o h.0 h.1 own b c
 
-    move_hold : (h : Hold) → hold_at holds y ≡ h → Goes (flow_moves x y spot holds h) more → Fits objects h (place_at places y) → (after : List Hold) × Fit objects (slice_set places x (place_at places y)) after × more after
-    move_hold hold.Null is m fits = (slice_set holds x hold.Null, put objects places holds x hold.Null (place_at places y) (λ e. absurd (cc e)) fits fit, m)
-    move_hold hold.Own is m fits = (slice_set (slice_set holds y hold.Lost) x hold.Own, put objects places (slice_set holds y hold.Lost) x hold.Own (place_at places y) (move_one is) fits (lose y fit), m)
-    move_hold hold.Alias is m fits = absurd m
+    move_hold : (h : Hold) → hold_at holds y ≡ h → Goes (flow_moves x y spot holds h) more → Fits heap h (place_at places y) → (after : Holds) × Fit heap (slice_set places x (place_at places y)) after × more after
+    move_hold hold.Null is m fits = (slice_set holds x hold.Null, put_fit heap places holds x hold.Null (place_at places y) (λ e. absurd e) fits fit, m)
+    move_hold (hold.Own r) is m fits = (slice_set (slice_set holds y hold.Lost) x (hold.Own r), put_fit heap places (slice_set holds y hold.Lost) x (hold.Own r) (place_at places y) (λ own. moved_alone (rw is tt) tt) fits (lose y fit), m)
+    move_hold (hold.Alias r) is m fits = absurd m
     move_hold hold.Lost is m fits = absurd m
 
-  new_fit : (objects : List (Option Thing)) (places : List Value) (holds : List Hold) (x access : ℕ) (items : List Value) → Fit objects places holds → Fit (objects ++ Some (new_thing access items) ∷ []) (slice_set places x (Names (record { 0 = length objects }))) (slice_set holds x hold.Own)
-  new_fit objects places holds x access items fit =
-      put (objects ++ Some (new_thing access items) ∷ []) places holds x hold.Own (Names (record { 0 = length objects }))
-      (λ _ y o p ne a b c e. next_is_none objects (let is : o.0 ≡ length objects = e ∙ sym (names_same p (record { 0 = length objects }) c) in rw is at (owner_exists y o fit a b)))
-      (ap stage_by (new_is objects (Some (new_thing access items))))
-      (fit_more (Some (new_thing access items)) fit)
+  -- A new object has the next name, which no variable holds.
+  new_fit : (heap : List Object) (places : List Value) (holds : Holds) (x : ℕ) (cell : Cell Value) → Fit heap places holds → Fit (heap ++ new_object cell ∷ []) (slice_set places x (Names (record { 0 = length heap }))) (slice_set holds x (hold.Own Whole))
+  new_fit heap places holds x cell fit =
+      put_fit (heap ++ new_object cell ∷ []) places holds x (hold.Own Whole) (Names (record { 0 = length heap }))
+      (λ _ y o ne a b c. no_name y (hold_at holds y) (place_at places y) a (fit.each y) (b ∙ sym c))
+      (new_object cell, get_new heap (new_object cell), refl)
+      (fit_more (new_object cell) fit)
     where
-      names_same : (p q : Name) → Names q ≡ Names p → q.0 ≡ p.0
-      names_same p q e = cc (e)
+      no_name : (y : ℕ) (h : Hold) (v : Value) → IsOwn h → Fits heap h v → v ≡ Names (record { 0 = length heap }) → ⊥
+      no_name y hold.Null v own fits e = own
+      no_name y (hold.Own r) v own fits e = let there : Exists heap (record { 0 = length heap }) = rw e at fits in get_past heap there.0 there.1
+      no_name y (hold.Alias r) v own fits e = own
+      no_name y hold.Lost v own fits e = own
 
-  abandoned_passes : (k : Control) (homes : List ℕ) (holds : List Hold) → StoresTo k (Owns At Homed homes holds) → Passes (abandoned k)
-  abandoned_passes (stores x k) homes holds r = runs_passes At Homed k homes (slice_set holds x hold.Own) r
-  abandoned_passes (creates x k) homes holds r = runs_passes At Homed k homes (slice_set holds x hold.Own) r
-  abandoned_passes k homes holds r = absurd r
+  module _ (k : Control) (a : Activation Value) (rest : List (Activation Value)) (s : State) where
+    -- A new object is granted or refused.
+    module _ (access count words item : ℕ) (home : home_of access s.masters ≡ Some item) (w : Working s.heap a.places s.masters (λ holds. StoresTo k (Owns At holds))) where
+      cell : Cell Value
+      cell = new_cell named access count item (running k a rest s)
 
-  -- A new object is granted or refused.
-  pub new_fine : (access count : ℕ) (values operands : List Value) (k : Control) (s : State) → Working Homed s.objects s.places s.masters (Awaits At Homed (creates_new access count k)) → (granted : Bool) → Stepped At Homed s.objects event.Quiet (answered access values (record (running k s) { operands = operands }) granted)
-  new_fine access count values operands k s w true = record {
-    ready = stores_ready k (Owns At Homed w.homes w.holds) (Names (record { 0 = length s.objects })) _ s.places operands _ w.rest.1 (λ x k' r. record { homes = w.homes; holds = slice_set w.holds x hold.Own; housed = housed_new Homed s.objects s.masters access values (λ given. w.opens given access (w.rest.0 given)) w.housed; opens = λ given n e. open_joined n access (record { 0 = length s.objects }) s.masters (w.opens given n e); fit = new_fit s.objects s.places w.holds x access values w.fit; rest = r });
-    lasts = λ n h. ended_more s.objects _ n h;
-    says = tt;
-  }
-  new_fine access count values operands k s w false = record {
-    ready = raising_ready At Homed StorageError (abandoned k) s.objects s.places [] s.masters w.housed (abandoned_passes k w.homes w.holds w.rest.1);
-    lasts = λ n h. h;
-    says = tt;
-  }
+      granted_ready : (vs : List Value) → ReadyIn At Running k (s.heap ++ new_object cell ∷ []) a.places (Names (record { 0 = length s.heap }) ∷ vs) s.masters
+      unfolding cell
+      granted_ready vs = stores_ready k (Owns At w.holds) (Names (record { 0 = length s.heap })) _ a.places vs s.masters w.rest (λ x k' r. record {
+        holds = slice_set w.holds x (hold.Own Whole);
+        stored = stored_new cell refl (home_has access item s.masters home) w.stored;
+        fit = new_fit s.heap a.places w.holds x cell w.fit;
+        rest = r;
+      })
 
-  -- What an allocator and an expression follow is not lost, and what awaits them goes on.
-  allocates_awaits : (access : ℕ) (items : List ItemForm) (k : Control) (homes : List ℕ) (holds : List Hold) → StoresTo k (Gives At Homed (allocates access items) homes holds) → NoneIsLost holds (followed_in_items items) × StoresTo k (Owns At Homed homes holds)
-  allocates_awaits access items (stores x k) homes holds g = then_goes (followed_in_items items) holds (owns x) (RunsOn At Homed k homes) g
-  allocates_awaits access items (creates x k) homes holds g = then_goes (followed_in_items items) holds (owns x) (RunsOn At Homed k homes) g
-  allocates_awaits access items k homes holds g = absurd g
+      answered_fine : (granted : Bool) → Stepped At s.heap Quiet (answered named access count item words (running k a rest s) granted)
+      unfolding cell
+      answered_fine true = record { ready = (tt, granted_ready _); alters = alters_new s.heap Quiet (new_object cell) refl; says = tt }
+      answered_fine false = raises At k a rest s StorageError w.stored (new_passes At k w.holds w.rest)
 
-  computes_awaits : (e : ExpressionForm) (k : Control) (homes : List ℕ) (holds : List Hold) → StoresTo k (Gives At Homed (computes e) homes holds) → NoneIsLost holds (followed_in e) × Awaits At Homed k homes holds
-  computes_awaits e (stores x k) homes holds g = then_goes (followed_in e) holds (loses x) (RunsOn At Homed k homes) g
-  computes_awaits e (creates x k) homes holds g = then_goes (followed_in e) holds (loses x) (RunsOn At Homed k homes) g
-  computes_awaits e k homes holds g = absurd g
+    creates_by : (access count words : ℕ) (home : Option ℕ) → home_of access s.masters ≡ home → Working s.heap a.places s.masters (λ holds. StoresTo k (Owns At holds)) → Fine At s.heap s.masters (new_next named access count words home (running k a rest s))
+    creates_by access count words None e w = raises At k a rest s StorageError w.stored (new_passes At k w.holds w.rest)
+    creates_by access count words (Some item) e w = answered_fine access count words item e w
 
-  pub evaluate_fine : (source : Source) (k : Control) (s : State) → Working Homed s.objects s.places s.masters (Takes At Homed source k) → Fine At Homed s.objects (source_next source (running k s))
-  evaluate_fine nothing k s w = record {
-    ready = stores_ready k (Gives At Homed nothing w.homes w.holds) Null s.objects s.places s.operands s.masters w.rest.1 (λ x k' r. record { homes = w.homes; holds = slice_set w.holds x hold.Null; housed = w.housed; opens = w.opens; fit = put s.objects s.places w.holds x hold.Null Null (λ e. absurd (cc e)) refl w.fit; rest = r });
-    lasts = λ n h. h;
-    says = tt;
-  }
-  evaluate_fine (value_of y spot) k s w = record {
-    ready = stores_ready k (Gives At Homed (value_of y spot) w.homes w.holds) (place_at s.places y) s.objects s.places s.operands s.masters w.rest.1 (λ x k' r. let h = move_hold y spot w.homes w.holds s.objects s.places w.fit x (RunsOn At Homed k' w.homes) (hold_at w.holds y) refl r (w.fit.each y) in record { homes = w.homes; holds = h.0; housed = w.housed; opens = w.opens; fit = h.1; rest = h.2 });
-    lasts = λ n h. h;
-    says = tt;
-  }
-  evaluate_fine (allocates access items) k s w =
-      let h = allocates_awaits access items k w.homes w.holds w.rest.1 in
-      goes_on At Homed (fills items (creates_new access (length items) k)) s (at_work w (h.0, (w.rest.0, h.1))) s.operands
-  evaluate_fine (computes e) k s w = goes_on At Homed (computing e k) s (at_work w (computes_awaits e k w.homes w.holds w.rest.1)) s.operands
+    pub creates_fine : (access count words : ℕ) → Working s.heap a.places s.masters (λ holds. StoresTo k (Owns At holds)) → Fine At s.heap s.masters (new_next named access count words (home_of access s.masters) (running k a rest s))
+    creates_fine access count words w = creates_by access count words (home_of access s.masters) refl w
 
-  pub store_fine : (x : ℕ) (k : Control) (s : State) → Working Homed s.objects (slice_set s.places x (newest s.operands)) s.masters (RunsOn At Homed k) → Fine At Homed s.objects (running_next [] (stores x k) (running (stores x k) s))
-  store_fine x k s w = record { ready = runs_ready At Homed k s.objects (slice_set s.places x (newest s.operands)) _ s.masters w; lasts = λ n h. h; says = tt }
+    -- What an allocator and an expression follow is not lost, and what awaits them goes on.
+    allocates_awaits : (access : ℕ) (items : List ItemForm) (k' : Control) (holds : Holds) → StoresTo k' (Gives At (allocates access items) holds) → NoneIsLost holds (paths_in_items items) × StoresTo k' (Owns At holds)
+    allocates_awaits access items [] holds g = absurd g
+    allocates_awaits access items (Stores x ∷ k') holds g = following_goes (paths_in_items items) holds _ (RunsOn At k') g
+    allocates_awaits access items (Declares x ∷ k') holds g = following_goes (paths_in_items items) holds _ (RunsOn At k') g
+    allocates_awaits access items (f ∷ k') holds g = absurd g
 
-  pub create_fine : (x : ℕ) (k : Control) (s : State) → Working Homed s.objects (slice_set s.places x (newest s.operands)) s.masters (RunsOn At Homed k) → Fine At Homed s.objects (running_next [] (creates x k) (running (creates x k) s))
-  create_fine x k s w = record {
-    ready = runs_ready At Homed k _ _ _ _ (record {
-      homes = w.homes;
-      holds = w.holds;
-      housed = housed_created Homed s.objects s.masters (declared x) (λ n i. i) w.housed;
-      opens = λ given n e. open_created n (record { number = record { 0 = length s.objects }; owned = declared x }) s.masters (w.opens given n e);
-      fit = fit_more None w.fit;
-      rest = w.rest;
-    });
-    lasts = λ n h. ended_more s.objects None n h;
-    says = tt;
-  }
+    computes_awaits : (e : ExpressionForm) (k' : Control) (holds : Holds) → StoresTo k' (Gives At (computes e) holds) → NoneIsLost holds (paths_in e) × Awaits At k' holds
+    computes_awaits e [] holds g = absurd g
+    computes_awaits e (Stores x ∷ k') holds g = following_goes (paths_in e) holds _ (RunsOn At k') g
+    computes_awaits e (Declares x ∷ k') holds g = following_goes (paths_in e) holds _ (RunsOn At k') g
+    computes_awaits e (f ∷ k') holds g = absurd g
 
-  pub print_fine : (v : Value) (operands : List Value) (k : Control) (s : State) → Working Homed s.objects s.places s.masters (Awaits At Homed (prints k)) → Fine At Homed s.objects (line_next v (record s { operands = operands; control = k; mode = Running }))
-  print_fine Null operands k s w = record { ready = runs_ready At Homed k s.objects s.places operands s.masters w; lasts = λ n h. h; says = tt }
-  print_fine (Names o) operands k s w = record { ready = runs_ready At Homed k s.objects s.places operands s.masters w; lasts = λ n h. h; says = tt }
-  print_fine (Scalar (scalar.Integer i)) operands k s w = record { ready = runs_ready At Homed k s.objects s.places operands s.masters w; lasts = λ n h. h; says = tt }
-  print_fine (Scalar (scalar.Boolean b)) operands k s w = record { ready = runs_ready At Homed k s.objects s.places operands s.masters w; lasts = λ n h. h; says = tt }
+    -- A value is there for the variable that awaits it.
+    gives_on : (more : Holds → ℕ → Control → Type 0) (v : Value) → (w : Working s.heap a.places s.masters (λ holds. StoresTo k (more holds))) → ((x : ℕ) (k' : Control) → more w.holds x k' → Working s.heap (slice_set a.places x v) s.masters (RunsOn At k')) → Stepped At s.heap Quiet (running k (record a { operands = v ∷ a.operands }) rest s)
+    gives_on more v w stored = stays At Quiet (running k (record a { operands = v ∷ a.operands }) rest s) (tt, stores_ready k (more w.holds) v s.heap a.places a.operands s.masters w.rest stored) tt
+
+    -- A path that is moved.
+    GivesPath : List ℕ → PathForm → Holds → ℕ → Control → Type 0
+    GivesPath cs path holds x k' = Goes (moves_path x cs path holds) (RunsOn At k')
+
+    value_fine : (cs : List ℕ) (path : PathForm) → Working s.heap a.places s.masters (λ holds. StoresTo k (GivesPath cs path holds)) → Fine At s.heap s.masters (path_next named cs (place_at a.places path.root) (running k a rest s))
+    unfolding GivesPath
+    value_fine [] path w = gives_on (GivesPath [] path) (place_at a.places path.root) w (λ x k' r. let h = move_hold path.root path.spot w.holds s.heap a.places w.fit x (RunsOn At k') (hold_at w.holds path.root) refl r (w.fit.each path.root) in record { holds = h.0; stored = w.stored; fit = h.1; rest = h.2 })
+    value_fine (c ∷ cs) path w = absurd (none_stores k w.rest)
+      where
+        none_stores : (k' : Control) → StoresTo k' (GivesPath (c ∷ cs) path w.holds) → ⊥
+        none_stores [] g = g
+        none_stores (Stores x ∷ k') g = g
+        none_stores (Declares x ∷ k') g = g
+        none_stores (f ∷ k') g = g
+
+    pub right_fine : (right : RightForm) → Working s.heap a.places s.masters (Takes At right k) → Fine At s.heap s.masters (right_next named right (running k a rest s))
+    unfolding GivesPath
+    right_fine nothing w = gives_on (λ holds. Gives At nothing holds) Null w (λ x k' r. record { holds = slice_set w.holds x hold.Null; stored = w.stored; fit = put_fit s.heap a.places w.holds x hold.Null Null (λ e. absurd e) refl w.fit; rest = r })
+    right_fine (value_of path) w = value_fine path.selectors path w
+    right_fine (allocates access items) w = goes_on At (Fills items ∷ Creates access (length items) ∷ k) a rest s (at_work w (allocates_awaits access items k w.holds w.rest)) a.operands
+    right_fine (computes e) w = goes_on At (Computes e ∷ k) a rest s (at_work w (computes_awaits e k w.holds w.rest)) a.operands
+
+    -- A value is stored, a variable is created, a line is written.
+    pub stores_fine : (x : ℕ) (v : Value) (vs : List Value) → Working s.heap (slice_set a.places x v) s.masters (RunsOn At k) → Stepped At s.heap Quiet (running k (record { places = slice_set a.places x v; operands = vs }) rest s)
+    stores_fine x v vs w = runs_on At k (record { places = slice_set a.places x v; operands = vs }) rest s w Quiet tt
+
+    pub declares_fine : (x : ℕ) (v : Value) (vs : List Value) → Working s.heap (slice_set a.places x v) s.masters (RunsOn At k) → Stepped At s.heap Quiet (owned (declared x) (running k (record { places = slice_set a.places x v; operands = vs }) rest s))
+    declares_fine x v vs w = runs_on At k (record { places = slice_set a.places x v; operands = vs }) rest (owned (declared x) s) (record { holds = w.holds; stored = stored_owning (declared x) w.stored; fit = w.fit; rest = w.rest }) Quiet tt
+
+    pub writes_fine : (i : Option ℤ) (vs : List Value) → Working s.heap a.places s.masters (RunsOn At k) → Fine At s.heap s.masters (line_next named i (running k (record a { operands = vs }) rest s))
+    writes_fine None vs w = tt
+    writes_fine (Some i) vs w = runs_on At k (record a { operands = vs }) rest s w (Line _) tt

@@ -1,10 +1,10 @@
--- Variables that are followed, none of which is lost.
+-- Paths that are followed, none of which is lost.
 
 use Rattle.std.proofs.Common.{◌≡◌, Bool, true, false, List, [], ◌∷◌, ◌++◌, refl}
 use Rattle.std.specs.Prelude.{if◌then◌else◌, Option, Some, None}
 use Rattle.ada_text.specs.declared.spot.Spot.{Spot}
-use Rattle.ada_tree.specs.declared.rule.Hold.{Hold}
-use Rattle.ada_tree.specs.Flow.{Outcome, then_flow, hold_at, Followed, is_left_of, leftmost, lost_by, lost_among, unless_lost, following}
+use Rattle.ada_program.specs.Form.{PathForm}
+use Rattle.ada_flow.specs.Flow.{Holds, Outcome, is_left_of, leftmost, lost_in, lost_among, unless_lost, following}
 use Rattle.ada_sound.proofs.Invariant.{Goes, NoneIsLost}
 
 -- The leftmost of two spots is none only where both are.
@@ -17,28 +17,21 @@ leftmost_none (Some a) (Some b) e = go (is_left_of b a) e
     go true e' = absurd (cc e')
     go false e' = absurd (cc e')
 
-pub first_kept : (holds : List Hold) (f : Followed) (fs : List Followed) → NoneIsLost holds (f ∷ fs) → (lost_by (hold_at holds f.variable) f.spot ≡ None) × NoneIsLost holds fs
-first_kept holds f fs e = leftmost_none (lost_by (hold_at holds f.variable) f.spot) (lost_among holds fs) e
+pub first_kept : (holds : Holds) (p : PathForm) (ps : List PathForm) → NoneIsLost holds (p ∷ ps) → (lost_in holds p ≡ None) × NoneIsLost holds ps
+first_kept holds p ps e = leftmost_none (lost_in holds p) (lost_among holds ps) e
 
 -- What is followed comes in two parts.
-pub kept_apart : (holds : List Hold) (fs gs : List Followed) → NoneIsLost holds (fs ++ gs) → NoneIsLost holds fs × NoneIsLost holds gs
-kept_apart holds [] gs e = (refl, e)
-kept_apart holds (f ∷ fs) gs e =
-    let h = first_kept holds f (fs ++ gs) e in
-    let g = kept_apart holds fs gs h.1 in
+pub kept_apart : (holds : Holds) (ps qs : List PathForm) → NoneIsLost holds (ps ++ qs) → NoneIsLost holds ps × NoneIsLost holds qs
+kept_apart holds [] qs e = (refl, e)
+kept_apart holds (p ∷ ps) qs e =
+    let h = first_kept holds p (ps ++ qs) e in
+    let g = kept_apart holds ps qs h.1 in
     (rw (h.0, g.0) refl, g.1)
 
 -- Flow goes on only where none is lost.
-pub following_goes : (fs : List Followed) (holds : List Hold) (more : List Hold → Type 0) → Goes (following fs holds) more → NoneIsLost holds fs × more holds
-following_goes fs holds more g = go (lost_among holds fs) refl g
+pub following_goes : (ps : List PathForm) (holds : Holds) (after : Outcome) (more : Holds → Type 0) → Goes (following ps holds after) more → NoneIsLost holds ps × Goes after more
+following_goes ps holds after more g = go (lost_among holds ps) refl g
   where
-    go : (o : Option Spot) → lost_among holds fs ≡ o → Goes (unless_lost o holds) more → NoneIsLost holds fs × more holds
-    go None is m = (is, m)
-    go (Some spot) is m = absurd m
-
-pub then_goes : (fs : List Followed) (holds : List Hold) (after : List Hold → Outcome) (more : List Hold → Type 0) → Goes (then_flow (following fs holds) after) more → NoneIsLost holds fs × Goes (after holds) more
-then_goes fs holds after more g = go (lost_among holds fs) refl g
-  where
-    go : (o : Option Spot) → lost_among holds fs ≡ o → Goes (then_flow (unless_lost o holds) after) more → NoneIsLost holds fs × Goes (after holds) more
+    go : (o : Option Spot) → lost_among holds ps ≡ o → Goes (unless_lost o after) more → NoneIsLost holds ps × Goes after more
     go None is m = (is, m)
     go (Some spot) is m = absurd m

@@ -1,196 +1,122 @@
--- Items and members: each object that exists is in its collection, and each member exists.
+-- Items and masters: each item's number says how many are below it, and there is at most one master.
 
-use Rattle.std.proofs.Common.{◌≡◌, ◌≢◌, ℕ, zero, suc, ◌<◌, ◌≤◌, Bool, true, false, cond, not, List, [], ◌∷◌, ◌++◌, map, length, refl, sym, ap, ◌∙◌, ◌⊎◌, inl, inr, arith}
-use Rattle.std.specs.Prelude.{Option, Some, None, ◌==◌}
-use Rattle.std.proofs.lemmas.Bool.{eqb-true, eq-eqb}
-use Rattle.std.specs.List.{slice_set, slice_index_or, filter}
-use Rattle.ada_meaning.specs.declared.state.Name.{Name}
-use Rattle.ada_meaning.specs.declared.state.Value.{Value}
-use Rattle.ada_meaning.specs.State.{Thing, Owned, declared, collection, Item, ended}
-use Rattle.ada_meaning.specs.Step.{joined_owned, joined_item, is_other, parted_owned, parted_item, new_thing}
-use Rattle.ada_sound.proofs.Objects.{Exists, thing_of, out_by, exists_more, new_is, out_more, out_set, set_other, ended_is_in}
+use Rattle.std.proofs.Common.{◌≡◌, ℕ, zero, suc, ◌<◌, ◌≤◌, Bool, true, false, List, [], ◌∷◌, ◌++◌, length, refl, ◌⊎◌, inl, inr, arith, length-append}
+use Rattle.std.specs.Prelude.{Option, Some, None, if◌then◌else◌, ◌==◌}
+use Rattle.std.specs.List.{All, AllPairs, Contains}
+use Rattle.std.proofs.lemmas.List.Elements.{All-nil, All-cons}
+use Rattle.std.proofs.lemmas.List.Kept.{AllPairs-cons}
+use Rattle.ada_meaning.specs.State.{Owned, declared, collection, Item, Master, height, collection_in, home_among, home_of}
+use Rattle.ada_meaning.specs.Step.{owning}
+use Rattle.ada_meaning.specs.Law.{items_of, Falls, MastersFall}
 
--- A name is among these, in a collection, in one of these items.
-abbrev pub InNames : ℕ → List Name → Type 0
-InNames k [] = ⊥
-InNames k (o ∷ os) = (k ≡ o.0) ⊎ InNames k os
+-- An item's number is that of the items below it.
+abbrev pub Counted : List Item → Type 0
+Counted [] = Unit {0}
+Counted (i ∷ is) = (i.number ≡ length is) × Counted is
 
-abbrev pub InOwned : ℕ → Owned → Type 0
-InOwned k (declared x) = ⊥
-InOwned k (collection t os) = InNames k os
+abbrev pub OneMaster : List Master → Type 0
+OneMaster [] = Unit {0}
+OneMaster (m ∷ []) = Unit {0}
+OneMaster (m ∷ n ∷ ms) = ⊥
 
-abbrev pub InItems : ℕ → List Item → Type 0
-InItems k [] = ⊥
-InItems k (i ∷ is) = InOwned k i.owned ⊎ InItems k is
+abbrev pub NoMaster : List Master → Type 0
+NoMaster [] = Unit {0}
+NoMaster (m ∷ ms) = ⊥
 
--- The members exist; and if all that is allocated has a home, each object that exists is a member.
-pub record Homes (Homed : Type 0) (objects : List (Option Thing)) (items : List Item) : Type 0 where
-  pub live : (k : ℕ) → InItems k items → Exists objects k
-  pub all : Homed → (k : ℕ) → out_by (thing_of objects k) ≡ true → InItems k items
+abbrev pub IsCollection : Owned → Type 0
+IsCollection (declared x) = ⊥
+IsCollection (collection access) = Unit {0}
 
--- There is a collection of an access type.
-abbrev pub OpensOwned : ℕ → Owned → Type 0
-OpensOwned access (declared x) = ⊥
-OpensOwned access (collection t os) = (access == t) ≡ true
+-- A collection of this number is among these items.
+abbrev pub HasItem : ℕ → List Item → Type 0
+HasItem n [] = ⊥
+HasItem n (i ∷ is) = ((i.number ≡ n) × IsCollection i.owned) ⊎ HasItem n is
 
-abbrev pub OpensItems : ℕ → List Item → Type 0
-OpensItems access [] = ⊥
-OpensItems access (i ∷ is) = OpensOwned access i.owned ⊎ OpensItems access is
+pub has_append : (n : ℕ) (is js : List Item) → HasItem n is → HasItem n (is ++ js)
+has_append n [] js h = absurd h
+has_append n (i ∷ is) js (inl e) = inl e
+has_append n (i ∷ is) js (inr h) = inr (has_append n is js h)
 
--- The numbers fall from the newest item to the oldest, and all are below a bound.
-abbrev pub Falls : ℕ → List Item → Type 0
-Falls bound [] = Unit {0}
-Falls bound (i ∷ is) = (i.number.0 < bound) × Falls i.number.0 is
+pub has_after : (n : ℕ) (is js : List Item) → HasItem n js → HasItem n (is ++ js)
+has_after n [] js h = h
+has_after n (i ∷ is) js h = inr (has_after n is js h)
 
-pub falls_more : (bound more : ℕ) (items : List Item) → bound ≤ more → Falls bound items → Falls more items
-falls_more bound more [] le f = tt
-falls_more bound more (i ∷ is) le f = (omega (arith, f.0), f.1)
+-- All items are counted.
+pub height_is : (ms : List Master) → height ms ≡ length (items_of ms)
+height_is [] = refl
+height_is (m ∷ ms) = let h = height_is ms in omega (arith, length-append m.items (items_of ms), h)
 
--- An object joins.
-join_names : (o : Name) (b : Bool) (os : List Name) (k : ℕ) → InNames k os → InNames k (cond b (o ∷ os) os)
-join_names o true os k h = inr h
-join_names o false os k h = h
+-- One item more.
+pub counted_owning : (owned : Owned) (ms : List Master) → Counted (items_of ms) → Counted (items_of (owning (record { number = height ms; owned = owned }) ms))
+counted_owning owned [] c = c
+counted_owning owned (m ∷ ms) c = (height_is (m ∷ ms), c)
 
-join_owned : (access : ℕ) (o : Name) (owned : Owned) (k : ℕ) → InOwned k owned → InOwned k (joined_owned access o owned)
-join_owned access o (declared x) k h = h
-join_owned access o (collection t os) k h = join_names o (access == t) os k h
+pub one_owning : (item : Item) (ms : List Master) → OneMaster ms → OneMaster (owning item ms)
+one_owning item [] o = o
+one_owning item (m ∷ []) o = o
+one_owning item (m ∷ n ∷ ms) o = o
 
-join_items : (access : ℕ) (o : Name) (items : List Item) (k : ℕ) → InItems k items → InItems k (map (joined_item access o) items)
-join_items access o [] k h = h
-join_items access o (i ∷ is) k (inl h) = inl (join_owned access o i.owned k h)
-join_items access o (i ∷ is) k (inr h) = inr (join_items access o is k h)
+pub has_owning : (n : ℕ) (item : Item) (ms : List Master) → HasItem n (items_of ms) → HasItem n (items_of (owning item ms))
+has_owning n item [] h = h
+has_owning n item (m ∷ ms) h = inr h
 
-joined_names : (o : Name) (b : Bool) (os : List Name) (k : ℕ) → InNames k (cond b (o ∷ os) os) → InNames k os ⊎ (k ≡ o.0)
-joined_names o true os k (inl e) = inr e
-joined_names o true os k (inr h) = inl h
-joined_names o false os k h = inl h
+-- The collection that an access type denotes is an item.
+HasSome : Option ℕ → List Item → Type 0
+HasSome None is = Unit {0}
+HasSome (Some n) is = HasItem n is
 
-joined_owneds : (access : ℕ) (o : Name) (owned : Owned) (k : ℕ) → InOwned k (joined_owned access o owned) → InOwned k owned ⊎ (k ≡ o.0)
-joined_owneds access o (declared x) k h = inl h
-joined_owneds access o (collection t os) k h = joined_names o (access == t) os k h
+has_one : (access : ℕ) (b : Bool) (n : ℕ) (is : List Item) (outer : Option ℕ) → HasItem n is → HasSome outer is → HasSome (if b then Some n else outer) is
+unfolding HasSome
+has_one access true n is outer h o = h
+has_one access false n is outer h o = o
 
-joined_items : (access : ℕ) (o : Name) (items : List Item) (k : ℕ) → InItems k (map (joined_item access o) items) → InItems k items ⊎ (k ≡ o.0)
-joined_items access o [] k h = inl h
-joined_items access o (i ∷ is) k (inl h) = elim (joined_owneds access o i.owned k h) [ inl g ↦ inl (inl g) | inr e ↦ inr e ]
-joined_items access o (i ∷ is) k (inr h) = elim (joined_items access o is k h) [ inl g ↦ inl (inr g) | inr e ↦ inr e ]
+some_more : (i : Item) (is : List Item) (outer : Option ℕ) → HasSome outer is → HasSome outer (i ∷ is)
+unfolding HasSome
+some_more i is None h = h
+some_more i is (Some n) h = inr h
 
--- Where there is a collection, the new object is in it.
-new_names : (o : Name) (b : Bool) (os : List Name) → b ≡ true → InNames o.0 (cond b (o ∷ os) os)
-new_names o true os e = inl refl
-new_names o false os e = absurd (cc e)
+some_after : (is js : List Item) (outer : Option ℕ) → HasSome outer js → HasSome outer (is ++ js)
+unfolding HasSome
+some_after is js None h = h
+some_after is js (Some n) h = has_after n is js h
 
-new_owned : (access : ℕ) (o : Name) (owned : Owned) → OpensOwned access owned → InOwned o.0 (joined_owned access o owned)
-new_owned access o (declared x) h = absurd h
-new_owned access o (collection t os) h = new_names o (access == t) os h
+collection_has : (access : ℕ) (i : Item) (owned : Owned) → i.owned ≡ owned → (is : List Item) (outer : Option ℕ) → HasSome outer (i ∷ is) → HasSome (collection_in access i owned outer) (i ∷ is)
+collection_has access i (declared x) e is outer o = o
+collection_has access i (collection t) e is outer o = has_one access (access == t) i.number (i ∷ is) outer (inl (refl, rw e tt)) o
 
-new_items : (access : ℕ) (o : Name) (items : List Item) → OpensItems access items → InItems o.0 (map (joined_item access o) items)
-new_items access o [] h = h
-new_items access o (i ∷ is) (inl h) = inl (new_owned access o i.owned h)
-new_items access o (i ∷ is) (inr h) = inr (new_items access o is h)
+among_has : (access : ℕ) (is js : List Item) (outer : Option ℕ) → HasSome outer js → HasSome (home_among access is outer) (is ++ js)
+among_has access [] js outer o = o
+among_has access (i ∷ is) js outer o = collection_has access i i.owned refl (is ++ js) (home_among access is outer) (some_more i (is ++ js) (home_among access is outer) (among_has access is js outer o))
 
--- An object parts.
-eq_false : (a b : ℕ) → not (a == b) ≡ true → a ≢ b
-eq_false a b e = λ h. absurd (cc (ap not (eq-eqb a b h), e))
+of_has : (access : ℕ) (ms : List Master) → HasSome (home_of access ms) (items_of ms)
+unfolding HasSome
+of_has access [] = tt
+of_has access (m ∷ ms) = among_has access m.items (items_of ms) (home_of access ms) (of_has access ms)
 
-eq_true : (a b : ℕ) → not (a == b) ≡ false → a ≡ b
-eq_true a b e = go (a == b) refl e
-  where
-    go : (c : Bool) → (a == b) ≡ c → not c ≡ false → a ≡ b
-    go true is f = eqb-true a b is
-    go false is f = absurd (cc f)
+pub home_has : (access item : ℕ) (ms : List Master) → home_of access ms ≡ Some item → HasItem item (items_of ms)
+unfolding HasSome
+home_has access item ms e = rw e at (of_has access ms)
 
-part_cond : (k : ℕ) (n : Name) (os rest : List Name) (b : Bool) → InNames k rest ⊎ ((k ≡ n.0) × (b ≡ true)) → InNames k (cond b (n ∷ rest) rest)
-part_cond k n os rest true (inl h) = inr h
-part_cond k n os rest true (inr h) = inl h.0
-part_cond k n os rest false (inl h) = h
-part_cond k n os rest false (inr h) = absurd (cc (h.1))
+-- What the laws say of items and masters.
+all_below : (n : ℕ) (is : List Item) → length is ≤ n → Counted is → All (λ j. j.number < n) is
+all_below n [] le c = All-nil (λ j. j.number < n)
+all_below n (i ∷ is) le c = All-cons (λ j. j.number < n) i is (omega (arith, c.0)) (all_below n is (omega (arith, le)) c.1)
 
-part_names : (o : Name) (os : List Name) (k : ℕ) → k ≢ o.0 → InNames k os → InNames k (filter (is_other o) os)
-part_names o [] k ne h = h
-part_names o (n ∷ os) k ne (inl e) = part_cond k n os (filter (is_other o) os) (is_other o n) (inr (e, other (is_other o n) refl))
-  where
-    other : (b : Bool) → is_other o n ≡ b → is_other o n ≡ true
-    other true e' = e'
-    other false e' = absurd (ne (e ∙ eq_true n.0 o.0 e'))
-part_names o (n ∷ os) k ne (inr h) = part_cond k n os (filter (is_other o) os) (is_other o n) (inl (part_names o os k ne h))
+below_number : (i : Item) (is : List Item) → i.number ≡ length is → Counted is → All (Falls i) is
+below_number i is e c = all_below i.number is (omega (arith, e)) c
 
-part_owned : (o : Name) (owned : Owned) (k : ℕ) → k ≢ o.0 → InOwned k owned → InOwned k (parted_owned o owned)
-part_owned o (declared x) k ne h = h
-part_owned o (collection t os) k ne h = part_names o os k ne h
+pub items_fall : (is : List Item) → Counted is → AllPairs Falls is
+items_fall [] c = λ i j d lt short. absurd (omega (arith, short))
+items_fall (i ∷ is) c = AllPairs-cons Falls i is (below_number i is c.0 c.1) (items_fall is c.1)
 
-part_items : (o : Name) (items : List Item) (k : ℕ) → k ≢ o.0 → InItems k items → InItems k (map (parted_item o) items)
-part_items o [] k ne h = h
-part_items o (i ∷ is) k ne (inl h) = inl (part_owned o i.owned k ne h)
-part_items o (i ∷ is) k ne (inr h) = inr (part_items o is k ne h)
+pub masters_fall : (ms : List Master) → OneMaster ms → AllPairs MastersFall ms
+masters_fall [] o = λ i j d lt short. absurd (omega (arith, short))
+masters_fall (m ∷ []) o = λ i j d lt short. absurd (omega (arith, short, lt))
+masters_fall (m ∷ n ∷ ms) o = absurd o
 
-parted_cond : (o n : Name) (k : ℕ) (rest os : List Name) (b : Bool) → is_other o n ≡ b → (InNames k rest → InNames k os × (k ≢ o.0)) → InNames k (cond b (n ∷ rest) rest) → InNames k (n ∷ os) × (k ≢ o.0)
-parted_cond o n k rest os true e more (inl h) = (inl h, λ same. eq_false n.0 o.0 e (sym h ∙ same))
-parted_cond o n k rest os true e more (inr h) = let g = more h in (inr g.0, g.1)
-parted_cond o n k rest os false e more h = let g = more h in (inr g.0, g.1)
-
-parted_names : (o : Name) (os : List Name) (k : ℕ) → InNames k (filter (is_other o) os) → InNames k os × (k ≢ o.0)
-parted_names o [] k h = absurd h
-parted_names o (n ∷ os) k h = parted_cond o n k (filter (is_other o) os) os (is_other o n) refl (parted_names o os k) h
-
-parted_owneds : (o : Name) (owned : Owned) (k : ℕ) → InOwned k (parted_owned o owned) → InOwned k owned × (k ≢ o.0)
-parted_owneds o (declared x) k h = absurd h
-parted_owneds o (collection t os) k h = parted_names o os k h
-
-parted_items : (o : Name) (items : List Item) (k : ℕ) → InItems k (map (parted_item o) items) → InItems k items × (k ≢ o.0)
-parted_items o [] k h = absurd h
-parted_items o (i ∷ is) k (inl h) = let g = parted_owneds o i.owned k h in (inl g.0, g.1)
-parted_items o (i ∷ is) k (inr h) = let g = parted_items o is k h in (inr g.0, g.1)
-
--- Members and numbers through each change.
-pub homes_more : {Homed : Type 0} {objects : List (Option Thing)} {items : List Item} → Homes Homed objects items → Homes Homed (objects ++ None ∷ []) items
-homes_more {objects} {items} h = record {
-  live = λ k i. exists_more objects None k (h.live k i);
-  all = λ given k e. elim (out_more objects None k e) [ inl g ↦ h.all given k g | inr g ↦ absurd (cc (g.1)) ];
-}
-
-pub homes_new : {Homed : Type 0} {objects : List (Option Thing)} {items : List Item} (access : ℕ) (values : List Value) → (Homed → OpensItems access items) → Homes Homed objects items → Homes Homed (objects ++ Some (new_thing access values) ∷ []) (map (joined_item access (record { 0 = length objects })) items)
-homes_new {objects} {items} access values open' h =
-    let o : Name = record { 0 = length objects } in
-    record {
-      live = λ k i. elim (joined_items access o items k i) [ inl g ↦ exists_more objects _ k (h.live k g) | inr e ↦ rw (e, new_is objects (Some (new_thing access values))) refl ];
-      all = λ given k e. elim (out_more objects _ k e) [ inl g ↦ join_items access o items k (h.all given k g) | inr g ↦ rw (g.0) (new_items access o items (open' given)) ];
-    }
-
-pub homes_without : {Homed : Type 0} {objects : List (Option Thing)} {items : List Item} (o : Name) → Homes Homed objects items → Homes Homed (slice_set objects o.0 (ended (thing_of objects o.0))) (map (parted_item o) items)
-homes_without {objects} {items} o h = record {
-  live = λ k i. let g = parted_items o items k i in rw (set_other objects o.0 k (ended (thing_of objects o.0)) g.1) (h.live k g.0);
-  all = λ given k e. let g = out_set objects o.0 k (ended (thing_of objects o.0)) (ended_is_in (thing_of objects o.0)) e in part_items o items k g.1 (h.all given k g.0);
-}
-
-pub falls_joined : (bound access : ℕ) (o : Name) (items : List Item) → Falls bound items → Falls bound (map (joined_item access o) items)
-falls_joined bound access o [] f = f
-falls_joined bound access o (i ∷ is) f = (f.0, falls_joined i.number.0 access o is f.1)
-
-pub falls_parted : (bound : ℕ) (o : Name) (items : List Item) → Falls bound items → Falls bound (map (parted_item o) items)
-falls_parted bound o [] f = f
-falls_parted bound o (i ∷ is) f = (f.0, falls_parted i.number.0 o is f.1)
-
--- Collections stay open.
-joined_opens : (access n : ℕ) (o : Name) (owned : Owned) → OpensOwned n owned → OpensOwned n (joined_owned access o owned)
-joined_opens access n o (declared x) h = h
-joined_opens access n o (collection t os) h = h
-
-pub opens_joined : (access n : ℕ) (o : Name) (items : List Item) → OpensItems n items → OpensItems n (map (joined_item access o) items)
-opens_joined access n o [] h = h
-opens_joined access n o (i ∷ is) (inl h) = inl (joined_opens access n o i.owned h)
-opens_joined access n o (i ∷ is) (inr h) = inr (opens_joined access n o is h)
-
-parted_opens : (n : ℕ) (o : Name) (owned : Owned) → OpensOwned n owned → OpensOwned n (parted_owned o owned)
-parted_opens n o (declared x) h = h
-parted_opens n o (collection t os) h = h
-
-pub opens_parted : (n : ℕ) (o : Name) (items : List Item) → OpensItems n items → OpensItems n (map (parted_item o) items)
-opens_parted n o [] h = h
-opens_parted n o (i ∷ is) (inl h) = inl (parted_opens n o i.owned h)
-opens_parted n o (i ∷ is) (inr h) = inr (opens_parted n o is h)
-
--- A member that is taken is a member.
-pub taken_is_in : (os : List Name) (i : ℕ) (d : Name) → i < length os → InNames (slice_index_or os i d).0 os
-taken_is_in [] i d lt = absurd (omega (arith, lt))
-taken_is_in (o ∷ os) zero d lt = inl refl
-taken_is_in (o ∷ os) (suc i) d lt = inr (taken_is_in os i d (omega (arith, lt)))
+pub contains_item : (n : ℕ) (is : List Item) → HasItem n is → (i : Item) × Contains is i × (i.number ≡ n)
+contains_item n [] h = absurd h
+contains_item n (i ∷ is) (inl e) = (i, (zero, omega arith, refl), e.0)
+contains_item n (i ∷ is) (inr h) =
+    let j = contains_item n is h in
+    (j.0, (suc j.1.0, omega (arith, j.1.1), j.1.2), j.2)

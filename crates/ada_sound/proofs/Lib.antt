@@ -1,13 +1,15 @@
 -- what objects are after a step
 pub mod Objects
+-- items and masters
+pub mod Items
+-- objects and their homes
+pub mod Stored
 -- values and holds
 pub mod Values
--- items and members
-pub mod Items
+-- what a step does to objects
+pub mod Alters
 -- what every step keeps
 pub mod Invariant
--- the one master
-pub mod Masters
 -- what is left of the program
 pub mod Ready
 -- what is followed
@@ -22,13 +24,13 @@ pub mod Evaluations
 pub mod Endings
 -- one step
 pub mod Steps
--- the first state
-pub mod Starts
 -- whole runs
 pub mod Runs
 -- the order of a leaving
 pub mod Orders
+-- the first state
+pub mod Starts
 -- the laws
 pub mod Headline
--- a program that meets the premises
+-- programs that meet the premises, and that need them
 pub mod Example

@@ -1,139 +1,316 @@
--- What every run keeps.
+-- Runs keep the invariant, and what each step tells of objects adds up.
 
-use Rattle.std.proofs.Common.{◌≡◌, ℕ, zero, suc, ◌<◌, Bool, true, false, List, [], ◌∷◌, length, refl, arith}
-use Rattle.std.specs.Prelude.{Option, Some, None}
-use Rattle.std.specs.List.{All, AllPairs, Contains, slice_index_or}
+use Rattle.std.proofs.Common.{◌≡◌, ℕ, Bool, true, false, List, [], ◌∷◌, refl, ◌∙◌, ◌⊎◌, inl, inr, arith}
+use Rattle.std.specs.Prelude.{◌↔◌, Option, Some, None}
+use Rattle.std.specs.List.{All, AllPairs, slice_index_or}
+use Rattle.std.proofs.lemmas.Option.{slice_get-get_or}
 use Rattle.std.proofs.lemmas.List.Elements.{All-nil, All-cons}
 use Rattle.std.proofs.lemmas.List.Kept.{AllPairs-cons}
-use Rattle.ada_tree.specs.declared.rule.Hold.{Hold}
-use Rattle.ada_tree.specs.declared.program.Program.{Program}
-use Rattle.ada_tree.specs.declared.program.TypeDefinition.{TypeDefinition}
-use Rattle.ada_tree.specs.Form.{Form}
-use Rattle.ada_meaning.specs.declared.state.Name.{Name}
+use Rattle.ada_program.specs.declared.program.Program.{Program}
+use Rattle.ada_program.specs.Form.{StmtForm}
+use Rattle.ada_flow.specs.Flow.{Holds}
+use Rattle.ada_meaning.specs.declared.state.Id.{Id}
+use Rattle.ada_meaning.specs.declared.state.Value.{Value}
+use Rattle.ada_meaning.specs.declared.state.Value.TheVariants.{Null, Names, Scalar}
 use Rattle.ada_meaning.specs.declared.state.Mode.{Mode}
 use Rattle.ada_meaning.specs.declared.state.Mode.TheVariants.{Running, Raising}
-use Rattle.ada_meaning.specs.declared.event.Event.{Event}
-use Rattle.ada_meaning.specs.declared.event.Event.TheVariants as event
-use Rattle.ada_meaning.specs.declared.event.Halt.TheVariants.{Erroneous}
+use Rattle.ada_meaning.specs.declared.event.Halt.{Halt}
+use Rattle.ada_meaning.specs.declared.event.Halt.TheVariants.{Finished, Unhandled, Erroneous, Stuck, Memory}
 use Rattle.ada_meaning.specs.declared.event.Why.{Why}
-use Rattle.ada_meaning.specs.State.{Thing, stops, State}
-use Rattle.ada_meaning.specs.Step.{Next, halts, moves, tells, asks, picks, next, mode_next}
-use Rattle.ada_meaning.specs.Run.{Choice, settled, grants, takes, Leads, Step, Run, here, there, Halts}
-use Rattle.ada_meaning.specs.Law.{Differ, back_of, finalized_of, BackTwoObjects, FinalizedTwoValues, IsBack}
-use Rattle.ada_sound.proofs.Objects.{Exists, HasEnded, thing_of, out_by, ended_stage}
-use Rattle.ada_sound.proofs.Invariant.{AllIn, Ready, Tells, Stepped, Fine}
+use Rattle.ada_meaning.specs.Frame.{Frame, Elaborates, Does, Closes, Leaves, Evaluates, Computes, Follows, Continues, Applies, AppliesAlone, Fills, Creates, Stores, Declares, Writes, Ends, GivesBack, Clears}
+use Rattle.ada_meaning.specs.Event.{Born, Finalized, Back, Followed, Left, Line, Quiet}
+use Rattle.ada_meaning.specs.State.{Master}
+use Rattle.ada_meaning.specs.Step.{halts, moves, tells, asks, picks}
+use Rattle.ada_meaning.specs.Named.{Object, State, Next, object_at, next}
+use Rattle.ada_meaning.specs.Run.{Event, Choice, settled, grants, takes, Leads, Step, Run, here, there, Halts}
+use Rattle.ada_meaning.specs.Law.{named_by, back_of, followed_of, finalized_of, Differ, BackTwoObjects, FinalizedTwoValues, FollowedBeforeBack, leaving_by, IsBackHome, GoesHome, GivesBackOf, Happened, IsBack, HasEnded}
+use Rattle.ada_sound.proofs.Items.{NoMaster}
+use Rattle.ada_sound.proofs.Stored.{Stored}
+use Rattle.ada_sound.proofs.Alters.{BackIn}
+use Rattle.ada_sound.proofs.Invariant.{Control, EndingBy, BackingBy, ReadyBy, ReadyIn, Ready, Says, Stepped, EndsWell, Fine}
 use Rattle.ada_sound.proofs.Steps.{fine}
 
-module _ (At : List Form → List Hold → Type 0) (Homed : Type 0) where
+-- An object whose words are out.
+OutIn : List Object → Id → Type 0
+OutIn heap o = (x : Object) × (object_at heap o ≡ Some x) × (x.out ≡ true)
+
+-- What goes back or is followed is an object whose words are out.
+named_out : (heap : List Object) (v : Value) (id o : Id) (x : Object) → v ≡ Names id → object_at heap id ≡ Some x → x.out ≡ true → named_by v ≡ Some o → OutIn heap o
+unfolding OutIn
+named_out heap v id o x is found out named =
+    let same : Some id ≡ Some o = rw is at named in
+    let found' : object_at heap o ≡ Some x = rw (← some_same id o same) found in
+    (x, found', out)
+  where
+    some_same : (p q : Id) → Some p ≡ Some q → p ≡ q
+    some_same p q e = cc e
+
+back_out : (e : Event) (heap : List Object) (after : State) (o : Id) → Says e heap after → back_of e ≡ Some o → OutIn heap o
+back_out (Born v part turn type number by) heap after o says is = absurd says
+back_out (Finalized v part turn type number cause) heap after o says is = absurd says
+back_out (Back v access number pool subpool cause) heap after o says is = named_out heap v says.id o says.object says.is says.found says.out is
+back_out (Followed v) heap after o says is = absurd (cc is)
+back_out (Left master) heap after o says is = absurd (cc is)
+back_out (Line line) heap after o says is = absurd (cc is)
+back_out Quiet heap after o says is = absurd (cc is)
+
+followed_out : (e : Event) (heap : List Object) (after : State) (o : Id) → Says e heap after → followed_of e ≡ Some o → OutIn heap o
+followed_out (Born v part turn type number by) heap after o says is = absurd says
+followed_out (Finalized v part turn type number cause) heap after o says is = absurd says
+followed_out (Back v access number pool subpool cause) heap after o says is = absurd (cc is)
+followed_out (Followed v) heap after o says is = named_out heap v says.id o says.object says.is says.found says.out is
+followed_out (Left master) heap after o says is = absurd (cc is)
+followed_out (Line line) heap after o says is = absurd (cc is)
+followed_out Quiet heap after o says is = absurd (cc is)
+
+-- What goes back is back after.
+back_in : (e : Event) (heap : List Object) (after : State) (o : Id) → Says e heap after → back_of e ≡ Some o → BackIn after.heap o
+back_in (Born v part turn type number by) heap after o says is = absurd says
+back_in (Finalized v part turn type number cause) heap after o says is = absurd says
+back_in (Back v access number pool subpool cause) heap after o says is = let same : Some says.id ≡ Some o = rw says.is at is in rw (← some_same says.id o same) says.back
+  where
+    some_same : (p q : Id) → Some p ≡ Some q → p ≡ q
+    some_same p q e = cc e
+back_in (Followed v) heap after o says is = absurd (cc is)
+back_in (Left master) heap after o says is = absurd (cc is)
+back_in (Line line) heap after o says is = absurd (cc is)
+back_in Quiet heap after o says is = absurd (cc is)
+
+-- Nothing is finalized yet.
+none_final : (e : Event) (heap : List Object) (after : State) → Says e heap after → finalized_of e ≡ None
+none_final (Born v part turn type number by) heap after says = absurd says
+none_final (Finalized v part turn type number cause) heap after says = absurd says
+none_final (Back v access number pool subpool cause) heap after says = refl
+none_final (Followed v) heap after says = refl
+none_final (Left master) heap after says = refl
+none_final (Line line) heap after says = refl
+none_final Quiet heap after says = refl
+
+none_differs : {X : Type 0} (a : Option X) → Differ a None
+none_differs None = tt
+none_differs (Some x) = tt
+
+-- What is out is not what is back.
+differ_out : (heap : List Object) (a b : Option Id) → ((o : Id) → a ≡ Some o → BackIn heap o) → ((o : Id) → b ≡ Some o → OutIn heap o) → Differ a b
+unfolding OutIn
+differ_out heap None b back out = tt
+differ_out heap (Some o) None back out = tt
+differ_out heap (Some o) (Some p) back out = λ same.
+    let x = back o refl in
+    let y = out p refl in
+    let found : object_at heap o ≡ Some y.0 = rw same y.1 in
+    let e : x.0 ≡ y.0 = cc (found, x.1) in
+    let b : y.0.out ≡ false = rw (← e) x.2 in
+    absurd (cc (b, y.2))
+
+-- Words go home as an event says, and objects keep their homes.
+goes_home : (e : Event) (heap : List Object) (after : State) → Says e heap after → IsBackHome heap e
+goes_home (Born v part turn type number by) heap after says = absurd says
+goes_home (Finalized v part turn type number cause) heap after says = absurd says
+goes_home (Back v access number pool subpool cause) heap after says = rw says.is (says.object, says.found, says.numbered, says.to_pool, says.to_subpool, says.home)
+goes_home (Followed v) heap after says = tt
+goes_home (Left master) heap after says = tt
+goes_home (Line line) heap after says = tt
+goes_home Quiet heap after says = tt
+
+-- Each object is still there, with what lies in it.
+abbrev KeepsCells : List Object → List Object → Type 0
+KeepsCells before after = (o : Id) (x : Object) → object_at before o ≡ Some x → (y : Object) × (object_at after o ≡ Some y) × (y.cell ≡ x.cell) × (x.out ≡ false → y.out ≡ false)
+
+home_kept_by : (before after : List Object) (o : Option Id) (number pool : ℕ) (subpool : Option ℕ) (leaving : Option _) → KeepsCells before after → GoesHome before o number pool subpool leaving → GoesHome after o number pool subpool leaving
+home_kept_by before after None number pool subpool leaving keeps h = h
+home_kept_by before after (Some o) number pool subpool leaving keeps h =
+    let y = keeps o h.0 h.1 in
+    (y.0, y.1, rw y.2 h.2, rw y.2 h.3, rw y.2 h.4, rw y.2 h.5)
+
+home_kept : (before after : List Object) (e : Event) → KeepsCells before after → IsBackHome before e → IsBackHome after e
+home_kept before after (Born v part turn type number by) keeps h = tt
+home_kept before after (Finalized v part turn type number cause) keeps h = tt
+home_kept before after (Back v access number pool subpool cause) keeps h = home_kept_by before after (named_by v) number pool subpool (leaving_by (Some cause)) keeps h
+home_kept before after (Followed v) keeps h = tt
+home_kept before after (Left master) keeps h = tt
+home_kept before after (Line line) keeps h = tt
+home_kept before after Quiet keeps h = tt
+
+module _ (At : List StmtForm → Holds → Type 0) where
   -- Where a choice leads, the invariant holds.
-  leads_fine : (before : List (Option Thing)) (n : Next) (choice : Choice) (e : Event) (after : State) → Fine At Homed before n → Leads n choice e after → Stepped At Homed before e after
-  leads_fine before (halts halt) choice e after f l = absurd l
-  leads_fine before (moves d s) settled e after f l = rw (l.0, l.1) f
-  leads_fine before (moves d s) (grants granted) e after f l = absurd l
-  leads_fine before (moves d s) (takes i) e after f l = absurd l
-  leads_fine before (tells request d s) settled e after f l = rw (l.0, l.1) f
-  leads_fine before (tells request d s) (grants granted) e after f l = absurd l
-  leads_fine before (tells request d s) (takes i) e after f l = absurd l
-  leads_fine before (asks request answered) settled e after f l = absurd l
-  leads_fine before (asks request answered) (grants granted) e after f l = rw (l.0, l.1) (f granted)
-  leads_fine before (asks request answered) (takes i) e after f l = absurd l
-  leads_fine before (picks n taken) settled e after f l = absurd l
-  leads_fine before (picks n taken) (grants granted) e after f l = absurd l
-  leads_fine before (picks n taken) (takes i) e after f l = rw (l.1, l.2) (f i l.0)
+  leads_fine : (heap : List Object) (ms : List Master) (n : Next) (choice : Choice) (e : Event) (after : State) → Fine At heap ms n → Leads n choice e after → Stepped At heap e after
+  leads_fine heap ms (halts halt) choice e after f l = absurd l
+  leads_fine heap ms (moves d s) settled e after f l = rw (l.0, l.1) f
+  leads_fine heap ms (moves d s) (grants granted) e after f l = absurd l
+  leads_fine heap ms (moves d s) (takes i) e after f l = absurd l
+  leads_fine heap ms (tells request d s) settled e after f l = rw (l.0, l.1) f
+  leads_fine heap ms (tells request d s) (grants granted) e after f l = absurd l
+  leads_fine heap ms (tells request d s) (takes i) e after f l = absurd l
+  leads_fine heap ms (asks request answered) settled e after f l = absurd l
+  leads_fine heap ms (asks request answered) (grants granted) e after f l = rw (l.0, l.1) (f granted)
+  leads_fine heap ms (asks request answered) (takes i) e after f l = absurd l
+  leads_fine heap ms (picks n taken) settled e after f l = absurd l
+  leads_fine heap ms (picks n taken) (grants granted) e after f l = absurd l
+  leads_fine heap ms (picks n taken) (takes i) e after f l = rw (l.1, l.2) (f i l.0)
 
-  pub stepped : (program : Program) (s : State) (choice : Choice) (e : Event) (after : State) → Ready At Homed s → Step program s choice e after → Stepped At Homed s.objects e after
-  stepped program s choice e after r step = leads_fine s.objects (next program.types.items s) choice e after (fine At Homed program.types.items s r) step
+  pub stepped : (program : Program) (s : State) (choice : Choice) (e : Event) (after : State) → Ready At s → Step program s choice e after → Stepped At s.heap e after
+  stepped program s choice e after r step = leads_fine s.heap s.masters (next program.types.items s) choice e after (fine At program.types.items s r) step
 
-  pub ready_run : {program : Program} {s last : State} {events : List Event} → Run program s events last → Ready At Homed s → Ready At Homed last
+  pub ready_run : {program : Program} {s last : State} {events : List Event} → Run program s events last → Ready At s → Ready At last
   ready_run here r = r
   ready_run {program} {s = s} (there {event = e} choice mid step run) r = ready_run run (stepped program s choice e mid r step).ready
 
+  -- Objects are stored in each state.
+  value_stored : (v : Value) (k : Control) (heap : List Object) (places : List Value) (ms : List Master) → EndingBy At v k heap places ms → (under : Option Id) × Stored under heap ms
+  value_stored Null k heap places ms r = absurd r
+  value_stored (Names o) k heap places ms r = (Some o, r.stored)
+  value_stored (Scalar n) k heap places ms r = absurd r
+
+  words_stored : (v : Value) (cause : _) (pool : ℕ) (k : Control) (heap : List Object) (places : List Value) (ms : List Master) → BackingBy At v cause pool k heap places ms → (under : Option Id) × Stored under heap ms
+  words_stored Null cause pool k heap places ms r = absurd r
+  words_stored (Names o) cause pool k heap places ms r = (Some o, r.stored)
+  words_stored (Scalar n) cause pool k heap places ms r = absurd r
+
+  frame_stored : (f : Frame Value) (k : Control) (heap : List Object) (places operands : List Value) (ms : List Master) → ReadyBy At f k heap places operands ms → (under : Option Id) × Stored under heap ms
+  frame_stored (Elaborates ds fs) k heap places operands ms r = (None, r.stored)
+  frame_stored (Does fs) k heap places operands ms r = (None, r.stored)
+  frame_stored Closes k heap places operands ms r = (None, r.0)
+  frame_stored (Leaves mode) k heap places operands ms r = (None, r.0)
+  frame_stored (Evaluates right) k heap places operands ms r = (None, r.stored)
+  frame_stored (Computes e) k heap places operands ms r = (None, r.stored)
+  frame_stored (Follows cs) k heap places operands ms r = absurd r
+  frame_stored (Continues links) k heap places operands ms r = (None, r.stored)
+  frame_stored (Applies operator) k heap places operands ms r = (None, r.stored)
+  frame_stored (AppliesAlone operator) k heap places operands ms r = (None, r.stored)
+  frame_stored (Fills items) k heap places operands ms r = (None, r.stored)
+  frame_stored (Creates access count) k heap places operands ms r = (None, r.stored)
+  frame_stored (Stores x) k heap places operands ms r = (None, r.stored)
+  frame_stored (Declares x) k heap places operands ms r = (None, r.stored)
+  frame_stored Writes k heap places operands ms r = (None, r.stored)
+  frame_stored (Ends v) k heap places operands ms r = value_stored v k heap places ms r
+  frame_stored (GivesBack v cause pool) k heap places operands ms r = words_stored v cause pool k heap places ms r
+  frame_stored (Clears x) k heap places operands ms r = (None, r.stored)
+
+  mode_stored : (mode : Mode) (k : Control) (heap : List Object) (places operands : List Value) (ms : List Master) → ReadyIn At mode k heap places operands ms → (under : Option Id) × Stored under heap ms
+  mode_stored Running [] heap places operands ms r = (None, r.0)
+  mode_stored Running (f ∷ k) heap places operands ms r = frame_stored f k heap places operands ms r
+  mode_stored (Raising e) [] heap places operands ms r = (None, r.0)
+  mode_stored (Raising e) (f ∷ k) heap places operands ms r = (None, r.0)
+
+  pub ready_stored : (s : State) → Ready At s → (under : Option Id) × Stored under s.heap s.masters
+  ready_stored s r = mode_stored s.mode s.control s.heap _ _ s.masters r.1
+
   -- Nothing erroneous is next.
-  pub never_erroneous : (program : Program) (s : State) (why : Why) → Ready At Homed s → Halts program s (Erroneous why) → ⊥
-  never_erroneous program s why r e = rw e at (fine At Homed program.types.items s r)
+  pub never_erroneous : (program : Program) (s : State) (why : Why) → Ready At s → Halts program s (Erroneous why) → ⊥
+  never_erroneous program s why r e = rw e at (fine At program.types.items s r)
 
-  -- What has ended does not go back again.
-  differ_back : (o : Name) (before : List (Option Thing)) (e : Event) (after : State) → HasEnded (thing_of before o.0) → Tells Homed e before after → Differ (Some o) (back_of e)
-  differ_back o before (event.Born value) after ended says = tt
-  differ_back o before (event.Finalized value cause) after ended says = tt
-  differ_back o before (event.Back p cause) after ended says = λ same. let gone = ended_stage (thing_of before o.0) ended in let lives : Exists before o.0 = rw same says.0 in cc (gone, lives)
-  differ_back o before (event.Followed p) after ended says = tt
-  differ_back o before (event.Left m) after ended says = tt
-  differ_back o before (event.Line line) after ended says = tt
-  differ_back o before event.Quiet after ended says = tt
+  -- Where a run has come to its end, no master is left, and so all words are back.
+  no_master : (ms : List Master) → NoMaster ms → ms ≡ []
+  no_master [] none = refl
+  no_master (m ∷ ms) none = absurd none
 
-  ended_differs : {program : Program} {s last : State} {events : List Event} (o : Name) → Run program s events last → Ready At Homed s → HasEnded (thing_of s.objects o.0) → All (λ f. Differ (Some o) (back_of f)) events
-  ended_differs o here r ended = All-nil (λ f. Differ (Some o) (back_of f))
-  ended_differs {program} {s = s} o (there {event = e} {events = es} choice mid step run) r ended =
-      let st = stepped program s choice e mid r step in
-      All-cons (λ f. Differ (Some o) (back_of f)) e es (differ_back o s.objects e mid ended st.says) (ended_differs o run st.ready (st.lasts o.0 ended))
-
-  first_back : (e : Event) {program : Program} {mid last : State} {events : List Event} (before : List (Option Thing)) → Run program mid events last → Ready At Homed mid → Tells Homed e before mid → All (λ f. Differ (back_of e) (back_of f)) events
-  first_back (event.Back o cause) before run r says = ended_differs o run r says.1
-  first_back (event.Born value) before run r says = λ k d lt. tt
-  first_back (event.Finalized value cause) before run r says = λ k d lt. tt
-  first_back (event.Followed o) before run r says = λ k d lt. tt
-  first_back (event.Left m) before run r says = λ k d lt. tt
-  first_back (event.Line line) before run r says = λ k d lt. tt
-  first_back event.Quiet before run r says = λ k d lt. tt
-
-  -- The words of an object go back at most once.
-  pub back_once : {program : Program} {s last : State} {events : List Event} → Run program s events last → Ready At Homed s → AllPairs BackTwoObjects events
-  back_once here r = λ i j d lt short. absurd (omega (arith, short))
-  back_once {program} {s = s} (there {event = e} {events = es} choice mid step run) r =
-      let st = stepped program s choice e mid r step in
-      AllPairs-cons BackTwoObjects e es (first_back e s.objects run st.ready st.says) (back_once run st.ready)
-
-  -- Nothing is finalized yet.
-  first_final : (e : Event) (before : List (Option Thing)) (mid : State) (events : List Event) → Tells Homed e before mid → All (λ f. Differ (finalized_of e) (finalized_of f)) events
-  first_final (event.Finalized value cause) before mid events says = absurd says
-  first_final (event.Back o cause) before mid events says = λ k d lt. tt
-  first_final (event.Born value) before mid events says = λ k d lt. tt
-  first_final (event.Followed o) before mid events says = λ k d lt. tt
-  first_final (event.Left m) before mid events says = λ k d lt. tt
-  first_final (event.Line line) before mid events says = λ k d lt. tt
-  first_final event.Quiet before mid events says = λ k d lt. tt
-
-  pub finalized_once : {program : Program} {s last : State} {events : List Event} → Run program s events last → Ready At Homed s → AllPairs FinalizedTwoValues events
-  finalized_once here r = λ i j d lt short. absurd (omega (arith, short))
-  finalized_once {program} {s = s} (there {event = e} {events = es} choice mid step run) r =
-      let st = stepped program s choice e mid r step in
-      AllPairs-cons FinalizedTwoValues e es (first_final e s.objects mid es st.says) (finalized_once run st.ready)
-
-  -- Once the main master is left, all words are back.
-  no_step : (types : List TypeDefinition) (mode : Mode) (s : State) (choice : Choice) (e : Event) (after : State) → s.control ≡ stops → Leads (mode_next types mode s) choice e after → ⊥
-  no_step types Running s choice e after is l = rw is at l
-  no_step types (Raising x) s choice e after is l = rw is at l
-
-  stays_back : {program : Program} {s last : State} {events : List Event} → Run program s events last → s.control ≡ stops → AllIn s.objects → AllIn last.objects
-  unfolding next
-  stays_back here is all = all
-  stays_back {program} {s = s} (there {event = e} choice mid step run) is all = absurd (no_step program.types.items s.mode s choice e mid is step)
-
-  pub all_in : {program : Program} {s last : State} {events : List Event} → Run program s events last → Ready At Homed s → Homed → (m : Name) → Contains events (event.Left m) → AllIn last.objects
-  all_in here r given m c = absurd (omega (arith, c.1))
-  all_in {program} {s = s} {last = last} (there {event = e} {events = es} choice mid step run) r given m c = go (stepped program s choice e mid r step) c (λ ready there'. all_in run ready given m there')
+  back_at_end : (heap : List Object) → Stored None heap [] → All IsBack heap
+  back_at_end heap stored k d lt = go (slice_index_or heap k d) (slice_get-get_or heap k d lt)
     where
-      left : (e : Event) → e ≡ event.Left m → Tells Homed e s.objects mid → (mid.control ≡ stops) × (Homed → AllIn mid.objects)
-      left e is says = rw is at says
+      go : (x : Object) → object_at heap (record { 0 = k }) ≡ Some x → x.out ≡ false
+      go x found = by x.out refl
+        where
+          by : (b : Bool) → x.out ≡ b → x.out ≡ false
+          by false e = e
+          by true e = absurd ((stored.sane (record { 0 = k }) x found).housed e)
 
-      go : Stepped At Homed s.objects e mid → Contains (e ∷ es) (event.Left m) → (Ready At Homed mid → Contains es (event.Left m) → AllIn last.objects) → AllIn last.objects
-      go st (zero, lt, is) again = let l = left e is st.says in stays_back run l.0 (l.1 given)
-      go st (suc k, lt, is) again = again st.ready (k, omega (arith, lt), is)
+  ends_by : (halt : Halt) (heap : List Object) (ms : List Master) → EndsWell halt heap ms → HasEnded halt → (ms ≡ []) × All IsBack heap
+  ends_by Finished heap ms w e = let none = no_master ms w.1 in (none, back_at_end heap (rw none at w.0))
+  ends_by (Unhandled x) heap ms w e = let none = no_master ms w.1 in (none, back_at_end heap (rw none at w.0))
+  ends_by (Erroneous why) heap ms w e = absurd e
+  ends_by Stuck heap ms w e = absurd e
+  ends_by Memory heap ms w e = absurd e
 
--- What is not out is back.
-is_back : (o : Option Thing) → (out_by o ≡ true → ⊥) → IsBack o
-is_back None in' = tt
-is_back (Some thing) in' = go thing.out refl
-  where
-    go : (b : Bool) → thing.out ≡ b → thing.out ≡ false
-    go false e = e
-    go true e = absurd (in' e)
+  pub ends_clean : (program : Program) (s : State) (halt : Halt) → Ready At s → Halts program s halt → HasEnded halt → (s.masters ≡ []) × All IsBack s.heap
+  ends_clean program s halt r is e = ends_by halt s.heap s.masters (rw is at (fine At program.types.items s r)) e
 
-back_at : (objects : List (Option Thing)) (k : ℕ) (d : Option Thing) → (out_by (thing_of objects k) ≡ true → ⊥) → k < length objects → IsBack (slice_index_or objects k d)
-back_at [] k d in' lt = absurd (omega (arith, lt))
-back_at (o ∷ os) zero d in' lt = is_back o in'
-back_at (o ∷ os) (suc k) d in' lt = back_at os k d in' (omega (arith, lt))
+  -- Objects keep what lies in them, and what is back stays so.
+  pub cells_kept : {program : Program} {s last : State} {events : List Event} → Run program s events last → Ready At s → KeepsCells s.heap last.heap
+  cells_kept here r = λ o x is. (x, is, refl, λ h. h)
+  cells_kept {program} {s = s} (there {event = e} choice mid step run) r =
+      let st = stepped program s choice e mid r step in
+      λ o x is.
+      let y = st.alters.kept o x is in
+      let z = cells_kept run st.ready o y.0 y.1 in
+      (z.0, z.1, z.2 ∙ y.2, λ back. z.3 (y.3 back))
 
-pub all_back : (objects : List (Option Thing)) → AllIn objects → All IsBack objects
-all_back objects all k d lt = back_at objects k d (all k) lt
+  back_kept : {program : Program} {s last : State} {events : List Event} (o : Id) → Run program s events last → Ready At s → BackIn s.heap o → BackIn last.heap o
+  back_kept o run r b = let y = cells_kept run r o b.0 b.1 in (y.0, y.1, y.3 b.2)
+
+  -- Laws of two events: what the first leaves behind lasts, and the second keeps to it.
+  module _ (R : Event → Event → Type 0) (K : Event → State → Type 0) (born : (e : Event) (before : List Object) (after : State) → Stepped At before e after → K e after) (kept : (program : Program) (d : Event) (s : State) (choice : Choice) (e : Event) (after : State) → Ready At s → Step program s choice e after → K d s → R d e × K d after) where
+    all_after : {program : Program} {s last : State} {events : List Event} (d : Event) → Run program s events last → Ready At s → K d s → All (R d) events
+    all_after d here r h = All-nil (R d)
+    all_after {program} {s = s} d (there {event = e} {events = es} choice mid step run) r h =
+        let g = kept program d s choice e mid r step h in
+        All-cons (R d) e es g.0 (all_after d run (stepped program s choice e mid r step).ready g.1)
+
+    pub all_pairs : {program : Program} {s last : State} {events : List Event} → Run program s events last → Ready At s → AllPairs R events
+    all_pairs here r = λ i j d lt short. absurd (omega (arith, short))
+    all_pairs {program} {s = s} (there {event = e} {events = es} choice mid step run) r =
+        let st = stepped program s choice e mid r step in
+        AllPairs-cons R e es (all_after e run st.ready (born e s.heap mid st)) (all_pairs run st.ready)
+
+  -- What went back is back from then on.
+  WentBack : Event → State → Type 0
+  WentBack e s = (o : Id) → back_of e ≡ Some o → BackIn s.heap o
+
+  went_born : (e : Event) (before : List Object) (after : State) → Stepped At before e after → WentBack e after
+  unfolding WentBack
+  went_born e before after st = λ o is. back_in e before after o st.says is
+
+  went_kept : (d : Event) (s : State) (e : Event) (after : State) → Stepped At s.heap e after → WentBack d s → WentBack d after
+  unfolding WentBack
+  went_kept d s e after st h = λ o is. let b = h o is in let y = st.alters.kept o b.0 b.1 in (y.0, y.1, y.3 b.2)
+
+  -- The words of an object go back at most once, and none is followed after.
+  pub back_once : {program : Program} {s last : State} {events : List Event} → Run program s events last → Ready At s → AllPairs BackTwoObjects events
+  unfolding WentBack
+  back_once = all_pairs BackTwoObjects WentBack went_born (λ program d s choice e after r step h. let st = stepped program s choice e after r step in (differ_out s.heap (back_of d) (back_of e) h (λ o is. back_out e s.heap after o st.says is), went_kept d s e after st h))
+
+  pub followed_before_back : {program : Program} {s last : State} {events : List Event} → Run program s events last → Ready At s → AllPairs FollowedBeforeBack events
+  unfolding WentBack
+  followed_before_back = all_pairs FollowedBeforeBack WentBack went_born (λ program d s choice e after r step h. let st = stepped program s choice e after r step in (differ_out s.heap (back_of d) (followed_of e) h (λ o is. followed_out e s.heap after o st.says is), went_kept d s e after st h))
+
+  -- A controlled value is finalized at most once: none is yet.
+  pub finalized_once : {program : Program} {s last : State} {events : List Event} → Run program s events last → Ready At s → AllPairs FinalizedTwoValues events
+  finalized_once = all_pairs FinalizedTwoValues (λ d s. Unit {0}) (λ e before after st. tt) (λ program d s choice e after r step h. (rw (none_final e s.heap after (stepped program s choice e after r step).says) (none_differs (finalized_of d)), tt))
+
+  -- Words go back home.
+  pub back_home : {program : Program} {s last : State} {events : List Event} → Run program s events last → Ready At s → All (IsBackHome last.heap) events
+  back_home {last = last} here r = All-nil (IsBackHome last.heap)
+  back_home {program} {s = s} {last = last} run r = go run r
+    where
+      go : {t : State} {events : List Event} → Run program t events last → Ready At t → All (IsBackHome last.heap) events
+      go here r' = All-nil (IsBackHome last.heap)
+      go {t = t} (there {event = e} {events = es} choice mid step rest) r' =
+          let st = stepped program t choice e mid r' step in
+          All-cons (IsBackHome last.heap) e es
+          (home_kept t.heap last.heap e (cells_kept (there choice mid step rest) r') (goes_home e t.heap mid st.says))
+          (go rest st.ready)
+
+  -- The words of an object are back exactly where an event says so.
+  told_run : {program : Program} {s last : State} {events : List Event} (o : Id) → Run program s events last → Ready At s → BackIn last.heap o → BackIn s.heap o ⊎ Happened (GivesBackOf o) events
+  told_run o here r b = inl b
+  told_run {program} {s = s} o (there {event = e} choice mid step run) r b =
+      let st = stepped program s choice e mid r step in
+      elim (told_run o run st.ready b) [ inl h ↦ elim (st.alters.told o h.0 h.1 h.2) [ inl g ↦ inl g | inr g ↦ inr (inl g) ] | inr h ↦ inr (inr h) ]
+
+  happened_back : {program : Program} {s last : State} {events : List Event} (o : Id) → Run program s events last → Ready At s → Happened (GivesBackOf o) events → BackIn last.heap o
+  happened_back o here r h = absurd h
+  happened_back {program} {s = s} o (there {event = e} choice mid step run) r (inl h) =
+      let st = stepped program s choice e mid r step in back_kept o run st.ready (back_in e s.heap mid o st.says h)
+  happened_back {program} {s = s} o (there {event = e} choice mid step run) r (inr h) = happened_back o run (stepped program s choice e mid r step).ready h
+
+  pub back_is_told : {program : Program} {s last : State} {events : List Event} → s.heap ≡ [] → Run program s events last → Ready At s → (o : Id) (x : Object) → object_at last.heap o ≡ Some x → IsBack x ↔ Happened (GivesBackOf o) events
+  back_is_told {s = s} {last = last} {events = es} empty run r o x found = (told, back)
+    where
+      none_back : BackIn s.heap o → ⊥
+      none_back b = let h : BackIn [] o = rw empty at b in cc (h.1)
+
+      told : x.out ≡ false → Happened (GivesBackOf o) es
+      told out = elim (told_run o run r (x, found, out)) [ inl b ↦ absurd (none_back b) | inr h ↦ h ]
+
+      back : Happened (GivesBackOf o) es → x.out ≡ false
+      back h = let b = happened_back o run r h in let e : b.0 ≡ x = cc (found, b.1) in rw e at b.2

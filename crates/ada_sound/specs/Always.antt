@@ -1,48 +1,99 @@
 -- What holds in every run of a program, whatever its input and whatever is granted and picked.
 
-use Rattle.std.specs.Prelude.{◌≡◌, ℤ, Bool, true, false, List, ◌∷◌}
+use Rattle.std.specs.Prelude.{◌≡◌, ◌↔◌, ℤ, Bool, true, false, List, [], ◌∷◌, Some, None, All, AllPairs, pos}
 use Rattle.std.specs.List.{filter}
-use Rattle.ada_tree.specs.declared.rule.Hold.{Hold}
-use Rattle.ada_tree.specs.declared.program.Program.{Program}
-use Rattle.ada_tree.specs.Form.{Form}
-use Rattle.ada_meaning.specs.declared.event.Event.{Event}
-use Rattle.ada_meaning.specs.declared.event.Event.TheVariants as event
+use Rattle.ada_program.specs.declared.program.Program.{Program}
+use Rattle.ada_program.specs.Form.{StmtForm}
+use Rattle.ada_flow.specs.Flow.{Holds, ObeysRules}
+use Rattle.ada_meaning.specs.declared.state.Id.{Id}
+use Rattle.ada_meaning.specs.declared.state.Value.{Value}
+use Rattle.ada_meaning.specs.declared.state.Value.TheVariants.{Names}
+use Rattle.ada_meaning.specs.declared.event.Cause.TheVariants.{Leaving, Freeing}
+use Rattle.ada_meaning.specs.declared.event.Line.TheVariants.{Image}
+use Rattle.ada_meaning.specs.declared.event.Halt.{Halt}
 use Rattle.ada_meaning.specs.declared.event.Halt.TheVariants.{Finished, Erroneous}
 use Rattle.ada_meaning.specs.declared.event.Why.{Why}
-use Rattle.ada_meaning.specs.State.{Control, State}
-use Rattle.ada_meaning.specs.Run.{first_state, Run, Halts}
-use Rattle.ada_sound.specs.Agreement.{IsFlowAt, Begins, Agrees}
+use Rattle.ada_meaning.specs.Event.{Back, Followed, Left, Line, Quiet}
+use Rattle.ada_meaning.specs.Frame.{Frame}
+use Rattle.ada_meaning.specs.Named.{Object, State, object_at}
+use Rattle.ada_meaning.specs.Run.{Event, Run, Halts, first_state}
+use Rattle.ada_meaning.specs.Law.{IsBackHome, items_of, Falls, MastersFall, GivesBackOf, Happened, IsHoused, IsBack, HasEnded}
+use Rattle.ada_sound.specs.Agreement.{Agrees, Begins, IsFlowAt}
 
 -- Of the events of each run, and the state that it comes to.
 abbrev pub InEveryRun : Program → (List Event → State → Type 0) → Type 0
 InEveryRun program P = (input : List ℤ) (events : List Event) (last : State) → Run program (first_state program input) events last → P events last
 
+-- The same in every run of each program that obeys the rules.
+abbrev pub InEveryObedientRun : (List Event → State → Type 0) → Type 0
+InEveryObedientRun P = (program : Program) → ObeysRules program → InEveryRun program P
+
+-- No run ends so.
+abbrev pub NeverHalts : Halt → Program → Type 0
+NeverHalts halt program = InEveryRun program (λ events last. Halts program last halt → ⊥)
+
 -- No run comes to an erroneous action of this kind.
 abbrev pub NeverErroneous : Why → Program → Type 0
-NeverErroneous why program = InEveryRun program (λ events last. Halts program last (Erroneous why) → ⊥)
+NeverErroneous why program = NeverHalts (Erroneous why) program
 
 -- Wherever a statement begins, flow goes there, and each variable holds what flow says.
 abbrev pub AgreesWithFlow : Program → Type 0
-AgreesWithFlow program = InEveryRun program (λ events last. (f : Form) (fs : List Form) (k : Control) → Begins last f fs k → (holds : List Hold) × IsFlowAt program (f ∷ fs) holds × Agrees last holds)
+AgreesWithFlow program = InEveryRun program (λ events last. (f : StmtForm) (fs : List StmtForm) (k : List (Frame Value)) → Begins last f fs k → (holds : Holds) × IsFlowAt program (f ∷ fs) holds × Agrees last holds)
+
+-- Any two events, the first before the second.
+abbrev pub InPairs : (Event → Event → Type 0) → List Event → State → Type 0
+InPairs R events last = AllPairs R events
+
+-- All words that went back went home.
+abbrev pub BacksGoHome : List Event → State → Type 0
+BacksGoHome events last = All (IsBackHome last.heap) events
+
+-- Numbers fall along the items of the masters that are entered, and along those masters.
+abbrev pub ItemNumbersFall : List Event → State → Type 0
+ItemNumbersFall events last = AllPairs Falls (items_of last.masters)
+
+abbrev pub MasterNumbersFall : List Event → State → Type 0
+MasterNumbersFall events last = AllPairs MastersFall last.masters
+
+-- The words of each object are back exactly where an event says so.
+abbrev pub BacksAreTold : List Event → State → Type 0
+BacksAreTold events last = (o : Id) (object : Object) → object_at last.heap o ≡ Some object → IsBack object ↔ Happened (GivesBackOf o) events
+
+-- The home of each object whose words are out is an item of a master that is entered.
+abbrev pub OutsAreHoused : List Event → State → Type 0
+OutsAreHoused events last = (o : Id) (object : Object) → object_at last.heap o ≡ Some object → object.out ≡ true → IsHoused last.masters object
+
+-- Where a run has come to its end, no master is left over, and the words of each object are back.
+abbrev pub EndsClean : Program → Type 0
+EndsClean program = (input : List ℤ) (events : List Event) (last : State) (halt : Halt) → Run program (first_state program input) events last → Halts program last halt → HasEnded halt → (last.masters ≡ []) × All IsBack last.heap
 
 -- There is a run with such events, to such a state.
 abbrev pub InSomeRun : Program → (List Event → State → Type 0) → Type 0
 InSomeRun program P = (input : List ℤ) × (events : List Event) × (last : State) × Run program (first_state program input) events last × P events last
 
--- The events that can be seen.
+-- An event that can be seen.
 abbrev pub is_seen : Event → Bool
-is_seen (event.Born value) = true
-is_seen (event.Finalized value cause) = true
-is_seen (event.Back object cause) = true
-is_seen (event.Followed object) = true
-is_seen (event.Left master) = true
-is_seen (event.Line line) = true
-is_seen event.Quiet = false
+is_seen Quiet = false
+is_seen e = true
 
 -- The program gets as far as a statement.
 abbrev pub ReachesStatement : Program → Type 0
-ReachesStatement program = InSomeRun program (λ events last. (f : Form) × (fs : List Form) × (k : Control) × Begins last f fs k)
+ReachesStatement program = InSomeRun program (λ events last. (f : StmtForm) × (fs : List StmtForm) × (k : List (Frame Value)) × Begins last f fs k)
 
 -- The program finishes, after these events.
 abbrev pub FinishesAfter : List Event → Program → Type 0
 FinishesAfter seen program = InSomeRun program (λ events last. Halts program last Finished × (filter is_seen events ≡ seen))
+
+-- What the first example shows: an object is followed, its 7 is written, it is freed; the second goes with its collection, and the master is left.
+abbrev pub example_events : List Event
+example_events =
+    Followed (Names (record { 0 = 0 }))
+    ∷ Line (Image (pos 7))
+    ∷ Back (Names (record { 0 = 0 })) 1 1 0 None (Freeing 1)
+    ∷ Back (Names (record { 0 = 1 })) 1 2 0 None (Leaving 0 0)
+    ∷ Left 0
+    ∷ []
+
+-- A run of the program comes to this end.
+abbrev pub HaltsSomewhere : Halt → Program → Type 0
+HaltsSomewhere halt program = InSomeRun program (λ events last. Halts program last halt)

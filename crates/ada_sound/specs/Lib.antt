@@ -1,7 +1,8 @@
 -- The laws, in the order in which they are read.
 
--- which programs allocate only what a collection can take
 -- what flow says of a variable, and what the variable then holds
 pub mod Agreement
 -- what holds in every run
 pub mod Always
+-- what the rules let through
+pub mod Owners

@@ -2,8 +2,7 @@
 //! granted and picked. Nothing here runs: each function of [`laws`] is a theorem on the definitions of programs, flow and
 //! meaning, and its contract is the statement.
 //!
-//! What a crate above takes from here: where flow accepts a program, and each of its allocators has its collection,
-//! `rules_imply_safety` gives `Safe` of that program.
+//! What a crate above takes from here: where flow accepts a program, `rules_imply_safety` gives `Safe` of that program.
 #![tactic(auto)]
 
 pub mod laws;

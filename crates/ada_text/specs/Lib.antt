@@ -1,3 +1,5 @@
+-- "exactly, out of memory aside", for the whole checker
+pub mod Exactly
 -- the classes of bytes
 pub mod Bytes
 -- places, lines and columns

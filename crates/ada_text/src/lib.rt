@@ -34,8 +34,6 @@ mod reserved;
 // The whole source.
 mod laws;
 mod scanner;
-#[cfg(test)]
-mod tests;
 
 pub use crate::delimiter::Delimiter;
 pub use crate::fault::TextFault;

@@ -1,14 +1,18 @@
--- The definitions that several crates cite, in the order in which they are read.
+-- The grammar: the trees of a source, and the tokens that they are written with, in the order in which it is read.
 
--- statements and declarations as plain data
-pub mod Form
--- a whole program as plain data
-pub mod ProgramForm
--- what the types of a program give
-pub mod Typed
--- what a well-formed program is
-pub mod WellFormed
--- what a variable may be relied on for, and the rules that follow
-pub mod Flow
--- which programs allocate only objects that a collection can take
-pub mod Homes
+-- tokens and the pieces that stand for them
+pub mod Piece
+-- identifiers, names and paths (2.3, 4.1)
+pub mod Names
+-- expressions, right sides and arguments (4.4, 4.8, 5.2, 6.4)
+pub mod Expressions
+-- record types, and values that are known before the run (3.8, 4.9)
+pub mod Records
+-- sizes, aspects, formals, heads, choices and clauses (6.1, 10.1.2, 11.2, 13.1)
+pub mod Declarations
+-- declarations, statements, handlers and the unit (3.1, 5.1, 10.1.1, 11.2)
+pub mod Statements
+-- expressions as the code keeps them
+pub mod ExpressionView
+-- declarations, statements and units as the code keeps them
+pub mod StatementView

@@ -1,20 +1,16 @@
-//! What the resolver hands on to the other layers of the checker: the program that a tree means.
+//! The tree of a source: declarations, statements and expressions, with names as they are written.
 //!
-//! The resolver promises a `Program` that is what the tree means and that `is_well_formed`. The definitions
-//! that several crates cite stand in this crate's `specs/`: statements and expressions as plain data, what a
-//! well-formed program is, and the flow rules.
+//! What tokens a tree is written with stands in this crate's `specs/`, a definition for each line of the grammar.
 #![tactic(auto)]
 
-pub mod laws;
-mod lookup;
-pub mod program;
-mod rule;
-#[cfg(test)]
-mod tests;
-mod typing;
-mod values;
-mod well_formed;
+// Parts of the others.
+pub mod names;
 
-pub use crate::program::{Path, PlaceNo, Program, Stmt, TypeNo};
-pub use crate::rule::{Hold, Rule};
+// What a unit is made of.
+pub mod declarations;
+pub mod expressions;
+pub mod records;
+pub mod statements;
+pub mod unit;
+
 pub use ada_text::Spot;

@@ -2,10 +2,10 @@
 use Rattle.std.proofs.Common.{◌≡◌, ◌≢◌, ◌⊎◌, ◌↔◌, zero, suc, ◌<◌, refl, sym, ap, subst, ◌∙◌, inl, inr, arith, Bool, true, false, IsTrue, ℤ, pos, negsuc, neg_ℤ, ◌+ℤ◌, ◌-ℤ◌, ◌*ℤ◌, ◌≤ℤ◌, ◌<ℤ◌, int_div, int_rem, Result, Ok, Err, Option, Some, None, MatchOption, SomeIff, FitsSigned, w32}
 use Rattle.std.proofs.lemmas.Int.{ints, by_lt_z}
 use Rattle.std.specs.Int.{CanDivide, cast_unsigned}
-use Rattle.ada_grammar.specs.declared.operators.UnaryOperator.{UnaryOperator}
-use Rattle.ada_grammar.specs.declared.operators.UnaryOperator.TheVariants as unary
-use Rattle.ada_grammar.specs.declared.operators.BinaryOperator.{BinaryOperator}
-use Rattle.ada_grammar.specs.declared.operators.BinaryOperator.TheVariants as binary
+use Rattle.ada_values.specs.declared.operator.UnaryOperator.{UnaryOperator}
+use Rattle.ada_values.specs.declared.operator.UnaryOperator.TheVariants as unary
+use Rattle.ada_values.specs.declared.operator.BinaryOperator.{BinaryOperator}
+use Rattle.ada_values.specs.declared.operator.BinaryOperator.TheVariants as binary
 use Rattle.ada_values.specs.declared.value.Value.{Value}
 use Rattle.ada_values.specs.declared.value.Value.TheVariants.{Integer, Boolean}
 use Rattle.ada_values.specs.declared.fault.OperatorFault.{OperatorFault}

@@ -3,10 +3,10 @@ use Rattle.std.proofs.Common.{◌≡◌, ◌≢◌, ◌⊎◌, ◌↔◌, refl, 
 use Rattle.std.specs.Ordering.{int_eq}
 use Rattle.std.proofs.lemmas.Int.{ints, by_lt_z}
 use Rattle.std.proofs.lemmas.Bool.Decides.{Decides-int_eq, Decides-and, Decides-or, Decides-not}
-use Rattle.ada_grammar.specs.declared.operators.UnaryOperator.{UnaryOperator}
-use Rattle.ada_grammar.specs.declared.operators.UnaryOperator.TheVariants as unary
-use Rattle.ada_grammar.specs.declared.operators.BinaryOperator.{BinaryOperator}
-use Rattle.ada_grammar.specs.declared.operators.BinaryOperator.TheVariants as binary
+use Rattle.ada_values.specs.declared.operator.UnaryOperator.{UnaryOperator}
+use Rattle.ada_values.specs.declared.operator.UnaryOperator.TheVariants as unary
+use Rattle.ada_values.specs.declared.operator.BinaryOperator.{BinaryOperator}
+use Rattle.ada_values.specs.declared.operator.BinaryOperator.TheVariants as binary
 use Rattle.ada_values.specs.declared.value.Value.{Value}
 use Rattle.ada_values.specs.declared.value.Value.TheVariants.{Integer, Boolean}
 use Rattle.ada_values.specs.declared.fault.OperatorFault.{OperatorFault}

@@ -1,10 +1,10 @@
 -- What the predefined operators give (4.5), on the integers ℤ and on truth values.
 
 use Rattle.std.specs.Prelude.{◌≡◌, ◌≢◌, ◌<◌, ◌^◌, ◌-◌, ◌↔◌, ◌⊎◌, ℤ, pos, neg_ℤ, ◌+ℤ◌, ◌-ℤ◌, ◌*ℤ◌, ◌≤ℤ◌, ◌<ℤ◌, unsigned_abs, Bool, true, false, IsTrue, Result, Ok, Err}
-use Rattle.ada_grammar.specs.declared.operators.UnaryOperator.{UnaryOperator}
-use Rattle.ada_grammar.specs.declared.operators.UnaryOperator.TheVariants as unary
-use Rattle.ada_grammar.specs.declared.operators.BinaryOperator.{BinaryOperator}
-use Rattle.ada_grammar.specs.declared.operators.BinaryOperator.TheVariants as binary
+use Rattle.ada_values.specs.declared.operator.UnaryOperator.{UnaryOperator}
+use Rattle.ada_values.specs.declared.operator.UnaryOperator.TheVariants as unary
+use Rattle.ada_values.specs.declared.operator.BinaryOperator.{BinaryOperator}
+use Rattle.ada_values.specs.declared.operator.BinaryOperator.TheVariants as binary
 use Rattle.ada_values.specs.declared.value.Value.{Value}
 use Rattle.ada_values.specs.declared.value.Value.TheVariants.{Integer, Boolean}
 use Rattle.ada_values.specs.declared.fault.OperatorFault.{OperatorFault}

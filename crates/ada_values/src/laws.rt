@@ -6,8 +6,8 @@ ghost use Rattle.ada_values.specs.Operators.{first_integer, IsInRange, HasSign, 
 ghost use Rattle.ada_values.specs.Outcome.{outcome_of, unary_outcome_of};
 ghost use Rattle.ada_values.specs.One.{HasOne, HasOneOutcome};
 
+use crate::operator::{BinaryOperator, UnaryOperator};
 use crate::value::Value;
-use ada_grammar::operators::{BinaryOperator, UnaryOperator};
 
 /// An operator gives one value or has one fault, whatever its operands are, and never two.
 pub fn each_operator_has_one_outcome()

@@ -16,12 +16,11 @@
 
 mod fault;
 pub mod laws;
+pub mod operator;
 mod operators;
-#[cfg(test)]
-mod tests;
 mod value;
 
-pub use ada_grammar::operators::{BinaryOperator, UnaryOperator};
 pub use fault::OperatorFault;
+pub use operator::{BinaryOperator, UnaryOperator};
 pub use operators::{binary, unary};
 pub use value::Value;

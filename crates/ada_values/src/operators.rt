@@ -5,8 +5,8 @@ ghost use Rattle.ada_values.specs.Operators.{HaveOppositeSigns, IsModulus, IsCom
 ghost use Rattle.ada_values.specs.Outcome.{outcome_of, unary_outcome_of};
 
 use crate::fault::OperatorFault;
+use crate::operator::{BinaryOperator, UnaryOperator};
 use crate::value::Value;
-use ada_grammar::operators::{BinaryOperator, UnaryOperator};
 
 /// What a unary operator gives of its operand (4.5.4, 4.5.6).
 ///

@@ -1,5 +1,5 @@
 -- A source has one program at most, one first fault at most, and never both.
-use Rattle.std.proofs.Common.{◌≡◌, ◌≢◌, ℕ, List, length, None, Result, Ok, Err, IfErr, refl, sym, ap, subst, ◌∙◌}
+use Rattle.std.proofs.Common.{◌≡◌, ◌≢◌, ℕ, List, length, Option, None, Result, Ok, Err, IfErr, IsErrAnd, refl, sym, ap, subst, ◌∙◌}
 use Rattle.ada_text.specs.declared.spot.Spot.{Spot}
 use Rattle.ada_text.specs.declared.fault.TextFault.{TextFault}
 use Rattle.ada_text.specs.declared.fault.TextFault.TheVariants as text
@@ -7,25 +7,26 @@ use Rattle.ada_text.specs.Token.{Lexeme}
 use Rattle.ada_text.specs.Reading.{Spells, IsFirstFault as IsFirstTextFault}
 use Rattle.std.proofs.lemmas.List.{length-map}
 use Rattle.std.proofs.Math.ListN.{replicate}
-use Rattle.ada_tree.specs.declared.rule.Hold.{Hold}
-use Rattle.ada_tree.specs.declared.rule.Hold.TheVariants.{Lost}
-use Rattle.ada_tree.specs.declared.rule.Rule.{Rule}
-use Rattle.ada_tree.specs.Form.{elaborations, forms}
-use Rattle.ada_tree.specs.declared.program.Program.{Program}
-use Rattle.ada_grammar.specs.Statements.{UnitTree, IsTextOf}
-use Rattle.ada_tree.specs.ProgramForm.{ProgramForm, object_form, program_form}
-use Rattle.ada_tree.specs.Flow.{Outcome, faults, goes, then_flow, statements_flow, elaborations_flow, program_flow}
-use Rattle.ada_syntax.specs.declared.fault.SyntaxFault.{SyntaxFault}
-use Rattle.ada_syntax.specs.declared.fault.SyntaxFault.TheVariants as syntax
-use Rattle.ada_syntax.specs.FirstFault.{IsFirstFault as IsFirstSyntaxFault}
+use Rattle.ada_flow.specs.declared.rule.Hold.TheVariants.{Lost}
+use Rattle.ada_flow.specs.declared.rule.Rule.{Rule}
+use Rattle.ada_program.specs.Form.{declaration_forms, stmt_forms}
+use Rattle.ada_program.specs.declared.program.Program.{Program}
+use Rattle.ada_tree.specs.Statements.{UnitTree, IsTextOf}
+use Rattle.ada_program.specs.ProgramForm.{ProgramForm, variable_form, program_form}
+use Rattle.ada_flow.specs.Flow.{Outcome, faults, goes, Holds, then_flow, stmts_flow, declarations_flow, program_flow, ObeysRules}
+use Rattle.ada_flow.specs.Told.{judgement}
+use Rattle.ada_parser.specs.declared.fault.SyntaxFault.{SyntaxFault}
+use Rattle.ada_parser.specs.declared.fault.SyntaxFault.TheVariants as syntax
+use Rattle.ada_parser.specs.FirstFault.{IsFirstFault as IsFirstSyntaxFault}
+use Rattle.ada_resolve.specs.declared.fault.NameFault.{NameFault}
 use Rattle.ada_resolve.specs.declared.fault.NameFault.TheVariants as names
 use Rattle.ada_resolve.specs.declared.fault.NameRule.{NameRule}
-use Rattle.ada_resolve.specs.Resolution.{Told, broken, gives, resolution}
-use Rattle.ada_verdict.specs.declared.fault.FlowFault.TheVariants as flow
+use Rattle.ada_resolve.specs.Resolution.{Told as NamesTold, broken, gives, resolution}
+use Rattle.ada_flow.specs.declared.fault.FlowFault.TheVariants as flow
 use Rattle.ada_verdict.specs.declared.fault.Verdict.{Verdict}
 use Rattle.ada_verdict.specs.declared.fault.Verdict.TheVariants as verdict
-use Rattle.ada_verdict.specs.First.{IsSourceOf, IsProgramOf, IsAccepted, IsFirstOfSyntax, IsFirstOfNames, IsFirst}
-use Rattle.ada_verdict.specs.Refusal.{refusal_of}
+use Rattle.ada_verdict.specs.First.{IsSourceOf, IsProgramOf, IsAccepted, IsFirst, RefusesRightly, HasFaultOrProgram}
+use Rattle.ada_verdict.specs.Refusal.{Told, told, rule_text, refusal_of}
 
 -- The laws of the crates below.
 abbrev pub OneTokens : Type 0
@@ -46,6 +47,13 @@ OneSyntaxFault = (tokens : List Lexeme) (f g : SyntaxFault) → IsFirstSyntaxFau
 abbrev pub NoSyntaxFault : Type 0
 NoSyntaxFault = (tokens : List Lexeme) (f : SyntaxFault) (t : UnitTree) → IsFirstSyntaxFault tokens f → IsTextOf tokens t → f ≡ syntax.NoMemory
 
+-- The first fault of the syntax of a source, and of its names.
+abbrev pub IsFirstOfSyntax : List ℕ → SyntaxFault → Type 0
+IsFirstOfSyntax source fault = IsFirst source (verdict.Syntax fault)
+
+abbrev pub IsFirstOfNames : List ℕ → NameFault → Type 0
+IsFirstOfNames source fault = IsFirst source (verdict.Names fault)
+
 -- what a fault of a phase tells, where it is that memory ran out
 no_text : (f : TextFault) → f ≡ text.NoMemory → refusal_of (verdict.Text f) ≡ None
 no_text f e = rw e refl
@@ -64,14 +72,22 @@ one_resolution tokens tree source t u a b = ap resolution (same_tree tokens tree
 
 -- The flow of a program, from its plain data.
 abbrev pub flow_by : ProgramForm → Outcome
-flow_by p = then_flow (elaborations_flow p.elaborations (replicate (length p.objects) Lost)) (statements_flow p.forms)
+flow_by p = then_flow (declarations_flow p.declarations (replicate (length p.variables) Lost)) (stmts_flow p.statements)
 
 flow_is : (p : Program) → program_flow p ≡ flow_by (program_form p)
 flow_is p =
-    ap (λ (n : ℕ). then_flow (elaborations_flow (elaborations p) (replicate n Lost)) (statements_flow (forms p))) (sym (length-map p.objects.items object_form))
+    ap (λ (n : ℕ). then_flow (declarations_flow (declaration_forms p) (replicate n Lost)) (stmts_flow (stmt_forms p))) (sym (length-map p.variables.items variable_form))
 
-same_flow : (p q : Program) → program_form p ≡ program_form q → program_flow p ≡ program_flow q
-same_flow p q e = flow_is p ∙ ap flow_by e ∙ sym (flow_is q)
+same_judgement : (p q : Program) → program_form p ≡ program_form q → judgement (program_flow p) ≡ judgement (program_flow q)
+same_judgement p q e = ap judgement (flow_is p ∙ ap flow_by e ∙ sym (flow_is q))
+
+-- A judgement that no rule is broken.
+obeying : (o : Outcome) → judgement o ≡ Ok tt → (normal raising : Option Holds) × (o ≡ goes normal raising)
+obeying (faults spot rule) e = cc
+obeying (goes normal raising) e = (normal, raising, refl)
+
+pub obeys : (p : Program) → judgement (program_flow p) ≡ Ok tt → ObeysRules p
+obeys p e = obeying (program_flow p) e
 
 gives_one : (p q : ProgramForm) → gives p ≡ gives q → p ≡ q
 gives_one p q e = cc
@@ -79,7 +95,7 @@ gives_one p q e = cc
 gives_none : {X : Type 0} (spot : Spot) (rule : NameRule) (p : ProgramForm) → broken spot rule ≡ gives p → X
 gives_none spot rule p e = absurd cc
 
-abbrev pub the_broken : Spot → NameRule → Told ProgramForm
+abbrev pub the_broken : Spot → NameRule → NamesTold ProgramForm
 the_broken spot rule = broken spot rule
 
 broken_one : (spot other : Spot) (rule another : NameRule) → the_broken spot rule ≡ the_broken other another →
@@ -89,15 +105,22 @@ broken_one spot other rule another e =
     let r : rule ≡ another = cc in
     rw (s, r) refl
 
-faults_one : (spot other : Spot) (rule another : Rule) → faults spot rule ≡ faults other another →
-    refusal_of (verdict.Flow (flow.Broken spot rule)) ≡ refusal_of (verdict.Flow (flow.Broken other another))
-faults_one spot other rule another e =
-    let s : spot ≡ other = cc in
-    let r : rule ≡ another = cc in
-    rw (s, r) refl
+abbrev pub the_breach : Spot → Rule → Result (Unit {0}) (Spot × Rule)
+the_breach spot rule = Err (spot, rule)
 
-goes_none : {X : Type 0} (spot : Spot) (rule : Rule) (holds : List Hold) → faults spot rule ≡ goes holds → X
-goes_none spot rule holds e = absurd cc
+-- what is printed of a judgement
+abbrev pub refusal_by : Result (Unit {0}) (Spot × Rule) → Option Told
+refusal_by (Ok x) = None
+refusal_by (Err breach) = told breach.0 (rule_text breach.1)
+
+breach_one : (spot other : Spot) (rule another : Rule) → the_breach spot rule ≡ the_breach other another →
+    refusal_of (verdict.Flow (flow.Broken spot rule)) ≡ refusal_of (verdict.Flow (flow.Broken other another))
+breach_one spot other rule another e = ap refusal_by e
+
+obeys_none : {X : Type 0} (p : Program) (spot : Spot) (rule : Rule) → judgement (program_flow p) ≡ the_breach spot rule → ObeysRules p → X
+obeys_none p spot rule e obeys =
+    let fine : judgement (program_flow p) ≡ Ok tt = ap judgement obeys.2 in
+    absurd cc
 
 -- One program.
 
@@ -116,14 +139,14 @@ no_names tokens tree source spot rule p a b =
     gives_none spot rule (program_form p) (sym a.2 ∙ one_resolution tokens tree source a.0 b.tree a.1 b.text ∙ b.resolved)
 
 -- Where the rules are obeyed, there is no fault.
-pub no_first : OneTokens → NoTextFault → OneTree → NoSyntaxFault → (source : List ℕ) (p : Program) (v : Verdict) → IsAccepted source p → IsFirst source v → refusal_of v ≡ None
-no_first tokens text tree syntax source p (verdict.Text f) a b = no_text f (text source a.0.text.tokens f a.0.text.spelled b)
-no_first tokens text tree syntax source p (verdict.Syntax f) a b = no_syntax f (no_fault tokens syntax source a.0.tree f a.0.text b)
-no_first tokens text tree syntax source p (verdict.Names (names.Broken spot rule)) a b = no_names tokens tree source spot rule p b a.0
-no_first tokens text tree syntax source p (verdict.Names names.NoMemory) a b = refl
-no_first tokens text tree syntax source p (verdict.Flow (flow.Broken spot rule)) a b =
-    goes_none spot rule a.1.0 (sym b.2 ∙ same_flow b.0 p (one_program tokens tree source b.0 p b.1 a.0) ∙ a.1.1)
-no_first tokens text tree syntax source p (verdict.Flow flow.NoMemory) a b = refl
+pub no_first : OneTokens → NoTextFault → OneTree → NoSyntaxFault → (source : List ℕ) (v : Verdict) → IsFirst source v → (p : Program) → IsAccepted source p → refusal_of v ≡ None
+no_first tokens text tree syntax source (verdict.Text f) b p a = no_text f (text source a.0.text.tokens f a.0.text.spelled b)
+no_first tokens text tree syntax source (verdict.Syntax f) b p a = no_syntax f (no_fault tokens syntax source a.0.tree f a.0.text b)
+no_first tokens text tree syntax source (verdict.Names (names.Broken spot rule)) b p a = no_names tokens tree source spot rule p b a.0
+no_first tokens text tree syntax source (verdict.Names names.NoMemory) b p a = refl
+no_first tokens text tree syntax source (verdict.Flow (flow.Broken spot rule)) b p a =
+    obeys_none p spot rule (same_judgement p b.0 (one_program tokens tree source p b.0 a.0 b.1) ∙ b.2) a.1
+no_first tokens text tree syntax source (verdict.Flow flow.NoMemory) b p a = refl
 
 -- One first fault: what each phase's fault says of the later phases.
 
@@ -153,13 +176,18 @@ one_first tokens text no_text_fault tree syntax no_syntax_fault source (verdict.
 one_first tokens text no_text_fault tree syntax no_syntax_fault source (verdict.Flow (flow.Broken spot rule)) (verdict.Syntax g) a b n m = syntax_first tokens no_syntax_fault source a.1.tree g a.1.text b m
 one_first tokens text no_text_fault tree syntax no_syntax_fault source (verdict.Flow (flow.Broken spot rule)) (verdict.Names (names.Broken other another)) a b n m = no_names tokens tree source other another a.0 b a.1
 one_first tokens text no_text_fault tree syntax no_syntax_fault source (verdict.Flow (flow.Broken spot rule)) (verdict.Flow (flow.Broken other another)) a b n m =
-    faults_one spot other rule another (sym a.2 ∙ same_flow a.0 b.0 (one_program tokens tree source a.0 b.0 a.1 b.1) ∙ b.2)
+    breach_one spot other rule another (sym a.2 ∙ same_judgement a.0 b.0 (one_program tokens tree source a.0 b.0 a.1 b.1) ∙ b.2)
 one_first tokens text no_text_fault tree syntax no_syntax_fault source v (verdict.Names names.NoMemory) a b n m = absurd (m refl)
 one_first tokens text no_text_fault tree syntax no_syntax_fault source v (verdict.Flow flow.NoMemory) a b n m = absurd (m refl)
 one_first tokens text no_text_fault tree syntax no_syntax_fault source (verdict.Names names.NoMemory) w a b n m = absurd (n refl)
 one_first tokens text no_text_fault tree syntax no_syntax_fault source (verdict.Flow flow.NoMemory) w a b n m = absurd (n refl)
 
+-- A fault that is passed on is the first one of the source where it was the first one of its phase.
+pub first_told : {A : Type 0} (source : List ℕ) (v : Verdict) (r : Result A Verdict) → IsFirst source v → IsErrAnd r (λ w. w ≡ v) → IfErr r (λ w. IsFirst source w)
+first_told source v (Ok x) first e = tt
+first_told source v (Err w) first e = subst (λ (u : Verdict). IsFirst source u) (sym e) first
+
 -- What is refused is nothing that could be accepted.
-pub no_refusal : {A : Type 0} → ((source : List ℕ) (p : Program) (v : Verdict) → IsAccepted source p → IsFirst source v → refusal_of v ≡ None) → (source : List ℕ) (r : Result A Verdict) → IfErr r (λ v. IsFirst source v) → IfErr r (λ v. (p : Program) → IsAccepted source p → refusal_of v ≡ None)
-no_refusal law source (Ok x) h = tt
-no_refusal law source (Err v) h = λ p a. law source p v a h
+pub refused_rightly : {A : Type 0} (source : List ℕ) (r : Result A Verdict) → HasFaultOrProgram source → IfErr r (λ v. IsFirst source v) → IfErr r (λ v. RefusesRightly source v)
+refused_rightly source (Ok x) law first = tt
+refused_rightly source (Err v) law first = law v first

@@ -1,7 +1,5 @@
 -- What the checker answers, in the order in which it is read.
 
--- what flow tells
-pub mod Told
 -- what is printed of a fault
 pub mod Refusal
 -- a refusal as it is lent

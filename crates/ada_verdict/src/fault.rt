@@ -2,31 +2,13 @@
 
 ghost use Rattle.std.specs.Prelude.{◌≡◌};
 
+use ada_flow::FlowFault;
+use ada_parser::SyntaxFault;
 use ada_resolve::NameFault;
-use ada_syntax::SyntaxFault;
 use ada_text::TextFault;
-use ada_tree::{Rule, Spot};
-use std::alloc::{AllocError, AllocFailed};
-
-/// The first fault of the flow of values, or that memory ran out.
-#[derive(Debug, Drop, PartialEq, Eq)]
-pub enum FlowFault {
-    Broken { spot: Spot, rule: Rule },
-    NoMemory,
-}
-
-impl From<AllocError> for FlowFault {
-    ghost use Rattle.ada_verdict.specs.declared.fault.FlowFault.TheVariants as flow;
-
-    ghost from_gives = { λ _ e. e ≡ flow.NoMemory };
-
-    fn from(_error: AllocError) -> FlowFault {
-        FlowFault::NoMemory
-    }
-}
 
 /// Why a source is not accepted: a fault of a phase, or that memory ran out.
-#[derive(Debug, Drop, PartialEq, Eq)]
+#[derive(Drop)]
 pub enum Verdict {
     Text(TextFault),
     Syntax(SyntaxFault),

@@ -1,17 +1,17 @@
-//! The checker: from the bytes of a source to an accepted program, or the first fault.
+//! The checker: from the bytes of a source to an accepted program, or to the first fault.
 //!
-//! `check` answers `Accepted` exactly where the source is a program that obeys the rules, or a `Verdict`: the first
-//! fault of the first phase that has one, of text, syntax, names and flow. Only `check` makes an `Accepted`.
+//! `check` accepts a source exactly where it is a program that obeys the rules, and what it accepts is safe: no run of
+//! it comes to an erroneous action, and every run keeps the laws of finalization. Otherwise it answers a `Verdict`, the
+//! first fault of the first phase that has one; the phases are text, syntax, names and flow. Only `check` makes an
+//! `Accepted`.
 #![tactic(auto)]
 
 mod accepted;
 mod fault;
-mod flow;
-mod follow;
-mod holds;
 pub mod laws;
 mod refusal;
+pub mod rules;
 
 pub use crate::accepted::{Accepted, check};
-pub use crate::fault::{FlowFault, Verdict};
+pub use crate::fault::Verdict;
 pub use crate::refusal::Refusal;

@@ -1,17 +1,19 @@
-//! What is printed of a fault: where it is, its number and its name.
+//! What is printed of a fault: where it is, the number of its rule, and the rule's name.
 
 ghost use Rattle.std.specs.Prelude.{◌≡◌};
-ghost use Rattle.ada_verdict.specs.Refusal.{refusal_of, text_told, syntax_told, name_text, rule_text, told};
+ghost use Rattle.ada_verdict.specs.Refusal as printed;
 ghost use Rattle.ada_verdict.specs.Shown.{shown_if};
 
-use crate::fault::{FlowFault, Verdict};
+use crate::fault::Verdict;
+use crate::rules;
+use ada_flow::{FlowFault, Rule};
+use ada_parser::SyntaxFault;
+use ada_program::Spot;
 use ada_resolve::{NameFault, NameRule};
-use ada_syntax::SyntaxFault;
 use ada_text::TextFault;
-use ada_tree::{Rule, Spot};
 
 /// Where a source breaks which rule: its number and name, as they are printed.
-#[derive(Clone, Copy, Debug, PartialEq, Eq)]
+#[derive(Clone, Copy)]
 pub struct Refusal {
     pub spot: Spot,
     pub name: &'static str,
@@ -23,13 +25,13 @@ const START: Spot = Spot { line: 1, column: 1 };
 impl Verdict {
     /// Where the source breaks which rule; none, if memory ran out.
     pub fn refusal(&self) -> Option<Refusal>
-        ensures { shown_if result ≡ refusal_of self.now }
+        ensures { shown_if result ≡ printed.refusal_of self.now }
     {
         match self {
             Verdict::Text(fault) => text_refusal(fault),
             Verdict::Syntax(fault) => syntax_refusal(fault),
-            Verdict::Names(NameFault::Broken { spot, rule }) => refused(*spot, name_of(*rule)),
-            Verdict::Flow(FlowFault::Broken { spot, rule }) => refused(*spot, flow_name(*rule)),
+            Verdict::Names(NameFault::Broken { spot, rule }) => refused(*spot, name_text(*rule)),
+            Verdict::Flow(FlowFault::Broken { spot, rule }) => refused(*spot, rule_text(*rule)),
             Verdict::Names(NameFault::NoMemory) | Verdict::Flow(FlowFault::NoMemory) => None,
         }
     }
@@ -37,59 +39,59 @@ impl Verdict {
 
 /// A refusal at a spot.
 fn refused(spot: Spot, name: &'static str) -> Option<Refusal>
-    ensures { shown_if result ≡ told spot name.now }
+    ensures { shown_if result ≡ printed.told spot name.now }
 {
     Some(Refusal { spot, name })
 }
 
-/// A fault of the text.
+/// The refusal for a fault of the text.
 fn text_refusal(fault: &TextFault) -> Option<Refusal>
-    ensures { shown_if result ≡ text_told fault.now }
+    ensures { shown_if result ≡ printed.text_told fault.now }
 {
     match fault {
-        TextFault::ByteNotAllowed(spot) => refused(*spot, "F01 byte-not-allowed"),
-        TextFault::OpenString(spot) => refused(*spot, "F02 open-string"),
-        TextFault::NumberRange(spot) => refused(*spot, "F03 number-range"),
-        TextFault::SourceTooLong => refused(START, "F04 source-too-long"),
-        TextFault::IdentifierForm(spot) => refused(*spot, "F05 identifier-form"),
+        TextFault::ByteNotAllowed(spot) => refused(*spot, rules::BYTE_NOT_ALLOWED),
+        TextFault::OpenString(spot) => refused(*spot, rules::OPEN_STRING),
+        TextFault::NumberRange(spot) => refused(*spot, rules::NUMBER_RANGE),
+        TextFault::SourceTooLong => refused(START, rules::SOURCE_TOO_LONG),
+        TextFault::IdentifierForm(spot) => refused(*spot, rules::IDENTIFIER_FORM),
         TextFault::NoMemory => None,
     }
 }
 
-/// A fault of the syntax.
+/// The refusal for a fault of the syntax.
 fn syntax_refusal(fault: &SyntaxFault) -> Option<Refusal>
-    ensures { shown_if result ≡ syntax_told fault.now }
+    ensures { shown_if result ≡ printed.syntax_told fault.now }
 {
     match fault {
-        SyntaxFault::UnexpectedToken(spot) => refused(*spot, "F10 unexpected-token"),
-        SyntaxFault::TooDeep(spot) => refused(*spot, "F11 too-deep"),
-        SyntaxFault::EndOfSource(spot) => refused(*spot, "F12 end-of-source"),
+        SyntaxFault::UnexpectedToken(spot) => refused(*spot, rules::UNEXPECTED_TOKEN),
+        SyntaxFault::TooDeep(spot) => refused(*spot, rules::TOO_DEEP),
+        SyntaxFault::EndOfSource(spot) => refused(*spot, rules::END_OF_SOURCE),
         SyntaxFault::NoMemory => None,
     }
 }
 
-/// A rule of names.
-fn name_of(rule: NameRule) -> &'static str
-    ensures { result.now ≡ name_text rule }
+/// The number and the name of a rule of names.
+fn name_text(rule: NameRule) -> &'static str
+    ensures { result.now ≡ printed.name_text rule }
 {
     match rule {
-        NameRule::UnknownName => "F20 unknown-name",
-        NameRule::DeclaredTwice => "F21 declared-twice",
-        NameRule::WrongType => "F22 wrong-type",
-        NameRule::NotInProfile => "F23 not-in-profile",
-        NameRule::Layout => "F24 layout",
-        NameRule::NoInitialValue => "F25 no-initial-value",
-        NameRule::BodyMissing => "F26 body-missing",
-        NameRule::Limit => "F27 limit",
+        NameRule::UnknownName => rules::UNKNOWN_NAME,
+        NameRule::DeclaredTwice => rules::DECLARED_TWICE,
+        NameRule::WrongType => rules::WRONG_TYPE,
+        NameRule::NotInProfile => rules::NOT_IN_PROFILE,
+        NameRule::Layout => rules::LAYOUT,
+        NameRule::NoInitialValue => rules::NO_INITIAL_VALUE,
+        NameRule::BodyMissing => rules::BODY_MISSING,
+        NameRule::Limit => rules::LIMIT,
     }
 }
 
-/// A rule of the flow of values.
-fn flow_name(rule: Rule) -> &'static str
-    ensures { result.now ≡ rule_text rule }
+/// The number and the name of a rule of the flow of values.
+fn rule_text(rule: Rule) -> &'static str
+    ensures { result.now ≡ printed.rule_text rule }
 {
     match rule {
-        Rule::LostValue => "S1 lost-value",
-        Rule::AliasMoved => "S2 alias-moved",
+        Rule::LostValue => rules::LOST_VALUE,
+        Rule::AliasMoved => rules::ALIAS_MOVED,
     }
 }

@@ -1,15 +1,2 @@
-pub mod Spelling
-pub mod Linking
-pub mod Steps
-pub mod Reading
-pub mod Objects
-pub mod Written
-pub mod Done
-pub mod Fitting
-pub mod Merging
-pub mod Told
-pub mod Stepped
-pub mod Searching
-pub mod Pools
-pub mod Beside
-pub mod Churning
+pub mod Numbers
+pub mod Marks

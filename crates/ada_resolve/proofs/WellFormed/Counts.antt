@@ -4,24 +4,24 @@ use Rattle.std.proofs.Common.{◌≡◌, ℕ, ◌+◌, ◌≤◌, ◌<◌, Bool,
 use Rattle.std.specs.Prelude.{count_by}
 use Rattle.std.proofs.lemmas.Bool.{ne_eqb}
 use Rattle.std.proofs.lemmas.List.Sums.{sum_by-cons, sum_by-append}
-use Rattle.ada_tree.specs.Form.{Elaboration, collects, declares}
-use Rattle.ada_tree.specs.ProgramForm.{TypeForm, record_of, access_to}
-use Rattle.ada_tree.specs.WellFormed as fits
+use Rattle.ada_program.specs.Form.{DeclarationForm, collects, declares}
+use Rattle.ada_program.specs.ProgramForm.{TypeForm, record_of, access_to}
+use Rattle.ada_program.specs.WellFormed as fits
 use Rattle.ada_resolve.specs.Instances.{is_collected}
 use Rattle.ada_resolve.specs.Objects.{collections_of}
 use Rattle.ada_resolve.proofs.WellFormed.Tables.{left_fails, right_fails, both_parts, first_part, second_part}
 
 -- how many collections of an access type these create
-abbrev pub count : ℕ → List Elaboration → ℕ
+abbrev pub count : ℕ → List DeclarationForm → ℕ
 count a es = count_by (fits.is_collection a) es
 
-count_next : (a : ℕ) (e : Elaboration) (es : List Elaboration) → count a (e ∷ es) ≡ cond (fits.is_collection a e) 1 0 + count a es
+count_next : (a : ℕ) (e : DeclarationForm) (es : List DeclarationForm) → count a (e ∷ es) ≡ cond (fits.is_collection a e) 1 0 + count a es
 count_next a e es = sum_by-cons (λ x. cond (fits.is_collection a x) 1 0) e es
 
-pub count_more : (a : ℕ) (es fs : List Elaboration) → count a (es ++ fs) ≡ count a es + count a fs
+pub count_more : (a : ℕ) (es fs : List DeclarationForm) → count a (es ++ fs) ≡ count a es + count a fs
 count_more a es fs = sum_by-append (λ x. cond (fits.is_collection a x) 1 0) es fs
 
-pub not_collected : (a : ℕ) (es : List Elaboration) → is_collected a es ≡ false → count a es ≡ 0
+pub not_collected : (a : ℕ) (es : List DeclarationForm) → is_collected a es ≡ false → count a es ≡ 0
 not_collected a [] e = refl
 not_collected a (collects t ∷ es) e =
     let first : eqb t a ≡ false = left_fails (eqb t a) (is_collected a es) e in
@@ -33,20 +33,20 @@ some_collected : (b c : Bool) (n : ℕ) → (b || c) ≡ true → (c ≡ true �
 some_collected true c n e w = omega arith
 some_collected false c n e w = let h = w e in omega arith
 
-is_counted : (a : ℕ) (es : List Elaboration) → is_collected a es ≡ true → 0 < count a es
+is_counted : (a : ℕ) (es : List DeclarationForm) → is_collected a es ≡ true → 0 < count a es
 is_counted a [] e = absurd (cc e)
 is_counted a (collects t ∷ es) e = rw (count_next a (collects t) es) (some_collected (eqb t a) (is_collected a es) (count a es) e (is_counted a es))
 is_counted a (declares x source ∷ es) e = is_counted a es e
 
-count_known_at : (a : ℕ) (es : List Elaboration) (b : Bool) → is_collected a es ≡ b → count a es ≤ 1 → count a es ≡ cond b 1 0
+count_known_at : (a : ℕ) (es : List DeclarationForm) (b : Bool) → is_collected a es ≡ b → count a es ≤ 1 → count a es ≡ cond b 1 0
 count_known_at a es true is most = let h = is_counted a es is in omega arith
 count_known_at a es false is most = not_collected a es is
 
-pub count_known : (a : ℕ) (es : List Elaboration) → count a es ≤ 1 → count a es ≡ cond (is_collected a es) 1 0
+pub count_known : (a : ℕ) (es : List DeclarationForm) → count a es ≤ 1 → count a es ≡ cond (is_collected a es) 1 0
 count_known a es most = count_known_at a es (is_collected a es) refl most
 
 -- one more collection, of a type that has none
-pub one_more : (a t : ℕ) (es : List Elaboration) → count a es ≤ 1 → is_collected t es ≡ false → count a (es ++ collects t ∷ []) ≤ 1
+pub one_more : (a t : ℕ) (es : List DeclarationForm) → count a es ≤ 1 → is_collected t es ≡ false → count a (es ++ collects t ∷ []) ≤ 1
 one_more a t es most none = rw (count_more a es (collects t ∷ [])) (one_at (eqb t a) refl)
   where
     one_at : (b : Bool) → eqb t a ≡ b → count a es + (0 + cond b 1 0) ≤ 1
@@ -54,7 +54,7 @@ one_more a t es most none = rw (count_more a es (collects t ∷ [])) (one_at (eq
     one_at false off = omega arith
 
 -- the collections that end the types: of those from a number on
-made_first : (b : Bool) (k a : ℕ) (es : List Elaboration) → count a (cond b es (collects k ∷ es)) ≡ cond b 0 (cond (eqb k a) 1 0) + count a es
+made_first : (b : Bool) (k a : ℕ) (es : List DeclarationForm) → count a (cond b es (collects k ∷ es)) ≡ cond b 0 (cond (eqb k a) 1 0) + count a es
 made_first true k a es = omega arith
 made_first false k a es = count_next a (collects k) es
 
@@ -62,7 +62,7 @@ either_zero : (b : Bool) → cond {A = ℕ} b 0 0 ≡ 0
 either_zero true = refl
 either_zero false = refl
 
-later_none : (ts : List TypeForm) (k a : ℕ) (es : List Elaboration) → a < k → count a (collections_of k ts es) ≡ 0
+later_none : (ts : List TypeForm) (k a : ℕ) (es : List DeclarationForm) → a < k → count a (collections_of k ts es) ≡ 0
 later_none [] k a es less = refl
 later_none (record_of name cs ∷ ts) k a es less = later_none ts (k + 1) a es (omega arith)
 later_none (access_to name d ∷ ts) k a es less =
@@ -70,7 +70,7 @@ later_none (access_to name d ∷ ts) k a es less =
     let other : eqb k a ≡ false = ne_eqb k a (omega arith) in
     made_first (is_collected k es) k a (collections_of (k + 1) ts es) ∙ (rw (other, rest, either_zero (is_collected k es)) (omega arith))
 
-pub one_made : (ts : List TypeForm) (k i : ℕ) (es : List Elaboration) → fits.is_access ts i ≡ true → count (k + i) (collections_of k ts es) ≡ cond (is_collected (k + i) es) 0 1
+pub one_made : (ts : List TypeForm) (k i : ℕ) (es : List DeclarationForm) → fits.is_access ts i ≡ true → count (k + i) (collections_of k ts es) ≡ cond (is_collected (k + i) es) 0 1
 one_made [] k i es e = absurd (cc e)
 one_made (record_of name cs ∷ ts) k zero es e = absurd (cc e)
 one_made (access_to name d ∷ ts) k zero es e =
@@ -85,7 +85,7 @@ one_made (access_to name d ∷ ts) k (suc i) es e =
     let other : eqb k ((k + 1) + i) ≡ false = ne_eqb k ((k + 1) + i) (omega arith) in
     rw next (made_first (is_collected k es) k ((k + 1) + i) (collections_of (k + 1) ts es) ∙ (rw (other, either_zero (is_collected k es)) (omega (arith, one_made ts (k + 1) i es e))))
 
-pub at_most_made : (ts : List TypeForm) (k a : ℕ) (es : List Elaboration) → count a (collections_of k ts es) ≤ cond (is_collected a es) 0 1
+pub at_most_made : (ts : List TypeForm) (k a : ℕ) (es : List DeclarationForm) → count a (collections_of k ts es) ≤ cond (is_collected a es) 0 1
 at_most_made [] k a es = omega arith
 at_most_made (record_of name cs ∷ ts) k a es = at_most_made ts (k + 1) a es
 at_most_made (access_to name d ∷ ts) k a es = rw (made_first (is_collected k es) k a (collections_of (k + 1) ts es)) (made_at (at_most_made ts (k + 1) a es) (eqb k a) refl)
@@ -98,7 +98,7 @@ at_most_made (access_to name d ∷ ts) k a es = rw (made_first (is_collected k e
     made_at more false off = rw (either_zero (is_collected k es)) (omega arith)
 
 -- one collection each, from a number on
-pub has_from_counts : (es : List Elaboration) (ts : List TypeForm) (k : ℕ) → ((i : ℕ) → fits.is_access ts i ≡ true → count (k + i) es ≡ 1) → fits.has_collections es k ts ≡ true
+pub has_from_counts : (es : List DeclarationForm) (ts : List TypeForm) (k : ℕ) → ((i : ℕ) → fits.is_access ts i ≡ true → count (k + i) es ≡ 1) → fits.has_collections es k ts ≡ true
 has_from_counts es [] k w = refl
 has_from_counts es (record_of name cs ∷ ts) k w = has_from_counts es ts (k + 1) (λ i e. let next : (k + 1) + i ≡ k + suc i = omega arith in rw next (w (suc i) e))
 has_from_counts es (access_to name d ∷ ts) k w =
@@ -107,7 +107,7 @@ has_from_counts es (access_to name d ∷ ts) k w =
     (has_from_counts es ts (k + 1) (λ i e. let next : (k + 1) + i ≡ k + suc i = omega arith in rw next (w (suc i) e)))
 
 -- what counts alike has one collection each alike
-pub has_alike : (es fs : List Elaboration) (ts : List TypeForm) (k : ℕ) → ((a : ℕ) → count a es ≡ count a fs) → fits.has_collections es k ts ≡ true → fits.has_collections fs k ts ≡ true
+pub has_alike : (es fs : List DeclarationForm) (ts : List TypeForm) (k : ℕ) → ((a : ℕ) → count a es ≡ count a fs) → fits.has_collections es k ts ≡ true → fits.has_collections fs k ts ≡ true
 has_alike es fs [] k w e = refl
 has_alike es fs (record_of name cs ∷ ts) k w e = has_alike es fs ts (k + 1) w e
 has_alike es fs (access_to name d ∷ ts) k w e =

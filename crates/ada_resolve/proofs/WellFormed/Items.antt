@@ -5,20 +5,20 @@ use Rattle.std.specs.Prelude.{Option, Some, None, is_some, not}
 use Rattle.std.specs.List.{slice_get, slice_set, list_all}
 use Rattle.std.proofs.Math.ListN.{replicate}
 use Rattle.ada_text.specs.declared.spot.Spot.{Spot}
-use Rattle.ada_grammar.specs.Names.{Ident}
-use Rattle.ada_grammar.specs.Expressions.{ExpressionTree, ItemsTree, no_more_items, an_item}
-use Rattle.ada_tree.specs.declared.program.ComponentKind.{ComponentKind}
-use Rattle.ada_tree.specs.declared.program.ComponentKind.TheVariants as kind
-use Rattle.ada_tree.specs.declared.program.ScalarType.TheVariants.{Integer, Boolean}
-use Rattle.ada_tree.specs.Form.{ItemForm}
-use Rattle.ada_tree.specs.ProgramForm.{ComponentForm, TypeForm, ObjectForm}
-use Rattle.ada_tree.specs.WellFormed as fits
+use Rattle.ada_tree.specs.Names.{Ident}
+use Rattle.ada_tree.specs.Expressions.{ExpressionTree, ItemsTree, no_more_items, an_item}
+use Rattle.ada_program.specs.declared.program.ComponentKind.{ComponentKind}
+use Rattle.ada_program.specs.declared.program.ComponentKind.TheVariants as kind
+use Rattle.ada_program.specs.declared.program.ScalarType.TheVariants.{Integer, Boolean}
+use Rattle.ada_program.specs.Form.{ItemForm}
+use Rattle.ada_program.specs.ProgramForm.{ComponentForm, TypeForm, VariableForm}
+use Rattle.ada_program.specs.WellFormed as fits
 use Rattle.ada_resolve.specs.declared.fault.NameRule.TheVariants.{WrongType, NotInProfile}
 use Rattle.ada_resolve.specs.Known.{Known}
-use Rattle.ada_resolve.specs.Paths.{Meant, unknown, null_value, integer_value, boolean_value}
+use Rattle.ada_resolve.specs.Paths.{component_at, Meant, unknown, null_value, integer_value, boolean_value}
 use Rattle.ada_resolve.specs.Expressions.{expression_meant}
-use Rattle.ada_resolve.specs.Items.{Filling, component_at, component_for, item_spot, item_meant, fits_remark, is_filled, for_remark, is_alike, item_remark, filled_for, after_item, items_remark, after_items, first_filling, names_component, count_remark, item_or_null, filling_of}
-use Rattle.ada_resolve.specs.Remark.{wrong, wrong_if}
+use Rattle.ada_resolve.specs.Items.{Filling, component_for, item_spot, item_meant, fits_remark, is_filled, for_remark, is_alike, item_remark, filled_for, after_item, items_remark, after_items, first_filling, names_component, count_remark, item_or_null, filling_of}
+use Rattle.ada_resolve.specs.Remark.{Remark, wrong, wrong_if, ◌also◌}
 use Rattle.ada_resolve.specs.Spots.{expression_spot}
 use Rattle.ada_resolve.proofs.WellFormed.Remarks.{Quiet, quiet_if, quiet_unless}
 use Rattle.ada_resolve.proofs.WellFormed.Tables.{both_parts}
@@ -27,42 +27,42 @@ use Rattle.ada_resolve.proofs.WellFormed.Typing.{is_of_type}
 use Rattle.ada_resolve.proofs.WellFormed.Meanings.{MeantFits, IsComponentOf, named_at, expression_fits}
 
 -- the items so far fit their components
-abbrev pub SlotsFit : List TypeForm → List ObjectForm → List ComponentForm → List (Option ItemForm) → Type 0
-SlotsFit types objects [] [] = Unit {0}
-SlotsFit types objects [] (s ∷ slots) = ⊥
-SlotsFit types objects (c ∷ cs) [] = ⊥
-SlotsFit types objects (c ∷ cs) (None ∷ slots) = SlotsFit types objects cs slots
-SlotsFit types objects (c ∷ cs) (Some i ∷ slots) = (fits.item_fits types objects c.kind i ≡ true) × SlotsFit types objects cs slots
+abbrev pub SlotsFit : List TypeForm → List VariableForm → List ComponentForm → List (Option ItemForm) → Type 0
+SlotsFit types variables [] [] = Unit {0}
+SlotsFit types variables [] (s ∷ slots) = ⊥
+SlotsFit types variables (c ∷ cs) [] = ⊥
+SlotsFit types variables (c ∷ cs) (None ∷ slots) = SlotsFit types variables cs slots
+SlotsFit types variables (c ∷ cs) (Some i ∷ slots) = (fits.item_fits types variables c.kind i ≡ true) × SlotsFit types variables cs slots
 
-none_filled : (types : List TypeForm) (objects : List ObjectForm) (cs : List ComponentForm) → SlotsFit types objects cs (replicate (length cs) None)
-none_filled types objects [] = tt
-none_filled types objects (c ∷ cs) = none_filled types objects cs
+none_filled : (types : List TypeForm) (variables : List VariableForm) (cs : List ComponentForm) → SlotsFit types variables cs (replicate (length cs) None)
+none_filled types variables [] = tt
+none_filled types variables (c ∷ cs) = none_filled types variables cs
 
 -- one more item that fits its component
-slot_set : (types : List TypeForm) (objects : List ObjectForm) (cs : List ComponentForm) (slots : List (Option ItemForm)) (j : ℕ) (c : ComponentForm) (i : ItemForm) → SlotsFit types objects cs slots → slice_get cs j ≡ Some c → fits.item_fits types objects c.kind i ≡ true → SlotsFit types objects cs (slice_set slots j (Some i))
-slot_set types objects [] slots j c i w e f = absurd (cc e)
-slot_set types objects (d ∷ cs) [] j c i w e f = absurd w
-slot_set types objects (d ∷ cs) (None ∷ slots) zero c i w e f = let same : c ≡ d = cc e in (subst (λ v. fits.item_fits types objects v.kind i ≡ true) same f, w)
-slot_set types objects (d ∷ cs) (Some old ∷ slots) zero c i w e f = let same : c ≡ d = cc e in (subst (λ v. fits.item_fits types objects v.kind i ≡ true) same f, w.1)
-slot_set types objects (d ∷ cs) (None ∷ slots) (suc j) c i w e f = slot_set types objects cs slots j c i w e f
-slot_set types objects (d ∷ cs) (Some old ∷ slots) (suc j) c i w e f = (w.0, slot_set types objects cs slots j c i w.1 e f)
+slot_set : (types : List TypeForm) (variables : List VariableForm) (cs : List ComponentForm) (slots : List (Option ItemForm)) (j : ℕ) (c : ComponentForm) (i : ItemForm) → SlotsFit types variables cs slots → slice_get cs j ≡ Some c → fits.item_fits types variables c.kind i ≡ true → SlotsFit types variables cs (slice_set slots j (Some i))
+slot_set types variables [] slots j c i w e f = absurd (cc e)
+slot_set types variables (d ∷ cs) [] j c i w e f = absurd w
+slot_set types variables (d ∷ cs) (None ∷ slots) zero c i w e f = let same : c ≡ d = cc e in (subst (λ v. fits.item_fits types variables v.kind i ≡ true) same f, w)
+slot_set types variables (d ∷ cs) (Some old ∷ slots) zero c i w e f = let same : c ≡ d = cc e in (subst (λ v. fits.item_fits types variables v.kind i ≡ true) same f, w.1)
+slot_set types variables (d ∷ cs) (None ∷ slots) (suc j) c i w e f = slot_set types variables cs slots j c i w e f
+slot_set types variables (d ∷ cs) (Some old ∷ slots) (suc j) c i w e f = (w.0, slot_set types variables cs slots j c i w.1 e f)
 
 -- where each component has its item, the items are those of an object
-all_filled : (types : List TypeForm) (objects : List ObjectForm) (cs : List ComponentForm) (slots : List (Option ItemForm)) → SlotsFit types objects cs slots → list_all is_some slots ≡ true → fits.items_fit types objects cs (map item_or_null slots) ≡ true
-all_filled types objects [] [] w e = refl
-all_filled types objects [] (s ∷ slots) w e = absurd w
-all_filled types objects (c ∷ cs) [] w e = absurd w
-all_filled types objects (c ∷ cs) (None ∷ slots) w e = absurd (cc e)
-all_filled types objects (c ∷ cs) (Some i ∷ slots) w e =
-    both_parts (fits.item_fits types objects c.kind i) (fits.items_fit types objects cs (map item_or_null slots)) w.0 (all_filled types objects cs slots w.1 e)
+all_filled : (types : List TypeForm) (variables : List VariableForm) (cs : List ComponentForm) (slots : List (Option ItemForm)) → SlotsFit types variables cs slots → list_all is_some slots ≡ true → fits.items_fit types variables cs (map item_or_null slots) ≡ true
+all_filled types variables [] [] w e = refl
+all_filled types variables [] (s ∷ slots) w e = absurd w
+all_filled types variables (c ∷ cs) [] w e = absurd w
+all_filled types variables (c ∷ cs) (None ∷ slots) w e = absurd (cc e)
+all_filled types variables (c ∷ cs) (Some i ∷ slots) w e =
+    both_parts (fits.item_fits types variables c.kind i) (fits.items_fit types variables cs (map item_or_null slots)) w.0 (all_filled types variables cs slots w.1 e)
 
 -- a value is of its component's type
-value_fits : (types : List TypeForm) (objects : List ObjectForm) (k : ComponentKind) (m : Meant) (spot : Spot) → MeantFits types objects m → Quiet (fits_remark k m spot) → fits.item_fits types objects k (item_meant m) ≡ true
-value_fits types objects (kind.Integer initial) (integer_value e) spot f q = is_of_type Integer (fits.type_of types objects e) f
-value_fits types objects (kind.Boolean initial) (boolean_value e) spot f q = is_of_type Boolean (fits.type_of types objects e) f
-value_fits types objects (kind.Access t) null_value spot f q = refl
-value_fits types objects k unknown spot f q = absurd f
-value_fits types objects k m spot f q = absurd q
+value_fits : (types : List TypeForm) (variables : List VariableForm) (k : ComponentKind) (m : Meant) (spot : Spot) → MeantFits types variables m → Quiet (fits_remark k m spot) → fits.item_fits types variables k (item_meant m) ≡ true
+value_fits types variables (kind.Integer initial) (integer_value e) spot f q = is_of_type Integer (fits.type_of types variables e) f
+value_fits types variables (kind.Boolean initial) (boolean_value e) spot f q = is_of_type Boolean (fits.type_of types variables e) f
+value_fits types variables (kind.Access t) null_value spot f q = refl
+value_fits types variables k unknown spot f q = absurd f
+value_fits types variables k m spot f q = absurd q
 
 -- the component that an item is for is one of these
 component_is : (at : ℕ) (cs : List ComponentForm) (o : Option ComponentForm) → slice_get cs at ≡ o → IsComponentOf cs 0 (component_at at o)
@@ -74,49 +74,57 @@ for_is cs (Some label) at = named_at 0 label.text cs
 for_is cs None at = component_is at cs (slice_get cs at) refl
 
 -- what is known before an item is in order: nothing is wrong so far
-record Fills (types : List TypeForm) (objects : List ObjectForm) (cs : List ComponentForm) (filling : Filling) : Type 0 where
-  slots_fit : SlotsFit types objects cs filling.slots
+record Fills (types : List TypeForm) (variables : List VariableForm) (cs : List ComponentForm) (filling : Filling) : Type 0 where
+  slots_fit : SlotsFit types variables cs filling.slots
   is_whole : filling.whole ≡ true
 
-filled_fits : (types : List TypeForm) (objects : List ObjectForm) (cs : List ComponentForm) (filling : Filling) (o : Option (ℕ × ComponentKind)) (label : Option Ident) (value : ExpressionTree) (m : Meant) (alike : Bool) → Fills types objects cs filling → IsComponentOf cs 0 o → MeantFits types objects m → alike ≡ true → Quiet (for_remark o filling label value m) → Fills types objects cs (filled_for o filling alike (item_meant m))
-filled_fits types objects cs filling None label value m alike w i f a q = absurd (none_for label q)
+filled_fits : (types : List TypeForm) (variables : List VariableForm) (cs : List ComponentForm) (filling : Filling) (o : Option (ℕ × ComponentKind)) (label : Option Ident) (value : ExpressionTree) (m : Meant) (alike : Bool) → Fills types variables cs filling → IsComponentOf cs 0 o → MeantFits types variables m → alike ≡ true → Quiet (for_remark o filling label value m) → Fills types variables cs (filled_for o filling alike (item_meant m))
+filled_fits types variables cs filling None label value m alike w i f a q = absurd (none_for label q)
   where
     none_for : (l : Option Ident) → Quiet (for_remark None filling l value m) → ⊥
     none_for (Some l) q = q
     none_for None q = q
-filled_fits types objects cs filling (Some found) label value m alike w i f a q =
+filled_fits types variables cs filling (Some found) label value m alike w i f a q =
     let at : found.0 ≡ i.0 = i.2 ∙ omega arith in
-    let own : fits.item_fits types objects found.1 (item_meant m) ≡ true = value_fits types objects found.1 m (expression_spot value) f q.1 in
+    let own : fits.item_fits types variables found.1 (item_meant m) ≡ true = value_fits types variables found.1 m (expression_spot value) f q.1 in
     let fresh : is_filled found.0 filling.slots ≡ false = quiet_if (is_filled found.0 filling.slots) (item_spot label value) WrongType q.0 in
     record {
-      slots_fit = rw at (slot_set types objects cs filling.slots i.0 i.1 (item_meant m) w.slots_fit i.3 (rw i.4 own));
+      slots_fit = rw at (slot_set types variables cs filling.slots i.0 i.1 (item_meant m) w.slots_fit i.3 (rw i.4 own));
       is_whole = rw (w.is_whole, a, fresh) refl;
     }
 
-items_fill : (k : Known) (cs : List ComponentForm) (is_named : Bool) (filling : Filling) (items : ItemsTree) → NamesFit k.types k.objects k.names → Fills k.types k.objects cs filling → Quiet (items_remark k (Some cs) is_named filling items) → Fills k.types k.objects cs (after_items k (Some cs) is_named filling items)
+items_fill : (k : Known) (cs : List ComponentForm) (is_named : Bool) (filling : Filling) (items : ItemsTree) → NamesFit k.types k.variables k.names → Fills k.types k.variables cs filling → Quiet (items_remark k (Some cs) is_named filling items) → Fills k.types k.variables cs (after_items k (Some cs) is_named filling items)
 unfolding item_remark after_item
 items_fill k cs is_named filling no_more_items w f q = f
 items_fill k cs is_named filling (an_item label value rest) w f q =
     items_fill k cs is_named (after_item k (Some cs) is_named filling label value) rest w
-    (filled_fits k.types k.objects cs filling (component_for cs label filling.count) label value (expression_meant k value) (is_alike is_named label) f
+    (filled_fits k.types k.variables cs filling (component_for cs label filling.count) label value (expression_meant k value) (is_alike is_named label) f
     (for_is cs label filling.count) (expression_fits k value w q.0.1.0) (quiet_unless (is_alike is_named label) (item_spot label value) WrongType q.0.0) q.0.1.1)
     q.1
 
 -- the count is right
-count_is : (b : Bool) (filling : Filling) (spot : Spot) → Quiet (cond b (wrong spot NotInProfile) (wrong_if (filling.whole && not (list_all is_some filling.slots)) spot WrongType)) → filling.whole ≡ true → list_all is_some filling.slots ≡ true
-count_is true filling spot q e = absurd q
-count_is false filling spot q e = whole_is filling.whole (list_all is_some filling.slots) q e
+count_is : (b : Bool) (filling : Filling) (one : Remark) (spot : Spot) → Quiet (cond b (wrong spot NotInProfile also one) (wrong_if (filling.whole && not (list_all is_some filling.slots)) spot WrongType)) → filling.whole ≡ true → list_all is_some filling.slots ≡ true
+count_is true filling one spot q e = absurd q.0
+count_is false filling one spot q e = whole_is filling.whole (list_all is_some filling.slots) q e
   where
     whole_is : (a b : Bool) → Quiet (wrong_if (a && not b) spot WrongType) → a ≡ true → b ≡ true
     whole_is true true q e = refl
     whole_is true false q e = absurd q
     whole_is false b q e = absurd (cc e)
 
+-- each component has its item
+pub items_there : (k : Known) (cs : List ComponentForm) (items : ItemsTree) (spot : Spot) → NamesFit k.types k.variables k.names → Quiet (items_remark k (Some cs) (names_component items) (first_filling (Some cs)) items) → Quiet (count_remark (names_component items) (filling_of k (Some cs) items) spot) → list_all is_some (filling_of k (Some cs) items).slots ≡ true
+unfolding filling_of
+items_there k cs items spot w q c =
+    let start : Fills k.types k.variables cs (first_filling (Some cs)) = record { slots_fit = none_filled k.types k.variables cs; is_whole = refl } in
+    let done = items_fill k cs (names_component items) (first_filling (Some cs)) items w start q in
+    count_is _ (after_items k (Some cs) (names_component items) (first_filling (Some cs)) items) _ spot c done.is_whole
+
 -- the items of an aggregate
-pub items_fit : (k : Known) (cs : List ComponentForm) (items : ItemsTree) (spot : Spot) → NamesFit k.types k.objects k.names → Quiet (items_remark k (Some cs) (names_component items) (first_filling (Some cs)) items) → Quiet (count_remark (names_component items) (filling_of k (Some cs) items) spot) → fits.items_fit k.types k.objects cs (map item_or_null (filling_of k (Some cs) items).slots) ≡ true
+pub items_fit : (k : Known) (cs : List ComponentForm) (items : ItemsTree) (spot : Spot) → NamesFit k.types k.variables k.names → Quiet (items_remark k (Some cs) (names_component items) (first_filling (Some cs)) items) → Quiet (count_remark (names_component items) (filling_of k (Some cs) items) spot) → fits.items_fit k.types k.variables cs (map item_or_null (filling_of k (Some cs) items).slots) ≡ true
 unfolding filling_of
 items_fit k cs items spot w q c =
-    let start : Fills k.types k.objects cs (first_filling (Some cs)) = record { slots_fit = none_filled k.types k.objects cs; is_whole = refl } in
+    let start : Fills k.types k.variables cs (first_filling (Some cs)) = record { slots_fit = none_filled k.types k.variables cs; is_whole = refl } in
     let done = items_fill k cs (names_component items) (first_filling (Some cs)) items w start q in
     let after = after_items k (Some cs) (names_component items) (first_filling (Some cs)) items in
-    all_filled k.types k.objects cs after.slots done.slots_fit (count_is _ after spot c done.is_whole)
+    all_filled k.types k.variables cs after.slots done.slots_fit (count_is _ after _ spot c done.is_whole)

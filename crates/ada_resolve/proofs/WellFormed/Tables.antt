@@ -3,12 +3,12 @@
 use Rattle.std.proofs.Common.{◌≡◌, ℕ, ◌<◌, Bool, true, false, ◌&&◌, ◌||◌, List, [], ◌∷◌, ◌++◌, length, refl, zero, suc, sym, ap, eqb, eq-eqb, arith}
 use Rattle.std.specs.Prelude.{Option, Some, None, is_some}
 use Rattle.std.specs.List.{list_all, slice_get, slice_set}
-use Rattle.ada_tree.specs.declared.program.ComponentKind.{ComponentKind}
-use Rattle.ada_tree.specs.declared.program.ComponentKind.TheVariants as kind
-use Rattle.ada_tree.specs.declared.program.ObjectKind.{ObjectKind}
-use Rattle.ada_tree.specs.declared.program.ObjectKind.TheVariants as object
-use Rattle.ada_tree.specs.ProgramForm.{ComponentForm, TypeForm, record_of, access_to}
-use Rattle.ada_tree.specs.WellFormed as fits
+use Rattle.ada_program.specs.declared.program.ComponentKind.{ComponentKind}
+use Rattle.ada_program.specs.declared.program.ComponentKind.TheVariants as kind
+use Rattle.ada_program.specs.declared.program.VariableKind.{VariableKind}
+use Rattle.ada_program.specs.declared.program.VariableKind.TheVariants as variable
+use Rattle.ada_program.specs.ProgramForm.{ComponentForm, TypeForm, record_of, access_to}
+use Rattle.ada_program.specs.WellFormed as fits
 use Rattle.ada_resolve.specs.Types.{is_designated}
 
 -- both parts of a test
@@ -74,10 +74,10 @@ kind_kept types more w (kind.Integer initial) e = refl
 kind_kept types more w (kind.Boolean initial) e = refl
 kind_kept types more w (kind.Access t) e = w t.0 e
 
-pub object_kind_kept : (types more : List TypeForm) → Keeps types more → (k : ObjectKind) → fits.object_kind_fits types k ≡ true → fits.object_kind_fits more k ≡ true
-object_kind_kept types more w object.Integer e = refl
-object_kind_kept types more w object.Boolean e = refl
-object_kind_kept types more w (object.Access t) e = w t.0 e
+pub object_kind_kept : (types more : List TypeForm) → Keeps types more → (k : VariableKind) → fits.variable_kind_fits types k ≡ true → fits.variable_kind_fits more k ≡ true
+object_kind_kept types more w variable.Integer e = refl
+object_kind_kept types more w variable.Boolean e = refl
+object_kind_kept types more w (variable.Access t) e = w t.0 e
 
 pub components_kept : (types more : List TypeForm) → Keeps types more → (cs : List ComponentForm) → list_all (fits.component_fits types) cs ≡ true → list_all (fits.component_fits more) cs ≡ true
 components_kept types more w cs e = all_weaker (fits.component_fits types) (fits.component_fits more) (λ c. kind_kept types more w c.kind) cs e

@@ -1,18 +1,18 @@
--- The types of expressions, and the objects that they name.
+-- The types of expressions, and the variables that they name.
 
-use Rattle.std.proofs.Common.{◌≡◌, ◌∙◌, ℕ, ◌<◌, true, List, [], ◌∷◌, ◌++◌, length, refl, sym, subst, zero, suc, arith}
+use Rattle.std.proofs.Common.{◌≡◌, ◌∙◌, ℕ, ◌<◌, Bool, true, false, cond, List, [], ◌∷◌, ◌++◌, length, refl, sym, subst, zero, suc, arith}
 use Rattle.std.specs.Prelude.{Option, Some, None, nat_lt}
 use Rattle.std.proofs.lemmas.Bool.{lt-ltb}
-use Rattle.ada_grammar.specs.declared.operators.UnaryOperator.{UnaryOperator}
-use Rattle.ada_grammar.specs.declared.operators.UnaryOperator.TheVariants as unary
-use Rattle.ada_grammar.specs.declared.operators.BinaryOperator.{BinaryOperator}
-use Rattle.ada_grammar.specs.declared.operators.BinaryOperator.TheVariants as binary
-use Rattle.ada_tree.specs.declared.program.ObjectKind.{ObjectKind}
-use Rattle.ada_tree.specs.declared.program.ScalarType.{ScalarType}
-use Rattle.ada_tree.specs.declared.program.ScalarType.TheVariants.{Integer, Boolean}
-use Rattle.ada_tree.specs.Form.{ExpressionForm, integer, boolean, object_value, component_value, applied_to, chained, LinksForm, no_more_links, a_link}
-use Rattle.ada_tree.specs.ProgramForm.{TypeForm, ObjectForm}
-use Rattle.ada_tree.specs.WellFormed as fits
+use Rattle.ada_values.specs.declared.operator.UnaryOperator.{UnaryOperator}
+use Rattle.ada_values.specs.declared.operator.UnaryOperator.TheVariants as unary
+use Rattle.ada_values.specs.declared.operator.BinaryOperator.{BinaryOperator}
+use Rattle.ada_values.specs.declared.operator.BinaryOperator.TheVariants as binary
+use Rattle.ada_program.specs.declared.program.VariableKind.{VariableKind}
+use Rattle.ada_program.specs.declared.program.ScalarType.{ScalarType}
+use Rattle.ada_program.specs.declared.program.ScalarType.TheVariants.{Integer, Boolean}
+use Rattle.ada_program.specs.Form.{PathForm, ExpressionForm, integer, boolean, reads, applied_to, chained, LinksForm, no_more_links, a_link}
+use Rattle.ada_program.specs.ProgramForm.{TypeForm, VariableForm}
+use Rattle.ada_program.specs.WellFormed as fits
 use Rattle.ada_resolve.specs.Operators.{Signature, arithmetic, ordering, equality, logical, signature_of, one_link_more, joined}
 use Rattle.ada_resolve.proofs.WellFormed.Tables.{both_parts}
 
@@ -77,99 +77,117 @@ unary_typed unary.Minus None t e = absurd (cc e)
 unary_typed unary.Not None t e = absurd (cc e)
 
 -- what stands before links has a type
-left_typed : (types : List TypeForm) (objects : List ObjectForm) (links : LinksForm) (left : Option ScalarType) (t : ScalarType) → fits.chain_type types objects left links ≡ Some t → IsTyped left
-left_typed types objects no_more_links left t e = (t, e)
-left_typed types objects (a_link o right links) left t e =
-    let more = left_typed types objects links (fits.binary_type o left (fits.type_of types objects right)) t e in
-    (binary_typed o left (fits.type_of types objects right) more.0 more.1).0
+left_typed : (types : List TypeForm) (variables : List VariableForm) (links : LinksForm) (left : Option ScalarType) (t : ScalarType) → fits.chain_type types variables left links ≡ Some t → IsTyped left
+left_typed types variables no_more_links left t e = (t, e)
+left_typed types variables (a_link o right links) left t e =
+    let more = left_typed types variables links (fits.binary_type o left (fits.type_of types variables right)) t e in
+    (binary_typed o left (fits.type_of types variables right) more.0 more.1).0
 
 -- and so has the first operand of links
-operand_typed : (types : List TypeForm) (objects : List ObjectForm) (o : BinaryOperator) (right : ExpressionForm) (links : LinksForm) (left : Option ScalarType) (t : ScalarType) → fits.chain_type types objects left (a_link o right links) ≡ Some t → IsTyped (fits.type_of types objects right)
-operand_typed types objects o right links left t e =
-    let more = left_typed types objects links (fits.binary_type o left (fits.type_of types objects right)) t e in
-    (binary_typed o left (fits.type_of types objects right) more.0 more.1).1
+operand_typed : (types : List TypeForm) (variables : List VariableForm) (o : BinaryOperator) (right : ExpressionForm) (links : LinksForm) (left : Option ScalarType) (t : ScalarType) → fits.chain_type types variables left (a_link o right links) ≡ Some t → IsTyped (fits.type_of types variables right)
+operand_typed types variables o right links left t e =
+    let more = left_typed types variables links (fits.binary_type o left (fits.type_of types variables right)) t e in
+    (binary_typed o left (fits.type_of types variables right) more.0 more.1).1
 
 -- an object that is declared stays
-pub kind_stays : (objects : List ObjectForm) (o : ObjectForm) (x : ℕ) (k : ObjectKind) → fits.object_kind objects x ≡ Some k → fits.object_kind (objects ++ o ∷ []) x ≡ Some k
+pub kind_stays : (variables : List VariableForm) (o : VariableForm) (x : ℕ) (k : VariableKind) → fits.variable_kind variables x ≡ Some k → fits.variable_kind (variables ++ o ∷ []) x ≡ Some k
 kind_stays [] o x k e = absurd (cc e)
-kind_stays (y ∷ objects) o zero k e = e
-kind_stays (y ∷ objects) o (suc x) k e = kind_stays objects o x k e
+kind_stays (y ∷ variables) o zero k e = e
+kind_stays (y ∷ variables) o (suc x) k e = kind_stays variables o x k e
 
-pub kind_within : (objects : List ObjectForm) (x : ℕ) (k : ObjectKind) → fits.object_kind objects x ≡ Some k → x < length objects
+pub kind_within : (variables : List VariableForm) (x : ℕ) (k : VariableKind) → fits.variable_kind variables x ≡ Some k → x < length variables
 kind_within [] x k e = absurd (cc e)
-kind_within (y ∷ objects) zero k e = omega arith
-kind_within (y ∷ objects) (suc x) k e = let h = kind_within objects x k e in omega arith
+kind_within (y ∷ variables) zero k e = omega arith
+kind_within (y ∷ variables) (suc x) k e = let h = kind_within variables x k e in omega arith
 
--- the type of an object, and of a component that it leads to
-object_stays : (objects : List ObjectForm) (o : ObjectForm) (x : ℕ) (t : ScalarType) (found : Option ObjectKind) → fits.object_kind objects x ≡ found → fits.scalar_of found ≡ Some t → fits.scalar_of (fits.object_kind (objects ++ o ∷ []) x) ≡ Some t
-object_stays objects o x t None is e = absurd (cc e)
-object_stays objects o x t (Some k) is e = rw (kind_stays objects o x k is) e
+-- nothing is selected behind nothing
+nowhere : (types : List TypeForm) (cs : List ℕ) → fits.selectors_kind types None cs ≡ None
+nowhere types [] = refl
+nowhere types (c ∷ cs) = nowhere types cs
 
-component_stays : (types : List TypeForm) (objects : List ObjectForm) (o : ObjectForm) (x c : ℕ) (t : ScalarType) (found : Option ObjectKind) → fits.object_kind objects x ≡ found → fits.scalar_reached types (fits.access_of found) c ≡ Some t → fits.scalar_reached types (fits.access_of (fits.object_kind (objects ++ o ∷ []) x)) c ≡ Some t
-component_stays types objects o x c t None is e = absurd (cc e)
-component_stays types objects o x c t (Some k) is e = rw (kind_stays objects o x k is) e
+-- where a path leads somewhere, it leads there as one more variable is declared, and its root is declared
+pub path_stays : (types : List TypeForm) (variables : List VariableForm) (o : VariableForm) (path : PathForm) (k : VariableKind) → fits.path_kind types variables path ≡ Some k → fits.path_kind types (variables ++ o ∷ []) path ≡ Some k
+path_stays types variables o path k h = root_stays (fits.variable_kind variables path.root) refl h
+  where
+    root_stays : (found : Option VariableKind) → fits.variable_kind variables path.root ≡ found → fits.selectors_kind types found path.selectors ≡ Some k → fits.path_kind types (variables ++ o ∷ []) path ≡ Some k
+    root_stays None is e = absurd (cc (nowhere types path.selectors, e))
+    root_stays (Some j) is e = rw (kind_stays variables o path.root j is) e
 
-object_before : (objects : List ObjectForm) (x : ℕ) (t : ScalarType) (found : Option ObjectKind) → fits.object_kind objects x ≡ found → fits.scalar_of found ≡ Some t → nat_lt x (length objects) ≡ true
-object_before objects x t None is e = absurd (cc e)
-object_before objects x t (Some k) is e = lt-ltb x (length objects) (kind_within objects x k is)
+pub path_before : (types : List TypeForm) (variables : List VariableForm) (path : PathForm) (k : VariableKind) → fits.path_kind types variables path ≡ Some k → nat_lt path.root (length variables) ≡ true
+path_before types variables path k h = root_before (fits.variable_kind variables path.root) refl h
+  where
+    root_before : (found : Option VariableKind) → fits.variable_kind variables path.root ≡ found → fits.selectors_kind types found path.selectors ≡ Some k → nat_lt path.root (length variables) ≡ true
+    root_before None is e = absurd (cc (nowhere types path.selectors, e))
+    root_before (Some j) is e = lt-ltb path.root (length variables) (kind_within variables path.root j is)
 
-component_before : (types : List TypeForm) (objects : List ObjectForm) (x c : ℕ) (t : ScalarType) (found : Option ObjectKind) → fits.object_kind objects x ≡ found → fits.scalar_reached types (fits.access_of found) c ≡ Some t → nat_lt x (length objects) ≡ true
-component_before types objects x c t None is e = absurd (cc e)
-component_before types objects x c t (Some k) is e = lt-ltb x (length objects) (kind_within objects x k is)
+-- what is read
+read_stays : (types : List TypeForm) (variables : List VariableForm) (o : VariableForm) (path : PathForm) (t : ScalarType) → fits.read_type types variables path ≡ Some t → fits.read_type types (variables ++ o ∷ []) path ≡ Some t
+read_stays types variables o path t h = by_length (fits.follows_at_most_one path) (fits.path_kind types variables path) refl h
+  where
+    by_length : (b : Bool) (found : Option VariableKind) → fits.path_kind types variables path ≡ found → cond b (fits.scalar_of found) None ≡ Some t → cond b (fits.scalar_of (fits.path_kind types (variables ++ o ∷ []) path)) None ≡ Some t
+    by_length true None is e = absurd (cc e)
+    by_length true (Some k) is e = rw (path_stays types variables o path k is) e
+    by_length false found is e = absurd (cc e)
+
+read_before : (types : List TypeForm) (variables : List VariableForm) (path : PathForm) (t : ScalarType) → fits.read_type types variables path ≡ Some t → nat_lt path.root (length variables) ≡ true
+read_before types variables path t h = by_length (fits.follows_at_most_one path) (fits.path_kind types variables path) refl h
+  where
+    by_length : (b : Bool) (found : Option VariableKind) → fits.path_kind types variables path ≡ found → cond b (fits.scalar_of found) None ≡ Some t → nat_lt path.root (length variables) ≡ true
+    by_length true None is e = absurd (cc e)
+    by_length true (Some k) is e = path_before types variables path k is
+    by_length false found is e = absurd (cc e)
 
 -- the type of an expression stays as one more object is declared
 mutual
-  pub type_stays : (types : List TypeForm) (objects : List ObjectForm) (o : ObjectForm) (e : ExpressionForm) (t : ScalarType) → fits.type_of types objects e ≡ Some t → fits.type_of types (objects ++ o ∷ []) e ≡ Some t
-  type_stays types objects o (integer n) t h = h
-  type_stays types objects o (boolean b) t h = h
-  type_stays types objects o (object_value x) t h = object_stays objects o x t (fits.object_kind objects x) refl h
-  type_stays types objects o (component_value x c spot) t h = component_stays types objects o x c t (fits.object_kind objects x) refl h
-  type_stays types objects o (applied_to operator e) t h =
-      let there = unary_typed operator (fits.type_of types objects e) t h in
-      rw (type_stays types objects o e there.0 there.1) (subst (λ v. fits.unary_type operator v ≡ Some t) there.1 h)
-  type_stays types objects o (chained e links) t h =
-      let there = left_typed types objects links (fits.type_of types objects e) t h in
-      rw (type_stays types objects o e there.0 there.1)
-      (links_stay types objects o links (Some there.0) t (subst (λ v. fits.chain_type types objects v links ≡ Some t) there.1 h))
+  pub type_stays : (types : List TypeForm) (variables : List VariableForm) (o : VariableForm) (e : ExpressionForm) (t : ScalarType) → fits.type_of types variables e ≡ Some t → fits.type_of types (variables ++ o ∷ []) e ≡ Some t
+  type_stays types variables o (integer n) t h = h
+  type_stays types variables o (boolean b) t h = h
+  type_stays types variables o (reads path) t h = read_stays types variables o path t h
+  type_stays types variables o (applied_to operator e) t h =
+      let there = unary_typed operator (fits.type_of types variables e) t h in
+      rw (type_stays types variables o e there.0 there.1) (subst (λ v. fits.unary_type operator v ≡ Some t) there.1 h)
+  type_stays types variables o (chained e links) t h =
+      let there = left_typed types variables links (fits.type_of types variables e) t h in
+      rw (type_stays types variables o e there.0 there.1)
+      (links_stay types variables o links (Some there.0) t (subst (λ v. fits.chain_type types variables v links ≡ Some t) there.1 h))
 
-  links_stay : (types : List TypeForm) (objects : List ObjectForm) (o : ObjectForm) (links : LinksForm) (left : Option ScalarType) (t : ScalarType) → fits.chain_type types objects left links ≡ Some t → fits.chain_type types (objects ++ o ∷ []) left links ≡ Some t
-  links_stay types objects o no_more_links left t h = h
-  links_stay types objects o (a_link operator e links) left t h =
-      let there = operand_typed types objects operator e links left t h in
-      rw (type_stays types objects o e there.0 there.1)
-      (links_stay types objects o links (fits.binary_type operator left (Some there.0)) t
-      (subst (λ v. fits.chain_type types objects (fits.binary_type operator left v) links ≡ Some t) there.1 h))
+  links_stay : (types : List TypeForm) (variables : List VariableForm) (o : VariableForm) (links : LinksForm) (left : Option ScalarType) (t : ScalarType) → fits.chain_type types variables left links ≡ Some t → fits.chain_type types (variables ++ o ∷ []) left links ≡ Some t
+  links_stay types variables o no_more_links left t h = h
+  links_stay types variables o (a_link operator e links) left t h =
+      let there = operand_typed types variables operator e links left t h in
+      rw (type_stays types variables o e there.0 there.1)
+      (links_stay types variables o links (fits.binary_type operator left (Some there.0)) t
+      (subst (λ v. fits.chain_type types variables (fits.binary_type operator left v) links ≡ Some t) there.1 h))
 
 -- an expression with a type names declared objects
 mutual
-  pub typed_before : (types : List TypeForm) (objects : List ObjectForm) (e : ExpressionForm) (t : ScalarType) → fits.type_of types objects e ≡ Some t → fits.expression_before (length objects) e ≡ true
-  typed_before types objects (integer n) t h = refl
-  typed_before types objects (boolean b) t h = refl
-  typed_before types objects (object_value x) t h = object_before objects x t (fits.object_kind objects x) refl h
-  typed_before types objects (component_value x c spot) t h = component_before types objects x c t (fits.object_kind objects x) refl h
-  typed_before types objects (applied_to operator e) t h =
-      let there = unary_typed operator (fits.type_of types objects e) t h in typed_before types objects e there.0 there.1
-  typed_before types objects (chained e links) t h =
-      let there = left_typed types objects links (fits.type_of types objects e) t h in
-      both_parts (fits.expression_before (length objects) e) (fits.links_before (length objects) links)
-      (typed_before types objects e there.0 there.1) (links_typed_before types objects links (fits.type_of types objects e) t h)
+  pub typed_before : (types : List TypeForm) (variables : List VariableForm) (e : ExpressionForm) (t : ScalarType) → fits.type_of types variables e ≡ Some t → fits.expression_before (length variables) e ≡ true
+  typed_before types variables (integer n) t h = refl
+  typed_before types variables (boolean b) t h = refl
+  typed_before types variables (reads path) t h = read_before types variables path t h
+  typed_before types variables (applied_to operator e) t h =
+      let there = unary_typed operator (fits.type_of types variables e) t h in typed_before types variables e there.0 there.1
+  typed_before types variables (chained e links) t h =
+      let there = left_typed types variables links (fits.type_of types variables e) t h in
+      both_parts (fits.expression_before (length variables) e) (fits.links_before (length variables) links)
+      (typed_before types variables e there.0 there.1) (links_typed_before types variables links (fits.type_of types variables e) t h)
 
-  links_typed_before : (types : List TypeForm) (objects : List ObjectForm) (links : LinksForm) (left : Option ScalarType) (t : ScalarType) → fits.chain_type types objects left links ≡ Some t → fits.links_before (length objects) links ≡ true
-  links_typed_before types objects no_more_links left t h = refl
-  links_typed_before types objects (a_link operator e links) left t h =
-      let there = operand_typed types objects operator e links left t h in
-      both_parts (fits.expression_before (length objects) e) (fits.links_before (length objects) links)
-      (typed_before types objects e there.0 there.1)
-      (links_typed_before types objects links (fits.binary_type operator left (fits.type_of types objects e)) t h)
+  links_typed_before : (types : List TypeForm) (variables : List VariableForm) (links : LinksForm) (left : Option ScalarType) (t : ScalarType) → fits.chain_type types variables left links ≡ Some t → fits.links_before (length variables) links ≡ true
+  links_typed_before types variables no_more_links left t h = refl
+  links_typed_before types variables (a_link operator e links) left t h =
+      let there = operand_typed types variables operator e links left t h in
+      both_parts (fits.expression_before (length variables) e) (fits.links_before (length variables) links)
+      (typed_before types variables e there.0 there.1)
+      (links_typed_before types variables links (fits.binary_type operator left (fits.type_of types variables e)) t h)
 
 -- an operator that joins its operands gives the type that it gives with theirs
-one_more_link : (types : List TypeForm) (objects : List ObjectForm) (links : LinksForm) (left : Option ScalarType) (o : BinaryOperator) (right : ExpressionForm) → fits.chain_type types objects left (one_link_more links o right) ≡ fits.binary_type o (fits.chain_type types objects left links) (fits.type_of types objects right)
-one_more_link types objects no_more_links left o right = refl
-one_more_link types objects (a_link p e links) left o right = one_more_link types objects links (fits.binary_type p left (fits.type_of types objects e)) o right
+one_more_link : (types : List TypeForm) (variables : List VariableForm) (links : LinksForm) (left : Option ScalarType) (o : BinaryOperator) (right : ExpressionForm) → fits.chain_type types variables left (one_link_more links o right) ≡ fits.binary_type o (fits.chain_type types variables left links) (fits.type_of types variables right)
+one_more_link types variables no_more_links left o right = refl
+one_more_link types variables (a_link p e links) left o right = one_more_link types variables links (fits.binary_type p left (fits.type_of types variables e)) o right
 
-pub joined_type : (types : List TypeForm) (objects : List ObjectForm) (left : ExpressionForm) (o : BinaryOperator) (right : ExpressionForm) → fits.type_of types objects (joined left o right) ≡ fits.binary_type o (fits.type_of types objects left) (fits.type_of types objects right)
-joined_type types objects (chained e links) o right = one_more_link types objects links (fits.type_of types objects e) o right
-joined_type types objects left o right = refl
+pub joined_type : (types : List TypeForm) (variables : List VariableForm) (left : ExpressionForm) (o : BinaryOperator) (right : ExpressionForm) → fits.type_of types variables (joined left o right) ≡ fits.binary_type o (fits.type_of types variables left) (fits.type_of types variables right)
+joined_type types variables (chained e links) o right = one_more_link types variables links (fits.type_of types variables e) o right
+joined_type types variables left o right = refl
 
 -- a type is this one
 pub of_type : (t : ScalarType) (o : Option ScalarType) → fits.is_type t o ≡ true → o ≡ Some t

@@ -4,93 +4,91 @@ use Rattle.std.proofs.Common.{◌≡◌, ℕ, Bool, true, false, List, map, refl
 use Rattle.std.specs.Prelude.{Option, Some, None}
 use Rattle.std.specs.List.{slice_get}
 use Rattle.ada_text.specs.declared.spot.Spot.{Spot}
-use Rattle.ada_tree.specs.declared.program.ObjectKind.{ObjectKind}
-use Rattle.ada_tree.specs.declared.program.ObjectKind.TheVariants as object
-use Rattle.ada_tree.specs.declared.program.PlaceNo.{PlaceNo}
-use Rattle.ada_tree.specs.declared.program.ScalarType.TheVariants.{Integer, Boolean}
-use Rattle.ada_tree.specs.declared.program.TypeNo.{TypeNo}
-use Rattle.ada_tree.specs.Form.{Source}
-use Rattle.ada_grammar.specs.Names.{Ident, NameTree}
-use Rattle.ada_grammar.specs.Expressions.{ItemsTree, RightTree, expression_right, allocator_right, creation_right}
-use Rattle.ada_tree.specs.ProgramForm.{ComponentForm, TypeForm, record_of, access_to, ObjectForm}
-use Rattle.ada_tree.specs.WellFormed as fits
+use Rattle.ada_program.specs.declared.program.VariableKind.{VariableKind}
+use Rattle.ada_program.specs.declared.program.VariableKind.TheVariants as variable
+use Rattle.ada_program.specs.declared.program.VariableNo.{VariableNo}
+use Rattle.ada_program.specs.declared.program.ScalarType.TheVariants.{Integer, Boolean}
+use Rattle.ada_program.specs.declared.program.TypeNo.{TypeNo}
+use Rattle.ada_program.specs.Form.{RightForm}
+use Rattle.ada_tree.specs.Names.{Ident, NameTree}
+use Rattle.ada_tree.specs.Expressions.{ItemsTree, RightTree, expression_right, allocator_right, creation_right}
+use Rattle.ada_program.specs.ProgramForm.{ComponentForm, TypeForm, record_of, access_to, VariableForm}
+use Rattle.ada_program.specs.WellFormed as fits
 use Rattle.ada_resolve.specs.declared.fault.NameRule.TheVariants.{WrongType, NotInProfile}
 use Rattle.ada_resolve.specs.declared.scope.Entity.{Entity}
 use Rattle.ada_resolve.specs.declared.scope.Entity.TheVariants as entity
 use Rattle.ada_resolve.specs.Known.{Known, visible, is_empty}
-use Rattle.ada_resolve.specs.Library.{is_library_root, is_primitive}
+use Rattle.ada_resolve.specs.Library.{is_library_root}
 use Rattle.ada_resolve.specs.Types.{is_access_to, designates}
-use Rattle.ada_resolve.specs.Paths.{Meant, unknown, null_value, variable, integer_value, boolean_value, components_of}
+use Rattle.ada_resolve.specs.Paths.{Meant, unknown, null_value, access_variable, integer_value, boolean_value, components_of}
 use Rattle.ada_resolve.specs.Items.{items_remark, first_filling, names_component, count_remark, item_or_null, filling_of}
 use Rattle.ada_resolve.specs.Allocators.{allocated_wanted, allocated_remark, complete_in, allocated_found, filled_components, aggregate_remark, allocation, aggregate_found, is_in_use, allocator_remark, allocator_found}
 use Rattle.ada_resolve.specs.Expressions.{expression_meant}
 use Rattle.ada_resolve.specs.Rights.{assigned_wanted, assigned, right_remark, right_found}
 use Rattle.ada_resolve.specs.Objects.{type_in, object_type_found, kind_of}
-use Rattle.ada_resolve.specs.Statements.{object_in, target_found}
+use Rattle.ada_resolve.specs.Statements.{variable_in, target_found}
 use Rattle.ada_resolve.specs.Remark.{wrong}
 use Rattle.ada_resolve.specs.Spots.{expression_spot}
 use Rattle.ada_resolve.proofs.WellFormed.Remarks.{Quiet, quiet_unless}
 use Rattle.ada_resolve.proofs.WellFormed.Tables.{both_parts}
-use Rattle.ada_resolve.proofs.WellFormed.Names.{EntityFits, NamesFit, visible_fits}
+use Rattle.ada_resolve.proofs.WellFormed.Names.{EntityFits, NamesFit, visible_fits, kind_there}
 use Rattle.ada_resolve.proofs.WellFormed.Types.{access_is}
 use Rattle.ada_resolve.proofs.WellFormed.Typing.{is_of_type}
 use Rattle.ada_resolve.proofs.WellFormed.Meanings.{MeantFits, expression_fits}
 use Rattle.ada_resolve.proofs.WellFormed.Items.{items_fit}
 
 -- what the object of a declaration holds is there
-abbrev pub IsKindIn : List TypeForm → Option ObjectKind → Type 0
+abbrev pub IsKindIn : List TypeForm → Option VariableKind → Type 0
 IsKindIn types None = Unit {0}
-IsKindIn types (Some kind) = fits.object_kind_fits types kind ≡ true
+IsKindIn types (Some kind) = fits.variable_kind_fits types kind ≡ true
 
-type_one : (types : List TypeForm) (objects : List ObjectForm) (text : List ℕ) (e : Entity) → EntityFits types objects text e → IsKindIn types (kind_of (type_in (Some e)))
-type_one types objects text entity.Integer f = refl
-type_one types objects text entity.Boolean f = refl
-type_one types objects text (entity.Access t) f = access_is types t.0 text f.0 f.1
-type_one types objects text e f = tt
+type_one : (types : List TypeForm) (variables : List VariableForm) (text : List ℕ) (e : Entity) → EntityFits types variables text e → IsKindIn types (kind_of (type_in (Some e)))
+type_one types variables text entity.Integer f = refl
+type_one types variables text entity.Boolean f = refl
+type_one types variables text (entity.Access t) f = access_is types t.0 text f.0 f.1
+type_one types variables text e f = tt
 
-type_named : (types : List TypeForm) (objects : List ObjectForm) (text : List ℕ) (b c : Bool) (o : Option Entity) → ((e : Entity) → o ≡ Some e → EntityFits types objects text e) → IsKindIn types (kind_of (cond b None (cond c (type_in o) None)))
-type_named types objects text true c o w = tt
-type_named types objects text false false o w = tt
-type_named types objects text false true None w = tt
-type_named types objects text false true (Some e) w = type_one types objects text e (w e refl)
+type_named : (types : List TypeForm) (variables : List VariableForm) (text : List ℕ) (b c : Bool) (o : Option Entity) → ((e : Entity) → o ≡ Some e → EntityFits types variables text e) → IsKindIn types (kind_of (cond b None (cond c (type_in o) None)))
+type_named types variables text true c o w = tt
+type_named types variables text false false o w = tt
+type_named types variables text false true None w = tt
+type_named types variables text false true (Some e) w = type_one types variables text e (w e refl)
 
-pub found_type : (k : Known) (name : NameTree) → NamesFit k.types k.objects k.names → IsKindIn k.types (kind_of (object_type_found k name))
+pub found_type : (k : Known) (name : NameTree) → NamesFit k.types k.variables k.names → IsKindIn k.types (kind_of (object_type_found k name))
 unfolding object_type_found
-found_type k name w = type_named k.types k.objects name.first.text (is_library_root name.first.text) (is_empty name.rest) (visible k name.first.text) (visible_fits k w name.first.text)
+found_type k name w = type_named k.types k.variables name.first.text (is_library_root name.first.text) (is_empty name.rest) (visible k name.first.text) (visible_fits k w name.first.text)
 
 -- an object that is assigned to is there, with what it holds
-abbrev pub IsTargetIn : List ObjectForm → Option (PlaceNo × ObjectKind) → Type 0
-IsTargetIn objects None = Unit {0}
-IsTargetIn objects (Some found) = fits.object_kind objects found.0.0 ≡ Some found.1
+abbrev pub IsTargetIn : List VariableForm → Option (VariableNo × VariableKind) → Type 0
+IsTargetIn variables None = Unit {0}
+IsTargetIn variables (Some found) = fits.variable_kind variables found.0.0 ≡ Some found.1
 
-target_one : (types : List TypeForm) (objects : List ObjectForm) (text : List ℕ) (e : Entity) → EntityFits types objects text e → IsTargetIn objects (object_in (Some e))
-target_one types objects text (entity.Object place kind) f = f.0
-target_one types objects text e f = tt
+target_one : (types : List TypeForm) (variables : List VariableForm) (text : List ℕ) (e : Entity) → EntityFits types variables text e → IsTargetIn variables (variable_in (Some e))
+target_one types variables text (entity.Variable x kind) f = kind_there variables x.0 text kind f.0
+target_one types variables text e f = tt
 
-target_named : (types : List TypeForm) (objects : List ObjectForm) (text : List ℕ) (b : Bool) (o : Option Entity) → ((e : Entity) → o ≡ Some e → EntityFits types objects text e) → IsTargetIn objects (cond b None (object_in o))
-target_named types objects text true o w = tt
-target_named types objects text false None w = tt
-target_named types objects text false (Some e) w = target_one types objects text e (w e refl)
+target_named : (types : List TypeForm) (variables : List VariableForm) (text : List ℕ) (o : Option Entity) → ((e : Entity) → o ≡ Some e → EntityFits types variables text e) → IsTargetIn variables (variable_in o)
+target_named types variables text None w = tt
+target_named types variables text (Some e) w = target_one types variables text e (w e refl)
 
-pub found_target : (k : Known) (name : Ident) → NamesFit k.types k.objects k.names → IsTargetIn k.objects (target_found k name)
-unfolding target_found
-found_target k name w = target_named k.types k.objects name.text (is_primitive name.text) (visible k name.text) (visible_fits k w name.text)
+pub found_target : (k : Known) (name : Ident) → NamesFit k.types k.variables k.names → IsTargetIn k.variables (target_found k name)
+found_target k name w = target_named k.types k.variables name.text (visible k name.text) (visible_fits k w name.text)
 
 -- what is assigned is known, and fits what the object holds
-abbrev pub IsSourceFor : List TypeForm → List ObjectForm → ObjectKind → Option Source → Type 0
-IsSourceFor types objects kind None = ⊥
-IsSourceFor types objects kind (Some s) = fits.source_fits types objects kind s ≡ true
+abbrev pub IsSourceFor : List TypeForm → List VariableForm → VariableKind → Option RightForm → Type 0
+IsSourceFor types variables kind None = ⊥
+IsSourceFor types variables kind (Some s) = fits.kind_takes types variables kind s ≡ true
 
 -- the value of an expression
-assigned_fits : (types : List TypeForm) (objects : List ObjectForm) (kind : ObjectKind) (m : Meant) (spot : Spot) → MeantFits types objects m → Quiet (assigned_wanted (Some kind) m spot) → IsSourceFor types objects kind (assigned m)
-assigned_fits types objects object.Integer (integer_value e) spot f q = is_of_type Integer (fits.type_of types objects e) f
-assigned_fits types objects object.Boolean (boolean_value e) spot f q = is_of_type Boolean (fits.type_of types objects e) f
-assigned_fits types objects (object.Access access) null_value spot f q = refl
-assigned_fits types objects (object.Access access) (variable path t) spot f q =
+assigned_fits : (types : List TypeForm) (variables : List VariableForm) (kind : VariableKind) (m : Meant) (spot : Spot) → MeantFits types variables m → Quiet (assigned_wanted (Some kind) m spot) → IsSourceFor types variables kind (assigned m)
+assigned_fits types variables variable.Integer (integer_value e) spot f q = is_of_type Integer (fits.type_of types variables e) f
+assigned_fits types variables variable.Boolean (boolean_value e) spot f q = is_of_type Boolean (fits.type_of types variables e) f
+assigned_fits types variables (variable.Access access) null_value spot f q = refl
+assigned_fits types variables (variable.Access access) (access_variable path t) spot f q =
     let same : access.0 ≡ t.0 = eqb-true access.0 t.0 (quiet_unless (eqb access.0 t.0) spot WrongType q) in
-    rw f (eq-eqb t.0 access.0 (sym same))
-assigned_fits types objects kind unknown spot f q = absurd f
-assigned_fits types objects kind m spot f q = absurd q
+    both_parts (fits.names_variable path) (fits.is_this access.0 (fits.path_access types variables path)) f.0 (rw f.1 (eq-eqb t.0 access.0 (sym same)))
+assigned_fits types variables kind unknown spot f q = absurd f
+assigned_fits types variables kind m spot f q = absurd q
 
 -- what an access type designates
 designated_is : (o : Option TypeForm) (r : ℕ) → is_access_to o r ≡ true → fits.designated_in o ≡ Some r
@@ -98,11 +96,11 @@ designated_is None r e = absurd (cc e)
 designated_is (Some (record_of name cs)) r e = absurd (cc e)
 designated_is (Some (access_to name d)) r e = ap (λ v. Some v) (eqb-true d r e)
 
-access_designates : (types : List TypeForm) (access record_type : ℕ) → designates types access record_type ≡ true → fits.designated_type types access ≡ Some record_type
+pub access_designates : (types : List TypeForm) (access record_type : ℕ) → designates types access record_type ≡ true → fits.designated_type types access ≡ Some record_type
 unfolding designates
 access_designates types access record_type e = designated_is (slice_get types access) record_type e
 
-components_are : (types : List TypeForm) (t : ℕ) (name : List ℕ) (cs : List ComponentForm) → slice_get types t ≡ Some (record_of name cs) → components_of types t ≡ cs
+pub components_are : (types : List TypeForm) (t : ℕ) (name : List ℕ) (cs : List ComponentForm) → slice_get types t ≡ Some (record_of name cs) → components_of types t ≡ cs
 unfolding components_of
 components_are types t name cs e = rw e refl
 
@@ -110,38 +108,38 @@ reached_is : (types : List TypeForm) (access t : ℕ) (name : List ℕ) (cs : Li
 reached_is types access t name cs d e = rw d (rw e refl)
 
 -- a new object
-filled_one : (k : Known) (text : List ℕ) (e : Entity) (access : TypeNo) (spot end_spot : Spot) (name : Ident) (items : ItemsTree) → NamesFit k.types k.objects k.names → EntityFits k.types k.objects text e → Quiet (allocated_wanted (Some e) k.types (Some access) spot name) → Quiet (items_remark k (filled_components k (complete_in (Some e))) (names_component items) (first_filling (filled_components k (complete_in (Some e)))) items) → Quiet (count_remark (names_component items) (filling_of k (filled_components k (complete_in (Some e))) items) end_spot) → IsSourceFor k.types k.objects (object.Access access) (allocation k (Some access) (complete_in (Some e)) items)
+filled_one : (k : Known) (text : List ℕ) (e : Entity) (access : TypeNo) (spot end_spot : Spot) (name : Ident) (items : ItemsTree) → NamesFit k.types k.variables k.names → EntityFits k.types k.variables text e → Quiet (allocated_wanted (Some e) k.types (Some access) spot name) → Quiet (items_remark k (filled_components k (complete_in (Some e))) (names_component items) (first_filling (filled_components k (complete_in (Some e)))) items) → Quiet (count_remark (names_component items) (filling_of k (filled_components k (complete_in (Some e))) items) end_spot) → IsSourceFor k.types k.variables (variable.Access access) (allocation k (Some access) (complete_in (Some e)) items)
 filled_one k text (entity.Record t) access spot end_spot name items w f q i c =
     let d : fits.designated_type k.types access.0 ≡ Some t.0 = access_designates k.types access.0 t.0 (quiet_unless (designates k.types access.0 t.0) spot WrongType q) in
     let whole : components_of k.types t.0 ≡ f.0 = components_are k.types t.0 text f.0 f.1 in
     let reached : fits.reached_components k.types access.0 ≡ Some f.0 = reached_is k.types access.0 t.0 text f.0 d f.1 in
     let made = map item_or_null (filling_of k (Some (components_of k.types t.0)) items).slots in
-    both_parts (eqb access.0 access.0) (fits.object_is_filled k.types k.objects (fits.reached_components k.types access.0) made) (eq-eqb access.0 access.0 refl)
+    both_parts (eqb access.0 access.0) (fits.is_filled k.types k.variables (fits.reached_components k.types access.0) made) (eq-eqb access.0 access.0 refl)
     (rw (reached, sym whole) (items_fit k (components_of k.types t.0) items end_spot w i c))
 filled_one k text e access spot end_spot name items w f q i c = absurd q
 
-filled_named : (k : Known) (text : List ℕ) (o : Option Entity) (access : TypeNo) (spot end_spot : Spot) (name : Ident) (items : ItemsTree) → NamesFit k.types k.objects k.names → ((e : Entity) → o ≡ Some e → EntityFits k.types k.objects text e) → Quiet (allocated_wanted o k.types (Some access) spot name) → Quiet (items_remark k (filled_components k (complete_in o)) (names_component items) (first_filling (filled_components k (complete_in o))) items) → Quiet (count_remark (names_component items) (filling_of k (filled_components k (complete_in o)) items) end_spot) → IsSourceFor k.types k.objects (object.Access access) (allocation k (Some access) (complete_in o) items)
+filled_named : (k : Known) (text : List ℕ) (o : Option Entity) (access : TypeNo) (spot end_spot : Spot) (name : Ident) (items : ItemsTree) → NamesFit k.types k.variables k.names → ((e : Entity) → o ≡ Some e → EntityFits k.types k.variables text e) → Quiet (allocated_wanted o k.types (Some access) spot name) → Quiet (items_remark k (filled_components k (complete_in o)) (names_component items) (first_filling (filled_components k (complete_in o))) items) → Quiet (count_remark (names_component items) (filling_of k (filled_components k (complete_in o)) items) end_spot) → IsSourceFor k.types k.variables (variable.Access access) (allocation k (Some access) (complete_in o) items)
 filled_named k text (Some e) access spot end_spot name items w v q i c = filled_one k text e access spot end_spot name items w (v e refl) q i c
 filled_named k text None access spot end_spot name items w v q i c = absurd q
 
-aggregate_fits : (k : Known) (access : TypeNo) (spot : Spot) (type_name : Ident) (items : ItemsTree) → NamesFit k.types k.objects k.names → Quiet (aggregate_remark k (Some access) spot type_name items) → IsSourceFor k.types k.objects (object.Access access) (aggregate_found k (Some access) type_name items)
+aggregate_fits : (k : Known) (access : TypeNo) (spot : Spot) (type_name : Ident) (items : ItemsTree) → NamesFit k.types k.variables k.names → Quiet (aggregate_remark k (Some access) spot type_name items) → IsSourceFor k.types k.variables (variable.Access access) (aggregate_found k (Some access) type_name items)
 unfolding aggregate_remark aggregate_found allocated_remark allocated_found
 aggregate_fits k access spot type_name items w q =
     filled_named k type_name.text (visible k type_name.text) access spot type_name.spot type_name items w (visible_fits k w type_name.text) q.0 q.1.0 q.1.1
 
-allocator_by : (k : Known) (access : TypeNo) (spot : Spot) (type_name : Ident) (items : ItemsTree) (b : Bool) → NamesFit k.types k.objects k.names → Quiet (cond b (aggregate_remark k (Some access) spot type_name items) (wrong spot NotInProfile)) → IsSourceFor k.types k.objects (object.Access access) (cond b (aggregate_found k (Some access) type_name items) None)
+allocator_by : (k : Known) (access : TypeNo) (spot : Spot) (type_name : Ident) (items : ItemsTree) (b : Bool) → NamesFit k.types k.variables k.names → Quiet (cond b (aggregate_remark k (Some access) spot type_name items) (wrong spot NotInProfile)) → IsSourceFor k.types k.variables (variable.Access access) (cond b (aggregate_found k (Some access) type_name items) None)
 allocator_by k access spot type_name items true w q = aggregate_fits k access spot type_name items w q
 allocator_by k access spot type_name items false w q = absurd q
 
-allocator_fits : (k : Known) (access : TypeNo) (spot : Spot) (handle : Option Ident) (type_name : Ident) (items : ItemsTree) → NamesFit k.types k.objects k.names → Quiet (allocator_remark k (Some access) spot handle type_name items) → IsSourceFor k.types k.objects (object.Access access) (allocator_found k (Some access) handle type_name items)
+allocator_fits : (k : Known) (access : TypeNo) (spot : Spot) (handle : Option Ident) (type_name : Ident) (items : ItemsTree) → NamesFit k.types k.variables k.names → Quiet (allocator_remark k (Some access) spot handle type_name items) → IsSourceFor k.types k.variables (variable.Access access) (allocator_found k (Some access) handle type_name items)
 unfolding allocator_remark allocator_found
 allocator_fits k access spot handle type_name items w q = allocator_by k access spot type_name items (is_in_use handle items) w q
 
 -- what is assigned to an object that holds this
-pub right_fits : (k : Known) (kind : ObjectKind) (right : RightTree) → NamesFit k.types k.objects k.names → Quiet (right_remark k (Some kind) right) → IsSourceFor k.types k.objects kind (right_found k (Some kind) right)
+pub right_fits : (k : Known) (kind : VariableKind) (right : RightTree) → NamesFit k.types k.variables k.names → Quiet (right_remark k (Some kind) right) → IsSourceFor k.types k.variables kind (right_found k (Some kind) right)
 right_fits k kind (expression_right e) w q =
-    assigned_fits k.types k.objects kind (expression_meant k e) (expression_spot e) (expression_fits k e w q.0) q.1
-right_fits k (object.Access access) (allocator_right spot handle type_name items) w q = allocator_fits k access spot handle type_name items w q.1
-right_fits k object.Integer (allocator_right spot handle type_name items) w q = absurd q.0
-right_fits k object.Boolean (allocator_right spot handle type_name items) w q = absurd q.0
+    assigned_fits k.types k.variables kind (expression_meant k e) (expression_spot e) (expression_fits k e w q.0) q.1
+right_fits k (variable.Access access) (allocator_right spot handle type_name items) w q = allocator_fits k access spot handle type_name items w q.1
+right_fits k variable.Integer (allocator_right spot handle type_name items) w q = absurd q.0
+right_fits k variable.Boolean (allocator_right spot handle type_name items) w q = absurd q.0
 right_fits k kind (creation_right function argument) w q = absurd q

@@ -1,6 +1,6 @@
--- By what each step does to the objects.
-use Rattle.ada_meaning.proofs.LifeLemmas as life
+-- By what each step does to the heap.
+use Rattle.ada_meaning.proofs.Lives as lives
 use Rattle.ada_meaning.proofs.laws.back_once.Goals as goal
 
 pub returns : goal.returns
-returns c = life.back_once
+returns c = lives.back_once

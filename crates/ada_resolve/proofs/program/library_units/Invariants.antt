@@ -1,5 +1,5 @@
 use Rattle.std.proofs.Common.{◌≡◌, map, drop, false}
-use Rattle.ada_grammar.specs.Declarations.{clause_of}
+use Rattle.ada_tree.specs.Declarations.{clause_of}
 use Rattle.ada_resolve.specs.Resolution.{clauses_told}
 use Rattle.ada_resolve.proofs.program.library_units.Given as goal
 

@@ -1,12 +1,12 @@
 -- The program that a tree means is well formed.
 use Rattle.std.proofs.lemmas.Result.{IfOk-weaker}
-use Rattle.ada_grammar.specs.StatementView.{unit_of}
-use Rattle.ada_tree.specs.ProgramForm.{program_form}
-use Rattle.ada_tree.specs.WellFormed.{IsWellFormed}
+use Rattle.ada_tree.specs.StatementView.{unit_of}
+use Rattle.ada_program.specs.ProgramForm.{program_form}
+use Rattle.ada_program.specs.WellFormed.{IsWellFormed}
 use Rattle.ada_resolve.specs.Resolution.{Resolves}
 use Rattle.ada_resolve.proofs.program.resolve.Goals as goal
 
 pub returns-clause-well_formed : goal.returns-clause-well_formed
 returns-clause-well_formed c =
-    IfOk-weaker c.resolved.result (λ p. Resolves (unit_of c.args.unit.now) (program_form p)) (λ p. IsWellFormed (program_form p))
-    (λ p means. c.programs_are_well_formed.ensures (unit_of c.args.unit.now) (program_form p) means) c.resolved.ensures.resolves
+    IfOk-weaker c.whole_program.result (λ p. Resolves (unit_of c.args.unit.now) (program_form p)) (λ p. IsWellFormed (program_form p))
+    (λ p means. c.programs_are_well_formed.ensures (unit_of c.args.unit.now) (program_form p) means) c.whole_program.ensures.resolves

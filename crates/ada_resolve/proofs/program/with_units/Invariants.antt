@@ -1,5 +1,5 @@
 use Rattle.std.proofs.Common.{◌≡◌, map, drop}
-use Rattle.ada_grammar.specs.Names.{name_of}
+use Rattle.ada_tree.specs.Names.{name_of}
 use Rattle.ada_resolve.specs.Resolution.{units_of}
 use Rattle.ada_resolve.proofs.program.with_units.Given as goal
 

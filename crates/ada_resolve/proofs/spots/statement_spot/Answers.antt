@@ -1,5 +1,5 @@
 use Rattle.std.proofs.Common.{sym}
-use Rattle.ada_grammar.specs.StatementView.{block_view}
+use Rattle.ada_tree.specs.StatementView.{block_view}
 use Rattle.ada_resolve.specs.Spots.{statement_spot}
 use Rattle.ada_resolve.proofs.Views.{begin_view}
 use Rattle.ada_resolve.proofs.spots.statement_spot.Goals as goal

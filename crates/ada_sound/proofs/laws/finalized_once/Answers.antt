@@ -3,4 +3,4 @@ use Rattle.ada_sound.proofs.Headline as headline
 use Rattle.ada_sound.proofs.laws.finalized_once.Goals as goal
 
 pub returns : goal.returns
-returns c = headline.final
+returns c = headline.finalized_once

@@ -1,7 +1,7 @@
 -- An exact result in range or not.
 use Rattle.std.proofs.Common.{refl, sym, subst, ◌+ℤ◌, ◌-ℤ◌, ◌*ℤ◌}
 use Rattle.std.proofs.lemmas.Int.{to_z-of_z}
-use Rattle.ada_grammar.specs.declared.operators.BinaryOperator.TheVariants as binary
+use Rattle.ada_values.specs.declared.operator.BinaryOperator.TheVariants as binary
 use Rattle.ada_values.specs.declared.value.Value.TheVariants.{Integer}
 use Rattle.ada_values.specs.Operators.{IsOutcome}
 use Rattle.ada_values.proofs.Outcomes.{ranged}

@@ -1,5 +1,5 @@
 use Rattle.std.proofs.Common.{◌≡◌, ◌++◌, map}
-use Rattle.ada_tree.specs.Form.{item_form}
+use Rattle.ada_program.specs.Form.{item_form}
 use Rattle.ada_resolve.specs.Items.{item_or_null}
 use Rattle.ada_resolve.specs.View.{item_in}
 use Rattle.ada_resolve.proofs.items.Filling.into_items.Given as goal

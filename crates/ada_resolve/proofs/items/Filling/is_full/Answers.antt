@@ -3,7 +3,7 @@ use Rattle.std.specs.Prelude.{Option, is_some}
 use Rattle.std.proofs.lemmas.Iterator.{YieldsList-from_slice}
 use Rattle.std.proofs.lemmas.Iterator.Search.{all_from_yields_List}
 use Rattle.std.proofs.lemmas.List.Folds.{list_all-map}
-use Rattle.ada_tree.specs.declared.program.Item.{Item}
+use Rattle.ada_program.specs.declared.program.Item.{Item}
 use Rattle.ada_resolve.specs.View.{item_in}
 use Rattle.ada_resolve.proofs.items.Filling.is_full.Goals as goal
 

@@ -1,5 +1,5 @@
 use Rattle.std.proofs.Common.{◌≡◌, map, drop}
-use Rattle.ada_grammar.specs.ExpressionView.{argument_of}
+use Rattle.ada_tree.specs.ExpressionView.{argument_of}
 use Rattle.ada_resolve.specs.Arguments.{arguments_remark}
 use Rattle.ada_resolve.specs.Remark.{noted}
 use Rattle.ada_resolve.specs.View.{known_of}

@@ -1,5 +1,5 @@
 use Rattle.std.proofs.Common.{◌≡◌, drop}
-use Rattle.ada_grammar.specs.StatementView.{declarations_of}
+use Rattle.ada_tree.specs.StatementView.{declarations_of}
 use Rattle.ada_resolve.specs.Resolution.{declarations_told}
 use Rattle.ada_resolve.specs.View.{known_of}
 use Rattle.ada_resolve.proofs.resolver.Resolver.declarations.Given as goal

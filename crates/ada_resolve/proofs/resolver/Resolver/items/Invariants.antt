@@ -1,5 +1,5 @@
 use Rattle.std.proofs.Common.{◌≡◌, drop}
-use Rattle.ada_grammar.specs.ExpressionView.{items_of}
+use Rattle.ada_tree.specs.ExpressionView.{items_of}
 use Rattle.ada_resolve.specs.Allocators.{filled_components}
 use Rattle.ada_resolve.specs.Items.{after_items, filling_of, first_filling, items_remark, names_component}
 use Rattle.ada_resolve.specs.Remark.{noted}

@@ -1,5 +1,5 @@
 use Rattle.std.proofs.Common.{◌≡◌, ◌++◌, map, drop}
-use Rattle.ada_grammar.specs.Names.{ident_of, selector_of}
+use Rattle.ada_tree.specs.Names.{ident_of, selector_of}
 use Rattle.ada_resolve.specs.Known.{parts_of}
 use Rattle.ada_resolve.proofs.resolver.Resolver.parts.Given as goal
 

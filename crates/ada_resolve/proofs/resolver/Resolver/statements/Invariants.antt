@@ -1,9 +1,9 @@
 use Rattle.std.proofs.Common.{◌≡◌, ◌++◌, map, length, drop}
 use Rattle.std.specs.String.{string_bytes}
-use Rattle.ada_grammar.specs.StatementView.{statements_of}
+use Rattle.ada_tree.specs.StatementView.{statements_of}
 use Rattle.ada_resolve.specs.Resolution.{statements_told}
 use Rattle.ada_resolve.specs.Statements.{texts_of}
-use Rattle.ada_resolve.specs.View.{known_of, forms_in}
+use Rattle.ada_resolve.specs.View.{known_of, statements_in}
 use Rattle.ada_resolve.proofs.Told.{before}
 use Rattle.ada_resolve.proofs.resolver.Resolver.statements.Given as goal
 
@@ -11,7 +11,7 @@ use Rattle.ada_resolve.proofs.resolver.Resolver.statements.Given as goal
 abbrev pub invariant-loop-one : goal.invariant-loop-one
 invariant-loop-one l = record {
   done :
-      before (forms_in l.made) (statements_told (known_of l.self) (length l.texts.items) (statements_of (drop l.one-index l.statements)) l.notes) ≡
+      before (statements_in l.made) (statements_told (known_of l.self) (length l.texts.items) (statements_of (drop l.one-index l.statements)) l.notes) ≡
       statements_told (known_of l.self) (length l.initial.texts.items) (statements_of l.statements) l.initial.notes;
   texts :
       map string_bytes l.texts.items ++ texts_of (statements_of (drop l.one-index l.statements)) ≡

@@ -1,0 +1,5 @@
+procedure Main is
+B : Boolean := True;
+begin
+B := B and then B and B;
+end Main;

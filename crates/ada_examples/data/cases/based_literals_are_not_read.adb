@@ -1,0 +1,1 @@
+procedure Main is N : constant := 16#FF#; begin null; end Main;

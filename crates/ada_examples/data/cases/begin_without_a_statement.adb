@@ -1,0 +1,1 @@
+procedure P is begin end P;

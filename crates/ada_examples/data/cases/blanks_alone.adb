@@ -1,0 +1,2 @@
+  
+-- and a comment

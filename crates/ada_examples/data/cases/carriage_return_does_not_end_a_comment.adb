@@ -1,0 +1,1 @@
+procedure Main is -- abegin null; end Main;

@@ -1,0 +1,1 @@
+procedure Main is type Cell is record Done : Boolean; end record; begin null; end Main;

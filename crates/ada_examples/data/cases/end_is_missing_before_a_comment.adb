@@ -1,0 +1,2 @@
+procedure P is
+  begin  -- and no more

@@ -1,0 +1,1 @@
+procedure Main is E : exception; begin null; end Main;

@@ -1,0 +1,5 @@
+procedure Main is
+B : Boolean := True;
+begin
+B := True < False;
+end Main;

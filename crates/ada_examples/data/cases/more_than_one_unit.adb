@@ -1,0 +1,2 @@
+procedure P is
+begin null; end P; P

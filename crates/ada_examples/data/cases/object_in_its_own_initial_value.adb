@@ -1,0 +1,1 @@
+procedure Main is N : Integer := N; begin null; end Main;

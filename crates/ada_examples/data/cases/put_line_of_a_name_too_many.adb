@@ -1,0 +1,3 @@
+with Ada.Text_IO;
+procedure Main is
+begin Ada.Text_IO.Put_Line ("a", Nothing); end Main;

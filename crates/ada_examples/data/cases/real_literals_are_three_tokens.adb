@@ -1,0 +1,1 @@
+procedure Main is N : constant := 1.5; begin null; end Main;

@@ -1,0 +1,1 @@
+procedure Main is type Main is access Nothing; begin null; end Main;

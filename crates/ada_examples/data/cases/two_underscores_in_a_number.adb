@@ -1,0 +1,1 @@
+procedure Main is N : constant := 1__2; begin null; end Main;

@@ -1,0 +1,1 @@
+procedure Main_1 is begin null; end;

@@ -1,0 +1,1 @@
+procedure Main_ is begin null; end;

@@ -1,0 +1,1 @@
+procedure Main is N : Integer := 0; begin N := 1; end Main;

@@ -1,0 +1,1 @@
+procedure Main is begin N := 1; end Main;

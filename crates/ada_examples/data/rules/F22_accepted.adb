@@ -1,0 +1,1 @@
+procedure Main is N : Boolean := True; begin null; end Main;

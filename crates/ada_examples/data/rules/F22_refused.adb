@@ -1,0 +1,1 @@
+procedure Main is N : Integer := True; begin null; end Main;

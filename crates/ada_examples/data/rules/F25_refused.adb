@@ -1,0 +1,1 @@
+procedure Main is N : Integer; begin null; end Main;

@@ -1,0 +1,1 @@
+procedure Main is type T; begin null; end Main;

@@ -1,0 +1,2 @@
+-- the leftmost place where a lost value is followed
+pub mod Leftmost

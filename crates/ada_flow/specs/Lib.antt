@@ -1,0 +1,6 @@
+-- The flow of values, in the order in which it is read.
+
+-- what a variable may be relied on for, and the rules that follow
+pub mod Flow
+-- what flow tells
+pub mod Told

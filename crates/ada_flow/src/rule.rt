@@ -1,0 +1,30 @@
+//! What is known of a variable at a place in the program, and the rules of the flow of values.
+
+/// Where the object of an access value may lie. Regions tell the objects of one subpool from those of another.
+#[derive(Clone, Copy)]
+pub enum Region {
+    /// Anywhere in the pool. Programs have no subpools yet, so this is the only region.
+    Whole,
+}
+
+/// What a variable may be relied on for, from most to least.
+#[derive(Clone, Copy)]
+pub enum Hold {
+    /// It holds null.
+    Null,
+    /// It holds null, or owns the object that it names: no other variable and no component does.
+    Own(Region),
+    /// It holds null, or names an object that exists; another owns it. No variable holds one yet.
+    Alias(Region),
+    /// Nothing: its object may be gone.
+    Lost,
+}
+
+/// A rule of the flow of values.
+#[derive(Clone, Copy)]
+pub enum Rule {
+    /// A value that may be gone is followed, moved or freed; so is, as yet, each access value that a component holds.
+    LostValue,
+    /// A variable is moved or freed whose object another variable owns.
+    AliasMoved,
+}

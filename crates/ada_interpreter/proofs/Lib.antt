@@ -1,0 +1,8 @@
+-- a list that is kept oldest first, and read newest first
+pub mod StackLemmas
+-- the members of collections, as objects are created, leave their collections and change
+pub mod MemberLemmas
+-- masters, as items come and go on their one stack
+pub mod MasterLemmas
+-- one element that changes, in what the list is seen as
+pub mod ChangeLemmas

@@ -1,0 +1,12 @@
+-- The machine that runs programs over names, in the order in which it is read.
+
+-- objects by name, and the members of each collection
+pub mod Objects
+-- masters, and their items on one stack
+pub mod Masters
+-- the state of a run in progress, and what a turn of it does
+pub mod Process
+-- the machine: steps, with who answers what they leave open
+pub mod Machine
+-- choices that follow a list of answers
+pub mod Listed

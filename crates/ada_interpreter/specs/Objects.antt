@@ -1,0 +1,94 @@
+-- Objects by name, and the members of each collection.
+
+use Rattle.std.specs.Prelude.{◌≡◌, ℕ, ◌+◌, ◌-◌, ◌<◌, Bool, false, if◌then◌else◌, List, [], ◌∷◌, ◌++◌, reverse, length, Option, Some, None}
+use Rattle.std.specs.List.{slice_index_or, slice_set, filter}
+use Rattle.ada_meaning.specs.declared.state.Id.{Id}
+use Rattle.ada_meaning.specs.declared.state.Value.{Value}
+use Rattle.ada_meaning.specs.declared.state.Stage.TheVariants.{Gone}
+use Rattle.ada_meaning.specs.Heap.{Home, Cell}
+use Rattle.ada_meaning.specs.Named.{Object, object_at, is_member, members_of}
+use Rattle.ada_interpreter.specs.declared.objects.Home.{Home as HeldHome}
+use Rattle.ada_interpreter.specs.declared.objects.Cell.{Cell as HeldCell}
+use Rattle.ada_interpreter.specs.declared.objects.Object.{Object as HeldObject}
+use Rattle.ada_interpreter.specs.declared.objects.Shelf.{Shelf}
+
+-- The home, the cell and the object that the machine keeps.
+abbrev pub home_form : HeldHome → Home
+home_form home = record { item = home.item; pool = home.pool; subpool = home.subpool }
+
+abbrev pub cell_of : HeldCell → Cell Value
+cell_of cell = record { access = cell.access.0; number = cell.number; home = home_form cell.home; values = cell.values.items }
+
+abbrev pub object_of : HeldObject → Object
+object_of object = record { cell = cell_of object.cell; stage = object.stage; listed = object.listed; out = object.out }
+
+-- Is a name that of a member of this collection?
+abbrev pub is_member_by : ℕ → Option Object → Bool
+is_member_by item None = false
+is_member_by item (Some object) = is_member item object
+
+abbrev pub is_member_at : List Object → ℕ → Id → Bool
+is_member_at objects item o = is_member_by item (object_at objects o)
+
+-- The members among some names, in their order.
+abbrev pub members_among : List Object → ℕ → List Id → List Id
+members_among objects item names = filter (is_member_at objects item) names
+
+-- What is kept of a collection: names that its members are among, oldest first, and how many members there are.
+pub record Kept : Type 0 where
+  pub entries : List Id
+  pub live : ℕ
+
+abbrev pub kept_of : Shelf → Kept
+kept_of shelf = record { entries = shelf.entries.items; live = shelf.live }
+
+-- Of a collection without a shelf: nothing.
+abbrev pub nothing_kept : Kept
+nothing_kept = record { entries = []; live = 0 }
+
+abbrev pub kept_at : List Kept → ℕ → Kept
+kept_at shelves item = slice_index_or shelves item nothing_kept
+
+-- Each of these names was given.
+abbrev pub AreGiven : ℕ → List Id → Type 0
+AreGiven n [] = Unit {0}
+AreGiven n (o ∷ names) = (o.0 < n) × AreGiven n names
+
+-- The members of a collection are among its entries, in their order, and as many as are counted.
+pub record Shows (objects : List Object) (item : ℕ) (kept : Kept) : Type 0 where
+  pub members : members_of objects item ≡ members_among objects item (reverse kept.entries)
+  pub counted : length (members_of objects item) ≡ kept.live
+  pub given : AreGiven (length objects) kept.entries
+
+-- So it is for each item.
+abbrev pub AreShelved : List Object → List Kept → Type 0
+AreShelved objects shelves = (item : ℕ) → Shows objects item (kept_at shelves item)
+
+-- An entry more that is a member; a member less.
+abbrev pub entered : Kept → Id → Kept
+entered kept o = record { entries = kept.entries ++ o ∷ []; live = kept.live + 1 }
+
+abbrev pub discounted : Kept → Kept
+discounted kept = record kept { live = kept.live - 1 }
+
+abbrev pub discounted_at : Option ℕ → List Kept → List Kept
+discounted_at None shelves = shelves
+discounted_at (Some item) shelves = slice_set shelves item (discounted (kept_at shelves item))
+
+-- The item of the collection that an object is in, if it is in one.
+abbrev pub listed_home : Option Object → Option ℕ
+listed_home None = None
+listed_home (Some object) = if object.listed then Some object.cell.home.item else None
+
+-- An object is gone, whether it has left its collection or not.
+abbrev pub gone : Object → Object
+gone object = record object { stage = Gone }
+
+-- Entries are taken away, none of them a member's.
+pub record Trims (objects : List Object) (item : ℕ) (before after : List Id) : Type 0 where
+  pub members : members_among objects item (reverse after) ≡ members_among objects item (reverse before)
+  pub given : (n : ℕ) → AreGiven n before → AreGiven n after
+
+pub record IsTidied (objects : List Object) (item : ℕ) (before after : Kept) : Type 0 where
+  pub trims : Trims objects item before.entries after.entries
+  pub live : after.live ≡ before.live

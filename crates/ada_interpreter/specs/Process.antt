@@ -1,0 +1,120 @@
+-- A run in progress: the state that it stands for, and what a turn of it does.
+
+use Rattle.std.specs.Prelude.{◌≡◌, ℕ, List, [], ◌∷◌, map, Result, Ok, Err}
+use Rattle.std.specs.Option.{option_copied}
+use Rattle.std.specs.declared.alloc.AllocError.{AllocError}
+use Rattle.ada_program.specs.Form.{component_number, expression_form, links_form, item_form, initial_form, stmt_form, declaration_form}
+use Rattle.ada_meaning.specs.declared.state.Value.{Value as ValueOf}
+use Rattle.ada_meaning.specs.declared.state.Value.TheVariants.{Names}
+use Rattle.ada_meaning.specs.declared.event.Cause.{Cause}
+use Rattle.ada_meaning.specs.declared.event.Halt.{Halt}
+use Rattle.ada_meaning.specs.declared.event.Exception.TheVariants.{ConstraintError}
+use Rattle.ada_meaning.specs.declared.event.Cause.TheVariants.{Leaving as leaving, Freeing as freeing}
+use Rattle.ada_meaning.specs.Frame.{Frame}
+use Rattle.ada_meaning.specs.Frame as frame
+use Rattle.ada_meaning.specs.Event.{Quiet, Followed, Allocate, event_of, request_of}
+use Rattle.ada_meaning.specs.State.{pool_of}
+use Rattle.ada_meaning.specs.Step.{halts, moves, tells, asks, picks, at, older, computed, raised, numbered, answered, taken}
+use Rattle.ada_meaning.specs.Named.{State, Next, named, members, on_object, parted}
+use Rattle.ada_interpreter.specs.declared.frame.Frame.{Frame as HeldFrame}
+use Rattle.ada_interpreter.specs.declared.frame.Frame.TheVariants as held
+use Rattle.ada_interpreter.specs.declared.expressions.Outcome.{Outcome}
+use Rattle.ada_interpreter.specs.declared.expressions.Outcome.TheVariants.{Value, Raises, Component}
+use Rattle.ada_interpreter.specs.declared.turn.Turn.{Turn}
+use Rattle.ada_interpreter.specs.declared.turn.Turn.TheVariants.{Halts, Moves, Tells, Asks, Picks}
+use Rattle.ada_interpreter.specs.declared.process.Process.{Process}
+
+-- One thing that is left to do.
+abbrev pub frame_of : HeldFrame → Frame ValueOf
+frame_of (held.Elaborates declarations statements) = frame.Elaborates (map declaration_form declarations.now) (map stmt_form statements.now)
+frame_of (held.Does statements) = frame.Does (map stmt_form statements.now)
+frame_of held.Closes = frame.Closes
+frame_of (held.Leaves mode) = frame.Leaves mode
+frame_of (held.Evaluates right) = frame.Evaluates (initial_form (option_copied right))
+frame_of (held.Computes expression) = frame.Computes (expression_form expression.now)
+frame_of (held.Follows selectors) = frame.Follows (map component_number selectors.now)
+frame_of (held.Continues links) = frame.Continues (links_form links.now)
+frame_of (held.Applies operator) = frame.Applies operator
+frame_of (held.AppliesAlone operator) = frame.AppliesAlone operator
+frame_of (held.Fills items) = frame.Fills (map item_form items.now)
+frame_of (held.Creates access count) = frame.Creates access.0 count
+frame_of (held.Stores variable) = frame.Stores variable.0
+frame_of (held.Declares variable) = frame.Declares variable.0
+frame_of held.Writes = frame.Writes
+frame_of (held.Ends object) = frame.Ends object
+frame_of (held.GivesBack object cause pool) = frame.GivesBack object cause pool
+frame_of (held.Clears variable) = frame.Clears variable.0
+
+-- The state.
+abbrev pub state_of : Process → State
+state_of p = record {
+  activations = record { places = p.places.items; operands = p.operands } ∷ [];
+  masters = p.masters;
+  control = map frame_of p.frames;
+  mode = p.mode;
+  input = p.input.items;
+  next = p.next;
+  allocated = p.allocated;
+  born = p.born;
+  heap = p.objects;
+}
+
+-- What comes next, by the answer of a turn and the state that it left.
+abbrev pub shown : Turn → State → Next
+shown (Halts halt) s = halts halt
+shown (Moves e) s = moves (event_of e) s
+shown (Tells request e) s = tells (request_of request) (event_of e) s
+shown (Asks a) s = asks (Allocate (pool_of a.access.0) 0 a.words) (answered named a.access.0 a.count a.item a.words s)
+shown (Picks l) s = picks l.count (taken named (leaving l.master l.item) l.access.0 (members s.heap l.item) s)
+
+-- A halt leaves the state as it was.
+abbrev pub Stays : Turn → State → State → Type 0
+Stays (Halts halt) before after = after ≡ before
+Stays (Moves e) before after = Unit {0}
+Stays (Tells request e) before after = Unit {0}
+Stays (Asks a) before after = Unit {0}
+Stays (Picks l) before after = Unit {0}
+
+-- A turn answers and leaves what comes next, and a halt leaves the state as it was; unless memory is refused.
+pub record IsTurn (coming : Next) (before : State) (turn : Turn) (after : State) : Type 0 where
+  pub shows : shown turn after ≡ coming
+  pub stays : Stays turn before after
+
+abbrev pub Turns : Next → State → Result Turn AllocError → State → Type 0
+Turns coming before (Ok turn) after = IsTurn coming before turn after
+Turns coming before (Err e) after = Unit {0}
+
+-- The state once the frame that is first of what is left to do has been taken off, and once another one stands in its place or before it.
+abbrev pub passed : State → State
+passed s = at (older s.control) s
+
+abbrev pub replaced : Frame ValueOf → State → State
+replaced f s = at (f ∷ older s.control) s
+
+abbrev pub pushed : Frame ValueOf → State → State
+pushed f s = at (f ∷ s.control) s
+
+-- What comes next by the outcome of a path or of an operator.
+abbrev pub behind : List ℕ → State → State
+behind [] s = s
+behind (c ∷ cs) s = pushed (frame.Follows (c ∷ cs)) s
+
+abbrev pub going_by : Outcome → State → Next
+going_by (Value v) s = moves Quiet (computed v s)
+going_by Raises s = moves Quiet (raised ConstraintError s)
+going_by (Component object v rest) s = moves (Followed (Names object)) (behind (map component_number rest.now) (computed v s))
+
+abbrev pub outcome_of : Result Outcome Halt → State → Next
+outcome_of (Ok outcome) s = going_by outcome s
+outcome_of (Err halt) s = halts halt
+
+-- An object is to cease to exist, and its words are to go back: it leaves its collection.
+abbrev pub ending : ValueOf → Cause → State → State
+ending v cause s = record s {
+  heap = on_object parted s.heap v;
+  control = frame.Ends v ∷ frame.GivesBack v cause 0 ∷ s.control;
+}
+
+-- The same by a Free: a number is used up for it, and the variable is to become null (13.11.2).
+abbrev pub releasing : ValueOf → ℕ → State → State
+releasing v x s = numbered (ending v (freeing s.next) (pushed (frame.Clears x) s))

@@ -1,0 +1,119 @@
+//! Allocators: their items are evaluated, a pool is asked, and the new object exists or Storage_Error is raised.
+
+ghost use Rattle.std.specs.Prelude.{◌≡◌, map, OnOk};
+ghost use Rattle.ada_program.specs.Form.{item_form};
+ghost use Rattle.ada_meaning.specs.Frame as frame;
+ghost use Rattle.ada_meaning.specs.Step as step;
+ghost use Rattle.ada_meaning.specs.State.{counted};
+ghost use Rattle.ada_meaning.specs.Named.{named};
+ghost use Rattle.ada_interpreter.specs.Process.{frame_of, state_of, passed, replaced, Turns, IsTurn};
+
+use crate::frame::Frame;
+use crate::objects::{Cell, Home};
+use crate::process::Process;
+use crate::turn::{Allocation, QUIET, Turn};
+use ada_meaning::{Exception, Value};
+use ada_program::program::Item;
+use ada_program::{Program, TypeNo};
+use std::alloc::AllocError;
+
+impl<'a> Process<'a> {
+    /// The items of an allocator that are left, in the order of the components (4.8).
+    pub(crate) fn fill(&mut self, items: &'a [Item]) -> Result<Turn, AllocError>
+        ensures { let s = state_of self.old in
+            Turns (step.items_next named (map item_form items.now) (passed s))
+            s result (state_of self.new) }
+    {
+        match items.split_first() {
+            None => {
+                self.pass();
+                Ok(QUIET)
+            }
+            Some((first, rest)) => self.item(first, Frame::Fills(rest)),
+        }
+    }
+
+    /// An item is evaluated.
+    fn item(&mut self, item: &'a Item, rest: Frame<'a>) -> Result<Turn, AllocError>
+        ensures { let s = state_of self.old in
+            Turns (step.item_next named (item_form item.now) (replaced (frame_of rest.entry) s))
+            s result (state_of self.new) }
+    {
+        match item {
+            Item::Null => {
+                self.replace(rest)?;
+                self.keep(Value::Null)?;
+                Ok(QUIET)
+            }
+            Item::Value(expression) => self.replace_by_two(Frame::Computes(expression), rest),
+        }
+    }
+
+    /// A pool is asked for the object of an allocator, whose items are evaluated (4.8). Where its type has no open
+    /// collection, Storage_Error is raised.
+    pub(crate) fn ask(&mut self, program: &Program, access: TypeNo, count: usize) -> Turn
+        ensures { let s = state_of self.old in
+            IsTurn
+            (step.frame_next named program.now.types.items (frame.Creates access.0 count) (passed s))
+            s result (state_of self.new) }
+    {
+        self.pass();
+        match self.masters.home(access) {
+            None => {
+                self.raise(Exception::StorageError);
+                QUIET
+            }
+            Some(item) => Turn::Asks(Allocation {
+                access,
+                count,
+                item,
+                words: program.words(access),
+            }),
+        }
+    }
+
+    /// The answer to a request: the new object exists, or Storage_Error is raised (4.8, 11.1).
+    pub(crate) fn answer(
+        &mut self,
+        allocation: &Allocation,
+        granted: bool,
+    ) -> Result<(), AllocError>
+        ensures { let a = allocation.now in
+            OnOk result (state_of self.new ≡ step.answered named a.access.0 a.count a.item a.words (state_of self.old) granted) }
+    {
+        if granted {
+            self.allocate(allocation)
+        } else {
+            self.raise(Exception::StorageError);
+            Ok(())
+        }
+    }
+
+    /// The new object exists (4.8), and the value that names it is the newest operand.
+    fn allocate(&mut self, allocation: &Allocation) -> Result<(), AllocError>
+        ensures { let a = allocation.now in
+            OnOk result (state_of self.new ≡ step.granted named a.access.0 a.count a.item a.words (state_of self.old)) }
+    {
+        let number = counted(self.allocated);
+        let values = self.operands.take(allocation.count)?;
+        let object = self.objects.create(Cell {
+            access: allocation.access,
+            number,
+            home: Home {
+                item: allocation.item,
+                pool: 0,
+                subpool: None,
+            },
+            values,
+        })?;
+        self.allocated = number;
+        self.operands.push(Value::Names(object))
+    }
+}
+
+/// The next trace number; past 64 bits it stays.
+fn counted(n: u64) -> u64
+    ensures { result ≡ counted n }
+{
+    if n == u64::MAX { n } else { n + 1 }
+}

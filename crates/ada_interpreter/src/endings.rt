@@ -1,0 +1,218 @@
+//! The ends of objects, and the leaving of masters.
+
+ghost use Rattle.std.specs.Prelude.{◌≡◌, ℕ, OnOk};
+ghost use Rattle.ada_meaning.specs.Event.{Quiet};
+ghost use Rattle.ada_meaning.specs.Frame as frame;
+ghost use Rattle.ada_meaning.specs.Step as step;
+ghost use Rattle.ada_meaning.specs.Named.{named, look, lent, members};
+ghost use Rattle.ada_meaning.specs.declared.event.Cause.TheVariants.{Leaving as leaving};
+ghost use Rattle.ada_interpreter.specs.Process.{frame_of, state_of, passed, replaced, Turns, IsTurn, ending, releasing};
+
+use crate::frame::Frame;
+use crate::masters::Remains;
+use crate::process::Process;
+use crate::turn::{Leaving, QUIET, Turn};
+use ada_meaning::{Cause, Event, Halt, Id, Mode, Request, Value, Why};
+use ada_program::{TypeNo, VariableNo};
+use std::alloc::AllocError;
+
+impl<'a> Process<'a> {
+    /// Free (X) (13.11.2): null has no effect; else the object leaves its collection, and is to end.
+    pub(crate) fn free(
+        &mut self,
+        access: TypeNo,
+        variable: VariableNo,
+        rest: Frame<'a>,
+    ) -> Result<Turn, AllocError>
+        ensures { let s = replaced (frame_of rest.entry) (state_of self.old) in
+            let v = step.held named s variable.0 in
+            Turns (step.free_next named access.0 variable.0 v (look s.heap v) s)
+            (state_of self.old) result (state_of self.new) }
+    {
+        match self.held(variable) {
+            Value::Null => {
+                self.replace(rest)?;
+                Ok(QUIET)
+            }
+            Value::Scalar(_) => Ok(Turn::Halts(Halt::Stuck)),
+            Value::Names(object) => self.free_object(object, variable, rest),
+        }
+    }
+
+    /// The object that a variable names is to end, and the variable is to become null; twice is erroneous.
+    fn free_object(
+        &mut self,
+        object: Id,
+        variable: VariableNo,
+        rest: Frame<'a>,
+    ) -> Result<Turn, AllocError>
+        ensures { let s = replaced (frame_of rest.entry) (state_of self.old) in
+            let v = Value.Names object in
+            (access : ℕ) → Turns (step.free_next named access variable.0 v (look s.heap v) s) (state_of self.old) result (state_of self.new) }
+    {
+        match self.objects.existing(object) {
+            None => Ok(Turn::Halts(Halt::Erroneous(Why::EndsTwice))),
+            Some(_) => {
+                self.replace(rest)?;
+                self.release(Value::Names(object), variable)?;
+                Ok(QUIET)
+            }
+        }
+    }
+
+    /// An object is to end by a Free, and the variable is to become null.
+    fn release(&mut self, value: Value, variable: VariableNo) -> Result<(), AllocError>
+        ensures { OnOk result (state_of self.new ≡ releasing value variable.0 (state_of self.old)) }
+    {
+        let number = self.next;
+        let Some(next) = number.checked_add(1) else {
+            return Err(AllocError);
+        };
+        self.push(Frame::Clears(variable))?;
+        self.dispose(value, Cause::Freeing { number })?;
+        self.next = next;
+        Ok(())
+    }
+
+    /// An object leaves its collection; it is to cease to exist, and its words are to go back to the standard pool.
+    fn dispose(&mut self, object: Value, cause: Cause) -> Result<(), AllocError>
+        ensures { OnOk result (state_of self.new ≡ ending object cause (state_of self.old)) }
+    {
+        self.push(Frame::GivesBack {
+            object,
+            cause,
+            pool: 0,
+        })?;
+        self.push(Frame::Ends(object))?;
+        if let Value::Names(object) = object {
+            self.objects.part(object);
+        }
+        Ok(())
+    }
+
+    /// An object ceases to exist (13.11.2): twice is erroneous.
+    pub(crate) fn end(&mut self, object: Value) -> Turn
+        ensures { let s = state_of self.old in
+            IsTurn (step.end_next named object (look s.heap object) (passed s))
+            s result (state_of self.new) }
+    {
+        match object {
+            Value::Names(object) => self.end_object(object),
+            _ => Turn::Halts(Halt::Stuck),
+        }
+    }
+
+    /// The object of a name ceases to exist.
+    fn end_object(&mut self, object: Id) -> Turn
+        ensures { let s = state_of self.old in let v = Value.Names object in
+            IsTurn (step.end_next named v (look s.heap v) (passed s)) s result (state_of self.new) }
+    {
+        match self.objects.existing(object) {
+            None => Turn::Halts(Halt::Erroneous(Why::EndsTwice)),
+            Some(_) => {
+                self.pass();
+                self.objects.finish(object);
+                QUIET
+            }
+        }
+    }
+
+    /// The words of an object go back (13.11.2): to another pool than its own is erroneous, and so is twice.
+    pub(crate) fn give_back(&mut self, object: Value, cause: Cause, pool: usize) -> Turn
+        ensures { let s = state_of self.old in
+            IsTurn (step.back_next named object cause pool (lent s.heap object) (passed s))
+            s result (state_of self.new) }
+    {
+        match object {
+            Value::Names(object) => self.give_back_object(object, cause, pool),
+            _ => Turn::Halts(Halt::Stuck),
+        }
+    }
+
+    /// The words of the object of a name go back.
+    fn give_back_object(&mut self, object: Id, cause: Cause, pool: usize) -> Turn
+        ensures { let s = state_of self.old in let v = Value.Names object in
+            IsTurn (step.back_next named v cause pool (lent s.heap v) (passed s))
+            s result (state_of self.new) }
+    {
+        let Some(cell) = self.objects.lent(object) else {
+            return Turn::Halts(Halt::Erroneous(Why::EndsTwice));
+        };
+        let home = cell.home;
+        if home.pool != pool {
+            return Turn::Halts(Halt::Erroneous(Why::GivesElsewhere));
+        }
+        let event = Event::Back {
+            object,
+            access: cell.access,
+            number: cell.number,
+            pool: home.pool,
+            subpool: home.subpool,
+            cause,
+        };
+        self.pass();
+        self.objects.give_back(object);
+        Turn::Tells(Request::Back { object }, event)
+    }
+
+    /// The leaving of the innermost master (7.6.1), newest item first; when no item is left, it has been left.
+    pub(crate) fn leave(&mut self, mode: Mode) -> Result<Turn, AllocError>
+        ensures { let s = state_of self.old in
+            Turns (step.leave_next named mode s.masters (passed s)) s result (state_of self.new) }
+    {
+        match self.masters.remains() {
+            Remains::NoMaster => Ok(Turn::Halts(Halt::Stuck)),
+            Remains::NoItem { master } => {
+                self.pass();
+                self.masters.leave();
+                self.mode = mode;
+                Ok(Turn::Moves(Event::Left { master }))
+            }
+            Remains::Variable => self.leave_item(mode),
+            Remains::Collection {
+                master,
+                item,
+                access,
+            } => {
+                let count = self.objects.count(item);
+                if count == 0 {
+                    self.leave_item(mode)
+                } else {
+                    self.replace(Frame::Leaves(mode))?;
+                    Ok(Turn::Picks(Leaving {
+                        master,
+                        item,
+                        access,
+                        count,
+                    }))
+                }
+            }
+        }
+    }
+
+    /// The newest item of the innermost master is left.
+    fn leave_item(&mut self, mode: Mode) -> Result<Turn, AllocError>
+        ensures { let s = replaced (frame.Leaves mode) (state_of self.old) in
+            Turns (step.moves Quiet (record s { masters = step.shorter s.masters }))
+            (state_of self.old) result (state_of self.new) }
+    {
+        self.replace(Frame::Leaves(mode))?;
+        self.masters.shorten();
+        Ok(QUIET)
+    }
+
+    /// A member of the collection that is left is taken, counted from the newest: it is to end.
+    pub(crate) fn take(&mut self, place: &Leaving, i: usize) -> Result<(), AllocError>
+        ensures { let l = place.now in let s = state_of self.old in
+            OnOk result (state_of self.new ≡ step.taken named (leaving l.master l.item) l.access.0 (members s.heap l.item) s i) }
+    {
+        let object = self.objects.member(place.item, i);
+        self.dispose(
+            object,
+            Cause::Leaving {
+                master: place.master,
+                item: place.item,
+            },
+        )
+    }
+}

@@ -1,0 +1,330 @@
+//! Objects by name, and the members of each collection.
+
+ghost use Rattle.std.specs.Prelude.{◌≡◌, ℕ, ◌<◌, [], ◌∷◌, ◌++◌, length, reverse, map, vec_len, OnOk, OnErr, IfOk, MatchOption};
+ghost use Rattle.std.specs.List.{slice_index_or, slice_set};
+ghost use Rattle.ada_meaning.specs.Heap.{on_gone, finds};
+ghost use Rattle.ada_meaning.specs.Named.{object_at, seen, lent_by, new_object, changed, parted, finished, returned, members};
+ghost use Rattle.ada_interpreter.specs.Objects.{cell_of, object_of, kept_of, kept_at, entered, discounted_at, listed_home, gone, is_member_at, members_among, Trims, IsTidied};
+
+use ada_meaning::{Id, Stage, Value};
+use ada_program::TypeNo;
+use std::alloc::{AllocError, Global};
+use std::marker::Model;
+
+/// Where the words of an object lie, and with which item it goes (13.11.4).
+#[derive(Clone, Copy)]
+pub(crate) struct Home {
+    /// The number of the collection's item.
+    pub(crate) item: usize,
+    pub(crate) pool: usize,
+    pub(crate) subpool: Option<usize>,
+}
+
+/// What lies in an allocated object (4.8).
+#[derive(Drop)]
+pub(crate) struct Cell {
+    pub(crate) access: TypeNo,
+    /// The trace number: allocations are counted from 1.
+    pub(crate) number: u64,
+    pub(crate) home: Home,
+    pub(crate) values: Vec<Value>,
+}
+
+/// An allocated object.
+#[derive(Drop)]
+pub(crate) struct Object {
+    cell: Cell,
+    stage: Stage,
+    /// Whether it is in its collection.
+    listed: bool,
+    /// Whether its words are out.
+    out: bool,
+}
+
+/// The members of one collection.
+#[derive(Drop)]
+struct Shelf {
+    /// Every member is among these, oldest first. Some of them have left the collection.
+    entries: Vec<Id>,
+    /// How many members there are.
+    live: usize,
+}
+
+/// The objects that were ever allocated, seen as the list of them by name.
+#[derive(Drop)]
+pub(crate) struct Objects {
+    alloc: Global,
+    objects: Vec<Object>,
+    /// By the number of a collection's item. Those behind the last one have no members.
+    shelves: Vec<Shelf>,
+}
+
+impl Model for Objects {
+    ghost use Rattle.std.specs.Prelude.{List, map};
+    ghost use Rattle.ada_meaning.specs.Named.{Object as NamedObject};
+
+    ghost Value = { List NamedObject };
+
+    ghost use Rattle.ada_interpreter.specs.Objects.{object_of, kept_of, AreShelved};
+
+    ghost view = { λ s. map object_of s.objects.items };
+
+    ghost invariant = { λ s. AreShelved (map object_of s.objects.items) (map kept_of s.shelves.items) };
+}
+
+impl Objects {
+    /// No object has been allocated. Takes no memory.
+    pub(crate) fn new(alloc: Global) -> Objects
+        ensures { result ≡ [] }
+    {
+        Objects {
+            alloc,
+            objects: Vec::new(alloc),
+            shelves: Vec::new(alloc),
+        }
+    }
+
+    /// What lies in the object of a name, as long as it exists (13.11.2).
+    pub(crate) fn existing(&self, o: Id) -> Option<&Cell>
+        ensures { let found = seen (object_at self.now o) in
+            MatchOption result (found ≡ on_gone) (λ cell. found ≡ finds (cell_of cell.now)) }
+    {
+        let object = self.objects.get(o.0)?;
+        match object.stage {
+            Stage::Building => Some(&object.cell),
+            Stage::Existing => Some(&object.cell),
+            Stage::Gone => None,
+        }
+    }
+
+    /// What lies in the object of a name, as long as its words are out.
+    pub(crate) fn lent(&self, o: Id) -> Option<&Cell>
+        ensures { let found = lent_by (object_at self.now o) in
+            MatchOption result (found ≡ on_gone) (λ cell. found ≡ finds (cell_of cell.now)) }
+    {
+        let object = self.objects.get(o.0)?;
+        if object.out { Some(&object.cell) } else { None }
+    }
+
+    /// A new object, in the collection of its home; it has the next name.
+    pub(crate) fn create(&mut self, cell: Cell) -> Result<Id, AllocError>
+        ensures name { IfOk result (λ o. o ≡ record { 0 = length self.old }) }
+        ensures object { OnOk result (self.new ≡ self.old ++ new_object (cell_of cell) ∷ []) }
+    {
+        let o = Id(self.objects.len());
+        let item = cell.home.item;
+        make_shelves(self.alloc, &mut self.shelves, item)?;
+        self.objects.reserve(1)?;
+        enter(&mut self.shelves, item, o)?;
+        self.objects.push_reserved(Object {
+            cell,
+            stage: Stage::Existing,
+            listed: true,
+            out: true,
+        });
+        Ok(o)
+    }
+
+    /// The object of a name leaves its collection.
+    pub(crate) fn part(&mut self, o: Id)
+        ensures { self.new ≡ changed parted (object_at self.old o) self.old o }
+    {
+        let home = unlist(&mut self.objects, o);
+        discount(&mut self.shelves, home);
+    }
+
+    /// The object of a name ceases to exist.
+    pub(crate) fn finish(&mut self, o: Id)
+        ensures { self.new ≡ changed finished (object_at self.old o) self.old o }
+    {
+        self.part(o);
+        set_gone(&mut self.objects, o);
+    }
+
+    /// The words of the object of a name go back.
+    pub(crate) fn give_back(&mut self, o: Id)
+        ensures { self.new ≡ changed returned (object_at self.old o) self.old o }
+    {
+        set_returned(&mut self.objects, o);
+    }
+
+    /// How many members the collection of an item has.
+    pub(crate) fn count(&self, item: usize) -> usize
+        ensures { result ≡ length (members self.now item) }
+    {
+        live_at(self.shelves.as_slice(), item)
+    }
+
+    /// A member of the collection of an item, counted from the newest; null, if there are not so many.
+    pub(crate) fn member(&mut self, item: usize, i: usize) -> Value
+        ensures value { result ≡ slice_index_or (members self.old item) i Value.Null }
+        ensures same { self.new ≡ self.old }
+    {
+        tidy(self.objects.as_slice(), &mut self.shelves, item);
+        let objects = self.objects.as_slice();
+        member_at(objects, item, entries_at(self.shelves.as_slice(), item), i)
+    }
+}
+
+/// The object of a name leaves its collection: tells which, if it was in it.
+fn unlist(objects: &mut Vec<Object>, o: Id) -> Option<usize>
+    ensures home { result ≡ listed_home (object_at (map object_of objects.old.items) o) }
+    ensures parted { let xs = map object_of objects.old.items in
+        map object_of objects.new.items ≡ changed parted (object_at xs o) xs o }
+{
+    if o.0 >= objects.len() {
+        return None;
+    }
+    let object = &mut objects[o.0];
+    let was_listed = object.listed;
+    object.listed = false;
+    if was_listed {
+        Some(object.cell.home.item)
+    } else {
+        None
+    }
+}
+
+/// The object of a name is gone.
+fn set_gone(objects: &mut Vec<Object>, o: Id)
+    ensures { let xs = map object_of objects.old.items in
+        map object_of objects.new.items ≡ changed gone (object_at xs o) xs o }
+{
+    if o.0 < objects.len() {
+        let object = &mut objects[o.0];
+        object.stage = Stage::Gone;
+    }
+}
+
+/// The words of the object of a name are back.
+fn set_returned(objects: &mut Vec<Object>, o: Id)
+    ensures { let xs = map object_of objects.old.items in
+        map object_of objects.new.items ≡ changed returned (object_at xs o) xs o }
+{
+    if o.0 < objects.len() {
+        let object = &mut objects[o.0];
+        object.out = false;
+    }
+}
+
+/// Makes shelves up to that of an item.
+fn make_shelves(alloc: Global, shelves: &mut Vec<Shelf>, item: usize) -> Result<(), AllocError>
+    ensures same { (i : ℕ) →
+        kept_at (map kept_of shelves.new.items) i ≡ kept_at (map kept_of shelves.old.items) i }
+    ensures room { OnOk result (item < vec_len shelves.new) }
+{
+    'shelves: while shelves.len() <= item {
+        shelves.push(Shelf {
+            entries: Vec::new(alloc),
+            live: 0,
+        })?;
+    }
+    Ok(())
+}
+
+/// A new object becomes a member.
+fn enter(shelves: &mut Vec<Shelf>, item: usize, o: Id) -> Result<(), AllocError>
+    requires { item < vec_len shelves.old }
+    ensures ok { let kept = map kept_of shelves.old.items in
+        OnOk result (map kept_of shelves.new.items ≡ slice_set kept item (entered (kept_at kept item) o)) }
+    ensures err { OnErr result (map kept_of shelves.new.items ≡ map kept_of shelves.old.items) }
+{
+    let shelf = &mut shelves[item];
+    let Some(live) = shelf.live.checked_add(1) else {
+        return Err(AllocError);
+    };
+    shelf.entries.reserve(1)?;
+    shelf.entries.push_reserved(o);
+    shelf.live = live;
+    Ok(())
+}
+
+/// A collection has a member less.
+fn discount(shelves: &mut Vec<Shelf>, home: Option<usize>)
+    ensures { map kept_of shelves.new.items ≡ discounted_at home (map kept_of shelves.old.items) }
+{
+    if let Some(item) = home
+        && item < shelves.len()
+    {
+        let shelf = &mut shelves[item];
+        shelf.live = shelf.live.saturating_sub(1);
+    }
+}
+
+/// How many members the collection of an item has.
+fn live_at(shelves: &[Shelf], item: usize) -> usize
+    ensures { result ≡ (kept_at (map kept_of shelves.now) item).live }
+{
+    if item < shelves.len() {
+        shelves[item].live
+    } else {
+        0
+    }
+}
+
+/// The names that the members of the collection of an item are among.
+fn entries_at(shelves: &[Shelf], item: usize) -> &[Id]
+    ensures { result.now ≡ (kept_at (map kept_of shelves.now) item).entries }
+{
+    if item < shelves.len() {
+        shelves[item].entries.as_slice()
+    } else {
+        &[]
+    }
+}
+
+/// Is a name that of a member of the collection of an item?
+fn is_member(objects: &[Object], item: usize, o: Id) -> bool
+    ensures { result ≡ is_member_at (map object_of objects.now) item o }
+{
+    match objects.get(o.0) {
+        Some(object) => object.listed && object.cell.home.item == item,
+        None => false,
+    }
+}
+
+/// Takes the newest entries of a collection off, up to one that is a member: so no step passes them again.
+fn tidy(objects: &[Object], shelves: &mut Vec<Shelf>, item: usize)
+    ensures { let kept = map kept_of shelves.old.items in (i : ℕ) →
+        IsTidied (map object_of objects.now) i (kept_at kept i) (kept_at (map kept_of shelves.new.items) i) }
+{
+    if item < shelves.len() {
+        let shelf = &mut shelves[item];
+        trim(objects, item, &mut shelf.entries);
+    }
+}
+
+/// Takes the newest entries off, up to one that is a member.
+fn trim(objects: &[Object], item: usize, entries: &mut Vec<Id>)
+    ensures { Trims (map object_of objects.now) item entries.old.items entries.new.items }
+{
+    let mut n = entries.len();
+    'entries: while n > 0 {
+        let o = entries[n - 1];
+        if is_member(objects, item, o) {
+            break;
+        }
+        n -= 1;
+    }
+    entries.truncate(n);
+}
+
+/// The member among entries that is so far from the newest; null, if there are not so many.
+fn member_at(objects: &[Object], item: usize, entries: &[Id], i: usize) -> Value
+    ensures { let names = members_among (map object_of objects.now) item (reverse entries.now) in
+        result ≡ slice_index_or (map Value.Names names) i Value.Null }
+{
+    let mut k = entries.len();
+    let mut left = i;
+    'entries: while k > 0 {
+        k -= 1;
+        let o = entries[k];
+        if is_member(objects, item, o) {
+            if left == 0 {
+                return Value::Names(o);
+            }
+            left -= 1;
+        }
+    }
+    Value::Null
+}

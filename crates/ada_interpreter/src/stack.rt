@@ -1,0 +1,109 @@
+//! A stack: what was put on last comes off first.
+
+ghost use Rattle.std.specs.Prelude.{◌≡◌, [], ◌∷◌, drop, take, reverse, length, IfOk, OnOk, OnErr, MatchOption};
+ghost use Rattle.std.specs.List.{slice_get, slice_set};
+ghost use Rattle.ada_meaning.specs.Step.{older};
+
+use std::alloc::{AllocError, Global};
+use std::marker::Model;
+
+/// A stack, seen as the list of its items, the newest first.
+#[derive(Drop)]
+pub(crate) struct Stack<T: Drop> {
+    // The newest stands last, so that putting on and taking off move nothing.
+    items: Vec<T>,
+}
+
+impl<T: Drop> Model for Stack<T> {
+    ghost use Rattle.std.specs.Prelude.{List, reverse};
+
+    ghost Value = { List T };
+
+    ghost view = { λ s. reverse s.items.items };
+}
+
+impl<T: Drop> Stack<T> {
+    /// An empty stack. Takes no memory.
+    pub(crate) fn new(alloc: Global) -> Stack<T>
+        ensures { result ≡ [] }
+    {
+        Stack {
+            items: Vec::new(alloc),
+        }
+    }
+
+    /// Puts an item on.
+    #[tactic(auto, using(crate::proofs::StackLemmas::newest_first))]
+    pub(crate) fn push(&mut self, item: T) -> Result<(), AllocError>
+        ensures pushed { OnOk result (self.new ≡ item ∷ self.old) }
+        ensures unchanged { OnErr result (self.new ≡ self.old) }
+    {
+        self.items.push(item)?;
+        Ok(())
+    }
+
+    /// Takes the newest item off, if there is one.
+    #[tactic(auto, using(crate::proofs::StackLemmas::newest_first))]
+    pub(crate) fn shorten(&mut self)
+        ensures { self.new ≡ older self.old }
+    {
+        let _ = self.items.pop();
+    }
+
+    /// The newest item.
+    #[tactic(auto, using(crate::proofs::StackLemmas::newest_first))]
+    pub(crate) fn top(&self) -> Option<&T>
+        ensures { MatchOption result (self.now ≡ []) (λ item. self.now ≡ item.now ∷ older self.now) }
+    {
+        self.items.last()
+    }
+
+    /// The newest item becomes another; nothing, if there is none.
+    pub(crate) fn set_top(&mut self, item: T)
+        ensures { self.new ≡ slice_set self.old 0 item }
+    {
+        let n = self.items.len();
+        if n > 0 {
+            self.items[n - 1] = item;
+        }
+    }
+
+    /// How many items there are.
+    #[tactic(auto, using(crate::proofs::StackLemmas::newest_first))]
+    pub(crate) fn len(&self) -> usize
+        ensures { result ≡ length self.now }
+    {
+        self.items.len()
+    }
+
+    /// Takes all items off.
+    pub(crate) fn clear(&mut self)
+        ensures { self.new ≡ [] }
+    {
+        self.items.clear();
+    }
+
+    /// Takes so many of the newest items off, or all if there are not so many: in the order in which they were put on.
+    pub(crate) fn take(&mut self, count: usize) -> Result<Vec<T>, AllocError>
+        ensures taken { IfOk result (λ taken. taken.items ≡ reverse (take count self.old)) }
+        ensures left { OnOk result (self.new ≡ drop count self.old) }
+    {
+        let kept = self.items.len().saturating_sub(count);
+        self.items.split_off(kept)
+    }
+}
+
+impl<T: Copy + Drop> Stack<T> {
+    /// The item so far from the newest, the 0th.
+    #[tactic(auto, using(crate::proofs::StackLemmas::newest_first))]
+    pub(crate) fn at(&self, i: usize) -> Option<T>
+        ensures { result ≡ slice_get self.now i }
+    {
+        let n = self.items.len();
+        if i < n {
+            Some(self.items[n - 1 - i])
+        } else {
+            None
+        }
+    }
+}

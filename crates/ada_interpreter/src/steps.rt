@@ -1,0 +1,228 @@
+//! Declarations and statements.
+
+ghost use Rattle.std.specs.Prelude.{◌≡◌, map};
+ghost use Rattle.std.specs.Option.{option_copied};
+ghost use Rattle.ada_program.specs.Form.{initial_form, right_form, stmt_form, declaration_form};
+ghost use Rattle.ada_meaning.specs.Frame as frame;
+ghost use Rattle.ada_meaning.specs.Event.{Quiet};
+ghost use Rattle.ada_meaning.specs.State.{declared};
+ghost use Rattle.ada_meaning.specs.Step as step;
+ghost use Rattle.ada_meaning.specs.Named.{named, reads_integer};
+ghost use Rattle.ada_interpreter.specs.Process.{frame_of, state_of, passed, replaced, Turns, IsTurn};
+
+use crate::frame::Frame;
+use crate::masters::Owned;
+use crate::process::Process;
+use crate::turn::{QUIET, Turn};
+use ada_meaning::{Event, Halt, Line, Mode, Value};
+use ada_program::program::{Declaration, Right};
+use ada_program::{Stmt, VariableNo};
+use ada_values::Value as Scalar;
+use std::alloc::AllocError;
+
+impl<'a> Process<'a> {
+    /// The declarations that are left (3.11). Then the statements come.
+    pub(crate) fn elaborate(
+        &mut self,
+        declarations: &'a [Declaration],
+        statements: &'a [Stmt],
+    ) -> Result<Turn, AllocError>
+        ensures { let s = state_of self.old in
+            Turns
+            (step.declarations_next named (map declaration_form declarations.now) (map stmt_form statements.now) (passed s))
+            s result (state_of self.new) }
+    {
+        match declarations.split_first() {
+            None => self.replace_by_two(Frame::Does(statements), Frame::Closes),
+            Some((first, rest)) => self.declare(
+                first,
+                Frame::Elaborates {
+                    declarations: rest,
+                    statements,
+                },
+            ),
+        }
+    }
+
+    /// A declaration (3.11): a collection is created; a variable is created once its initial value is known.
+    fn declare(&mut self, declaration: &'a Declaration, rest: Frame<'a>) -> Result<Turn, AllocError>
+        ensures { let s = state_of self.old in
+            Turns
+            (step.declaration_next named (declaration_form declaration.now) (replaced (frame_of rest.entry) s))
+            s result (state_of self.new) }
+    {
+        match declaration {
+            Declaration::Collection(access) => {
+                self.replace(rest)?;
+                self.masters.own(Owned::Collection(*access))?;
+                Ok(QUIET)
+            }
+            Declaration::Variable { variable, initial } => self.replace_by_three(
+                Frame::Evaluates(initial.as_ref()),
+                Frame::Declares(*variable),
+                rest,
+            ),
+        }
+    }
+
+    /// The statements that are left (5.1).
+    pub(crate) fn begin(&mut self, statements: &'a [Stmt]) -> Result<Turn, AllocError>
+        ensures { let s = state_of self.old in
+            Turns (step.stmts_next named (map stmt_form statements.now) (passed s))
+            s result (state_of self.new) }
+    {
+        match statements.split_first() {
+            None => {
+                self.pass();
+                Ok(QUIET)
+            }
+            Some((first, rest)) => self.execute(first, Frame::Does(rest)),
+        }
+    }
+
+    /// A statement (5.1). What is assigned to, and what is freed, is a variable.
+    fn execute(&mut self, statement: &'a Stmt, rest: Frame<'a>) -> Result<Turn, AllocError>
+        ensures { let s = state_of self.old in
+            Turns
+            (step.stmt_next named (stmt_form statement.now) (replaced (frame_of rest.entry) s))
+            s result (state_of self.new) }
+    {
+        match statement {
+            Stmt::Null => {
+                self.replace(rest)?;
+                Ok(QUIET)
+            }
+            Stmt::Assign { target, value } => {
+                if target.selectors.is_empty() {
+                    self.replace_by_three(
+                        Frame::Evaluates(Some(value)),
+                        Frame::Stores(target.root),
+                        rest,
+                    )
+                } else {
+                    Ok(Turn::Halts(Halt::Stuck))
+                }
+            }
+            Stmt::Free { access, variable } => {
+                if variable.selectors.is_empty() {
+                    self.free(*access, variable.root, rest)
+                } else {
+                    Ok(Turn::Halts(Halt::Stuck))
+                }
+            }
+            Stmt::PutImage(expression) => {
+                self.replace_by_three(Frame::Computes(expression), Frame::Writes, rest)
+            }
+            Stmt::PutText(text) => {
+                self.replace(rest)?;
+                Ok(Turn::Moves(Event::Line(Line::Literal(*text))))
+            }
+        }
+    }
+
+    /// What is assigned is evaluated (4.1, 4.8); null where nothing is written.
+    pub(crate) fn evaluate(&mut self, right: Option<&'a Right>) -> Result<Turn, AllocError>
+        ensures { let s = state_of self.old in
+            Turns (step.right_next named (initial_form (option_copied right.entry)) (passed s))
+            s result (state_of self.new) }
+    {
+        match right {
+            None => self.give(Value::Null),
+            Some(right) => self.value(right),
+        }
+    }
+
+    /// A right side is evaluated (4.1, 4.8): the items of an allocator before its object is asked for.
+    fn value(&mut self, right: &'a Right) -> Result<Turn, AllocError>
+        ensures { let s = state_of self.old in
+            Turns (step.right_next named (right_form right.now) (passed s))
+            s result (state_of self.new) }
+    {
+        match right {
+            Right::Null => self.give(Value::Null),
+            Right::Variable(path) => self.read(path),
+            Right::Allocator { access, items } => self.replace_by_two(
+                Frame::Fills(items.as_slice()),
+                Frame::Creates {
+                    access: *access,
+                    count: items.len(),
+                },
+            ),
+            Right::Value(expression) => {
+                self.replace(Frame::Computes(expression))?;
+                Ok(QUIET)
+            }
+        }
+    }
+
+    /// The newest operand goes to a variable (5.2).
+    pub(crate) fn store(&mut self, variable: VariableNo) -> Turn
+        ensures { let s = passed (state_of self.old) in
+            IsTurn (step.moves Quiet (step.put variable.0 (step.newest named s) (step.popped s)))
+            (state_of self.old) result (state_of self.new) }
+    {
+        self.put_newest(variable);
+        QUIET
+    }
+
+    /// The newest operand goes to a variable, and what was to do that is taken off.
+    fn put_newest(&mut self, variable: VariableNo)
+        ensures { let s = passed (state_of self.old) in
+            state_of self.new ≡ step.put variable.0 (step.newest named s) (step.popped s) }
+    {
+        let value = self.newest();
+        self.pass();
+        self.pop();
+        self.put(variable, value);
+    }
+
+    /// A variable is created, with the newest operand for its value (3.3.1).
+    pub(crate) fn create(&mut self, variable: VariableNo) -> Result<Turn, AllocError>
+        ensures { let s = passed (state_of self.old) in
+            Turns
+            (step.moves Quiet (step.owned (declared variable.0) (step.put variable.0 (step.newest named s) (step.popped s))))
+            (state_of self.old) result (state_of self.new) }
+    {
+        self.put_newest(variable);
+        self.masters.own(Owned::Declared(variable))?;
+        Ok(QUIET)
+    }
+
+    /// The line of an Integer (3.5).
+    pub(crate) fn write(&mut self) -> Turn
+        ensures { let s = state_of self.old in
+            IsTurn
+            (step.line_next named (reads_integer (step.newest named (passed s))) (step.popped (passed s)))
+            s result (state_of self.new) }
+    {
+        match self.newest() {
+            Value::Scalar(Scalar::Integer(value)) => {
+                self.pass();
+                self.pop();
+                Turn::Moves(Event::Line(Line::Image(value)))
+            }
+            _ => Turn::Halts(Halt::Stuck),
+        }
+    }
+
+    /// The statements of the innermost master are done: it is left (7.6.1).
+    pub(crate) fn close(&mut self) -> Result<Turn, AllocError>
+        ensures { let s = state_of self.old in
+            Turns (step.moves Quiet (replaced (frame.Leaves Mode.Running) s))
+            s result (state_of self.new) }
+    {
+        self.replace(Frame::Leaves(Mode::Running))?;
+        Ok(QUIET)
+    }
+
+    /// A variable becomes null: the end of a Free (13.11.2).
+    pub(crate) fn clear(&mut self, variable: VariableNo) -> Turn
+        ensures { let s = state_of self.old in
+            IsTurn (step.moves Quiet (step.put variable.0 Value.Null (passed s)))
+            s result (state_of self.new) }
+    {
+        self.pass();
+        self.put(variable, Value::Null);
+        QUIET
+    }
+}

@@ -1,0 +1,60 @@
+//! What one turn of a process answers.
+
+ghost use Rattle.std.specs.Prelude.{◌≡◌, ◌<◌};
+ghost use Rattle.ada_meaning.specs.declared.request.Request.TheVariants.{Allocate};
+
+use ada_meaning::{Event, Halt, Request};
+use ada_program::TypeNo;
+
+/// The answer of one turn.
+#[derive(Clone, Copy)]
+pub(crate) enum Turn {
+    /// There is no step.
+    Halts(Halt),
+    /// The step is made, and this is its event.
+    Moves(Event),
+    /// The step is made, and the pools are to be told.
+    Tells(Request, Event),
+    /// A request is open.
+    Asks(Allocation),
+    /// One of the members of a collection is to be taken.
+    Picks(Leaving),
+}
+
+/// The step is made, and nothing can be seen.
+pub(crate) const QUIET: Turn = Turn::Moves(Event::Quiet);
+
+/// An allocator that waits for its storage. The values of its components are the newest operands, as many as `count`.
+#[derive(Clone, Copy)]
+pub(crate) struct Allocation {
+    pub(crate) access: TypeNo,
+    pub(crate) count: usize,
+    /// The number of the collection's item.
+    pub(crate) item: usize,
+    pub(crate) words: usize,
+}
+
+impl Allocation {
+    /// What a pool is asked for it.
+    pub(crate) fn request(&self) -> Request
+        ensures { result ≡ Allocate 0 0 self.now.words }
+    {
+        Request::Allocate {
+            pool: 0,
+            owner: 0,
+            words: self.words,
+        }
+    }
+}
+
+/// The leaving of a master, at a collection that still has members.
+#[derive(Clone, Copy)]
+pub(crate) struct Leaving {
+    pub(crate) master: u64,
+    /// The number of the collection's item.
+    pub(crate) item: usize,
+    pub(crate) access: TypeNo,
+    /// How many members it has.
+    pub(crate) count: usize,
+    ghost some: { 0 < count },
+}

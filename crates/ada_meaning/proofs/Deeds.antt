@@ -1,0 +1,251 @@
+-- What one step does to the heap, and what follows for runs.
+
+use Rattle.std.proofs.Common.{◌≡◌, ℕ, ℤ, ◌==◌, Bool, true, false, if◌then◌else◌, List, [], ◌∷◌, ◌++◌, Option, Some, None, Result, Ok, Err, refl, ap}
+use Rattle.std.specs.List.{slice_get, slice_set, slice_index_or}
+use Rattle.ada_program.specs.declared.program.Program.{Program}
+use Rattle.ada_program.specs.declared.program.TypeDefinition.{TypeDefinition}
+use Rattle.ada_program.specs.Form.{ExpressionForm, integer, boolean, reads, applied_to, chained, LinksForm, no_more_links, a_link, ItemForm, null_item, item_of_value, RightForm, nothing, value_of, allocates, computes, StmtForm, skips, assigns, frees, writes, writes_text, DeclarationForm, collects, declares}
+use Rattle.ada_program.specs.Typed.{words_of}
+use Rattle.ada_values.specs.declared.operator.BinaryOperator.{BinaryOperator}
+use Rattle.ada_values.specs.declared.fault.OperatorFault.{OperatorFault}
+use Rattle.ada_values.specs.declared.fault.OperatorFault.TheVariants.{Overflow, DivisionByZero, WrongType}
+use Rattle.ada_meaning.specs.declared.state.Id.{Id}
+use Rattle.ada_meaning.specs.declared.state.Value.{Value}
+use Rattle.ada_meaning.specs.declared.state.Value.TheVariants.{Null, Names, Scalar}
+use Rattle.ada_meaning.specs.declared.state.Mode.{Mode}
+use Rattle.ada_meaning.specs.declared.state.Mode.TheVariants.{Running, Raising}
+use Rattle.ada_meaning.specs.declared.event.Cause.{Cause}
+use Rattle.ada_meaning.specs.declared.event.Cause.TheVariants.{Leaving}
+use Rattle.ada_meaning.specs.declared.event.Exception.{Exception}
+use Rattle.ada_meaning.specs.declared.event.Halt.TheVariants.{Erroneous}
+use Rattle.ada_meaning.specs.declared.event.Why.TheVariants.{GivesElsewhere}
+use Rattle.ada_meaning.specs.Event.{Quiet}
+use Rattle.ada_meaning.specs.Frame.{Frame, is_master}
+use Rattle.ada_meaning.specs.Frame as frame
+use Rattle.ada_meaning.specs.State.{Owned, declared, collection, Item, Master, home_of}
+use Rattle.ada_meaning.specs.Heap.{Cell, Found, on_null, on_gone, on_other, finds}
+use Rattle.ada_meaning.specs.Step.{halts, moves, tells, asks, picks, at, popped, held, newest, reading, component_next, follow_next, path_next, expression_next, is_decided, link_next, links_next, outcome_next, item_next, items_next, answered, new_next, new_cell, right_next, free_next, end_next, given_back, back_next, assign_next, frees_next, stmt_next, stmts_next, line_next, declaration_next, declarations_next, members_next, item_leave_next, master_leave_next, leave_next, frame_next, pass_next, running_next, raising_next, mode_next}
+use Rattle.ada_meaning.specs.Named.{Object, State, Next, next, named, look, lent, lent_by, reads_boolean, reads_integer, unary_given, binary_given, members, object_at, changed, on_object, new_object, parted, finished, returned}
+use Rattle.ada_meaning.specs.Run.{Event, Choice, settled, grants, takes, Leads, Step}
+use Rattle.ada_meaning.specs.Law.{back_of}
+
+abbrev Heap : Type 0
+Heap = List Object
+
+-- What one step does to the heap: nothing, or one object more is there, or one leaves its collection, or it ceases to exist, or its words,
+-- which were out, go back.
+pub data Deed (xs : Heap) (e : Event) (ys : Heap) : Type 0 where
+  same : back_of e ≡ None → ys ≡ xs → Deed xs e ys
+  adds : (object : Object) → back_of e ≡ None → ys ≡ xs ++ object ∷ [] → Deed xs e ys
+  parts : (v : Value) → back_of e ≡ None → ys ≡ on_object parted xs v → Deed xs e ys
+  finishes : (v : Value) → back_of e ≡ None → ys ≡ on_object finished xs v → Deed xs e ys
+  returns : (o : Id) (object : Object) → back_of e ≡ Some o → object_at xs o ≡ Some object → object.out ≡ true → ys ≡ slice_set xs o.0 (returned object) → Deed xs e ys
+
+-- What comes next does so, whatever is answered.
+abbrev Does : Heap → Next → Type 0
+Does xs (halts halt) = Unit {0}
+Does xs (moves e s) = Deed xs e s.heap
+Does xs (tells request e s) = Deed xs e s.heap
+Does xs (asks request answers) = (granted : Bool) → Deed xs Quiet (answers granted).heap
+Does xs (picks n taking) = (i : ℕ) → Deed xs Quiet (taking i).heap
+
+-- Paths and expressions.
+reading_does : (cs : List ℕ) (v : Value) (e : Event) (s : State) → back_of e ≡ None → Deed s.heap e (reading named cs v s).heap
+reading_does [] v e s h = same h refl
+reading_does (c ∷ cs) v e s h = same h refl
+
+component_does : (v : Value) (cs : List ℕ) (found : Option Value) (s : State) → Does s.heap (component_next named v cs found s)
+component_does v cs None s = tt
+component_does v cs (Some u) s = reading_does cs u _ s refl
+
+follow_does : (v : Value) (c : ℕ) (cs : List ℕ) (found : Found (Cell Value)) (s : State) → Does s.heap (follow_next named v c cs found s)
+follow_does v c cs on_null s = same refl refl
+follow_does v c cs on_gone s = tt
+follow_does v c cs on_other s = tt
+follow_does v c cs (finds cell) s = component_does v cs (slice_get cell.values c) s
+
+path_does : (cs : List ℕ) (v : Value) (s : State) → Does s.heap (path_next named cs v s)
+path_does [] v s = same refl refl
+path_does (c ∷ cs) v s = follow_does v c cs (look s.heap v) s
+
+expression_does : (e : ExpressionForm) (s : State) → Does s.heap (expression_next named e s)
+expression_does (integer i) s = same refl refl
+expression_does (boolean b) s = same refl refl
+expression_does (reads path) s = path_does path.selectors (held named s path.root) s
+expression_does (applied_to operator e) s = same refl refl
+expression_does (chained e links) s = same refl refl
+
+link_does : (decided : Bool) (operator : BinaryOperator) (e : ExpressionForm) (links : LinksForm) (s : State) → Does s.heap (link_next named decided operator e links s)
+link_does true operator e links s = same refl refl
+link_does false operator e links s = same refl refl
+
+links_do : (links : LinksForm) (s : State) → Does s.heap (links_next named links s)
+links_do no_more_links s = same refl refl
+links_do (a_link operator e links) s = link_does (is_decided named operator (reads_boolean (newest named s))) operator e links s
+
+outcome_does : (outcome : Result Value OperatorFault) (s : State) → Does s.heap (outcome_next named outcome s)
+outcome_does (Ok v) s = same refl refl
+outcome_does (Err Overflow) s = same refl refl
+outcome_does (Err DivisionByZero) s = same refl refl
+outcome_does (Err WrongType) s = tt
+
+-- Allocators, and what is assigned.
+item_does : (item : ItemForm) (s : State) → Does s.heap (item_next named item s)
+item_does null_item s = same refl refl
+item_does (item_of_value e) s = same refl refl
+
+items_do : (items : List ItemForm) (s : State) → Does s.heap (items_next named items s)
+items_do [] s = same refl refl
+items_do (i ∷ is) s = item_does i (at (frame.Fills is ∷ s.control) s)
+
+answered_does : (access count item words : ℕ) (s : State) (granted : Bool) → Deed s.heap Quiet (answered named access count item words s granted).heap
+answered_does access count item words s true = adds (new_object (new_cell named access count item s)) refl refl
+answered_does access count item words s false = same refl refl
+
+new_does : (access count words : ℕ) (home : Option ℕ) (s : State) → Does s.heap (new_next named access count words home s)
+new_does access count words None s = same refl refl
+new_does access count words (Some item) s = answered_does access count item words s
+
+right_does : (right : RightForm) (s : State) → Does s.heap (right_next named right s)
+right_does nothing s = same refl refl
+right_does (value_of path) s = path_does path.selectors (held named s path.root) s
+right_does (allocates access items) s = same refl refl
+right_does (computes e) s = same refl refl
+
+-- Free, and what it leads to.
+free_does : (access x : ℕ) (v : Value) (found : Found (Cell Value)) (s : State) → Does s.heap (free_next named access x v found s)
+free_does access x v on_null s = same refl refl
+free_does access x v on_gone s = tt
+free_does access x v on_other s = tt
+free_does access x v (finds cell) s = parts v refl refl
+
+end_does : (v : Value) (found : Found (Cell Value)) (s : State) → Does s.heap (end_next named v found s)
+end_does v on_null s = tt
+end_does v on_gone s = tt
+end_does v on_other s = tt
+end_does v (finds cell) s = finishes v refl refl
+
+given_back_does : (fits : Bool) (o : Id) (cause : Cause) (object : Object) (s : State) → object_at s.heap o ≡ Some object → object.out ≡ true → Does s.heap (if fits then given_back named (Names o) cause object.cell s else halts (Erroneous GivesElsewhere))
+given_back_does true o cause object s is out = returns o object refl is out (ap (λ (f : Option Object). changed returned f s.heap o) is)
+given_back_does false o cause object s is out = tt
+
+out_does : (out : Bool) (o : Id) (cause : Cause) (pool : ℕ) (object : Object) (s : State) → object_at s.heap o ≡ Some object → object.out ≡ out → Does s.heap (back_next named (Names o) cause pool (if out then finds object.cell else on_gone) s)
+out_does true o cause pool object s is out = given_back_does (pool == object.cell.home.pool) o cause object s is out
+out_does false o cause pool object s is out = tt
+
+lent_does : (o : Id) (cause : Cause) (pool : ℕ) (at_o : Option Object) (s : State) → object_at s.heap o ≡ at_o → Does s.heap (back_next named (Names o) cause pool (lent_by at_o) s)
+lent_does o cause pool None s is = tt
+lent_does o cause pool (Some object) s is = out_does object.out o cause pool object s is refl
+
+back_does : (v : Value) (cause : Cause) (pool : ℕ) (s : State) → Does s.heap (back_next named v cause pool (lent s.heap v) s)
+back_does Null cause pool s = tt
+back_does (Names o) cause pool s = lent_does o cause pool (object_at s.heap o) s refl
+back_does (Scalar v) cause pool s = tt
+
+-- Statements and declarations.
+assign_does : (cs : List ℕ) (x : ℕ) (right : RightForm) (s : State) → Does s.heap (assign_next named cs x right s)
+assign_does [] x right s = same refl refl
+assign_does (c ∷ cs) x right s = tt
+
+frees_do : (cs : List ℕ) (access x : ℕ) (s : State) → Does s.heap (frees_next named cs access x s)
+frees_do [] access x s = free_does access x (held named s x) (look s.heap (held named s x)) s
+frees_do (c ∷ cs) access x s = tt
+
+stmt_does : (f : StmtForm) (s : State) → Does s.heap (stmt_next named f s)
+stmt_does skips s = same refl refl
+stmt_does (assigns target right) s = assign_does target.selectors target.root right s
+stmt_does (frees access variable) s = frees_do variable.selectors access variable.root s
+stmt_does (writes e) s = same refl refl
+stmt_does (writes_text text) s = same refl refl
+
+stmts_do : (fs : List StmtForm) (s : State) → Does s.heap (stmts_next named fs s)
+stmts_do [] s = same refl refl
+stmts_do (f ∷ fs) s = stmt_does f (at (frame.Does fs ∷ s.control) s)
+
+line_does : (read : Option ℤ) (s : State) → Does s.heap (line_next named read s)
+line_does None s = tt
+line_does (Some i) s = same refl refl
+
+declaration_does : (d : DeclarationForm) (s : State) → Does s.heap (declaration_next named d s)
+declaration_does (collects access) s = same refl refl
+declaration_does (declares x right) s = same refl refl
+
+declarations_do : (ds : List DeclarationForm) (fs : List StmtForm) (s : State) → Does s.heap (declarations_next named ds fs s)
+declarations_do [] fs s = same refl refl
+declarations_do (d ∷ ds) fs s = declaration_does d (at (frame.Elaborates ds fs ∷ s.control) s)
+
+-- The leaving of a master.
+members_do : (cause : Cause) (access : ℕ) (vs : List Value) (s : State) → Does s.heap (members_next named cause access vs s)
+members_do cause access [] s = same refl refl
+members_do cause access (v ∷ vs) s = λ i. parts (slice_index_or (v ∷ vs) i Null) refl refl
+
+item_leave_does : (m : ℕ) (item : Item) (owned : Owned) (s : State) → Does s.heap (item_leave_next named m item owned s)
+item_leave_does m item (declared x) s = same refl refl
+item_leave_does m item (collection access) s = members_do (Leaving m item.number) access (members s.heap item.number) s
+
+master_leave_does : (mode : Mode) (m : ℕ) (items : List Item) (s : State) → Does s.heap (master_leave_next named mode m items s)
+master_leave_does mode m [] s = same refl refl
+master_leave_does mode m (item ∷ items) s = item_leave_does m item item.owned (at (frame.Leaves mode ∷ s.control) s)
+
+leave_does : (mode : Mode) (ms : List Master) (s : State) → Does s.heap (leave_next named mode ms s)
+leave_does mode [] s = tt
+leave_does mode (m ∷ ms) s = master_leave_does mode m.number m.items s
+
+-- Each frame that is taken off.
+frame_does : (types : List TypeDefinition) (f : Frame Value) (s : State) → Does s.heap (frame_next named types f s)
+frame_does types (frame.Elaborates ds fs) s = declarations_do ds fs s
+frame_does types (frame.Does fs) s = stmts_do fs s
+frame_does types frame.Closes s = same refl refl
+frame_does types (frame.Leaves mode) s = leave_does mode s.masters s
+frame_does types (frame.Evaluates right) s = right_does right s
+frame_does types (frame.Computes e) s = expression_does e s
+frame_does types (frame.Follows cs) s = path_does cs (newest named s) (popped s)
+frame_does types (frame.Continues links) s = links_do links s
+frame_does types (frame.Applies operator) s = outcome_does (binary_given operator (newest named (popped s)) (newest named s)) (popped (popped s))
+frame_does types (frame.AppliesAlone operator) s = outcome_does (unary_given operator (newest named s)) (popped s)
+frame_does types (frame.Fills items) s = items_do items s
+frame_does types (frame.Creates access count) s = new_does access count (words_of types access) (home_of access s.masters) s
+frame_does types (frame.Stores x) s = same refl refl
+frame_does types (frame.Declares x) s = same refl refl
+frame_does types frame.Writes s = line_does (reads_integer (newest named s)) (popped s)
+frame_does types (frame.Ends v) s = end_does v (look s.heap v) s
+frame_does types (frame.GivesBack v cause pool) s = back_does v cause pool s
+frame_does types (frame.Clears x) s = same refl refl
+
+running_does : (types : List TypeDefinition) (k : List (Frame Value)) (s : State) → Does s.heap (running_next named types k s)
+running_does types [] s = tt
+running_does types (f ∷ k) s = frame_does types f (at k s)
+
+pass_does : (master : Bool) (e : Exception) (s : State) → Does s.heap (pass_next named master e s)
+pass_does true e s = same refl refl
+pass_does false e s = same refl refl
+
+raising_does : (e : Exception) (k : List (Frame Value)) (s : State) → Does s.heap (raising_next named e k s)
+raising_does e [] s = tt
+raising_does e (f ∷ k) s = pass_does (is_master f) e (at k s)
+
+mode_does : (types : List TypeDefinition) (mode : Mode) (s : State) → Does s.heap (mode_next named types mode s)
+mode_does types Running s = running_does types s.control s
+mode_does types (Raising e) s = raising_does e s.control s
+
+next_does : (types : List TypeDefinition) (s : State) → Does s.heap (next types s)
+unfolding next
+next_does types s = mode_does types s.mode s
+
+led : (xs : Heap) (coming : Next) (choice : Choice) (e : Event) (after : State) → Does xs coming → Leads coming choice e after → Deed xs e after.heap
+led xs (halts halt) choice e after d l = absurd l
+led xs (moves shown s) settled e after d l = rw (l.0, l.1) d
+led xs (moves shown s) (grants granted) e after d l = absurd l
+led xs (moves shown s) (takes i) e after d l = absurd l
+led xs (tells request shown s) settled e after d l = rw (l.0, l.1) d
+led xs (tells request shown s) (grants granted) e after d l = absurd l
+led xs (tells request shown s) (takes i) e after d l = absurd l
+led xs (asks request answers) settled e after d l = absurd l
+led xs (asks request answers) (grants granted) e after d l = rw (l.0, l.1) (d granted)
+led xs (asks request answers) (takes i) e after d l = absurd l
+led xs (picks n taking) settled e after d l = absurd l
+led xs (picks n taking) (grants granted) e after d l = absurd l
+led xs (picks n taking) (takes i) e after d l = rw (l.1, l.2) (d i)
+
+pub step_deed : (program : Program) (s after : State) (choice : Choice) (e : Event) → Step program s choice e after → Deed s.heap e after.heap
+step_deed program s after choice e l = led s.heap (next program.types.items s) choice e after (next_does program.types.items s) l

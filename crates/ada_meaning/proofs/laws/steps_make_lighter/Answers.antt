@@ -1,0 +1,6 @@
+-- By the weight.
+use Rattle.ada_meaning.proofs.Weight as weights
+use Rattle.ada_meaning.proofs.laws.steps_make_lighter.Goals as goal
+
+pub returns : goal.returns
+returns c = weights.steps_make_lighter

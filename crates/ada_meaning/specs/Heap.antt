@@ -1,0 +1,51 @@
+-- What a step asks of values and of the heap, whatever they are: objects by name, and later words in pools.
+
+use Rattle.std.specs.Prelude.{ℕ, ℤ, Bool, List, Option, Result}
+use Rattle.ada_values.specs.declared.operator.BinaryOperator.{BinaryOperator}
+use Rattle.ada_values.specs.declared.operator.UnaryOperator.{UnaryOperator}
+use Rattle.ada_values.specs.declared.fault.OperatorFault.{OperatorFault}
+
+-- Where the words of an allocated object lie, and with which item it goes: the collection, by its item's number; the pool; its subpool (13.11.4).
+pub record Home : Type 0 where
+  pub item : ℕ
+  pub pool : ℕ
+  pub subpool : Option ℕ
+
+-- What lies in an allocated object (4.8): its access type, its trace number, its home and its components.
+pub record Cell (V : Type 0) : Type 0 where
+  pub access : ℕ
+  pub number : ℕ
+  pub home : Home
+  pub values : List V
+
+-- What a value leads to: nothing where it is null; an object that is gone; no object at all where it is no access value; or a cell.
+pub data Found (X : Type 0) : Type 0 where
+  on_null : Found X
+  on_gone : Found X
+  on_other : Found X
+  finds : X → Found X
+
+-- The operations.
+pub record Ops (V H : Type 0) : Type 0 where
+  pub null : V
+  pub integer : ℤ → V
+  pub boolean : Bool → V
+  -- the number, or the truth, that a value is: none where it is of another kind
+  pub reads_integer : V → Option ℤ
+  pub reads_boolean : V → Option Bool
+  -- what the predefined operators give (4.5)
+  pub unary : UnaryOperator → V → Result V OperatorFault
+  pub binary : BinaryOperator → V → V → Result V OperatorFault
+  -- the object that a value gives access to, as long as it exists
+  pub look : H → V → Found (Cell V)
+  -- the same as long as its words are out
+  pub lent : H → V → Found (Cell V)
+  -- a new object for a granted request of so many words, in the collection of its home; and the value that names it
+  pub create : H → (words : ℕ) → Cell V → H
+  pub created : H → (words : ℕ) → V
+  -- an object leaves its collection; it ceases to exist; its words go back
+  pub part : H → V → H
+  pub finish : H → V → H
+  pub back : H → V → H
+  -- the objects of the collection of an item, newest first (7.6.1)
+  pub members : H → (item : ℕ) → List V

@@ -1,0 +1,171 @@
+-- The heap of names: objects by name, for ever. A name is never used twice.
+
+use Rattle.std.specs.Prelude.{ℕ, suc, ◌==◌, ◌&&◌, ℤ, Bool, true, false, if◌then◌else◌, List, [], ◌∷◌, ◌++◌, length, map, Option, Some, None, Result, Ok, Err}
+use Rattle.std.specs.List.{slice_get, slice_set}
+use Rattle.ada_values.specs.declared.value.Value.{Value as ScalarValue}
+use Rattle.ada_values.specs.declared.value.Value.TheVariants as scalar
+use Rattle.ada_values.specs.declared.operator.BinaryOperator.{BinaryOperator}
+use Rattle.ada_values.specs.declared.operator.UnaryOperator.{UnaryOperator}
+use Rattle.ada_values.specs.declared.fault.OperatorFault.{OperatorFault}
+use Rattle.ada_values.specs.declared.fault.OperatorFault.TheVariants.{WrongType}
+use Rattle.ada_values.specs.Outcome.{outcome_of, unary_outcome_of}
+use Rattle.ada_program.specs.declared.program.TypeDefinition.{TypeDefinition}
+use Rattle.ada_meaning.specs.declared.state.Id.{Id}
+use Rattle.ada_meaning.specs.declared.state.Value.{Value}
+use Rattle.ada_meaning.specs.declared.state.Value.TheVariants.{Null, Names, Scalar}
+use Rattle.ada_meaning.specs.declared.state.Stage.{Stage}
+use Rattle.ada_meaning.specs.declared.state.Stage.TheVariants.{Building, Existing, Gone}
+use Rattle.ada_meaning.specs.State.{State as StateOver}
+use Rattle.ada_meaning.specs.Heap.{Cell, Found, on_null, on_gone, on_other, finds, Ops}
+use Rattle.ada_meaning.specs.Step.{Next as NextOver, mode_next}
+
+-- An allocated object (3.3, 4.8): what lies in it, its stage, whether it is in its collection, and whether its words are still out.
+pub record Object : Type 0 where
+  pub cell : Cell Value
+  pub stage : Stage
+  pub listed : Bool
+  pub out : Bool
+
+-- A state over names, and what it does next.
+abbrev pub State : Type 0
+State = StateOver Value (List Object)
+
+abbrev pub Next : Type 0
+Next = NextOver Value (List Object)
+
+-- The object of a name, if the name was ever given.
+abbrev pub object_at : List Object → Id → Option Object
+object_at objects o = slice_get objects o.0
+
+-- The object of a name changes, if there is one.
+abbrev pub changed : (Object → Object) → Option Object → List Object → Id → List Object
+changed change None objects o = objects
+changed change (Some object) objects o = slice_set objects o.0 (change object)
+
+-- A value leads to an object as long as that exists (4.1, 13.11.2): it may still be under construction.
+abbrev pub existing : Object → Stage → Found (Cell Value)
+existing object Building = finds object.cell
+existing object Existing = finds object.cell
+existing object Gone = on_gone
+
+abbrev pub seen : Option Object → Found (Cell Value)
+seen None = on_gone
+seen (Some object) = existing object object.stage
+
+abbrev pub look : List Object → Value → Found (Cell Value)
+look objects Null = on_null
+look objects (Names o) = seen (object_at objects o)
+look objects (Scalar v) = on_other
+
+-- The same as long as its words are out.
+abbrev pub lent_by : Option Object → Found (Cell Value)
+lent_by None = on_gone
+lent_by (Some object) = if object.out then finds object.cell else on_gone
+
+abbrev pub lent : List Object → Value → Found (Cell Value)
+lent objects Null = on_null
+lent objects (Names o) = lent_by (object_at objects o)
+lent objects (Scalar v) = on_other
+
+-- A new object exists, is in its collection, and its words are out.
+abbrev pub new_object : Cell Value → Object
+new_object cell = record { cell = cell; stage = Existing; listed = true; out = true }
+
+abbrev pub create : List Object → ℕ → Cell Value → List Object
+create objects words cell = objects ++ new_object cell ∷ []
+
+-- It has the next name: the one that no object has had yet.
+abbrev pub created : List Object → ℕ → Value
+created objects words = Names (record { 0 = length objects })
+
+-- What becomes of an object: it leaves its collection; it ceases to exist; its words go back (13.11.2).
+abbrev pub parted : Object → Object
+parted object = record object { listed = false }
+
+abbrev pub finished : Object → Object
+finished object = record object { stage = Gone; listed = false }
+
+abbrev pub returned : Object → Object
+returned object = record object { out = false }
+
+-- The object that a value names changes.
+abbrev pub on_object : (Object → Object) → List Object → Value → List Object
+on_object change objects Null = objects
+on_object change objects (Names o) = changed change (object_at objects o) objects o
+on_object change objects (Scalar v) = objects
+
+-- The members of a collection (7.6.1): the objects in it whose home it is, newest first.
+abbrev pub is_member : ℕ → Object → Bool
+is_member item object = object.listed && (object.cell.home.item == item)
+
+abbrev pub members_from : ℕ → ℕ → List Object → List Id
+members_from item n [] = []
+members_from item n (object ∷ objects) = members_from item (suc n) objects ++ (if is_member item object then record { 0 = n } ∷ [] else [])
+
+abbrev pub members_of : List Object → ℕ → List Id
+members_of objects item = members_from item 0 objects
+
+abbrev pub members : List Object → ℕ → List Value
+members objects item = map Names (members_of objects item)
+
+-- The number, or the truth, that a value is (3.5.4, 3.5.3).
+abbrev pub integer_in : ScalarValue → Option ℤ
+integer_in (scalar.Integer i) = Some i
+integer_in (scalar.Boolean b) = None
+
+abbrev pub boolean_in : ScalarValue → Option Bool
+boolean_in (scalar.Integer i) = None
+boolean_in (scalar.Boolean b) = Some b
+
+abbrev pub reads_integer : Value → Option ℤ
+reads_integer Null = None
+reads_integer (Names o) = None
+reads_integer (Scalar v) = integer_in v
+
+abbrev pub reads_boolean : Value → Option Bool
+reads_boolean Null = None
+reads_boolean (Names o) = None
+reads_boolean (Scalar v) = boolean_in v
+
+-- What an operator gives of values (4.5): Integers and Booleans have operators, access values have none yet.
+abbrev pub as_value : Result ScalarValue OperatorFault → Result Value OperatorFault
+as_value (Ok v) = Ok (Scalar v)
+as_value (Err fault) = Err fault
+
+abbrev pub unary_given : UnaryOperator → Value → Result Value OperatorFault
+unary_given operator (Scalar a) = as_value (unary_outcome_of operator a)
+unary_given operator a = Err WrongType
+
+abbrev pub binary_given : BinaryOperator → Value → Value → Result Value OperatorFault
+binary_given operator (Scalar a) (Scalar b) = as_value (outcome_of operator a b)
+binary_given operator a b = Err WrongType
+
+abbrev pub an_integer : ℤ → Value
+an_integer i = Scalar (scalar.Integer i)
+
+abbrev pub a_boolean : Bool → Value
+a_boolean b = Scalar (scalar.Boolean b)
+
+-- The operations over names.
+abbrev pub named : Ops Value (List Object)
+named = record {
+  null = Null;
+  integer = an_integer;
+  boolean = a_boolean;
+  reads_integer = reads_integer;
+  reads_boolean = reads_boolean;
+  unary = unary_given;
+  binary = binary_given;
+  look = look;
+  lent = lent;
+  create = create;
+  created = created;
+  part = on_object parted;
+  finish = on_object finished;
+  back = on_object returned;
+  members = members;
+}
+
+-- What comes next.
+unfoldable pub next : List TypeDefinition → State → Next
+next types s = mode_next named types s.mode s

@@ -1,0 +1,24 @@
+use Rattle.std.proofs.Common.{rules, ◌≡◌, [], sym, ◌∙◌, arith}
+use Rattle.std.proofs.lemmas.Result.{err_from_is_err_and}
+use Rattle.ada_tree.specs.Names.{ident_of}
+use Rattle.ada_phrases.proofs.Loop.{begins_list, goes_on_push, ends, is_done}
+use Rattle.ada_phrases.proofs.names.read_parts.Goals as goal
+
+pub loop-reader-init : goal.loop-reader-init
+loop-reader-init c =
+    let e : c.new-found.result.items ≡ [] = search rules in
+    record { shorter = omega arith; read = begins_list ident_of e }
+
+pub returns-in_err-next-clause-read : goal.returns-in_err-next-clause-read
+returns-in_err-next-clause-read c =
+    let p = err_from_is_err_and c.from_residual.result c.from_residual.ensures.1 in
+    rw (p.1, p.2) (ends c.in_err-next.field-0.0 c.read_part.new.reader.tokens.now c.loop-reader.invariant.read (sym c.is_at.ensures ∙ c.loop-reader-test.true) c.in_err-next.ensures.read)
+
+pub loop-reader-preserved : goal.loop-reader-preserved
+loop-reader-preserved c = record {
+  shorter = omega (arith, c.in_ok-next.ensures.shorter);
+  read = goes_on_push ident_of c.loop-reader.found.items c.in_ok-next.next c.in_ok-push.ensures.items c.loop-reader.invariant.read (sym c.is_at.ensures ∙ c.loop-reader-test.true) c.in_ok-next.ensures.read c.in_ok-next.ensures.shorter;
+}
+
+pub returns-clause-read : goal.returns-clause-read
+returns-clause-read c = is_done c.loop-reader.invariant.read (sym c.is_at.ensures ∙ c.loop-reader-test.false)

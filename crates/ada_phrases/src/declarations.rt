@@ -1,0 +1,224 @@
+//! Reading declarations in which no other nests (3.1).
+
+ghost use Rattle.std.specs.Prelude.{◌<◌, length, OnOk};
+ghost use Rattle.ada_reader.specs.Step.{Reads};
+ghost use Rattle.ada_phrases.specs.Declarations.{attribute_clause_at, object_at, type_at};
+ghost use Rattle.ada_phrases.specs.Words.{boxed_declaration, definition_of, object_named, object_typed, type_named};
+
+use crate::boxes::{boxed, opened};
+use crate::names::read_name;
+use crate::parts::{optional_aspect, read_constraint, read_size};
+use crate::records::{read_record, read_static};
+use crate::rights::read_initial;
+use ada_reader::{Reader, Stop};
+use ada_text::{Delimiter, Spot, Word};
+use ada_tree::declarations::Declaration;
+use ada_tree::names::{Identifier, Name};
+use std::alloc::Global;
+
+/// `X : ..;` (3.3.1)
+#[tactic(auto, using(std::proofs::lemmas::Grind::common_steps, ada_tree::specs::StatementView::statement_rules), unfolding(crate::specs::Declarations::object_at))]
+pub(crate) fn read_object<'t>(
+    alloc: Global,
+    reader: &mut Reader<'t>,
+    room: u32,
+) -> Result<Box<Declaration<'t>>, Stop>
+    ensures shorter { OnOk result (length reader.new.tokens.now < length reader.old.tokens.now) }
+    ensures read { Reads boxed_declaration reader (object_at room) result }
+{
+    let name = reader.identifier()?;
+    reader.delimiter(Delimiter::Colon)?;
+    read_object_named(alloc, reader, room, name)
+}
+
+/// What stands behind `X :`.
+#[tactic(auto, using(std::proofs::lemmas::Grind::common_steps, ada_tree::specs::StatementView::statement_rules), unfolding(crate::specs::Declarations::object_named_at))]
+fn read_object_named<'t>(
+    alloc: Global,
+    reader: &mut Reader<'t>,
+    room: u32,
+    name: Identifier<'t>,
+) -> Result<Box<Declaration<'t>>, Stop>
+    ensures shorter { OnOk result (length reader.new.tokens.now < length reader.old.tokens.now) }
+    ensures read { Reads boxed_declaration reader (object_named room name.entry) result }
+{
+    if reader.is_at_word(Word::Exception) {
+        reader.word(Word::Exception)?;
+        reader.delimiter(Delimiter::Semicolon)?;
+        return Ok(boxed(alloc, Declaration::Exception { name })?);
+    }
+    if reader.is_at_word(Word::Constant) {
+        reader.word(Word::Constant)?;
+        reader.delimiter(Delimiter::Assign)?;
+        let value = read_static(reader)?;
+        reader.delimiter(Delimiter::Semicolon)?;
+        return Ok(boxed(alloc, Declaration::Constant { name, value })?);
+    }
+    if reader.is_at_word(Word::Access) {
+        reader.word(Word::Access)?;
+        let designated = reader.identifier()?;
+        let initial = read_initial(alloc, reader, room)?;
+        reader.delimiter(Delimiter::Semicolon)?;
+        return Ok(boxed(
+            alloc,
+            Declaration::Borrower {
+                name,
+                designated,
+                initial: opened(initial),
+            },
+        )?);
+    }
+    let type_name = read_name(alloc, reader)?;
+    read_object_typed(alloc, reader, room, name, type_name)
+}
+
+/// What stands behind `X : T`.
+#[tactic(auto, using(std::proofs::lemmas::Grind::common_steps, ada_tree::specs::StatementView::statement_rules), unfolding(crate::specs::Declarations::object_typed_at))]
+fn read_object_typed<'t>(
+    alloc: Global,
+    reader: &mut Reader<'t>,
+    room: u32,
+    name: Identifier<'t>,
+    type_name: Name<'t>,
+) -> Result<Box<Declaration<'t>>, Stop>
+    ensures shorter { OnOk result (length reader.new.tokens.now < length reader.old.tokens.now) }
+    ensures read { Reads boxed_declaration reader (object_typed room name.entry type_name.entry) result }
+{
+    if reader.is_at(Delimiter::LeftParenthesis) {
+        let (label, size) = read_constraint(reader, room)?;
+        reader.delimiter(Delimiter::Semicolon)?;
+        return Ok(boxed(
+            alloc,
+            Declaration::Pool {
+                name,
+                type_name,
+                label,
+                size,
+            },
+        )?);
+    }
+    let initial = read_initial(alloc, reader, room)?;
+    reader.delimiter(Delimiter::Semicolon)?;
+    Ok(boxed(
+        alloc,
+        Declaration::Object {
+            name,
+            type_name,
+            initial: opened(initial),
+        },
+    )?)
+}
+
+/// `type T ..;` (3.2.1)
+#[tactic(auto, unfolding(crate::specs::Declarations::type_at))]
+pub(crate) fn read_type<'t>(
+    alloc: Global,
+    reader: &mut Reader<'t>,
+) -> Result<Box<Declaration<'t>>, Stop>
+    ensures shorter { OnOk result (length reader.new.tokens.now < length reader.old.tokens.now) }
+    ensures read { Reads boxed_declaration reader type_at result }
+{
+    let spot = reader.word(Word::Type)?;
+    let name = reader.identifier()?;
+    read_type_named(alloc, reader, spot, name)
+}
+
+/// What stands behind `type T`.
+#[tactic(auto, using(std::proofs::lemmas::Grind::common_steps, ada_tree::specs::StatementView::statement_rules), unfolding(crate::specs::Declarations::type_named_at))]
+fn read_type_named<'t>(
+    alloc: Global,
+    reader: &mut Reader<'t>,
+    spot: Spot,
+    name: Identifier<'t>,
+) -> Result<Box<Declaration<'t>>, Stop>
+    ensures shorter { OnOk result (length reader.new.tokens.now < length reader.old.tokens.now) }
+    ensures read { Reads boxed_declaration reader (type_named spot name.entry) result }
+{
+    if reader.is_at(Delimiter::Semicolon) {
+        reader.delimiter(Delimiter::Semicolon)?;
+        return Ok(boxed(alloc, Declaration::IncompleteType { spot, name })?);
+    }
+    reader.word(Word::Is)?;
+    read_definition(alloc, reader, spot, name)
+}
+
+/// What stands behind `type T is`.
+#[tactic(auto, using(std::proofs::lemmas::Grind::common_steps, ada_tree::specs::StatementView::statement_rules), unfolding(crate::specs::Declarations::definition_at))]
+fn read_definition<'t>(
+    alloc: Global,
+    reader: &mut Reader<'t>,
+    spot: Spot,
+    name: Identifier<'t>,
+) -> Result<Box<Declaration<'t>>, Stop>
+    ensures shorter { OnOk result (length reader.new.tokens.now < length reader.old.tokens.now) }
+    ensures read { Reads boxed_declaration reader (definition_of spot name.entry) result }
+{
+    if reader.is_at_word(Word::Access) {
+        reader.word(Word::Access)?;
+        let designated = reader.identifier()?;
+        let aspect = optional_aspect(reader)?;
+        reader.delimiter(Delimiter::Semicolon)?;
+        return Ok(boxed(
+            alloc,
+            Declaration::AccessType {
+                spot,
+                name,
+                designated,
+                aspect,
+            },
+        )?);
+    }
+    if reader.is_at_word(Word::New) {
+        reader.word(Word::New)?;
+        let parent = read_name(alloc, reader)?;
+        reader.word(Word::With)?;
+        let definition = read_record(alloc, reader)?;
+        reader.delimiter(Delimiter::Semicolon)?;
+        return Ok(boxed(
+            alloc,
+            Declaration::DerivedType {
+                spot,
+                name,
+                parent,
+                definition,
+            },
+        )?);
+    }
+    let definition = read_record(alloc, reader)?;
+    reader.delimiter(Delimiter::Semicolon)?;
+    Ok(boxed(
+        alloc,
+        Declaration::RecordType {
+            spot,
+            name,
+            definition,
+        },
+    )?)
+}
+
+/// `for A'Storage_Size use 64;` (13.3)
+#[tactic(auto, using(std::proofs::lemmas::Grind::common_steps, ada_tree::specs::StatementView::statement_rules), unfolding(crate::specs::Declarations::attribute_clause_at))]
+pub(crate) fn read_attribute_clause<'t>(
+    alloc: Global,
+    reader: &mut Reader<'t>,
+) -> Result<Box<Declaration<'t>>, Stop>
+    ensures shorter { OnOk result (length reader.new.tokens.now < length reader.old.tokens.now) }
+    ensures read { Reads boxed_declaration reader attribute_clause_at result }
+{
+    let spot = reader.word(Word::For)?;
+    let name = reader.identifier()?;
+    reader.delimiter(Delimiter::Tick)?;
+    let attribute = reader.identifier()?;
+    reader.word(Word::Use)?;
+    let value = read_size(reader)?;
+    reader.delimiter(Delimiter::Semicolon)?;
+    Ok(boxed(
+        alloc,
+        Declaration::Clause {
+            spot,
+            name,
+            attribute,
+            value,
+        },
+    )?)
+}

@@ -1,0 +1,3 @@
+-- lemmas of this crate
+mod Items
+mod Viewed

@@ -1,0 +1,54 @@
+-- A whole program as plain data: its types, its variables, and what it does, whatever the program keeps them in.
+
+use Rattle.std.specs.Prelude.{ℕ, List, map}
+use Rattle.std.specs.String.{string_bytes}
+use Rattle.ada_program.specs.declared.program.Component.{Component}
+use Rattle.ada_program.specs.declared.program.ComponentKind.{ComponentKind}
+use Rattle.ada_program.specs.declared.program.Variable.{Variable}
+use Rattle.ada_program.specs.declared.program.VariableKind.{VariableKind}
+use Rattle.ada_program.specs.declared.program.Program.{Program}
+use Rattle.ada_program.specs.declared.program.TypeDefinition.{TypeDefinition}
+use Rattle.ada_program.specs.declared.program.TypeDefinition.TheVariants as definition
+use Rattle.ada_program.specs.Form.{StmtForm, DeclarationForm, declaration_forms, stmt_forms}
+
+-- A component of a record type: its name, and what it holds (3.8).
+pub record ComponentForm : Type 0 where
+  pub name : List ℕ
+  pub kind : ComponentKind
+
+-- A type (3.2.1): a record type and its components in order, or an access type and the type that it designates.
+pub data TypeForm : Type 0 where
+  record_of : List ℕ → List ComponentForm → TypeForm
+  access_to : List ℕ → ℕ → TypeForm
+
+-- A variable: its name, and what it holds (3.3.1).
+pub record VariableForm : Type 0 where
+  pub name : List ℕ
+  pub kind : VariableKind
+
+-- A program: types, variables and texts by their numbers, its declarations (3.11) and its statements.
+pub record ProgramForm : Type 0 where
+  pub types : List TypeForm
+  pub variables : List VariableForm
+  pub texts : List (List ℕ)
+  pub declarations : List DeclarationForm
+  pub statements : List StmtForm
+
+abbrev pub component_form : Component → ComponentForm
+component_form c = record { name = string_bytes c.name; kind = c.kind }
+
+abbrev pub type_form : TypeDefinition → TypeForm
+type_form (definition.Record name components) = record_of (string_bytes name) (map component_form components.items)
+type_form (definition.Access name designated) = access_to (string_bytes name) designated.0
+
+abbrev pub variable_form : Variable → VariableForm
+variable_form o = record { name = string_bytes o.name; kind = o.kind }
+
+abbrev pub program_form : Program → ProgramForm
+program_form p = record {
+  types = map type_form p.types.items;
+  variables = map variable_form p.variables.items;
+  texts = map string_bytes p.texts.items;
+  declarations = declaration_forms p;
+  statements = stmt_forms p;
+}

@@ -1,0 +1,41 @@
+-- What the types of a program give: the type that one designates, the components of its objects, and how many words those take.
+
+use Rattle.std.specs.Prelude.{ℕ, List, length, Option, Some, None}
+use Rattle.std.specs.List.{slice_get}
+use Rattle.ada_program.specs.declared.program.Component.{Component}
+use Rattle.ada_program.specs.declared.program.TypeDefinition.{TypeDefinition}
+use Rattle.ada_program.specs.declared.program.TypeDefinition.TheVariants as definition
+
+-- The record type that a type designates (3.10): none, if it is no access type.
+abbrev pub designated_by : Option TypeDefinition → Option ℕ
+designated_by None = None
+designated_by (Some (definition.Record name components)) = None
+designated_by (Some (definition.Access name designated)) = Some designated.0
+
+abbrev pub designated_of : List TypeDefinition → ℕ → Option ℕ
+designated_of types t = designated_by (slice_get types t)
+
+-- The components of a record type, in order (3.8): none, if it is no record type.
+abbrev pub components_by : Option TypeDefinition → Option (List Component)
+components_by None = None
+components_by (Some (definition.Record name components)) = Some components.items
+components_by (Some (definition.Access name designated)) = None
+
+abbrev pub components_of : List TypeDefinition → ℕ → Option (List Component)
+components_of types t = components_by (slice_get types t)
+
+-- The components of the objects that an access type's values name.
+abbrev pub reached_by : List TypeDefinition → Option ℕ → Option (List Component)
+reached_by types None = None
+reached_by types (Some t) = components_of types t
+
+abbrev pub reached_of : List TypeDefinition → ℕ → Option (List Component)
+reached_of types access = reached_by types (designated_of types access)
+
+-- How many words an object takes that an access type's values name: one for each component (13.11).
+abbrev pub count_of : Option (List Component) → ℕ
+count_of None = 0
+count_of (Some components) = length components
+
+abbrev pub words_of : List TypeDefinition → ℕ → ℕ
+words_of types access = count_of (reached_of types access)

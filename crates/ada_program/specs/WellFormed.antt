@@ -1,0 +1,360 @@
+-- What a well-formed program is: each number is that of something there, and each form has the types that it wants.
+
+use Rattle.std.specs.Prelude.{◌≡◌, ℕ, ◌+◌, Bool, true, false, ◌&&◌, ◌==◌, nat_lt, nat_le, if◌then◌else◌, List, [], ◌∷◌, length, count_by, Option, Some, None, is_some}
+use Rattle.std.specs.List.{list_all, slice_get}
+use Rattle.ada_values.specs.declared.operator.UnaryOperator.{UnaryOperator}
+use Rattle.ada_values.specs.declared.operator.UnaryOperator.TheVariants as unary
+use Rattle.ada_values.specs.declared.operator.BinaryOperator.{BinaryOperator}
+use Rattle.ada_values.specs.declared.operator.BinaryOperator.TheVariants as binary
+use Rattle.ada_program.specs.declared.program.ComponentKind.{ComponentKind}
+use Rattle.ada_program.specs.declared.program.ComponentKind.TheVariants as component
+use Rattle.ada_program.specs.declared.program.VariableKind.{VariableKind}
+use Rattle.ada_program.specs.declared.program.VariableKind.TheVariants as variable
+use Rattle.ada_program.specs.declared.program.ScalarType.{ScalarType}
+use Rattle.ada_program.specs.declared.program.ScalarType.TheVariants.{Integer, Boolean}
+use Rattle.ada_program.specs.Form.{PathForm, ExpressionForm, integer, boolean, reads, applied_to, chained, LinksForm, no_more_links, a_link, ItemForm, null_item, item_of_value, RightForm, nothing, value_of, allocates, computes, StmtForm, skips, assigns, frees, writes, writes_text, DeclarationForm, collects, declares}
+use Rattle.ada_program.specs.ProgramForm.{ComponentForm, TypeForm, record_of, access_to, VariableForm, ProgramForm}
+
+-- The type that an access type designates (3.10): none, if it is no access type.
+abbrev pub designated_in : Option TypeForm → Option ℕ
+designated_in None = None
+designated_in (Some (record_of name components)) = None
+designated_in (Some (access_to name designated)) = Some designated
+
+-- The same by the access type's number.
+abbrev pub designated_type : List TypeForm → ℕ → Option ℕ
+designated_type types t = designated_in (slice_get types t)
+
+-- The components of a record type, in order (3.8): none, if it is no record type.
+abbrev pub components_in : Option TypeForm → Option (List ComponentForm)
+components_in None = None
+components_in (Some (record_of name components)) = Some components
+components_in (Some (access_to name designated)) = None
+
+-- The same by the record type's number.
+abbrev pub record_components : List TypeForm → ℕ → Option (List ComponentForm)
+record_components types t = components_in (slice_get types t)
+
+-- The components of the objects that an access type's values designate (3.10).
+abbrev pub components_reached : List TypeForm → Option ℕ → Option (List ComponentForm)
+components_reached types None = None
+components_reached types (Some t) = record_components types t
+
+-- The same by the access type's number.
+abbrev pub reached_components : List TypeForm → ℕ → Option (List ComponentForm)
+reached_components types access = components_reached types (designated_type types access)
+
+-- Whether a number is that of an access type.
+abbrev pub is_access : List TypeForm → ℕ → Bool
+is_access types t = is_some (designated_type types t)
+
+-- Whether a number is that of a record type.
+abbrev pub is_record : List TypeForm → ℕ → Bool
+is_record types t = is_some (record_components types t)
+
+-- A component is an Integer or a Boolean, or of an access type (3.6, 3.8).
+abbrev pub kind_fits : List TypeForm → ComponentKind → Bool
+kind_fits types (component.Integer initial) = true
+kind_fits types (component.Boolean initial) = true
+kind_fits types (component.Access access) = is_access types access.0
+
+-- The same of a component.
+abbrev pub component_fits : List TypeForm → ComponentForm → Bool
+component_fits types c = kind_fits types c.kind
+
+-- A type has such components, or designates a record type (3.10).
+abbrev pub type_fits : List TypeForm → TypeForm → Bool
+type_fits types (record_of name components) = list_all (component_fits types) components
+type_fits types (access_to name designated) = is_record types designated
+
+-- A variable is an Integer or a Boolean, or of an access type (3.3.1).
+abbrev pub variable_kind_fits : List TypeForm → VariableKind → Bool
+variable_kind_fits types variable.Integer = true
+variable_kind_fits types variable.Boolean = true
+variable_kind_fits types (variable.Access access) = is_access types access.0
+
+-- The same of a variable.
+abbrev pub variable_fits : List TypeForm → VariableForm → Bool
+variable_fits types x = variable_kind_fits types x.kind
+
+-- Collections are created before the first variable, and the variables in order from one on, each once, up to their count (3.11).
+abbrev pub creates_from : ℕ → ℕ → List DeclarationForm → Bool
+creates_from count k [] = k == count
+creates_from count k (collects access ∷ es) = (k == 0) && creates_from count k es
+creates_from count k (declares x right ∷ es) = (x == k) && creates_from count (k + 1) es
+
+-- A collection is that of an access type (7.6.1).
+abbrev pub collection_fits : List TypeForm → DeclarationForm → Bool
+collection_fits types (collects access) = is_access types access
+collection_fits types (declares x right) = true
+
+-- Whether the collection of this access type is created.
+abbrev pub is_collection : ℕ → DeclarationForm → Bool
+is_collection access (collects t) = t == access
+is_collection access (declares x right) = false
+
+-- Each access type, from a number on, has one collection (7.6.1).
+abbrev pub has_collections : List DeclarationForm → ℕ → List TypeForm → Bool
+has_collections es t [] = true
+has_collections es t (record_of name components ∷ types) = has_collections es (t + 1) types
+has_collections es t (access_to name designated ∷ types) = (count_by (is_collection t) es == 1) && has_collections es (t + 1) types
+
+-- What a variable holds (3.3.1).
+abbrev pub kind_in : Option VariableForm → Option VariableKind
+kind_in None = None
+kind_in (Some x) = Some x.kind
+
+-- The same by the variable's number.
+abbrev pub variable_kind : List VariableForm → ℕ → Option VariableKind
+variable_kind variables x = kind_in (slice_get variables x)
+
+-- The access type of a value (3.10): none, if it is an Integer or a Boolean.
+abbrev pub access_of : Option VariableKind → Option ℕ
+access_of None = None
+access_of (Some variable.Integer) = None
+access_of (Some variable.Boolean) = None
+access_of (Some (variable.Access access)) = Some access.0
+
+-- Integer or Boolean, whichever a value is (3.5.4, 3.5.3): none, if it is an access value.
+abbrev pub scalar_of : Option VariableKind → Option ScalarType
+scalar_of None = None
+scalar_of (Some variable.Integer) = Some Integer
+scalar_of (Some variable.Boolean) = Some Boolean
+scalar_of (Some (variable.Access access)) = None
+
+-- What a component holds, whatever it holds at first (3.8).
+abbrev pub held_kind : ComponentKind → VariableKind
+held_kind (component.Integer initial) = variable.Integer
+held_kind (component.Boolean initial) = variable.Boolean
+held_kind (component.Access access) = variable.Access access
+
+-- The same of a component, where it is there.
+abbrev pub component_kind : Option ComponentForm → Option VariableKind
+component_kind None = None
+component_kind (Some c) = Some (held_kind c.kind)
+
+-- The same by the component's number in its record type.
+abbrev pub kind_among : Option (List ComponentForm) → ℕ → Option VariableKind
+kind_among None c = None
+kind_among (Some components) c = component_kind (slice_get components c)
+
+-- The same of the objects that the values of an access type designate (3.10): none, if there is no access type.
+abbrev pub kind_behind : List TypeForm → Option ℕ → ℕ → Option VariableKind
+kind_behind types None c = None
+kind_behind types (Some access) c = kind_among (reached_components types access) c
+
+-- What a component holds that is selected behind a value (4.1, 4.1.3): none, if the value is no access value, or designates objects
+-- without such a component.
+abbrev pub selected_kind : List TypeForm → Option VariableKind → ℕ → Option VariableKind
+selected_kind types kind c = kind_behind types (access_of kind) c
+
+-- The same after all the components that are selected, one behind the other.
+abbrev pub selectors_kind : List TypeForm → Option VariableKind → List ℕ → Option VariableKind
+selectors_kind types kind [] = kind
+selectors_kind types kind (c ∷ selectors) = selectors_kind types (selected_kind types kind c) selectors
+
+-- What is held where a path leads (4.1): none, if it leads nowhere.
+abbrev pub path_kind : List TypeForm → List VariableForm → PathForm → Option VariableKind
+path_kind types variables path = selectors_kind types (variable_kind variables path.root) path.selectors
+
+-- The access type of the value where a path leads.
+abbrev pub path_access : List TypeForm → List VariableForm → PathForm → Option ℕ
+path_access types variables path = access_of (path_kind types variables path)
+
+-- Whether there is a type, and it is the one with this number.
+abbrev pub is_this : ℕ → Option ℕ → Bool
+is_this access None = false
+is_this access (Some t) = t == access
+
+-- In use so far: an expression reads what a variable holds, or a component of the object that a variable gives access to.
+abbrev pub follows_at_most_one : PathForm → Bool
+follows_at_most_one path = nat_le (length path.selectors) 1
+
+-- In use so far: a target, an access value that is moved, and what is freed are variables, and no components.
+abbrev pub names_variable : PathForm → Bool
+names_variable path = length path.selectors == 0
+
+-- Whether there is a type, and it is this one.
+abbrev pub is_type : ScalarType → Option ScalarType → Bool
+is_type type None = false
+is_type Integer (Some Integer) = true
+is_type Integer (Some Boolean) = false
+is_type Boolean (Some Integer) = false
+is_type Boolean (Some Boolean) = true
+
+-- An operator takes one operand of a type, and gives a value of that type (4.5).
+abbrev pub given_one : ScalarType → Option ScalarType → Option ScalarType
+given_one taken operand = if is_type taken operand then Some taken else None
+
+-- An operator takes two operands of one type, and gives a value of another type or the same (4.5).
+abbrev pub given_two : ScalarType → ScalarType → Option ScalarType → Option ScalarType → Option ScalarType
+given_two taken given left right = if is_type taken left && is_type taken right then Some given else None
+
+-- An equality takes two operands of one type, whichever it is, and gives a Boolean (4.5.2).
+abbrev pub given_alike : Option ScalarType → Option ScalarType → Option ScalarType
+given_alike None right = None
+given_alike (Some left) right = if is_type left right then Some Boolean else None
+
+-- + and - take an Integer and give one (4.5.4); not takes a Boolean and gives one (4.5.6).
+abbrev pub unary_type : UnaryOperator → Option ScalarType → Option ScalarType
+unary_type unary.Plus operand = given_one Integer operand
+unary_type unary.Minus operand = given_one Integer operand
+unary_type unary.Not operand = given_one Boolean operand
+
+-- Logical operators and short-circuit forms take Booleans (4.5.1), orderings take Integers and give a Boolean, equalities take two of
+-- one type (4.5.2), adding and multiplying operators take Integers and give one (4.5.3, 4.5.5).
+abbrev pub binary_type : BinaryOperator → Option ScalarType → Option ScalarType → Option ScalarType
+binary_type binary.And left right = given_two Boolean Boolean left right
+binary_type binary.Or left right = given_two Boolean Boolean left right
+binary_type binary.Xor left right = given_two Boolean Boolean left right
+binary_type binary.AndThen left right = given_two Boolean Boolean left right
+binary_type binary.OrElse left right = given_two Boolean Boolean left right
+binary_type binary.Equal left right = given_alike left right
+binary_type binary.NotEqual left right = given_alike left right
+binary_type binary.Less left right = given_two Integer Boolean left right
+binary_type binary.LessOrEqual left right = given_two Integer Boolean left right
+binary_type binary.Greater left right = given_two Integer Boolean left right
+binary_type binary.GreaterOrEqual left right = given_two Integer Boolean left right
+binary_type binary.Add left right = given_two Integer Integer left right
+binary_type binary.Subtract left right = given_two Integer Integer left right
+binary_type binary.Multiply left right = given_two Integer Integer left right
+binary_type binary.Divide left right = given_two Integer Integer left right
+binary_type binary.Modulo left right = given_two Integer Integer left right
+binary_type binary.Remainder left right = given_two Integer Integer left right
+
+-- The type of what an expression reads (4.4).
+abbrev pub read_type : List TypeForm → List VariableForm → PathForm → Option ScalarType
+read_type types variables path = if follows_at_most_one path then scalar_of (path_kind types variables path) else None
+
+abbrev mutual
+  -- The type of an expression (4.4): none, where an operand has none or a wrong one.
+  pub type_of : List TypeForm → List VariableForm → ExpressionForm → Option ScalarType
+  type_of types variables (integer value) = Some Integer
+  type_of types variables (boolean value) = Some Boolean
+  type_of types variables (reads path) = read_type types variables path
+  type_of types variables (applied_to operator e) = unary_type operator (type_of types variables e)
+  type_of types variables (chained e links) = chain_type types variables (type_of types variables e) links
+
+  -- The type after operators of one level, applied from left to right to a left operand of a type (4.5).
+  pub chain_type : List TypeForm → List VariableForm → Option ScalarType → LinksForm → Option ScalarType
+  chain_type types variables left no_more_links = left
+  chain_type types variables left (a_link operator e links) = chain_type types variables (binary_type operator left (type_of types variables e)) links
+
+-- Whether an expression has this type.
+abbrev pub has_type : List TypeForm → List VariableForm → ScalarType → ExpressionForm → Bool
+has_type types variables type e = is_type type (type_of types variables e)
+
+-- An item of an aggregate is null for an access component, and else an expression of the component's type (4.3.1).
+abbrev pub item_fits : List TypeForm → List VariableForm → ComponentKind → ItemForm → Bool
+item_fits types variables (component.Integer initial) null_item = false
+item_fits types variables (component.Integer initial) (item_of_value e) = has_type types variables Integer e
+item_fits types variables (component.Boolean initial) null_item = false
+item_fits types variables (component.Boolean initial) (item_of_value e) = has_type types variables Boolean e
+item_fits types variables (component.Access access) null_item = true
+item_fits types variables (component.Access access) (item_of_value e) = false
+
+-- There is one item for each component, in order (4.3.1).
+abbrev pub items_fit : List TypeForm → List VariableForm → List ComponentForm → List ItemForm → Bool
+items_fit types variables [] [] = true
+items_fit types variables [] (i ∷ items) = false
+items_fit types variables (c ∷ components) [] = false
+items_fit types variables (c ∷ components) (i ∷ items) = item_fits types variables c.kind i && items_fit types variables components items
+
+-- There is such a record type, and the items are those of an object of it (4.8).
+abbrev pub is_filled : List TypeForm → List VariableForm → Option (List ComponentForm) → List ItemForm → Bool
+is_filled types variables None items = false
+is_filled types variables (Some components) items = items_fit types variables components items
+
+-- What is assigned where an access value is held (4.8, 5.2): null, a variable of that very type, or a new object of that type.
+abbrev pub access_fits : List TypeForm → List VariableForm → ℕ → RightForm → Bool
+access_fits types variables access nothing = true
+access_fits types variables access (value_of path) = names_variable path && is_this access (path_access types variables path)
+access_fits types variables access (allocates t items) = (t == access) && is_filled types variables (reached_components types access) items
+access_fits types variables access (computes e) = false
+
+-- What is assigned where an Integer or a Boolean is held (5.2): an expression of that type.
+abbrev pub scalar_fits : List TypeForm → List VariableForm → ScalarType → RightForm → Bool
+scalar_fits types variables type nothing = false
+scalar_fits types variables type (value_of path) = false
+scalar_fits types variables type (allocates t items) = false
+scalar_fits types variables type (computes e) = has_type types variables type e
+
+-- What is assigned fits what is held there (5.2).
+abbrev pub kind_takes : List TypeForm → List VariableForm → VariableKind → RightForm → Bool
+kind_takes types variables variable.Integer right = scalar_fits types variables Integer right
+kind_takes types variables variable.Boolean right = scalar_fits types variables Boolean right
+kind_takes types variables (variable.Access access) right = access_fits types variables access.0 right
+
+-- There is something to assign to, and what is assigned fits it (5.2).
+abbrev pub right_fits : List TypeForm → List VariableForm → Option VariableKind → RightForm → Bool
+right_fits types variables None right = false
+right_fits types variables (Some kind) right = kind_takes types variables kind right
+
+abbrev mutual
+  -- An expression names only variables that are declared before one (8.3).
+  pub expression_before : ℕ → ExpressionForm → Bool
+  expression_before x (integer value) = true
+  expression_before x (boolean value) = true
+  expression_before x (reads path) = nat_lt path.root x
+  expression_before x (applied_to operator e) = expression_before x e
+  expression_before x (chained e links) = expression_before x e && links_before x links
+
+  -- The same of operands behind the first one.
+  pub links_before : ℕ → LinksForm → Bool
+  links_before x no_more_links = true
+  links_before x (a_link operator e links) = expression_before x e && links_before x links
+
+-- The same of an item.
+abbrev pub item_before : ℕ → ItemForm → Bool
+item_before x null_item = true
+item_before x (item_of_value e) = expression_before x e
+
+-- An initial value names only variables that are declared before (8.3).
+abbrev pub names_before : ℕ → RightForm → Bool
+names_before x nothing = true
+names_before x (value_of path) = nat_lt path.root x
+names_before x (allocates t items) = list_all (item_before x) items
+names_before x (computes e) = expression_before x e
+
+-- An initial value is one that could be assigned (3.3.1).
+abbrev pub initial_fits : List TypeForm → List VariableForm → DeclarationForm → Bool
+initial_fits types variables (collects access) = true
+initial_fits types variables (declares x right) = names_before x right && right_fits types variables (variable_kind variables x) right
+
+-- Two access types designate one record type (13.11.2): the types that they designate, if any, are the same.
+abbrev pub same_record : Option ℕ → Option ℕ → Bool
+same_record None other = false
+same_record (Some t) other = is_this t other
+
+-- A variable is freed by an instance whose access type designates what the variable's own type designates (13.11.2).
+abbrev pub is_freed_by : List TypeForm → ℕ → Option ℕ → Bool
+is_freed_by types access None = false
+is_freed_by types access (Some own) = same_record (designated_type types access) (designated_type types own)
+
+-- A statement names variables and texts of the program, and has the types that it wants: what is written by Integer'Image is an
+-- Integer (A.10.7, 3.5).
+abbrev pub statement_fits : List TypeForm → List VariableForm → List (List ℕ) → StmtForm → Bool
+statement_fits types variables texts skips = true
+statement_fits types variables texts (assigns target right) =
+    names_variable target && right_fits types variables (path_kind types variables target) right
+statement_fits types variables texts (frees access path) =
+    names_variable path && is_freed_by types access (path_access types variables path)
+statement_fits types variables texts (writes e) = has_type types variables Integer e
+statement_fits types variables texts (writes_text text) = nat_lt text (length texts)
+
+-- A well-formed program.
+pub record IsWellFormed (p : ProgramForm) : Type 0 where
+  -- components and designated types are types of the program of the right kind (3.8, 3.10)
+  pub types_fit : list_all (type_fits p.types) p.types ≡ true
+  -- variables are Integers or Booleans, or of access types (3.3.1)
+  pub variables_fit : list_all (variable_fits p.types) p.variables ≡ true
+  -- collections are created first, and then each variable once, in order (3.11)
+  pub creates_in_order : creates_from (length p.variables) 0 p.declarations ≡ true
+  -- each collection is that of an access type (7.6.1)
+  pub collections_fit : list_all (collection_fits p.types) p.declarations ≡ true
+  -- each access type has one collection (7.6.1)
+  pub has_one_each : has_collections p.declarations 0 p.types ≡ true
+  -- each initial value names earlier variables, and has the variable's type (3.3.1)
+  pub initials_fit : list_all (initial_fits p.types p.variables) p.declarations ≡ true
+  -- each statement names variables and texts, and has the types that it wants (5.2, 13.11.2, A.10.7)
+  pub statements_fit : list_all (statement_fits p.types p.variables p.texts) p.statements ≡ true

@@ -1,0 +1,15 @@
+//! What the resolver hands on to the other layers of the checker: the program that a tree means.
+//!
+//! The resolver promises a `Program` that is what the tree means and that `is_well_formed`. The definitions
+//! that several crates cite stand in this crate's `specs/`: statements and expressions as plain data, and what a
+//! well-formed program is.
+#![tactic(auto)]
+
+mod lookup;
+pub mod program;
+mod typing;
+mod values;
+mod well_formed;
+
+pub use crate::program::{Path, Program, Stmt, TypeNo, VariableNo};
+pub use ada_text::Spot;

@@ -1,0 +1,167 @@
+//! What the numbers of a program stand for: types, components, variables, and where a path leads.
+
+ghost use Rattle.std.specs.Prelude.{◌≡◌, map, option_map, option_copied};
+ghost use Rattle.ada_program.specs.Form.{path_form};
+ghost use Rattle.ada_program.specs.ProgramForm.{component_form, variable_form, type_form};
+ghost use Rattle.ada_program.specs.WellFormed as fits;
+
+use crate::program::{
+    Component, ComponentKind, Path, ScalarType, TypeDefinition, Variable, VariableKind,
+};
+
+/// The type that an access type designates (3.10): none, if it is no access type.
+pub(crate) fn designated_type(types: &[TypeDefinition], number: usize) -> Option<usize>
+    ensures { result ≡ fits.designated_type (map type_form types.now) number }
+{
+    match types.get(number) {
+        Some(
+            TypeDefinition::Access {
+                name: _,
+                designated,
+            },
+        ) => Some(designated.0),
+        Some(TypeDefinition::Record { .. }) | None => None,
+    }
+}
+
+/// Whether a number is that of an access type.
+pub(crate) fn is_access(types: &[TypeDefinition], number: usize) -> bool
+    ensures { result ≡ fits.is_access (map type_form types.now) number }
+{
+    designated_type(types, number).is_some()
+}
+
+/// Whether a number is that of a record type.
+pub(crate) fn is_record(types: &[TypeDefinition], number: usize) -> bool
+    ensures { result ≡ fits.is_record (map type_form types.now) number }
+{
+    match types.get(number) {
+        Some(TypeDefinition::Record { .. }) => true,
+        Some(TypeDefinition::Access { .. }) | None => false,
+    }
+}
+
+/// The components of the objects that an access type's values designate (3.10).
+pub(crate) fn reached_components<'p>(
+    types: &'p [TypeDefinition],
+    access: usize,
+) -> Option<&'p [Component]>
+    ensures { option_map (map component_form) (option_copied result) ≡ fits.reached_components (map type_form types.now) access }
+{
+    match types.get(designated_type(types, access)?) {
+        Some(
+            TypeDefinition::Record {
+                name: _,
+                components,
+            },
+        ) => Some(components),
+        Some(TypeDefinition::Access { .. }) | None => None,
+    }
+}
+
+/// What a variable holds.
+pub(crate) fn variable_kind(variables: &[Variable], number: usize) -> Option<VariableKind>
+    ensures { result ≡ fits.variable_kind (map variable_form variables.now) number }
+{
+    match variables.get(number) {
+        Some(variable) => Some(variable.kind),
+        None => None,
+    }
+}
+
+/// The access type of a value: none, if it is an Integer or a Boolean.
+pub(crate) fn access_of(kind: Option<VariableKind>) -> Option<usize>
+    ensures { result ≡ fits.access_of kind }
+{
+    match kind? {
+        VariableKind::Access(access) => Some(access.0),
+        VariableKind::Integer | VariableKind::Boolean => None,
+    }
+}
+
+/// Integer or Boolean, whichever a value is.
+pub(crate) fn scalar_of(kind: Option<VariableKind>) -> Option<ScalarType>
+    ensures { result ≡ fits.scalar_of kind }
+{
+    match kind? {
+        VariableKind::Integer => Some(ScalarType::Integer),
+        VariableKind::Boolean => Some(ScalarType::Boolean),
+        VariableKind::Access(_) => None,
+    }
+}
+
+/// What a component holds, whatever it holds at first (3.8).
+pub(crate) fn held_kind(kind: ComponentKind) -> VariableKind
+    ensures { result ≡ fits.held_kind kind }
+{
+    match kind {
+        ComponentKind::Integer { initial: _ } => VariableKind::Integer,
+        ComponentKind::Boolean { initial: _ } => VariableKind::Boolean,
+        ComponentKind::Access(access) => VariableKind::Access(access),
+    }
+}
+
+/// What a component holds of the object that a value gives access to (4.1, 4.1.3).
+fn selected_kind(
+    types: &[TypeDefinition],
+    kind: Option<VariableKind>,
+    component: usize,
+) -> Option<VariableKind>
+    ensures { result ≡ fits.selected_kind (map type_form types.now) kind component }
+{
+    let components = reached_components(types, access_of(kind)?)?;
+    match components.get(component) {
+        Some(component) => Some(held_kind(component.kind)),
+        None => None,
+    }
+}
+
+/// What is held where a path leads (4.1): none, if it leads nowhere.
+pub(crate) fn path_kind(
+    types: &[TypeDefinition],
+    variables: &[Variable],
+    path: &Path,
+) -> Option<VariableKind>
+    ensures { result ≡ fits.path_kind (map type_form types.now) (map variable_form variables.now) (path_form path.now) }
+{
+    let mut kind = variable_kind(variables, path.root.0);
+    'selectors: for component in &path.selectors {
+        kind = selected_kind(types, kind, component.0);
+    }
+    kind
+}
+
+/// The access type of the value where a path leads.
+pub(crate) fn path_access(
+    types: &[TypeDefinition],
+    variables: &[Variable],
+    path: &Path,
+) -> Option<usize>
+    ensures { result ≡ fits.path_access (map type_form types.now) (map variable_form variables.now) (path_form path.now) }
+{
+    access_of(path_kind(types, variables, path))
+}
+
+/// Whether a path leads to what a variable holds, or to a component of the object that it gives access to.
+pub(crate) fn follows_at_most_one(path: &Path) -> bool
+    ensures { result ≡ fits.follows_at_most_one (path_form path.now) }
+{
+    path.selectors.len() <= 1
+}
+
+/// Whether a path is a variable, and no component.
+pub(crate) fn names_variable(path: &Path) -> bool
+    ensures { result ≡ fits.names_variable (path_form path.now) }
+{
+    path.selectors.is_empty()
+}
+
+/// Whether a type is there, and is this one.
+pub(crate) fn is_this(wanted: usize, found: Option<usize>) -> bool
+    ensures { result ≡ fits.is_this wanted found }
+{
+    match found {
+        None => false,
+        Some(found) => found == wanted,
+    }
+}

@@ -1,0 +1,199 @@
+//! The program that a tree means: names are numbers, types are known, and nothing is left to look up.
+
+use ada_text::Spot;
+use ada_values::operator::{BinaryOperator, UnaryOperator};
+
+/// The number of a type in `Program::types`.
+#[derive(Clone, Copy, Debug, PartialEq, Eq)]
+pub struct TypeNo(pub usize);
+
+/// The number of a variable in `Program::variables`.
+#[derive(Clone, Copy, Debug, PartialEq, Eq)]
+pub struct VariableNo(pub usize);
+
+/// The number of a text in `Program::texts`.
+#[derive(Clone, Copy, Debug, PartialEq, Eq)]
+pub struct TextNo(pub usize);
+
+/// The number of a component in its record type, from 0.
+#[derive(Clone, Copy, Debug, PartialEq, Eq)]
+pub struct ComponentNo(pub usize);
+
+/// A whole program: its types, its variables, and what it does.
+#[derive(Drop)]
+pub struct Program {
+    pub types: Vec<TypeDefinition>,
+    pub variables: Vec<Variable>,
+    /// The string literals that it writes, in the order of the text (2.6).
+    pub texts: Vec<String>,
+    /// What is elaborated before the statements, in order (3.11).
+    pub declarations: Vec<Declaration>,
+    pub statements: Vec<Stmt>,
+}
+
+/// A type that the program declares.
+#[derive(Drop)]
+pub enum TypeDefinition {
+    /// A record type, its components in order (3.8).
+    Record {
+        name: String,
+        components: Vec<Component>,
+    },
+    /// An access type and the record type that it designates (3.10).
+    Access {
+        name: String,
+        designated: TypeNo,
+    },
+}
+
+/// A component of a record type.
+#[derive(Drop)]
+pub struct Component {
+    pub name: String,
+    pub kind: ComponentKind,
+}
+
+/// What a component holds, and what it holds at first where no value is given.
+#[derive(Clone, Copy, Debug, PartialEq, Eq)]
+pub enum ComponentKind {
+    Integer { initial: i32 },
+    Boolean { initial: bool },
+    /// Null at first.
+    Access(TypeNo),
+}
+
+/// A variable: an object that a declaration names (3.3.1).
+#[derive(Drop)]
+pub struct Variable {
+    pub name: String,
+    pub kind: VariableKind,
+}
+
+/// What a variable holds (3.3.1).
+#[derive(Clone, Copy, Debug, PartialEq, Eq)]
+pub enum VariableKind {
+    Integer,
+    Boolean,
+    /// A value of an access type.
+    Access(TypeNo),
+}
+
+/// A type that an expression can have (3.5.3, 3.5.4).
+#[derive(Clone, Copy, Debug, PartialEq, Eq)]
+pub enum ScalarType {
+    Integer,
+    Boolean,
+}
+
+/// What one step of the elaboration of the declarations does (3.11).
+#[derive(Drop)]
+pub enum Declaration {
+    /// The collection of an access type is created (7.6.1).
+    Collection(TypeNo),
+    /// An object is created, and gets its initial value where one is written, else null (3.3.1).
+    Variable {
+        variable: VariableNo,
+        initial: Option<Right>,
+    },
+}
+
+/// A statement (5.1).
+#[derive(Drop)]
+pub enum Stmt {
+    Null,
+    /// The value goes to what the path names (5.2).
+    Assign { target: Path, value: Right },
+    /// A call of the instance of Unchecked_Deallocation for an access type (13.11.2).
+    Free { access: TypeNo, variable: Path },
+    /// `Ada.Text_IO.Put_Line (Integer'Image (..));` (A.10.7)
+    PutImage(Expression),
+    /// `Ada.Text_IO.Put_Line ("..");` (A.10.7)
+    PutText(TextNo),
+}
+
+/// What is assigned.
+#[derive(Drop)]
+pub enum Right {
+    Null,
+    /// The value of a declared object of an access type.
+    Variable(Path),
+    /// A new object of the type that the access type designates; its items in the order of the components (4.8).
+    Allocator { access: TypeNo, items: Vec<Item> },
+    /// An Integer or a Boolean (4.4).
+    Value(Expression),
+}
+
+/// An item of an allocator, for one component.
+#[derive(Drop)]
+pub enum Item {
+    Null,
+    /// An Integer or a Boolean (4.4).
+    Value(Expression),
+}
+
+/// An expression of type Integer or Boolean (4.4). Parentheses, named numbers and enumeration literals are gone.
+#[derive(Drop)]
+#[cycle(expression)]
+pub enum Expression {
+    Integer(i32),
+    Boolean(bool),
+    /// The value that a path names: that of a variable, or of a component (4.1).
+    Path(Path),
+    /// `-X`, `not X` (4.5.4, 4.5.6)
+    Unary {
+        operator: UnaryOperator,
+        operand: Box<Expression>,
+    },
+    /// `A + B - C`: operators of one level, which are applied from left to right (4.5).
+    Chain {
+        first: Box<Expression>,
+        links: Vec<Link>,
+    },
+}
+
+/// An operator of a chain, and its right operand (4.5).
+#[derive(Drop)]
+#[cycle(expression)]
+pub struct Link {
+    pub operator: BinaryOperator,
+    pub operand: Expression,
+}
+
+/// A path (4.1): a variable, and the components named behind it, each of the object that the value before it gives
+/// access to. `X.C` and `X.all.C` are one path.
+#[derive(Drop)]
+pub struct Path {
+    pub root: VariableNo,
+    pub selectors: Vec<ComponentNo>,
+    /// Where its first name stands.
+    pub spot: Spot,
+}
+
+impl Program {
+    ghost use Rattle.std.specs.Prelude.{◌≡◌};
+    ghost use Rattle.ada_program.specs.Typed.{words_of};
+
+    /// How many words an object takes that the access type's values name: one for each of its components.
+    /// 0, if the type is no access type.
+    pub fn words(&self, access: TypeNo) -> usize
+        ensures { result ≡ words_of self.now.types.items access.0 }
+    {
+        match self.types.get(access.0) {
+            Some(
+                TypeDefinition::Access {
+                    name: _,
+                    designated,
+                },
+            ) => match self.types.get(designated.0) {
+                Some(
+                    TypeDefinition::Record {
+                        name: _,
+                        components,
+                    },
+                ) => components.len(),
+                _ => 0,
+            },
+            _ => 0,
+        }
+    }
+}

@@ -1,0 +1,182 @@
+//! What may be assigned to a variable (4.3.1, 4.8, 5.2).
+
+ghost use Rattle.std.specs.Prelude.{◌≡◌, map};
+ghost use Rattle.std.specs.List.{list_all};
+ghost use Rattle.ada_program.specs.Form.{expression_form, item_form, links_form, right_form};
+ghost use Rattle.ada_program.specs.ProgramForm.{component_form, variable_form, type_form};
+ghost use Rattle.ada_program.specs.WellFormed as fits;
+
+use crate::lookup::{
+    held_kind, is_this, names_variable, path_access, reached_components, scalar_of,
+};
+use crate::program::{
+    Component, ComponentKind, Expression, Item, Link, Right, ScalarType, TypeDefinition, Variable,
+    VariableKind,
+};
+use crate::typing::has_type;
+
+/// Whether there is something to assign to, and what is assigned fits it (5.2).
+pub(crate) fn right_fits(
+    types: &[TypeDefinition],
+    variables: &[Variable],
+    kind: Option<VariableKind>,
+    value: &Right,
+) -> bool
+    ensures { result ≡ fits.right_fits (map type_form types.now) (map variable_form variables.now) kind (right_form value.now) }
+{
+    match kind {
+        None => false,
+        Some(VariableKind::Integer) => scalar_fits(types, variables, ScalarType::Integer, value),
+        Some(VariableKind::Boolean) => scalar_fits(types, variables, ScalarType::Boolean, value),
+        Some(VariableKind::Access(access)) => access_fits(types, variables, access.0, value),
+    }
+}
+
+/// Whether what is assigned where an Integer or a Boolean is held is an expression of its type.
+fn scalar_fits(
+    types: &[TypeDefinition],
+    variables: &[Variable],
+    wanted: ScalarType,
+    value: &Right,
+) -> bool
+    ensures { result ≡ fits.scalar_fits (map type_form types.now) (map variable_form variables.now) wanted (right_form value.now) }
+{
+    match value {
+        Right::Value(expression) => has_type(types, variables, wanted, expression),
+        Right::Null | Right::Variable(_) | Right::Allocator { .. } => false,
+    }
+}
+
+/// Whether what is assigned where an access value is held is null, or of that very type (4.8).
+fn access_fits(
+    types: &[TypeDefinition],
+    variables: &[Variable],
+    access: usize,
+    value: &Right,
+) -> bool
+    ensures { result ≡ fits.access_fits (map type_form types.now) (map variable_form variables.now) access (right_form value.now) }
+{
+    match value {
+        Right::Null => true,
+        Right::Variable(path) => names_variable(path)
+            && is_this(access, path_access(types, variables, path)),
+        Right::Allocator {
+            access: created,
+            items,
+        } => created.0 == access && is_filled(types, variables, access, items),
+        Right::Value(_) => false,
+    }
+}
+
+/// Whether the items are one for each component of the record that an access type designates (4.3.1).
+fn is_filled(
+    types: &[TypeDefinition],
+    variables: &[Variable],
+    access: usize,
+    items: &[Item],
+) -> bool
+    ensures { result ≡ fits.is_filled (map type_form types.now) (map variable_form variables.now) (fits.reached_components (map type_form types.now) access) (map item_form items.now) }
+{
+    match reached_components(types, access) {
+        None => false,
+        Some(components) => items_fit(types, variables, components, items),
+    }
+}
+
+/// Whether there is one item for each component, in order.
+fn items_fit(
+    types: &[TypeDefinition],
+    variables: &[Variable],
+    components: &[Component],
+    items: &[Item],
+) -> bool
+    ensures { result ≡ fits.items_fit (map type_form types.now) (map variable_form variables.now) (map component_form components.now) (map item_form items.now) }
+{
+    for (at, component) in components.iter().enumerate() {
+        let filled = match items.get(at) {
+            None => false,
+            Some(item) => item_fits(types, variables, component.kind, item),
+        };
+        if !filled {
+            return false;
+        }
+    }
+    items.len() <= components.len()
+}
+
+/// Whether an item is a value of a component.
+fn item_fits(
+    types: &[TypeDefinition],
+    variables: &[Variable],
+    kind: ComponentKind,
+    item: &Item,
+) -> bool
+    ensures { result ≡ fits.item_fits (map type_form types.now) (map variable_form variables.now) kind (item_form item.now) }
+{
+    match (scalar_of(Some(held_kind(kind))), item) {
+        (None, Item::Null) => true,
+        (Some(wanted), Item::Value(expression)) => has_type(types, variables, wanted, expression),
+        (None, Item::Value(_)) | (Some(_), Item::Null) => false,
+    }
+}
+
+/// Whether an initial value names only variables that are declared before (8.3).
+#[tactic(auto, using(std::proofs::lemmas::Grind::common_steps, crate::proofs::Viewed::views))]
+pub(crate) fn names_before(number: usize, value: &Right) -> bool
+    ensures { result ≡ fits.names_before number (right_form value.now) }
+{
+    match value {
+        Right::Null => true,
+        Right::Variable(path) => path.root.0 < number,
+        Right::Allocator { access: _, items } => items_before(number, items),
+        Right::Value(expression) => expression_before(number, expression),
+    }
+}
+
+/// The same of items.
+fn items_before(number: usize, items: &[Item]) -> bool
+    ensures { result ≡ list_all (λ i. fits.item_before number (item_form i)) items.now }
+{
+    items.iter().all(|item| item_before(number, item))
+}
+
+/// The same of an item.
+fn item_before(number: usize, item: &Item) -> bool
+    ensures { result ≡ fits.item_before number (item_form item.now) }
+{
+    match item {
+        Item::Null => true,
+        Item::Value(expression) => expression_before(number, expression),
+    }
+}
+
+/// The same of an expression.
+#[cycle(before)]
+#[tactic(auto, using(crate::specs::Form::expression_rules))]
+fn expression_before(number: usize, expression: &Expression) -> bool
+    ensures { result ≡ fits.expression_before number (expression_form expression.now) }
+{
+    match expression {
+        Expression::Integer(_) | Expression::Boolean(_) => true,
+        Expression::Path(path) => path.root.0 < number,
+        Expression::Unary {
+            operator: _,
+            operand,
+        } => expression_before(number, operand),
+        Expression::Chain { first, links } => expression_before(number, first)
+            && links_before(number, links),
+    }
+}
+
+/// The same of operands behind the first one.
+#[cycle(before)]
+fn links_before(number: usize, links: &[Link]) -> bool
+    ensures { result ≡ fits.links_before number (links_form links.now) }
+{
+    'links: for link in links {
+        if !expression_before(number, &link.operand) {
+            return false;
+        }
+    }
+    true
+}

@@ -1,0 +1,6 @@
+-- The statements of the program that a tree means are those of the tree.
+use Rattle.ada_resolve.proofs.Reading as reading
+use Rattle.ada_resolve.proofs.laws.programs_are_read_as_written.Goals as goal
+
+pub returns : goal.returns
+returns c tree program e = reading.read_as tree program e

@@ -1,8 +1,0 @@
-use Rattle.std.proofs.lemmas.Result.{err_from_is_err_and}
-use Rattle.ada_run.proofs.Writing.{idle}
-use Rattle.ada_run.proofs.serve.write_event.Goals as goal
-
-pub returns-in_err-put_line-clause-writer : goal.returns-in_err-put_line-clause-writer
-returns-in_err-put_line-clause-writer g c =
-    let p = err_from_is_err_and c.from_residual.result c.from_residual.ensures.1 in
-    rw (p.1, p.2) (idle g.W.ByteWriter.writes c.args.out.now)

@@ -1,0 +1,8 @@
+-- what a reader gives in several calls
+pub mod Reading
+-- calls one after another, and what is written piece by piece
+pub mod Writing
+-- the runner's run, step by step
+pub mod Steps
+-- from the parts of an answer to the answer
+pub mod Answering

@@ -1,0 +1,97 @@
+-- What a call of `serve` does: what it writes, and what becomes of its two readers.
+
+use Rattle.std.specs.Prelude.{◌≡◌, ◌⊎◌, ℕ, Bool, true, List, [], Option, Result, Ok, Err}
+use Rattle.std.specs.Io.KnownBytes.{Appends}
+use Rattle.ada_program.specs.declared.program.Program.{Program}
+use Rattle.ada_meaning.specs.Law.{Safe}
+use Rattle.ada_verdict.specs.First.{IsAccepted}
+use Rattle.ada_serve.specs.declared.serve.ServeFault.{ServeFault}
+use Rattle.ada_serve.specs.declared.serve.ServeFault.TheVariants.{ReadFailed, WriteFailed, NoMemory}
+use Rattle.ada_serve.specs.declared.serve.Status.{Status}
+use Rattle.ada_serve.specs.declared.serve.Status.TheVariants.{Accepted, Refused, Finished, Unhandled, Stopped}
+use Rattle.ada_serve.specs.Calls.{ReadsOn, IsRead, ReadFails}
+use Rattle.ada_serve.specs.Answer.{Answer}
+use Rattle.ada_serve.specs.Written.{Says, Begins}
+
+-- What was written is exactly the answer to the bytes of the source; after a fault it is nothing, or a front of that answer.
+abbrev pub Serves : (List ℕ → Type 0) → Bool → Option (List ℕ) → Option (List ℕ)
+    → Result Status ServeFault → Type 0
+Serves IsSource run old new (Ok status) =
+    (bytes : List ℕ) × IsSource bytes × Says (Answer bytes run) old new status
+Serves IsSource run old new (Err fault) =
+    Appends old new [] ⊎ ((bytes : List ℕ) × IsSource bytes × Begins (Answer bytes run) old new)
+
+-- The source is a program that obeys the rules, and it is safe.
+pub record IsSafeSource (IsSource : List ℕ → Type 0) : Type 0 where
+  pub bytes : List ℕ
+  pub program : Program
+  pub source : IsSource bytes
+  pub accepted : IsAccepted bytes program
+  pub safe : Safe program
+
+-- Whatever is answered but a refusal: the source is a safe program.
+abbrev pub PromisesSafe : (List ℕ → Type 0) → Result Status ServeFault → Type 0
+PromisesSafe IsSource (Ok Accepted) = IsSafeSource IsSource
+PromisesSafe IsSource (Ok Refused) = Unit {0}
+PromisesSafe IsSource (Ok Finished) = IsSafeSource IsSource
+PromisesSafe IsSource (Ok Unhandled) = IsSafeSource IsSource
+PromisesSafe IsSource (Ok Stopped) = IsSafeSource IsSource
+PromisesSafe IsSource (Err fault) = Unit {0}
+
+-- The input was not called, or it was read without a failure: to its end, unless memory ran out.
+abbrev pub InputWorks : {I : Type 0} → (I → Option (List ℕ)) → (I → Option (List ℕ) → I → Type 0)
+    → I → I → Type 0
+InputWorks remaining reads first last =
+    (last ≡ first) ⊎ (ReadsOn reads first last ⊎ ((bytes : List ℕ) × IsRead remaining reads first last bytes))
+
+-- The input is read to its end where a program has been run, and not called otherwise.
+abbrev pub InputEnds : {I : Type 0} → (I → Option (List ℕ)) → (I → Option (List ℕ) → I → Type 0)
+    → I → I → Status → Type 0
+InputEnds remaining reads first last Accepted = last ≡ first
+InputEnds remaining reads first last Refused = last ≡ first
+InputEnds remaining reads first last Finished = (bytes : List ℕ) × IsRead remaining reads first last bytes
+InputEnds remaining reads first last Unhandled = (bytes : List ℕ) × IsRead remaining reads first last bytes
+InputEnds remaining reads first last Stopped = (bytes : List ℕ) × IsRead remaining reads first last bytes
+
+-- The input after a fault: it failed exactly where that is the fault.
+abbrev pub FaultTurns : {I : Type 0} → (I → Option (List ℕ)) → (I → Option (List ℕ) → I → Type 0)
+    → I → I → ServeFault → Type 0
+FaultTurns remaining reads first last ReadFailed = ReadFails reads first last
+FaultTurns remaining reads first last WriteFailed = InputWorks remaining reads first last
+FaultTurns remaining reads first last NoMemory = InputWorks remaining reads first last
+
+-- The input after a call that had read its source, whatever the call answered.
+abbrev pub InputTurns : {I : Type 0} → (I → Option (List ℕ)) → (I → Option (List ℕ) → I → Type 0)
+    → I → I → Result Status ServeFault → Type 0
+InputTurns remaining reads first last (Ok status) = InputEnds remaining reads first last status
+InputTurns remaining reads first last (Err fault) = FaultTurns remaining reads first last fault
+
+-- The source is accepted, and a run is asked for.
+pub record IsToRun (source : List ℕ) (run : Bool) : Type 0 where
+  pub program : Program
+  pub accepted : IsAccepted source program
+  pub runs : run ≡ true
+
+-- The source was read to its end; then the input was read, if the source is accepted and a run is asked for.
+pub record SourceEnds {I : Type 0} (remaining : I → Option (List ℕ)) (reads : I → Option (List ℕ) → I → Type 0)
+    (IsSource : List ℕ → Type 0) (run : Bool) (first last : I) (result : Result Status ServeFault) : Type 0 where
+  pub bytes : List ℕ
+  pub source : IsSource bytes
+  pub input : InputTurns remaining reads first last result
+  pub asked : result ≡ Err ReadFailed → IsToRun bytes run
+
+-- The reading of the source broke off, for its own failure or for want of memory, and the input was not called.
+abbrev pub SourceCut : {S I : Type 0} → (S → Option (List ℕ) → S → Type 0) → S → S → I → I
+    → Result Status ServeFault → Type 0
+SourceCut reads first last before after (Ok status) = ⊥
+SourceCut reads first last before after (Err ReadFailed) = ReadFails reads first last × (after ≡ before)
+SourceCut reads first last before after (Err WriteFailed) = ⊥
+SourceCut reads first last before after (Err NoMemory) = ReadsOn reads first last × (after ≡ before)
+
+-- Both readers after a call: the reading of the source broke off, or the source was read to its end and then the input.
+abbrev pub ReadersEnd : {S I : Type 0} → (S → Option (List ℕ)) → (S → Option (List ℕ) → S → Type 0) → S → S
+    → (I → Option (List ℕ)) → (I → Option (List ℕ) → I → Type 0) → I → I
+    → Bool → Result Status ServeFault → Type 0
+ReadersEnd remaining reads first last input_remaining input_reads before after run result =
+    SourceCut reads first last before after result
+    ⊎ SourceEnds input_remaining input_reads (IsRead remaining reads first last) run before after result

@@ -1,0 +1,56 @@
+-- The lines of an answer.
+
+use Rattle.std.specs.Prelude.{ℕ, ℤ, List, [], ◌∷◌, ◌++◌, map, codes, decimal}
+use Rattle.std.specs.List.{slice_index_or}
+use Rattle.std.specs.String.{string_bytes}
+use Rattle.std.specs.Fmt.{signed_decimal}
+use Rattle.std.specs.Prelude.{pos, negsuc}
+use Rattle.ada_program.specs.declared.program.Program.{Program}
+use Rattle.ada_meaning.specs.declared.event.Line.{Line}
+use Rattle.ada_meaning.specs.declared.event.Line.TheVariants.{Image, Literal}
+use Rattle.ada_meaning.specs.declared.event.Exception.{Exception}
+use Rattle.ada_meaning.specs.Text.{exception_text}
+use Rattle.ada_verdict.specs.Refusal.{Told}
+
+-- The line feed that ends each line.
+abbrev pub line_feed : List ℕ
+line_feed = 10 ∷ []
+
+-- `Integer'Image` (3.5): digits behind a minus sign, or behind a blank where the number is not negative.
+abbrev pub image : ℤ → List ℕ
+image (pos n) = 32 ∷ decimal n
+image (negsuc n) = signed_decimal (negsuc n)
+
+-- The string literals of a program (2.6), in the order of their numbers.
+abbrev pub texts_of : Program → List (List ℕ)
+texts_of program = map string_bytes program.texts.items
+
+-- The string literal of this number, or the empty one if there is none.
+abbrev pub text_at : List (List ℕ) → ℕ → List ℕ
+text_at texts number = slice_index_or texts number []
+
+-- A line that a program with these string literals writes (A.10.7).
+abbrev pub line_text : List (List ℕ) → Line → List ℕ
+line_text texts (Image value) = image value ++ line_feed
+line_text texts (Literal text) = text_at texts text.0 ++ line_feed
+
+-- The line of a source that is refused: the place, the number and the name of the rule.
+abbrev pub refusal_text : Told → List ℕ
+refusal_text told =
+    codes "refused " ++ decimal told.line ++ codes ":" ++ decimal told.column ++ codes " " ++ told.name ++ line_feed
+
+-- The last line of a run that an exception ended (11.4): the exception's name.
+abbrev pub unhandled_text : Exception → List ℕ
+unhandled_text e = codes "unhandled " ++ exception_text e ++ line_feed
+
+-- The last line of a run that finishes.
+abbrev pub finished_text : List ℕ
+finished_text = codes "finished" ++ line_feed
+
+-- The last line of a run that comes to an erroneous action; no accepted program's does (13.11.2).
+abbrev pub erroneous_text : List ℕ
+erroneous_text = codes "erroneous" ++ line_feed
+
+-- The answer to an accepted source that is only checked.
+abbrev pub accepted_text : List ℕ
+accepted_text = codes "accepted" ++ line_feed

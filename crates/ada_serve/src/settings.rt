@@ -1,0 +1,47 @@
+//! What the program is asked to do.
+
+ghost use Rattle.std.specs.Prelude.{◌≡◌};
+ghost use Rattle.ada_serve.specs.Settings.{HasDefaults};
+
+/// The greatest size of a pool, in words, and that of the standard pool where no other is given.
+pub const MOST_WORDS: u32 = 65_536;
+
+/// What the program is asked to do. A field that no word on the command line sets yet has its default.
+#[derive(Debug, Drop)]
+pub struct Options {
+    /// Run the source if it is accepted, in place of only checking it.
+    pub run: bool,
+    /// The size of the standard pool, in words.
+    pub standard: u32,
+    /// How many statements the run may begin.
+    pub steps: u32,
+    /// The number of the request for storage that is refused; 0 refuses none.
+    pub refuse: u32,
+    /// Write a line when a controlled value comes to exist or is finalized, and when storage goes back.
+    pub trace: bool,
+}
+
+impl Options {
+    /// The defaults, for a check or for a run.
+    pub fn new(run: bool) -> Options
+        ensures run { result.run ≡ run }
+        ensures defaults { HasDefaults result }
+    {
+        Options {
+            run,
+            standard: MOST_WORDS,
+            steps: 1_000_000,
+            refuse: 0,
+            trace: false,
+        }
+    }
+}
+
+/// The files that the words on the command line name.
+#[derive(Clone, Copy, Debug, PartialEq, Eq)]
+pub struct Paths<'a> {
+    /// The file of the source; the standard input where it is none.
+    pub source: Option<&'a str>,
+    /// The file of the program's input; an empty input where it is none.
+    pub input: Option<&'a str>,
+}

@@ -1,0 +1,195 @@
+-- Objects and their homes: words that are out have a home among the items, and one object at most is under way out of its collection.
+
+use Rattle.std.proofs.Common.{◌≡◌, ◌≢◌, ℕ, zero, suc, ◌<◌, ◌+◌, Bool, true, false, List, [], ◌∷◌, ◌++◌, length, map, refl, sym, ap, ◌⊎◌, inl, inr, arith}
+use Rattle.std.specs.Prelude.{Option, Some, None, ◌==◌, ◌&&◌, if◌then◌else◌}
+use Rattle.std.specs.List.{slice_get, slice_set, slice_index_or}
+use Rattle.std.proofs.lemmas.Bool.{eqb-true, eq-eqb}
+use Rattle.ada_meaning.specs.declared.state.Id.{Id}
+use Rattle.ada_meaning.specs.declared.state.Value.{Value}
+use Rattle.ada_meaning.specs.declared.state.Value.TheVariants.{Null, Names}
+use Rattle.ada_meaning.specs.declared.state.Stage.TheVariants.{Existing, Gone}
+use Rattle.ada_meaning.specs.Heap.{Cell}
+use Rattle.ada_meaning.specs.State.{Owned, Item, Master, height}
+use Rattle.ada_meaning.specs.Step.{owning}
+use Rattle.ada_meaning.specs.Named.{Object, object_at, new_object, parted, finished, returned, is_member, members_from, members}
+use Rattle.ada_meaning.specs.Law.{items_of}
+use Rattle.ada_sound.proofs.Objects.{more_get, set_get}
+use Rattle.ada_sound.proofs.Items.{Counted, OneMaster, HasItem, IsCollection, counted_owning, one_owning, has_owning}
+
+-- What is so of each object, where this one is under way.
+pub record Sane (under : Option Id) (items : List Item) (o : Id) (x : Object) : Type 0 where
+  pub standard : x.cell.home.pool ≡ 0
+  pub back_gone : x.out ≡ false → x.stage ≡ Gone
+  pub listed_exists : x.listed ≡ true → x.stage ≡ Existing
+  pub housed : x.out ≡ true → HasItem x.cell.home.item items
+  pub out_listed : x.out ≡ true → (x.listed ≡ true) ⊎ (under ≡ Some o)
+
+pub record Stored (under : Option Id) (heap : List Object) (masters : List Master) : Type 0 where
+  pub counted : Counted (items_of masters)
+  pub one : OneMaster masters
+  pub sane : (o : Id) (x : Object) → object_at heap o ≡ Some x → Sane under (items_of masters) o x
+
+-- A new object.
+pub stored_new : {heap : List Object} {masters : List Master} (cell : Cell Value) → cell.home.pool ≡ 0 → HasItem cell.home.item (items_of masters) → Stored None heap masters → Stored None (heap ++ new_object cell ∷ []) masters
+stored_new {heap} {masters} cell standard home s = record { counted = s.counted; one = s.one; sane = λ o x e. go o x (more_get heap (new_object cell) o.0 x e) }
+  where
+    go : (o : Id) (x : Object) → (slice_get heap o.0 ≡ Some x) ⊎ ((o.0 ≡ length heap) × (x ≡ new_object cell)) → Sane None (items_of masters) o x
+    go o x (inl e) = s.sane o x e
+    go o x (inr e) = rw (e.1) (record { standard = standard; back_gone = λ h. absurd (cc h); listed_exists = λ h. refl; housed = λ h. home; out_listed = λ h. inl refl })
+
+-- One object changes.
+stored_set : {under after : Option Id} {heap : List Object} {masters : List Master} (o : Id) (y : Object) → Sane after (items_of masters) o y → ((p : Id) (z : Object) → p.0 ≢ o.0 → Sane under (items_of masters) p z → Sane after (items_of masters) p z) → Stored under heap masters → Stored after (slice_set heap o.0 y) masters
+stored_set {under} {after} {heap} {masters} o y here other s = record { counted = s.counted; one = s.one; sane = λ p z e. go p z (set_get heap o.0 p.0 y z e) }
+  where
+    go : (p : Id) (z : Object) → ((p.0 ≡ o.0) × (z ≡ y)) ⊎ ((p.0 ≢ o.0) × (slice_get heap p.0 ≡ Some z)) → Sane after (items_of masters) p z
+    go p z (inl e) = let same : p ≡ o = ap (λ n. record { 0 = n }) e.0 in rw (same, e.1) here
+    go p z (inr e) = other p z e.0 (s.sane p z e.1)
+
+-- It leaves its collection, and is under way then.
+pub stored_part : {heap : List Object} {masters : List Master} (o : Id) (x : Object) → object_at heap o ≡ Some x → Stored None heap masters → Stored (Some o) (slice_set heap o.0 (parted x)) masters
+stored_part {heap} {masters} o x is s =
+    let h = s.sane o x is in
+    stored_set o (parted x)
+    (record { standard = h.standard; back_gone = h.back_gone; listed_exists = λ e. absurd (cc e); housed = h.housed; out_listed = λ e. inr refl })
+    (λ p z ne g. record { standard = g.standard; back_gone = g.back_gone; listed_exists = g.listed_exists; housed = g.housed; out_listed = λ e. elim (g.out_listed e) [ inl l ↦ inl l | inr n ↦ absurd (cc n) ] })
+    s
+
+-- It ceases to exist.
+pub stored_finish : {heap : List Object} {masters : List Master} (o : Id) (x : Object) → object_at heap o ≡ Some x → Stored (Some o) heap masters → Stored (Some o) (slice_set heap o.0 (finished x)) masters
+stored_finish {heap} {masters} o x is s =
+    let h = s.sane o x is in
+    stored_set o (finished x)
+    (record { standard = h.standard; back_gone = λ e. refl; listed_exists = λ e. absurd (cc e); housed = h.housed; out_listed = λ e. inr refl })
+    (λ p z ne g. g)
+    s
+
+-- Its words go back, and none is under way then.
+pub stored_back : {heap : List Object} {masters : List Master} (o : Id) (x : Object) → object_at heap o ≡ Some x → x.stage ≡ Gone → Stored (Some o) heap masters → Stored None (slice_set heap o.0 (returned x)) masters
+stored_back {heap} {masters} o x is gone s =
+    let h = s.sane o x is in
+    stored_set o (returned x)
+    (record { standard = h.standard; back_gone = λ e. gone; listed_exists = h.listed_exists; housed = λ e. absurd (cc e); out_listed = λ e. absurd (cc e) })
+    (λ p z ne g. record { standard = g.standard; back_gone = g.back_gone; listed_exists = g.listed_exists; housed = g.housed; out_listed = λ e. elim (g.out_listed e) [ inl l ↦ inl l | inr n ↦ absurd (ne (same_id p o n)) ] })
+    s
+  where
+    same_id : (p q : Id) → Some q ≡ Some p → p.0 ≡ q.0
+    same_id p q n = cc n
+
+-- One item more.
+pub stored_owning : {under : Option Id} {heap : List Object} {masters : List Master} (owned : Owned) → Stored under heap masters → Stored under heap (owning (record { number = height masters; owned = owned }) masters)
+stored_owning {under} {heap} {masters} owned s = record {
+  counted = counted_owning owned masters s.counted;
+  one = one_owning (record { number = height masters; owned = owned }) masters s.one;
+  sane = λ o x e. let h = s.sane o x e in record { standard = h.standard; back_gone = h.back_gone; listed_exists = h.listed_exists; housed = λ out. has_owning x.cell.home.item (record { number = height masters; owned = owned }) masters (h.housed out); out_listed = h.out_listed };
+}
+
+-- Members: each is in the collection of its home, and each that is in it is one.
+abbrev pub EachId : (Id → Type 0) → List Id → Type 0
+EachId P [] = Unit {0}
+EachId P (o ∷ os) = P o × EachId P os
+
+each_append : (P : Id → Type 0) (os ps : List Id) → EachId P os → EachId P ps → EachId P (os ++ ps)
+each_append P [] ps h g = g
+each_append P (o ∷ os) ps h g = (h.0, each_append P os ps h.1 g)
+
+each_map : (P Q : Id → Type 0) (os : List Id) → ((o : Id) → P o → Q o) → EachId P os → EachId Q os
+each_map P Q [] f h = h
+each_map P Q (o ∷ os) f h = (f o h.0, each_map P Q os f h.1)
+
+and_true : (a b : Bool) → (a && b) ≡ true → (a ≡ true) × (b ≡ true)
+and_true true b e = (refl, e)
+and_true false b e = absurd (cc e)
+
+-- This is a member, counted from a number.
+abbrev IsMemberFrom : ℕ → ℕ → List Object → Id → Type 0
+IsMemberFrom item n xs o = (k : ℕ) × (x : Object) × (o.0 ≡ n + k) × (slice_get xs k ≡ Some x) × (is_member item x ≡ true)
+
+one_member : (item n : ℕ) (x : Object) (xs : List Object) (b : Bool) → is_member item x ≡ b → EachId (IsMemberFrom item n (x ∷ xs)) (if b then record { 0 = n } ∷ [] else [])
+one_member item n x xs true e = ((zero, x, omega arith, refl, e), tt)
+one_member item n x xs false e = tt
+
+members_are : (item n : ℕ) (xs : List Object) → EachId (IsMemberFrom item n xs) (members_from item n xs)
+members_are item n [] = tt
+members_are item n (x ∷ xs) =
+    each_append (IsMemberFrom item n (x ∷ xs)) (members_from item (suc n) xs) _
+    (each_map (IsMemberFrom item (suc n) xs) (IsMemberFrom item n (x ∷ xs)) (members_from item (suc n) xs) (λ o h. (suc h.0, h.1, omega (arith, h.2), h.3, h.4)) (members_are item (suc n) xs))
+    (one_member item n x xs (is_member item x) refl)
+
+-- A member by its name.
+pub record IsMember (item : ℕ) (heap : List Object) (o : Id) : Type 0 where
+  pub object : Object
+  pub found : object_at heap o ≡ Some object
+  pub listed : object.listed ≡ true
+  pub home : object.cell.home.item ≡ item
+
+member_at : (item : ℕ) (heap : List Object) (o : Id) → IsMemberFrom item 0 heap o → IsMember item heap o
+member_at item heap o (k, x, is, at', member) =
+    let e : o.0 ≡ k = omega (arith, is) in
+    let h = and_true x.listed (x.cell.home.item == item) member in
+    record { object = x; found = rw e at'; listed = h.0; home = eqb-true x.cell.home.item item h.1 }
+
+-- A value that is taken is a member's name.
+abbrev pub IsTaken : ℕ → List Object → Value → Type 0
+IsTaken item heap v = (o : Id) × (v ≡ Names o) × IsMember item heap o
+
+taken_among : (item : ℕ) (heap : List Object) (os : List Id) (i : ℕ) → EachId (IsMemberFrom item 0 heap) os → i < length (map Names os) → IsTaken item heap (slice_index_or (map Names os) i Null)
+taken_among item heap [] i h lt = absurd (omega (arith, lt))
+taken_among item heap (o ∷ os) zero h lt = (o, refl, member_at item heap o h.0)
+taken_among item heap (o ∷ os) (suc i) h lt = taken_among item heap os i h.1 (omega (arith, lt))
+
+pub taken_is : (item : ℕ) (heap : List Object) (i : ℕ) → i < length (members heap item) → IsTaken item heap (slice_index_or (members heap item) i Null)
+taken_is item heap i lt = taken_among item heap (members_from item 0 heap) i (members_are item 0 heap) lt
+
+-- Where no member is left, no object is in the collection.
+one_left : (item n : ℕ) (x : Object) → is_member item x ≡ true → (b : Bool) → is_member item x ≡ b → (os : List Id) → map Names (os ++ (if b then record { 0 = n } ∷ [] else [])) ≡ [] → ⊥
+one_left item n x m true e [] none = cc none
+one_left item n x m true e (o ∷ os) none = cc none
+one_left item n x m false e os none = cc (m, e)
+
+rest_left : (os ps : List Id) → map Names (os ++ ps) ≡ [] → map Names os ≡ []
+rest_left [] ps none = refl
+rest_left (o ∷ os) ps none = absurd (cc none)
+
+none_from : (item n : ℕ) (xs : List Object) (k : ℕ) (x : Object) → map Names (members_from item n xs) ≡ [] → slice_get xs k ≡ Some x → is_member item x ≡ true → ⊥
+none_from item n [] k x none is m = cc is
+none_from item n (y ∷ xs) zero x none is m = let same : y ≡ x = cc is in one_left item n y (rw same m) (is_member item y) refl (members_from item (suc n) xs) none
+none_from item n (y ∷ xs) (suc k) x none is m = none_from item (suc n) xs k x (rest_left (members_from item (suc n) xs) _ none) is m
+
+pub none_is_left : (item : ℕ) (heap : List Object) (o : Id) (x : Object) → members heap item ≡ [] → object_at heap o ≡ Some x → x.listed ≡ true → x.cell.home.item ≡ item → ⊥
+none_is_left item heap o x none is listed home = none_from item 0 heap o.0 x none is (rw (listed, home) (eq-eqb item item refl))
+
+-- The newest item goes, where it has no member.
+pub stored_shorter : {heap : List Object} (m : Master) (item : Item) (items : List Item) (ms : List Master) → ((o : Id) (x : Object) → object_at heap o ≡ Some x → x.listed ≡ true → IsCollection item.owned → x.cell.home.item ≡ item.number → ⊥) → Stored None heap (record m { items = item ∷ items } ∷ ms) → Stored None heap (record m { items = items } ∷ ms)
+stored_shorter {heap} m item items ms none s = record {
+  counted = s.counted.1;
+  one = one ms s.one;
+  sane = λ o x e. let h = s.sane o x e in record {
+    standard = h.standard;
+    back_gone = h.back_gone;
+    listed_exists = h.listed_exists;
+    housed = λ out. rest o x e (h.out_listed out) (h.housed out);
+    out_listed = h.out_listed;
+  };
+}
+  where
+    one : (ns : List Master) → OneMaster (record m { items = item ∷ items } ∷ ns) → OneMaster (record m { items = items } ∷ ns)
+    one [] h = h
+    one (n ∷ ns) h = h
+
+    rest : (o : Id) (x : Object) → object_at heap o ≡ Some x → (x.listed ≡ true) ⊎ (None ≡ Some o) → HasItem x.cell.home.item (item ∷ (items ++ items_of ms)) → HasItem x.cell.home.item (items ++ items_of ms)
+    rest o x e (inl l) (inl h) = absurd (none o x e l h.1 (sym h.0))
+    rest o x e (inl l) (inr h) = h
+    rest o x e (inr n) h = absurd (cc n)
+
+-- The master goes, where it has no item.
+pub stored_older : {heap : List Object} (m : Master) (ms : List Master) → Stored None heap (record m { items = [] } ∷ ms) → Stored None heap ms
+stored_older m [] s = record { counted = s.counted; one = tt; sane = s.sane }
+stored_older m (n ∷ ms) s = absurd s.one
+
+-- The words of an object that exists are out.
+pub exists_out : {under : Option Id} {heap : List Object} {masters : List Master} (o : Id) (x : Object) → object_at heap o ≡ Some x → x.stage ≡ Existing → Stored under heap masters → x.out ≡ true
+exists_out o x is exists s = go x.out refl
+  where
+    go : (b : Bool) → x.out ≡ b → x.out ≡ true
+    go true e = e
+    go false e = let gone = (s.sane o x is).back_gone e in absurd (cc (gone, exists))

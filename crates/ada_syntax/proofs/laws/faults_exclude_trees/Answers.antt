@@ -1,5 +1,0 @@
-use Rattle.ada_syntax.proofs.Whole.{has_fault_or_tree}
-use Rattle.ada_syntax.proofs.laws.faults_exclude_trees.Goals as goal
-
-pub returns : goal.returns
-returns c = has_fault_or_tree

@@ -1,5 +1,0 @@
-use Rattle.ada_syntax.proofs.Whole.{has_one_tree}
-use Rattle.ada_syntax.proofs.laws.tokens_have_one_tree.Goals as goal
-
-pub returns : goal.returns
-returns c = has_one_tree

@@ -1,0 +1,21 @@
+//! Tests of what no contract says, each a table with one loop and one assertion.
+//!
+//! - [`tokens`]: the tokens of short texts, and their first faults;
+//! - [`limits`]: sources that are too long to be kept as files;
+//! - [`streams`]: readers and writers that move one byte a call, and fail at each call in turn;
+//! - [`words`]: the words after the program's name, and the exit statuses;
+//! - [`unchecked`]: programs run without the rules, and with requests refused.
+//!
+//! Whole answers to sources are data of `ada_examples`.
+#![tactic(auto)]
+
+#[cfg(test)]
+mod limits;
+#[cfg(test)]
+mod streams;
+#[cfg(test)]
+mod tokens;
+#[cfg(test)]
+mod unchecked;
+#[cfg(test)]
+mod words;

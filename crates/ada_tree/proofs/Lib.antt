@@ -1,4 +1,0 @@
--- lemmas of this crate
-mod AtHome
-mod Items
-mod Viewed

@@ -1,9 +1,0 @@
--- No item is left exactly if there are no more items than components.
-use Rattle.std.proofs.Common.{map, length, arith}
-use Rattle.std.proofs.lemmas.Grind.{common_steps}
-use Rattle.ada_tree.specs.ProgramForm.{object_form, type_form}
-use Rattle.ada_tree.proofs.Items.{none_left}
-use Rattle.ada_tree.proofs.values.items_fit.Goals as goal
-
-pub returns : goal.returns
-returns c = grind (arith, common_steps, none_left (map type_form c.args.types.now) (map object_form c.args.objects.now) (length c.args.components.now) c.args.items.now)

@@ -1,0 +1,16 @@
+-- what a value is of which kind
+pub mod Values
+-- variables that are declared so far
+pub mod Declared
+-- operators and the types of their operands
+pub mod Operators
+-- what is left to do fits what is there
+pub mod Control
+-- paths, expressions, allocators and what is assigned
+pub mod Evaluations
+-- each step leads from typed states to typed states
+pub mod Steps
+-- so no run is stuck
+pub mod Runs
+-- a program that is well formed, and one that is not
+pub mod Example

@@ -1,0 +1,72 @@
+-- Which value a variable or a component may hold, and what lies in an object.
+
+use Rattle.std.specs.Prelude.{◌≡◌, ℕ, ℤ, List, [], ◌∷◌, map, Some}
+use Rattle.std.specs.List.{slice_get}
+use Rattle.ada_program.specs.declared.program.VariableKind.{VariableKind}
+use Rattle.ada_program.specs.declared.program.VariableKind.TheVariants as variable
+use Rattle.ada_program.specs.declared.program.Program.{Program}
+use Rattle.ada_program.specs.ProgramForm.{TypeForm, ComponentForm, program_form}
+use Rattle.ada_program.specs.WellFormed.{IsWellFormed, reached_components, held_kind}
+use Rattle.ada_values.specs.declared.value.Value.TheVariants as scalar
+use Rattle.ada_meaning.specs.declared.state.Id.{Id}
+use Rattle.ada_meaning.specs.declared.state.Value.{Value}
+use Rattle.ada_meaning.specs.declared.state.Value.TheVariants.{Null, Names, Scalar}
+use Rattle.ada_meaning.specs.Heap.{Cell}
+use Rattle.ada_meaning.specs.Named.{Object, State, object_at}
+use Rattle.ada_meaning.specs.Run.{Event, Run, first_state}
+
+-- What lies in objects, by their names.
+abbrev pub Cells : Type 0
+Cells = List (Cell Value)
+
+-- A value is an Integer (3.5.4).
+abbrev pub IsInteger : Value → Type 0
+IsInteger Null = ⊥
+IsInteger (Names o) = ⊥
+IsInteger (Scalar (scalar.Integer i)) = Unit {0}
+IsInteger (Scalar (scalar.Boolean b)) = ⊥
+
+-- A value is a Boolean (3.5.3).
+abbrev pub IsBoolean : Value → Type 0
+IsBoolean Null = ⊥
+IsBoolean (Names o) = ⊥
+IsBoolean (Scalar (scalar.Integer i)) = ⊥
+IsBoolean (Scalar (scalar.Boolean b)) = Unit {0}
+
+-- A name was given to an object of this access type.
+abbrev pub Designates : Cells → ℕ → Id → Type 0
+Designates cells access o = (cell : Cell Value) × (slice_get cells o.0 ≡ Some cell) × (cell.access ≡ access)
+
+-- A value is null, or names an object of this access type, gone or not (3.10).
+abbrev pub IsAccess : Cells → ℕ → Value → Type 0
+IsAccess cells access Null = Unit {0}
+IsAccess cells access (Names o) = Designates cells access o
+IsAccess cells access (Scalar v) = ⊥
+
+-- A value is one that can be held where this kind is.
+abbrev pub HasKind : Cells → VariableKind → Value → Type 0
+HasKind cells variable.Integer v = IsInteger v
+HasKind cells variable.Boolean v = IsBoolean v
+HasKind cells (variable.Access access) v = IsAccess cells access.0 v
+
+-- Values are those of the components of an object, one for each, in order.
+abbrev pub HaveKinds : Cells → List ComponentForm → List Value → Type 0
+HaveKinds cells [] [] = Unit {0}
+HaveKinds cells [] (v ∷ vs) = ⊥
+HaveKinds cells (c ∷ cs) [] = ⊥
+HaveKinds cells (c ∷ cs) (v ∷ vs) = HasKind cells (held_kind c.kind) v × HaveKinds cells cs vs
+
+-- What lies in an object is what the record type has that its access type designates.
+abbrev pub IsFilled : List TypeForm → Cells → Cell Value → Type 0
+IsFilled types cells cell = (components : List ComponentForm) × (reached_components types cell.access ≡ Some components) × HaveKinds cells components cell.values
+
+-- What lies in one object, and in all.
+abbrev pub cell_of : Object → Cell Value
+cell_of object = object.cell
+
+abbrev pub cells_of : List Object → Cells
+cells_of objects = map cell_of objects
+
+-- In every run of a well-formed program, what lies in an object is what the record type has that its access type designates.
+abbrev pub ObjectsHaveTheirKinds : Type 0
+ObjectsHaveTheirKinds = (program : Program) → IsWellFormed (program_form program) → (input : List ℤ) (events : List Event) (last : State) (o : Id) (object : Object) → Run program (first_state program input) events last → object_at last.heap o ≡ Some object → IsFilled (program_form program).types (cells_of last.heap) object.cell

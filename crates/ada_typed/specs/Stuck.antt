@@ -1,0 +1,47 @@
+-- A well-formed program is never stuck: each action that a run comes to has a meaning.
+
+use Rattle.std.specs.Prelude.{ℤ, List}
+use Rattle.ada_program.specs.declared.program.Program.{Program}
+use Rattle.ada_program.specs.ProgramForm.{program_form}
+use Rattle.ada_program.specs.WellFormed.{IsWellFormed}
+use Rattle.ada_meaning.specs.declared.event.Halt.{Halt}
+use Rattle.ada_meaning.specs.declared.event.Halt.TheVariants.{Finished, Unhandled, Erroneous, Stuck, Memory}
+use Rattle.ada_meaning.specs.Named.{State}
+use Rattle.ada_meaning.specs.Run.{Event, Run, Halts, first_state}
+
+-- No run of the program, whatever its input and whatever is granted and picked, comes to an action that has no meaning.
+abbrev pub NeverStuck : Program → Type 0
+NeverStuck program = (input : List ℤ) (events : List Event) (last : State) → Run program (first_state program input) events last → Halts program last Stuck → ⊥
+
+-- That holds of each program that is well formed.
+abbrev pub WellFormedProgramsAreNeverStuck : Type 0
+WellFormedProgramsAreNeverStuck = (program : Program) → IsWellFormed (program_form program) → NeverStuck program
+
+-- A run ends in one of the ways that the language knows: the main procedure is left, or by an exception (11.4), or the next action would be
+-- erroneous (13.11.2).
+abbrev pub EndsByTheLanguage : Halt → Type 0
+EndsByTheLanguage Finished = Unit {0}
+EndsByTheLanguage (Unhandled e) = Unit {0}
+EndsByTheLanguage (Erroneous why) = Unit {0}
+EndsByTheLanguage Stuck = ⊥
+EndsByTheLanguage Memory = ⊥
+
+-- Each run of a well-formed program ends so.
+abbrev pub WellFormedProgramsEndByTheLanguage : Type 0
+WellFormedProgramsEndByTheLanguage = (program : Program) → IsWellFormed (program_form program) → (input : List ℤ) (events : List Event) (last : State) (halt : Halt) → Run program (first_state program input) events last → Halts program last halt → EndsByTheLanguage halt
+
+-- A run of the program comes to its end.
+abbrev pub Finishes : Program → Type 0
+Finishes program = (input : List ℤ) × (events : List Event) × (last : State) × Run program (first_state program input) events last × Halts program last Finished
+
+-- A run of the program comes to an action that has no meaning.
+abbrev pub GetsStuck : Program → Type 0
+GetsStuck program = (input : List ℤ) × (events : List Event) × (last : State) × Run program (first_state program input) events last × Halts program last Stuck
+
+-- The premise is met: a well-formed program declares, allocates, follows, writes and frees, and comes to its end.
+abbrev pub AWellFormedProgramFinishes : Type 0
+AWellFormedProgramFinishes = (program : Program) × IsWellFormed (program_form program) × Finishes program
+
+-- The premise is needed: a program that writes the image of a Boolean as that of an Integer gets stuck.
+abbrev pub AnIllTypedProgramGetsStuck : Type 0
+AnIllTypedProgramGetsStuck = (program : Program) × GetsStuck program

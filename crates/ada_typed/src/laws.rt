@@ -1,0 +1,35 @@
+//! What types promise about runs, by the definitions alone.
+
+ghost use Rattle.ada_typed.specs.Holding.{ObjectsHaveTheirKinds};
+ghost use Rattle.ada_typed.specs.Stuck.{WellFormedProgramsAreNeverStuck, WellFormedProgramsEndByTheLanguage, AWellFormedProgramFinishes, AnIllTypedProgramGetsStuck};
+
+use ada_meaning::laws::states_go_on;
+
+/// A well-formed program is never stuck: in each of its runs the next action has a meaning.
+pub fn well_formed_programs_are_never_stuck()
+    ensures { WellFormedProgramsAreNeverStuck }
+{}
+
+/// So each of its runs ends in a way that the language knows: the main procedure is left, or by an exception, or the next
+/// action would be erroneous.
+pub fn well_formed_programs_end_by_the_language()
+    ensures { WellFormedProgramsEndByTheLanguage }
+{
+    states_go_on();
+}
+
+/// In every run of a well-formed program, what lies in an object is what the record type has that its access type
+/// designates: a value of its kind for each component, in order.
+pub fn objects_have_their_kinds()
+    ensures { ObjectsHaveTheirKinds }
+{}
+
+/// The premise is met: a well-formed program declares, allocates, follows, writes and frees, and comes to its end.
+pub fn a_well_formed_program_finishes()
+    ensures { AWellFormedProgramFinishes }
+{}
+
+/// The premise is needed: a program that writes the image of a Boolean as that of an Integer gets stuck.
+pub fn an_ill_typed_program_gets_stuck()
+    ensures { AnIllTypedProgramGetsStuck }
+{}

@@ -1,0 +1,17 @@
+use Rattle.ada_verdict.specs.declared.fault.Verdict.TheVariants.{Flow}
+use Rattle.ada_verdict.proofs.Firsts.{first_told, obeys}
+use Rattle.ada_verdict.proofs.accepted.checked.Goals as goal
+
+-- the program is that of the source
+pub returns-in_err-flow-clause-refused : goal.returns-in_err-flow-clause-refused
+returns-in_err-flow-clause-refused c =
+    first_told c.args.source.now (Flow c.in_err-flow.field-0.0) c.from_residual-in_err-flow.result
+    (c.in_ok-program.program, c.in_ok-program.ensures.meant, c.in_err-flow.ensures) c.from_residual-in_err-flow.ensures.1
+
+-- the program obeys the rules, and is well formed
+pub invariant_of-result : goal.invariant_of-result
+invariant_of-result c = (obeys c.in_ok-program.program c.in_ok-flow.ensures, c.in_ok-program.ensures.formed)
+
+-- it is the source's, and obeys the rules
+pub returns-clause-accepted : goal.returns-clause-accepted
+returns-clause-accepted c = (c.in_ok-program.ensures.meant, obeys c.in_ok-program.program c.in_ok-flow.ensures)

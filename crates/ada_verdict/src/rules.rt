@@ -1,0 +1,55 @@
+//! The number and the name of each rule, as they are printed.
+
+/// A byte that begins no token and stands in no comment (2.1).
+pub const BYTE_NOT_ALLOWED: &str = "F01 byte-not-allowed";
+
+/// A string literal that is not closed on its line (2.6).
+pub const OPEN_STRING: &str = "F02 open-string";
+
+/// A number above 2147483647 (3.5.4).
+pub const NUMBER_RANGE: &str = "F03 number-range";
+
+/// A source of more than 1048576 bytes.
+pub const SOURCE_TOO_LONG: &str = "F04 source-too-long";
+
+/// An identifier that is too long or has not the form of one (2.3).
+pub const IDENTIFIER_FORM: &str = "F05 identifier-form";
+
+/// A token with which no unit goes on.
+pub const UNEXPECTED_TOKEN: &str = "F10 unexpected-token";
+
+/// A token that opens more than 64 levels of nesting.
+pub const TOO_DEEP: &str = "F11 too-deep";
+
+/// The unit is not at its end where the source is.
+pub const END_OF_SOURCE: &str = "F12 end-of-source";
+
+/// A name of which nothing is visible (8.3).
+pub const UNKNOWN_NAME: &str = "F20 unknown-name";
+
+/// A name that is declared already, or is predefined (8.3).
+pub const DECLARED_TWICE: &str = "F21 declared-twice";
+
+/// A name or a value of another kind or type than is wanted (8.6).
+pub const WRONG_TYPE: &str = "F22 wrong-type";
+
+/// A construct that is not in the profile.
+pub const NOT_IN_PROFILE: &str = "F23 not-in-profile";
+
+/// A declaration where its kind may not stand.
+pub const LAYOUT: &str = "F24 layout";
+
+/// An object or a component without the initial value that it needs.
+pub const NO_INITIAL_VALUE: &str = "F25 no-initial-value";
+
+/// An incomplete type that is not completed (3.10.1).
+pub const BODY_MISSING: &str = "F26 body-missing";
+
+/// A limit of the profile is passed.
+pub const LIMIT: &str = "F27 limit";
+
+/// A value that may be gone is followed, moved or freed.
+pub const LOST_VALUE: &str = "S1 lost-value";
+
+/// A variable is moved or freed whose object another variable owns.
+pub const ALIAS_MOVED: &str = "S2 alias-moved";

@@ -1,0 +1,17 @@
+pub mod Spelling
+pub mod Linking
+pub mod Steps
+pub mod Reading
+pub mod Objects
+pub mod Written
+pub mod Done
+pub mod Fitting
+pub mod Merging
+pub mod Told
+pub mod Stepped
+pub mod Searching
+pub mod Pools
+pub mod Beside
+pub mod Owners
+pub mod Closing
+pub mod Piling
