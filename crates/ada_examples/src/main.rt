@@ -1,7 +1,7 @@
 //! Answers every source in the folders that its words name: as `check` does, and again as `run` does where it is
 //! accepted. Folders are answered in the order of the words, and the sources of a folder in the order of their names.
 //!
-//! The folders lie in `data/`, their names in `args`, and the wanted answers in `stdout`: a new case adds a file and its
+//! Each run has the same input. The folders lie in `data/`, their names in `args`, and the wanted answers in `stdout`: a new case adds a file and its
 //! answer, and no function.
 #![tactic(auto)]
 
@@ -9,6 +9,9 @@ use ada_serve::serve::{Status, serve};
 use ada_serve::settings::Options;
 use ada_serve::streams::{MemoryReader, SystemWriter};
 use std::{fs, io};
+
+/// The input of each run.
+const INPUT: &[u8] = b"7 -3\n2\n";
 
 fn main(rt: HostRuntime) -> io::Result<()> {
     for folder in std::env::args(&rt)?.skip(1) {
@@ -43,7 +46,7 @@ fn answer_folder(rt: &HostRuntime, folder: &str) -> io::Result<()> {
 /// Where the fault cannot be written.
 fn answer(rt: &HostRuntime, source: &[u8], run: bool) -> io::Result<Option<Status>> {
     let mut reader = MemoryReader::new(source);
-    let mut input = MemoryReader::new(b"");
+    let mut input = MemoryReader::new(INPUT);
     let mut out = SystemWriter::new(rt.stdout());
     match serve(
         rt.alloc(),

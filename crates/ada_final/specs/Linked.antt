@@ -1,6 +1,7 @@
 -- Lists of places that blocks hold by their links, newest first.
 use Rattle.std.specs.Prelude.{◌≡◌, ◌≢◌, ℕ, zero, suc, ◌-◌, ◌^◌, ◌<◌, ◌≤◌, ◌⊎◌, ◌==◌, if◌then◌else◌, List, [], ◌∷◌, ◌++◌, length}
 use Rattle.pool_tiles.specs.Tiling.{Tile, block_length}
+use Rattle.pool_tiles.specs.Kept.{KeepsWords}
 use Rattle.ada_final.specs.declared.chain.Chain.{Chain}
 
 -- The places from the one that is named on, so many of them. A place is named by the number after it, and 0 names none; link 0 of a block names the next older one.
@@ -52,6 +53,10 @@ pub record Chained (ts : List Tile) (word : ℕ → ℕ → ℕ) (chain : Chain)
 abbrev pub LeavesOthers : List ℕ → List Tile → (ℕ → ℕ → ℕ) → (ℕ → ℕ → ℕ) → Type 0
 LeavesOthers touched ts old new =
     (other : Chain) → Chained ts old other → Apart (places old other) touched → Chained ts new other × (places new other ≡ places old other)
+
+-- each user's word of these tiles is as it was, but for the two links of the blocks at these places
+abbrev pub KeepsAllButLinks : List ℕ → List Tile → (ℕ → ℕ → ℕ) → (ℕ → ℕ → ℕ) → Type 0
+KeepsAllButLinks touched ts old new = KeepsWords (λ other i. IsIn other touched × (i < 2) → ⊥) ts old new
 
 -- the list without the place
 abbrev pub without_place : ℕ → List ℕ → List ℕ

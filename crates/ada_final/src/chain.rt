@@ -1,8 +1,7 @@
 // The chain of a collection's objects, through the links of their blocks.
 ghost use Rattle.std.specs.Prelude.{◌≡◌, ◌≢◌, ℕ, ◌+◌, ◌<◌, ◌↔◌, List, [], ◌∷◌, length, remove, slice_get, Option, Some, None, IsSome, IfSome, IfNone, OnSome};
 ghost use Rattle.pool_tiles.specs.Tiling.{Tile, IsTaken};
-ghost use Rattle.pool_tiles.specs.Kept.{KeepsWords};
-ghost use Rattle.ada_final.specs.Linked.{places, ChainsStay, NotIn, IsIn, Chained, LeavesOthers, StandsAt, without_place};
+ghost use Rattle.ada_final.specs.Linked.{places, ChainsStay, NotIn, IsIn, Chained, KeepsAllButLinks, LeavesOthers, StandsAt, without_place};
 
 use pool_kinds::{Place, Pool};
 
@@ -44,9 +43,12 @@ impl Chain {
         requires block { IsTaken (P.tiling pool.old) place.0 }
         requires out { NotIn place.0 (places (P.user_word pool.old) self.old) }
         ensures chain { Chained (P.tiling pool.new) (P.user_word pool.new) self.new }
-        ensures places { places (P.user_word pool.new) self.new ≡ place.0 ∷ places (P.user_word pool.old) self.old }
-        ensures others { LeavesOthers (place.0 ∷ places (P.user_word pool.old) self.old) (P.tiling pool.old) (P.user_word pool.old) (P.user_word pool.new) }
-        ensures words { KeepsWords (λ other i. IsIn other (place.0 ∷ places (P.user_word pool.old) self.old) × (i < 2) → ⊥) (P.tiling pool.old) (P.user_word pool.old) (P.user_word pool.new) }
+        ensures places { places (P.user_word pool.new) self.new
+            ≡ place.0 ∷ places (P.user_word pool.old) self.old }
+        ensures others { LeavesOthers (place.0 ∷ places (P.user_word pool.old) self.old)
+            (P.tiling pool.old) (P.user_word pool.old) (P.user_word pool.new) }
+        ensures words { KeepsAllButLinks (place.0 ∷ places (P.user_word pool.old) self.old)
+            (P.tiling pool.old) (P.user_word pool.old) (P.user_word pool.new) }
         ensures tiling { P.tiling pool.new ≡ P.tiling pool.old }
         ensures owners { P.owners pool.new ≡ P.owners pool.old }
     {
@@ -65,9 +67,12 @@ impl Chain {
         requires chain { Chained (P.tiling pool.old) (P.user_word pool.old) self.old }
         requires inside { IsIn place.0 (places (P.user_word pool.old) self.old) }
         ensures chain { Chained (P.tiling pool.new) (P.user_word pool.new) self.new }
-        ensures places { places (P.user_word pool.new) self.new ≡ without_place place.0 (places (P.user_word pool.old) self.old) }
-        ensures others { LeavesOthers (places (P.user_word pool.old) self.old) (P.tiling pool.old) (P.user_word pool.old) (P.user_word pool.new) }
-        ensures words { KeepsWords (λ other i. IsIn other (places (P.user_word pool.old) self.old) × (i < 2) → ⊥) (P.tiling pool.old) (P.user_word pool.old) (P.user_word pool.new) }
+        ensures places { places (P.user_word pool.new) self.new
+            ≡ without_place place.0 (places (P.user_word pool.old) self.old) }
+        ensures others { LeavesOthers (places (P.user_word pool.old) self.old)
+            (P.tiling pool.old) (P.user_word pool.old) (P.user_word pool.new) }
+        ensures words { KeepsAllButLinks (places (P.user_word pool.old) self.old)
+            (P.tiling pool.old) (P.user_word pool.old) (P.user_word pool.new) }
         ensures tiling { P.tiling pool.new ≡ P.tiling pool.old }
         ensures owners { P.owners pool.new ≡ P.owners pool.old }
     {
@@ -89,11 +94,15 @@ impl Chain {
     pub fn take_next<P: Pool>(&mut self, pool: &mut P, i: usize) -> Option<Place>
         requires { Chained (P.tiling pool.old) (P.user_word pool.old) self.old }
         ensures some { IsSome result ↔ (i < length (places (P.user_word pool.old) self.old)) }
-        ensures item { IfSome result (λ place. slice_get (places (P.user_word pool.old) self.old) i ≡ Some place.0) }
+        ensures item { IfSome result (λ place. slice_get (places (P.user_word pool.old) self.old) i
+            ≡ Some place.0) }
         ensures chain { Chained (P.tiling pool.new) (P.user_word pool.new) self.new }
-        ensures places { OnSome result (places (P.user_word pool.new) self.new ≡ remove (places (P.user_word pool.old) self.old) i) }
-        ensures others { LeavesOthers (places (P.user_word pool.old) self.old) (P.tiling pool.old) (P.user_word pool.old) (P.user_word pool.new) }
-        ensures words { KeepsWords (λ other i. IsIn other (places (P.user_word pool.old) self.old) × (i < 2) → ⊥) (P.tiling pool.old) (P.user_word pool.old) (P.user_word pool.new) }
+        ensures places { OnSome result (places (P.user_word pool.new) self.new
+            ≡ remove (places (P.user_word pool.old) self.old) i) }
+        ensures others { LeavesOthers (places (P.user_word pool.old) self.old)
+            (P.tiling pool.old) (P.user_word pool.old) (P.user_word pool.new) }
+        ensures words { KeepsAllButLinks (places (P.user_word pool.old) self.old)
+            (P.tiling pool.old) (P.user_word pool.old) (P.user_word pool.new) }
         ensures tiling { P.tiling pool.new ≡ P.tiling pool.old }
         ensures owners { P.owners pool.new ≡ P.owners pool.old }
         ensures none { IfNone result ((self.new ≡ self.old) × (pool.new ≡ pool.old)) }

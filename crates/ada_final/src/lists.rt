@@ -99,7 +99,8 @@ impl Lists {
     /// `AllocError` where the list had to grow and memory was refused.
     pub fn attach(&mut self, list: ListNo, item: Item) -> Result<(), AllocError>
         requires { IsEntered self.old list }
-        ensures ok { OnOk result (self.new ≡ with_items self.old list (item ∷ items_of self.old list)) }
+        ensures ok { OnOk result
+            (self.new ≡ with_items self.old list (item ∷ items_of self.old list)) }
         ensures err { OnErr result (self.new ≡ self.old) }
     {
         self.slots[list.number].attach(item)
@@ -112,7 +113,8 @@ impl Lists {
     pub fn detach(&mut self, list: ListNo, item: Item) -> bool
         requires { IsEntered self.old list }
         ensures found { IsTrue result ↔ Contains (items_of self.old list) item }
-        ensures taken { self.new ≡ with_items self.old list (without item (items_of self.old list)) }
+        ensures taken { self.new
+            ≡ with_items self.old list (without item (items_of self.old list)) }
         ensures absent { OnFalse result (self.new ≡ self.old) }
     {
         self.slots[list.number].detach(item)

@@ -1,15 +1,25 @@
 -- How the answers of the code are tied to the outcomes of the flow of values.
 
-use Rattle.std.specs.Prelude.{◌≡◌, Option, Some, None, IfSome, Result, Ok, Err}
+use Rattle.std.specs.Prelude.{◌≡◌, ℕ, Bool, true, false, List, map, Option, Some, None, IfSome, Result, Ok, Err}
+use Rattle.std.specs.Global.{Vec}
+use Rattle.std.specs.Option.{option_copied}
 use Rattle.ada_text.specs.declared.spot.Spot.{Spot}
 use Rattle.ada_text.specs.Exactly.{Exactly}
+use Rattle.ada_flow.specs.declared.around.Around.{Around as HeldAround}
 use Rattle.ada_flow.specs.declared.fault.Breach.{Breach}
 use Rattle.ada_flow.specs.declared.fault.FlowFault.{FlowFault}
 use Rattle.ada_flow.specs.declared.fault.FlowFault.TheVariants.{Broken, NoMemory}
+use Rattle.ada_flow.specs.declared.raised.Raised.{Raised}
+use Rattle.ada_flow.specs.declared.raised.Raised.TheVariants.{Unwanted, Wanted}
+use Rattle.ada_flow.specs.declared.rule.Hold.{Hold}
 use Rattle.ada_flow.specs.declared.rule.Rule.{Rule}
 use Rattle.ada_flow.specs.declared.rule.Rule.TheVariants.{LostValue}
 use Rattle.ada_program.specs.declared.program.Program.{Program}
-use Rattle.ada_flow.specs.Flow.{Outcome, faults, goes, Holds, program_flow}
+use Rattle.ada_program.specs.declared.program.Branch.{Branch}
+use Rattle.ada_program.specs.declared.program.TypeNo.{TypeNo}
+use Rattle.ada_program.specs.Form.{StmtsForm, branches_form, HandlersForm, no_handlers, a_handler}
+use Rattle.ada_program.specs.ProgramForm.{VariableForm, variable_form}
+use Rattle.ada_flow.specs.Flow.{Outcome, faults, goes, Holds, Around, join_option, left, left_option, raising_if, unless_worse, stmts_flow, branches_flow, program_flow}
 
 -- The judgement of a whole program: no rule is broken, or this is the first one, and where.
 abbrev pub judgement : Outcome → Result (Unit {0}) (Spot × Rule)
@@ -25,17 +35,114 @@ breach_of NoMemory = None
 abbrev pub IsFirstFault : Program → FlowFault → Type 0
 IsFirstFault program fault = IfSome (breach_of fault) (λ breach. judgement (program_flow program) ≡ Err breach)
 
--- The normal end of a form: what the variables hold there, or the rule that is broken first. What they hold where an exception is raised is
--- left aside, as nothing handles an exception yet.
-abbrev pub normal_end : Outcome → Result (Option Holds) (Spot × Rule)
-normal_end (faults spot rule) = Err (spot, rule)
-normal_end (goes normal raising) = Ok normal
+-- Views of what the code keeps.
 
--- The answer for a form, with what the variables hold after it, is exactly its normal end.
+-- What the variables hold where a form comes to its end; nothing, where it does not.
+abbrev pub held : Option (Vec Hold) → Option Holds
+held None = None
+held (Some holds) = Some holds.items
+
+-- The number of a type.
+abbrev pub type_number : TypeNo → ℕ
+type_number t = t.0
+
+-- Where a statement stands: the variables of its program, the start of the innermost loop, and the access types of blocks.
+abbrev pub variables_in : HeldAround → List VariableForm
+variables_in around = map variable_form around.variables.now
+
+abbrev pub start_in : HeldAround → Option Holds
+start_in around = option_copied around.start
+
+abbrev pub around_of : HeldAround → Around
+around_of around = record { start = start_in around; inside = map type_number around.inside.now }
+
+-- What is noted of the places where a form may raise an exception: nothing, where neither a handler nor a block around wants to know it; or
+-- what the variables hold there.
+pub data Noted : Type 0 where
+  unwanted : Noted
+  wanted : Option Holds → Noted
+
+abbrev pub noted : Raised → Noted
+noted Unwanted = unwanted
+noted (Wanted holds) = wanted (held holds)
+
+-- What is raised besides is noted, too.
+abbrev pub also_noted : Noted → Option Holds → Noted
+also_noted unwanted raising = unwanted
+also_noted (wanted before) raising = wanted (join_option before raising)
+
+-- The same where it is noted in a block that is left, with the collections of these types.
+abbrev pub noted_behind : Noted → List VariableForm → (types : List ℕ) → Noted → Noted
+noted_behind before variables types unwanted = before
+noted_behind before variables types (wanted raising) = also_noted before (left_option variables types raising)
+
+-- Nothing is noted yet, where as much is wanted.
+abbrev pub emptied : Noted → Noted
+emptied unwanted = unwanted
+emptied (wanted before) = wanted None
+
+-- What is noted of statements with these handlers: all, unless neither they nor anything around wants to know it.
+abbrev pub noted_for : Noted → HandlersForm → Noted
+noted_for (wanted before) hs = wanted None
+noted_for unwanted no_handlers = unwanted
+noted_for unwanted (a_handler choices fs hs) = wanted None
+
+-- Is anything wanted?
+abbrev pub is_wanted : Noted → Bool
+is_wanted unwanted = false
+is_wanted (wanted before) = true
+
+-- The answers of the code.
+
+-- How a form ends, by what is noted before it: what the variables hold where it comes to its end, with what is noted then; or the rule that is
+-- broken first.
+abbrev pub ending : Noted → Outcome → Result (Option Holds × Noted) (Spot × Rule)
+ending before (faults spot rule) = Err (spot, rule)
+ending before (goes normal raising) = Ok (normal, also_noted before raising)
+
+-- The answer for a form, with what is noted before and after it, is exactly its ending, want of memory aside.
+abbrev pub Ends : Result (Option (Vec Hold)) FlowFault → (before after : Raised) → Outcome → Type 0
+Ends answer before after outcome = Exactly (λ normal. (held normal, noted after)) breach_of answer (ending (noted before) outcome)
+
+-- The same of a form that comes to its end, with what the variables hold there.
+abbrev pub Leads : {X : Type 0} → Result X FlowFault → Holds → (before after : Raised) → Outcome → Type 0
+Leads answer holds before after outcome = Exactly (λ _. (Some holds, noted after)) breach_of answer (ending (noted before) outcome)
+
+-- The answer for a form that raises nothing, with what the variables hold after it, is exactly its outcome.
 abbrev pub Tells : {X : Type 0} → Result X Breach → Holds → Outcome → Type 0
-Tells answer after outcome = Exactly (λ _. Some after) (λ breach. Some (breach.spot, breach.rule)) answer (normal_end outcome)
+Tells (Ok x) holds outcome = outcome ≡ goes (Some holds) None
+Tells (Err breach) holds outcome = outcome ≡ faults breach.spot breach.rule
+
+-- An end joins with what is known after the ways before it.
+abbrev pub joined_end : Option Holds → Result (Option Holds × Noted) (Spot × Rule) → Result (Option Holds × Noted) (Spot × Rule)
+joined_end so_far (Err breach) = Err breach
+joined_end so_far (Ok end) = Ok (join_option so_far end.0, end.1)
+
+-- The answer for branches of an `if` joins their ends, whatever is done where no condition is true; or it is the first fault of all.
+abbrev pub Joins : Result (Option (Vec Hold)) FlowFault → (before after : Raised) → HeldAround → List Branch → Holds → Type 0
+Joins (Ok joined) before after around branches holds = (others : StmtsForm) →
+    ending (noted before) (branches_flow (variables_in around) (around_of around) (branches_form branches others) holds)
+    ≡ joined_end (held joined) (ending (noted after) (stmts_flow (variables_in around) (around_of around) others holds))
+Joins (Err fault) before after around branches holds = IfSome (breach_of fault) (λ breach. (others : StmtsForm) →
+    ending (noted before) (branches_flow (variables_in around) (around_of around) (branches_form branches others) holds) ≡ Err breach)
+
+-- How statements end with their handlers, by how they do themselves, and by what is noted of them.
+abbrev pub end_handled : Noted → (passes : Bool) → (handlers : Holds → Outcome) → (normal : Option Holds) → Noted → Result (Option Holds × Noted) (Spot × Rule)
+end_handled before passes handlers normal unwanted = Ok (normal, before)
+end_handled before passes handlers normal (wanted None) = Ok (normal, before)
+end_handled before passes handlers normal (wanted (Some raising)) =
+    joined_end normal (ending (also_noted before (raising_if passes raising)) (handlers raising))
+
+-- The answer for handlers joins their ends with that of their statements.
+abbrev pub Handles : Result (Option (Vec Hold)) FlowFault → (after : Raised) → Result (Option Holds × Noted) (Spot × Rule) → Type 0
+Handles answer after end = Exactly (λ normal. (held normal, noted after)) breach_of answer end
 
 -- The answer for paths that are followed names the leftmost place where one follows a lost value, if there is one.
 abbrev pub Follows : {X : Type 0} → Result X Breach → Option Spot → Type 0
 Follows (Ok x) lost = lost ≡ None
 Follows (Err breach) lost = (lost ≡ Some breach.spot) × (breach.rule ≡ LostValue)
+
+-- Before the condition of an exit: less may not be known of a variable, behind the blocks that are left, than at the start of the loop.
+abbrev pub exit_begins : List VariableForm → Option Holds → (inside : List ℕ) → Spot → Holds → Outcome
+exit_begins variables None inside spot holds = goes (Some holds) None
+exit_begins variables (Some start) inside spot holds = unless_worse start (left variables inside holds) spot (goes (Some holds) None)

@@ -1,17 +1,25 @@
-//! The flow of values: what each variable may be relied on for, from statement to statement.
+//! The flow of values through initial values, assignments and frees, and through a whole program.
 
 ghost use Rattle.std.specs.Prelude.{◌≡◌, map};
-ghost use Rattle.ada_flow.specs.Flow.{gives, frees_path, stmt_flow, declaration_flow, stmts_flow, declarations_flow, program_flow};
-ghost use Rattle.ada_flow.specs.Told.{Tells, breach_of, judgement};
-ghost use Rattle.ada_program.specs.Form.{value_of, assigns, path_form, right_form, stmt_form, declaration_form};
+ghost use Rattle.ada_flow.specs.Flow.{gives, gives_path, moves_path, frees_path, gets_path, declaration_flow, declarations_flow, program_flow};
+ghost use Rattle.ada_flow.specs.Told.{Leads, Tells, breach_of, judgement};
+ghost use Rattle.ada_program.specs.Form.{path_form, right_form, declaration_form};
+ghost use Rattle.ada_program.specs.ProgramForm.{variable_form};
 ghost use Rattle.ada_text.specs.Exactly.{Exactly};
 
+use crate::around::Around;
+use crate::blocks::handled;
+use crate::compute::compute;
 use crate::fault::{Breach, FlowFault};
 use crate::follow::{follow, follow_items};
 use crate::holds::{hold_of, put};
+use crate::kinds::{held_as, variable_access};
+use crate::raised::Raised;
 use crate::rule::{Hold, Region, Rule};
-use ada_program::program::{Declaration, Right};
-use ada_program::{Path, Program, Stmt, VariableNo};
+use crate::statements::statements;
+use ada_effects::expression_raises;
+use ada_program::program::{Declaration, Right, Variable};
+use ada_program::{Path, Program, VariableNo};
 use std::alloc::Global;
 
 /// A rule that is broken where a path stands.
@@ -25,8 +33,13 @@ fn broken(path: &Path, rule: Rule) -> Breach
 }
 
 /// `X := Y`: what Y owned goes to X; neither a lost value nor an alias is moved.
-fn move_value(holds: &mut [Hold], target: VariableNo, path: &Path) -> Result<(), Breach>
-    ensures { Tells result holds.new (gives target.0 (value_of (path_form path.now)) holds.old) }
+fn move_value(
+    variables: &[Variable],
+    holds: &mut [Hold],
+    target: VariableNo,
+    path: &Path,
+) -> Result<(), Breach>
+    ensures { let moved = path_form path.now in Tells result holds.new (moves_path (map variable_form variables.now) target.0 moved.selectors moved holds.old) }
 {
     if !path.selectors.is_empty() {
         return Err(broken(path, Rule::LostValue));
@@ -34,8 +47,13 @@ fn move_value(holds: &mut [Hold], target: VariableNo, path: &Path) -> Result<(),
     match hold_of(holds, path.root) {
         Hold::Null => put(holds, target, Hold::Null),
         Hold::Own(region) => {
+            let access = variable_access(variables, path.root);
             put(holds, path.root, Hold::Lost);
-            put(holds, target, Hold::Own(region));
+            put(
+                holds,
+                target,
+                held_as(variables, access, target, Hold::Own(region)),
+            );
         }
         Hold::Alias(_) => return Err(broken(path, Rule::AliasMoved)),
         Hold::Lost => return Err(broken(path, Rule::LostValue)),
@@ -44,18 +62,32 @@ fn move_value(holds: &mut [Hold], target: VariableNo, path: &Path) -> Result<(),
 }
 
 /// A variable gets a value: what the value follows is followed first.
-fn give(holds: &mut [Hold], target: VariableNo, value: &Right) -> Result<(), Breach>
-    ensures { Tells result holds.new (gives target.0 (right_form value.now) holds.old) }
+fn give(
+    alloc: Global,
+    variables: &[Variable],
+    holds: &mut [Hold],
+    raised: &mut Raised,
+    target: VariableNo,
+    value: &Right,
+) -> Result<(), FlowFault>
+    ensures { Leads result holds.new raised.old raised.new (gives (map variable_form variables.now) target.0 (right_form value.now) holds.old) }
 {
     match value {
         Right::Null => put(holds, target, Hold::Null),
-        Right::Variable(path) => return move_value(holds, target, path),
-        Right::Allocator { access: _, items } => {
+        Right::Variable(path) => move_value(variables, holds, target, path)?,
+        Right::Allocator { access, items } => {
             follow_items(holds, items)?;
-            put(holds, target, Hold::Own(Region::Whole));
+            raised.note(alloc, holds)?;
+            let own = Hold::Own(Region::Whole);
+            put(
+                holds,
+                target,
+                held_as(variables, Some(*access), target, own),
+            );
         }
         Right::Value(expression) => {
             follow(holds, expression)?;
+            raised.note_if(expression_raises(expression), alloc, holds)?;
             put(holds, target, Hold::Lost);
         }
     }
@@ -63,18 +95,41 @@ fn give(holds: &mut [Hold], target: VariableNo, value: &Right) -> Result<(), Bre
 }
 
 /// An assignment: only a variable is a target.
-fn assign(holds: &mut [Hold], target: &Path, value: &Right) -> Result<(), Breach>
-    ensures { Tells result holds.new (stmt_flow (assigns (path_form target.now) (right_form value.now)) holds.old) }
+pub(crate) fn assign(
+    alloc: Global,
+    variables: &[Variable],
+    holds: &mut [Hold],
+    raised: &mut Raised,
+    target: &Path,
+    value: &Right,
+) -> Result<(), FlowFault>
+    ensures { let assigned = path_form target.now in Leads result holds.new raised.old raised.new (gives_path (map variable_form variables.now) assigned.selectors assigned (right_form value.now) holds.old) }
 {
-    if target.selectors.is_empty() {
-        give(holds, target.root, value)
-    } else {
-        Err(broken(target, Rule::LostValue))
+    if !target.selectors.is_empty() {
+        return Err(broken(target, Rule::LostValue).into());
     }
+    give(alloc, variables, holds, raised, target.root, value)
+}
+
+/// `Run_Input.Get (X)`: there may be no number.
+pub(crate) fn get(
+    alloc: Global,
+    holds: &mut [Hold],
+    raised: &mut Raised,
+    target: &Path,
+) -> Result<(), FlowFault>
+    ensures { let read = path_form target.now in Leads result holds.new raised.old raised.new (gets_path read.selectors read holds.old) }
+{
+    if !target.selectors.is_empty() {
+        return Err(broken(target, Rule::LostValue).into());
+    }
+    raised.note(alloc, holds)?;
+    put(holds, target.root, Hold::Lost);
+    Ok(())
 }
 
 /// `Free (X)`: only an owner frees.
-fn release(holds: &mut [Hold], path: &Path) -> Result<(), Breach>
+pub(crate) fn release(holds: &mut [Hold], path: &Path) -> Result<(), Breach>
     ensures { let freed = path_form path.now in Tells result holds.new (frees_path freed.selectors freed holds.old) }
 {
     if !path.selectors.is_empty() {
@@ -90,31 +145,22 @@ fn release(holds: &mut [Hold], path: &Path) -> Result<(), Breach>
     }
 }
 
-/// One statement.
-fn statement(holds: &mut [Hold], statement: &Stmt) -> Result<(), Breach>
-    ensures { Tells result holds.new (stmt_flow (stmt_form statement.now) holds.old) }
-{
-    match statement {
-        Stmt::Null | Stmt::PutText(_) => Ok(()),
-        Stmt::Assign { target, value } => assign(holds, target, value),
-        Stmt::Free {
-            access: _,
-            variable,
-        } => release(holds, variable),
-        Stmt::PutImage(expression) => follow(holds, expression),
-    }
-}
-
 /// One declaration.
-fn declaration(holds: &mut [Hold], declaration: &Declaration) -> Result<(), Breach>
-    ensures { Tells result holds.new (declaration_flow (declaration_form declaration.now) holds.old) }
+fn declaration(
+    alloc: Global,
+    variables: &[Variable],
+    holds: &mut [Hold],
+    raised: &mut Raised,
+    declaration: &Declaration,
+) -> Result<(), FlowFault>
+    ensures { Leads result holds.new raised.old raised.new (declaration_flow (map variable_form variables.now) (declaration_form declaration.now) holds.old) }
 {
     match declaration {
         Declaration::Collection(_) => Ok(()),
         Declaration::Variable {
             variable,
             initial: Some(value),
-        } => give(holds, *variable, value),
+        } => give(alloc, variables, holds, raised, *variable, value),
         Declaration::Variable {
             variable,
             initial: None,
@@ -126,21 +172,18 @@ fn declaration(holds: &mut [Hold], declaration: &Declaration) -> Result<(), Brea
 }
 
 /// The declarations, in order.
-fn declarations(holds: &mut [Hold], declarations: &[Declaration]) -> Result<(), Breach>
-    ensures { Tells result holds.new (declarations_flow (map declaration_form declarations.now) holds.old) }
+#[tactic(auto, using(std::proofs::lemmas::Grind::common_steps, crate::proofs::Noted::noted_steps))]
+pub(crate) fn declare(
+    alloc: Global,
+    variables: &[Variable],
+    holds: &mut [Hold],
+    raised: &mut Raised,
+    declarations: &[Declaration],
+) -> Result<(), FlowFault>
+    ensures { Leads result holds.new raised.old raised.new (declarations_flow (map variable_form variables.now) (map declaration_form declarations.now) holds.old) }
 {
     'declarations: for one in declarations {
-        declaration(holds, one)?;
-    }
-    Ok(())
-}
-
-/// The statements, in order.
-fn statements(holds: &mut [Hold], statements: &[Stmt]) -> Result<(), Breach>
-    ensures { Tells result holds.new (stmts_flow (map stmt_form statements.now) holds.old) }
-{
-    'statements: for one in statements {
-        statement(holds, one)?;
+        declaration(alloc, variables, holds, raised, one)?;
     }
     Ok(())
 }
@@ -149,11 +192,34 @@ fn statements(holds: &mut [Hold], statements: &[Stmt]) -> Result<(), Breach>
 ///
 /// # Errors
 /// The first rule that is broken, with its spot, or want of memory.
+#[tactic(auto, using(std::proofs::lemmas::Grind::common_steps, crate::proofs::Noted::program_ends, crate::proofs::Noted::program_obeys))]
 pub fn flow(alloc: Global, program: &Program) -> Result<(), FlowFault>
     ensures { Exactly (λ _. tt) breach_of result (judgement (program_flow program.now)) }
 {
+    let around = Around {
+        variables: &program.variables,
+        start: None,
+        inside: &[],
+    };
     let mut holds = vec![in alloc; Hold::Lost; program.variables.len()]?;
-    declarations(&mut holds, &program.declarations)?;
-    statements(&mut holds, &program.statements)?;
+    let mut raised = Raised::Unwanted;
+    declare(
+        alloc,
+        &program.variables,
+        &mut holds,
+        &mut raised,
+        &program.declarations,
+    )?;
+    let mut inner = raised.with_handlers(&program.handlers);
+    let end = statements(alloc, &around, holds, &mut inner, &program.statements)?;
+    handled(
+        alloc,
+        &around,
+        inner,
+        end,
+        &mut raised,
+        &program.handlers,
+        &program.statements,
+    )?;
     Ok(())
 }

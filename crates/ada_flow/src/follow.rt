@@ -16,7 +16,7 @@ use ada_program::{Path, Spot};
 /// # Errors
 /// The leftmost place where a path follows a lost value.
 pub(crate) fn follow(holds: &[Hold], expression: &Expression) -> Result<(), Breach>
-    ensures { Follows result (rules.lost_among holds.now (rules.paths_in (expression_form expression.now))) }
+    ensures { Follows result (rules.lost_among holds.now (rules.uses_in (expression_form expression.now))) }
 {
     unless_lost(lost_in(holds, expression))
 }
@@ -26,7 +26,7 @@ pub(crate) fn follow(holds: &[Hold], expression: &Expression) -> Result<(), Brea
 /// # Errors
 /// The leftmost place where a path follows a lost value.
 pub(crate) fn follow_items(holds: &[Hold], items: &[Item]) -> Result<(), Breach>
-    ensures { Follows result (rules.lost_among holds.now (rules.paths_in_items (map item_form items.now))) }
+    ensures { Follows result (rules.lost_among holds.now (rules.uses_in_items (map item_form items.now))) }
 {
     unless_lost(lost_in_items(holds, items))
 }
@@ -47,7 +47,7 @@ fn unless_lost(lost: Option<Spot>) -> Result<(), Breach>
 /// The leftmost place where items follow a lost value.
 #[tactic(auto, using(std::proofs::lemmas::Grind::common_steps, crate::proofs::Leftmost::lost_steps))]
 fn lost_in_items(holds: &[Hold], items: &[Item]) -> Option<Spot>
-    ensures { result ≡ rules.lost_among holds.now (rules.paths_in_items (map item_form items.now)) }
+    ensures { result ≡ rules.lost_among holds.now (rules.uses_in_items (map item_form items.now)) }
 {
     let mut found = None;
     'items: for item in items {
@@ -58,7 +58,7 @@ fn lost_in_items(holds: &[Hold], items: &[Item]) -> Option<Spot>
 
 /// The leftmost place where an item follows a lost value.
 fn lost_in_item(holds: &[Hold], item: &Item) -> Option<Spot>
-    ensures { result ≡ rules.lost_among holds.now (rules.paths_in_item (item_form item.now)) }
+    ensures { result ≡ rules.lost_among holds.now (rules.uses_in_item (item_form item.now)) }
 {
     match item {
         Item::Null => None,
@@ -70,11 +70,12 @@ fn lost_in_item(holds: &[Hold], item: &Item) -> Option<Spot>
 #[cycle(following)]
 #[tactic(auto, using(std::proofs::lemmas::Grind::common_steps, ada_program::specs::Form::expression_rules, crate::proofs::Leftmost::lost_steps))]
 fn lost_in(holds: &[Hold], expression: &Expression) -> Option<Spot>
-    ensures { result ≡ rules.lost_among holds.now (rules.paths_in (expression_form expression.now)) }
+    ensures { result ≡ rules.lost_among holds.now (rules.uses_in (expression_form expression.now)) }
 {
     match expression {
         Expression::Integer(_) | Expression::Boolean(_) => None,
         Expression::Path(path) => lost_in_path(holds, path),
+        Expression::NullTest { path, equal: _ } => lost_in_test(holds, path),
         Expression::Unary {
             operator: _,
             operand,
@@ -90,7 +91,7 @@ fn lost_in(holds: &[Hold], expression: &Expression) -> Option<Spot>
 #[cycle(following)]
 #[tactic(auto, using(std::proofs::lemmas::Grind::common_steps, ada_program::specs::Form::expression_rules, crate::proofs::Leftmost::lost_steps))]
 fn lost_in_links(holds: &[Hold], links: &[Link]) -> Option<Spot>
-    ensures { result ≡ rules.lost_among holds.now (rules.paths_in_links (links_form links.now)) }
+    ensures { result ≡ rules.lost_among holds.now (rules.uses_in_links (links_form links.now)) }
 {
     let mut found = None;
     'links: for link in links {
@@ -101,12 +102,23 @@ fn lost_in_links(holds: &[Hold], links: &[Link]) -> Option<Spot>
 
 /// Where a path follows a lost value: that of its variable, or of a component.
 fn lost_in_path(holds: &[Hold], path: &Path) -> Option<Spot>
-    ensures { result ≡ rules.lost_in holds.now (path_form path.now) }
+    ensures { result ≡ rules.lost_in holds.now (rules.reads_it (path_form path.now)) }
 {
     match path.selectors.len() {
         0 => None,
         1 => lost_by(hold_of(holds, path.root), path.spot),
         _ => Some(path.spot),
+    }
+}
+
+/// Where a path that is compared with null uses a lost value: a variable's own value must not be lost either.
+fn lost_in_test(holds: &[Hold], path: &Path) -> Option<Spot>
+    ensures { result ≡ rules.lost_in holds.now (rules.compares_it (path_form path.now)) }
+{
+    if path.selectors.is_empty() {
+        lost_by(hold_of(holds, path.root), path.spot)
+    } else {
+        lost_in_path(holds, path)
     }
 }
 

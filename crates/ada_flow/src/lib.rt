@@ -1,16 +1,33 @@
 //! The flow of values: what each variable may be relied on for, from statement to statement.
 //!
-//! `flow` goes through the declarations and the statements in order and answers exactly: either no rule is broken, or
-//! this is the rule that is broken first, and where, want of memory aside. A value that may be gone is neither read
-//! through, moved nor freed (S1), and what another variable owns is neither moved nor freed (S2). Each step costs no
-//! more than the size of its declaration or statement.
+//! `flow` goes through the declarations, the statements and the handlers in order and answers exactly: either no rule is
+//! broken, or this is the rule that is broken first, and where, want of memory aside. A value that may be gone is neither
+//! read through, compared, moved nor freed (S1), what another variable owns is neither moved nor freed (S2), and no way
+//! leads back to a loop's start, or out of the loop, with less than is known at that start (S5). A variable relies on a
+//! value of its own access type alone. Behind a block the variables of the access types whose collections it created are
+//! lost, and a handler begins with what is known wherever its statements may raise an exception (11.4).
+//!
+//! A statement costs no more than its size, and so it does once more for each loop around it; a branch, a loop, an exit
+//! and a handler cost the number of variables besides, since each way begins with a copy of what is known and ends where
+//! it is joined or compared. A block goes over the variables once for its access types. Where a handler around wants to
+//! know it, each place that may raise an exception costs the number of variables, too, and each block around its size
+//! once more, to tell what its handlers let pass; elsewhere nothing is noted.
 #![tactic(auto)]
 
 mod analysis;
+mod around;
+mod blocks;
+mod compute;
 mod fault;
 mod follow;
 mod holds;
+mod joins;
+mod kinds;
+mod loops;
+mod raised;
+mod repetition;
 mod rule;
+mod statements;
 
 pub use crate::analysis::flow;
 pub use crate::fault::FlowFault;

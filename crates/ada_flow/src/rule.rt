@@ -27,4 +27,6 @@ pub enum Rule {
     LostValue,
     /// A variable is moved or freed whose object another variable owns.
     AliasMoved,
+    /// At the end of a loop's body, or at an exit, less is known of a variable than at the loop's start.
+    LoopState,
 }

@@ -1,16 +1,16 @@
 -- A run in progress: the state that it stands for, and what a turn of it does.
 
-use Rattle.std.specs.Prelude.{◌≡◌, ℕ, List, [], ◌∷◌, map, Result, Ok, Err}
+use Rattle.std.specs.Prelude.{◌≡◌, ℕ, pos, ◌+ℤ◌, List, [], ◌∷◌, map, Result, Ok, Err}
 use Rattle.std.specs.Option.{option_copied}
 use Rattle.std.specs.declared.alloc.AllocError.{AllocError}
-use Rattle.ada_program.specs.Form.{component_number, expression_form, links_form, item_form, initial_form, stmt_form, declaration_form}
+use Rattle.ada_program.specs.Form.{component_number, expression_form, links_form, item_form, initial_form, condition_form, stmts_form, branches_form, handlers_form, declaration_form}
+use Rattle.ada_program.specs.declared.program.Exception.TheVariants.{ConstraintError}
 use Rattle.ada_meaning.specs.declared.state.Value.{Value as ValueOf}
 use Rattle.ada_meaning.specs.declared.state.Value.TheVariants.{Names}
 use Rattle.ada_meaning.specs.declared.event.Cause.{Cause}
 use Rattle.ada_meaning.specs.declared.event.Halt.{Halt}
-use Rattle.ada_meaning.specs.declared.event.Exception.TheVariants.{ConstraintError}
 use Rattle.ada_meaning.specs.declared.event.Cause.TheVariants.{Leaving as leaving, Freeing as freeing}
-use Rattle.ada_meaning.specs.Frame.{Frame}
+use Rattle.ada_meaning.specs.Frame.{Frame, Landing, passes_on, goes_behind, goes_in}
 use Rattle.ada_meaning.specs.Frame as frame
 use Rattle.ada_meaning.specs.Event.{Quiet, Followed, Allocate, event_of, request_of}
 use Rattle.ada_meaning.specs.State.{pool_of}
@@ -18,21 +18,33 @@ use Rattle.ada_meaning.specs.Step.{halts, moves, tells, asks, picks, at, older, 
 use Rattle.ada_meaning.specs.Named.{State, Next, named, members, on_object, parted}
 use Rattle.ada_interpreter.specs.declared.frame.Frame.{Frame as HeldFrame}
 use Rattle.ada_interpreter.specs.declared.frame.Frame.TheVariants as held
+use Rattle.ada_interpreter.specs.declared.handling.Landing.{Landing as HeldLanding}
+use Rattle.ada_interpreter.specs.declared.handling.Landing.TheVariants as landing
 use Rattle.ada_interpreter.specs.declared.expressions.Outcome.{Outcome}
 use Rattle.ada_interpreter.specs.declared.expressions.Outcome.TheVariants.{Value, Raises, Component}
 use Rattle.ada_interpreter.specs.declared.turn.Turn.{Turn}
 use Rattle.ada_interpreter.specs.declared.turn.Turn.TheVariants.{Halts, Moves, Tells, Asks, Picks}
 use Rattle.ada_interpreter.specs.declared.process.Process.{Process}
 
--- One thing that is left to do.
+-- One thing that is left to do. Behind a turn of a `for` loop, the next one comes with the next value.
 abbrev pub frame_of : HeldFrame → Frame ValueOf
-frame_of (held.Elaborates declarations statements) = frame.Elaborates (map declaration_form declarations.now) (map stmt_form statements.now)
-frame_of (held.Does statements) = frame.Does (map stmt_form statements.now)
+frame_of (held.Elaborates declarations statements handlers) =
+    frame.Elaborates (map declaration_form declarations.now) (stmts_form statements.now) (handlers_form handlers.now)
+frame_of (held.Does statements) = frame.Does (stmts_form statements.now)
+frame_of (held.Decides statements branches otherwise) =
+    frame.Decides (stmts_form statements.now) (branches_form branches.now (stmts_form otherwise.now))
+frame_of (held.Repeats condition statements) = frame.Repeats (condition_form (option_copied condition)) (stmts_form statements.now)
+frame_of (held.Turns condition statements) = frame.Turns (expression_form condition.now) (stmts_form statements.now)
+frame_of (held.Ranges parameter statements) = frame.Ranges parameter.0 (stmts_form statements.now)
+frame_of (held.Counts parameter value last statements) = frame.Counts parameter.0 (value +ℤ pos 1) last (stmts_form statements.now)
+frame_of held.Exits = frame.Exits
+frame_of (held.Handles handlers) = frame.Handles (handlers_form handlers.now)
 frame_of held.Closes = frame.Closes
 frame_of (held.Leaves mode) = frame.Leaves mode
 frame_of (held.Evaluates right) = frame.Evaluates (initial_form (option_copied right))
 frame_of (held.Computes expression) = frame.Computes (expression_form expression.now)
 frame_of (held.Follows selectors) = frame.Follows (map component_number selectors.now)
+frame_of (held.TestsNull equal) = frame.TestsNull equal
 frame_of (held.Continues links) = frame.Continues (links_form links.now)
 frame_of (held.Applies operator) = frame.Applies operator
 frame_of (held.AppliesAlone operator) = frame.AppliesAlone operator
@@ -45,6 +57,12 @@ frame_of (held.Ends object) = frame.Ends object
 frame_of (held.GivesBack object cause pool) = frame.GivesBack object cause pool
 frame_of (held.Clears variable) = frame.Clears variable.0
 
+-- Where a jump lands.
+abbrev pub landing_of : HeldLanding → Landing
+landing_of landing.PassesOn = passes_on
+landing_of landing.GoesBehind = goes_behind
+landing_of (landing.GoesIn statements) = goes_in (stmts_form statements.now)
+
 -- The state.
 abbrev pub state_of : Process → State
 state_of p = record {
@@ -52,7 +70,7 @@ state_of p = record {
   masters = p.masters;
   control = map frame_of p.frames;
   mode = p.mode;
-  input = p.input.items;
+  input = p.input;
   next = p.next;
   allocated = p.allocated;
   born = p.born;

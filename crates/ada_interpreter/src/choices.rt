@@ -2,6 +2,7 @@
 
 ghost use Rattle.std.specs.Prelude.{◌≡◌, ℕ, Bool, true, ◌<◌, IfOk};
 
+use crate::listed::is_asked;
 use ada_meaning::Request;
 use std::alloc::AllocError;
 
@@ -29,17 +30,29 @@ pub trait Choices {
         ensures picked { picks self.old n result self.new };
 }
 
-/// Grants every request, and takes the newest member.
+/// Refuses one request for storage and grants the others (11.1, 13.11), and takes the newest member. What is only told
+/// does not count.
 #[derive(Clone, Copy)]
-pub struct GrantAll;
+pub struct RefuseOne {
+    /// How many requests for storage it is until the one that is refused; 0 where none will be.
+    pub left: u32,
+}
 
-impl Choices for GrantAll {
-    ghost grants = { λ _ _ yes _. yes ≡ true };
+impl Choices for RefuseOne {
+    ghost use Rattle.std.specs.Prelude.{◌≡◌, ◌-◌, ◌&&◌, nat_eq, not, cond};
+    ghost use Rattle.ada_interpreter.specs.Listed.{is_asked};
 
-    ghost picks = { λ _ _ i _. i ≡ 0 };
+    ghost grants = { λ before request yes after. (yes ≡ not (is_asked request && nat_eq before.left 1))
+        × (after.left ≡ cond (is_asked request) (before.left - 1) before.left) };
 
-    fn grant(&mut self, _request: &Request) -> Result<bool, AllocError> {
-        Ok(true)
+    ghost picks = { λ before _ i after. (i ≡ 0) × (after ≡ before) };
+
+    fn grant(&mut self, request: &Request) -> Result<bool, AllocError> {
+        if self.left == 0 || !is_asked(request) {
+            return Ok(true);
+        }
+        self.left -= 1;
+        Ok(self.left != 0)
     }
 
     fn pick(&mut self, _n: usize) -> usize {

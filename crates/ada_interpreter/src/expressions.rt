@@ -1,25 +1,25 @@
-//! Paths and expressions: each step evaluates one part of them, or applies one operator.
+//! Paths and expressions: each step evaluates one part of them.
 
 ghost use Rattle.std.specs.Prelude.{◌≡◌, map, IfOk, OnOk};
-ghost use Rattle.ada_program.specs.Form.{component_number, path_form, expression_form, links_form};
+ghost use Rattle.ada_program.specs.Form.{component_number, path_form, expression_form};
 ghost use Rattle.ada_meaning.specs.Event.{event_of};
+ghost use Rattle.ada_meaning.specs.Frame as frame;
 ghost use Rattle.ada_meaning.specs.Step as step;
-ghost use Rattle.ada_meaning.specs.Named.{State, named, look, reads_boolean, unary_given, binary_given, as_value};
-ghost use Rattle.ada_interpreter.specs.Process.{state_of, passed, Turns, behind, going_by, outcome_of};
+ghost use Rattle.ada_meaning.specs.Named.{State, named, look};
+ghost use Rattle.ada_interpreter.specs.Process.{state_of, passed, replaced, Turns, behind, going_by, outcome_of};
 
 use crate::frame::Frame;
 use crate::process::Process;
-use crate::turn::{QUIET, Turn};
+use crate::turn::Turn;
 use ada_meaning::{Event, Exception, Halt, Id, Value, Why};
 use ada_program::Path;
-use ada_program::program::{ComponentNo, Expression, Link};
-use ada_values::operator::{BinaryOperator, UnaryOperator};
-use ada_values::{OperatorFault, Value as Scalar};
+use ada_program::program::{ComponentNo, Expression};
+use ada_values::Value as Scalar;
 use std::alloc::AllocError;
 
 /// What comes of a path or of an operator.
 #[derive(Clone, Copy)]
-enum Outcome<'a> {
+pub(crate) enum Outcome<'a> {
     /// A value; nothing is named behind it.
     Value(Value),
     /// Constraint_Error is raised.
@@ -44,6 +44,7 @@ impl<'a> Process<'a> {
             Expression::Integer(value) => self.give(Value::Scalar(Scalar::Integer(*value))),
             Expression::Boolean(value) => self.give(Value::Scalar(Scalar::Boolean(*value))),
             Expression::Path(path) => self.read(path),
+            Expression::NullTest { path, equal } => self.read_for_test(path, *equal),
             Expression::Unary { operator, operand } => self.replace_by_two(
                 Frame::Computes(operand),
                 Frame::AppliesAlone(*operator),
@@ -67,6 +68,23 @@ impl<'a> Process<'a> {
             Err(halt) => Ok(Turn::Halts(halt)),
             Ok(outcome) => {
                 self.pass();
+                Ok(Turn::Moves(self.proceed(outcome)?))
+            }
+        }
+    }
+
+    /// A path is read whose value is tested against null then (4.5.2).
+    fn read_for_test(&mut self, path: &'a Path, equal: bool) -> Result<Turn, AllocError>
+        ensures { let s = replaced (frame.TestsNull equal) (state_of self.old) in
+            let form = path_form path.now in
+            Turns (step.path_next named form.selectors (step.held named s form.root) s)
+            (state_of self.old) result (state_of self.new) }
+    {
+        let value = self.held(path.root);
+        match self.reach(value, path.selectors.as_slice()) {
+            Err(halt) => Ok(Turn::Halts(halt)),
+            Ok(outcome) => {
+                self.replace(Frame::TestsNull { equal })?;
                 Ok(Turn::Moves(self.proceed(outcome)?))
             }
         }
@@ -129,7 +147,7 @@ impl<'a> Process<'a> {
     }
 
     /// The run goes on by an outcome.
-    fn proceed(&mut self, outcome: Outcome<'a>) -> Result<Event, AllocError>
+    pub(crate) fn proceed(&mut self, outcome: Outcome<'a>) -> Result<Event, AllocError>
         ensures { IfOk result
             (λ event. step.moves (event_of event) (state_of self.new) ≡
             going_by outcome.entry (state_of self.old)) }
@@ -165,110 +183,5 @@ impl<'a> Process<'a> {
         } else {
             self.push(Frame::Follows(rest))
         }
-    }
-
-    /// The operators of a chain that are left, from left to right (4.5).
-    pub(crate) fn go_on(&mut self, links: &'a [Link]) -> Result<Turn, AllocError>
-        ensures { let s = state_of self.old in
-            Turns (step.links_next named (links_form links.now) (passed s))
-            s result (state_of self.new) }
-    {
-        match links.split_first() {
-            None => {
-                self.pass();
-                Ok(QUIET)
-            }
-            Some((first, rest)) => {
-                if is_decided(first.operator, self.newest()) {
-                    self.replace(Frame::Continues(rest))?;
-                    Ok(QUIET)
-                } else {
-                    self.replace_by_three(
-                        Frame::Computes(&first.operand),
-                        Frame::Applies(first.operator),
-                        Frame::Continues(rest),
-                    )
-                }
-            }
-        }
-    }
-
-    /// An operator is applied to the two newest operands (4.5).
-    pub(crate) fn apply(&mut self, operator: BinaryOperator) -> Result<Turn, AllocError>
-        ensures { let s = passed (state_of self.old) in
-            Turns
-            (step.outcome_next named (binary_given operator (step.newest named (step.popped s)) (step.newest named s)) (step.popped (step.popped s)))
-            (state_of self.old) result (state_of self.new) }
-    {
-        match binary(operator, self.second(), self.newest()) {
-            Err(halt) => Ok(Turn::Halts(halt)),
-            Ok(outcome) => {
-                self.pass();
-                self.pop();
-                self.pop();
-                Ok(Turn::Moves(self.proceed(outcome)?))
-            }
-        }
-    }
-
-    /// An operator is applied to the newest operand (4.5.4, 4.5.6).
-    pub(crate) fn apply_alone(&mut self, operator: UnaryOperator) -> Result<Turn, AllocError>
-        ensures { let s = passed (state_of self.old) in
-            Turns
-            (step.outcome_next named (unary_given operator (step.newest named s)) (step.popped s))
-            (state_of self.old) result (state_of self.new) }
-    {
-        match unary(operator, self.newest()) {
-            Err(halt) => Ok(Turn::Halts(halt)),
-            Ok(outcome) => {
-                self.pass();
-                self.pop();
-                Ok(Turn::Moves(self.proceed(outcome)?))
-            }
-        }
-    }
-}
-
-/// Does the left operand decide a short-circuit form (4.5.1)? Its right operand isn't evaluated then.
-fn is_decided(operator: BinaryOperator, left: Value) -> bool
-    ensures { result ≡ step.is_decided named operator (reads_boolean left) }
-{
-    match (operator, left) {
-        (BinaryOperator::AndThen, Value::Scalar(Scalar::Boolean(truth))) => !truth,
-        (BinaryOperator::OrElse, Value::Scalar(Scalar::Boolean(truth))) => truth,
-        _ => false,
-    }
-}
-
-/// What comes of an operator between values (4.5).
-fn binary<'a>(operator: BinaryOperator, left: Value, right: Value) -> Result<Outcome<'a>, Halt>
-    ensures { (s : State) → step.outcome_next named (binary_given operator left right) s ≡ outcome_of result s }
-{
-    match (left, right) {
-        (Value::Scalar(left), Value::Scalar(right)) => {
-            given(ada_values::binary(operator, left, right))
-        }
-        _ => Err(Halt::Stuck),
-    }
-}
-
-/// What comes of an operator before a value (4.5.4, 4.5.6).
-fn unary<'a>(operator: UnaryOperator, operand: Value) -> Result<Outcome<'a>, Halt>
-    ensures { (s : State) → step.outcome_next named (unary_given operator operand) s ≡ outcome_of result s }
-{
-    match operand {
-        Value::Scalar(operand) => given(ada_values::unary(operator, operand)),
-        _ => Err(Halt::Stuck),
-    }
-}
-
-/// What comes of what an operator gives (4.5): a value, or Constraint_Error.
-fn given<'a>(outcome: Result<Scalar, OperatorFault>) -> Result<Outcome<'a>, Halt>
-    ensures { (s : State) → step.outcome_next named (as_value outcome) s ≡ outcome_of result s }
-{
-    match outcome {
-        Ok(value) => Ok(Outcome::Value(Value::Scalar(value))),
-        Err(OperatorFault::Overflow | OperatorFault::DivisionByZero) => Ok(Outcome::Raises),
-        Err(OperatorFault::WrongType) => Err(Halt::Stuck),
     }
 }

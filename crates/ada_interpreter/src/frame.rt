@@ -1,24 +1,60 @@
 //! What is left to do.
 
 ghost use Rattle.std.specs.Prelude.{◌≡◌};
-ghost use Rattle.ada_meaning.specs.Frame.{is_master, begins_by};
-ghost use Rattle.ada_interpreter.specs.Process.{frame_of};
+ghost use Rattle.ada_meaning.specs.Frame.{is_master, exit_landing, exception_landing, landing, begins_by};
+ghost use Rattle.ada_interpreter.specs.Process.{frame_of, landing_of};
 
-use ada_meaning::{Cause, Mode, Value};
-use ada_program::program::{ComponentNo, Declaration, Expression, Item, Link, Right};
+use crate::handling::{Landing, landing_among};
+use ada_meaning::{Cause, Exception, Mode, Value};
+use ada_program::program::{
+    Branch, ComponentNo, Declaration, Expression, Handler, Item, Link, Right,
+};
 use ada_program::{Stmt, TypeNo, VariableNo};
 use ada_values::operator::{BinaryOperator, UnaryOperator};
 
 /// One thing that is left to do.
 #[derive(Clone, Copy)]
 pub(crate) enum Frame<'a> {
-    /// The declarations that are left of a master, and the statements behind them (3.11).
+    /// The declarations that are left of a master, and the statements behind them with their handlers (3.11).
     Elaborates {
         declarations: &'a [Declaration],
         statements: &'a [Stmt],
+        handlers: &'a [Handler],
     },
     /// The statements that are left (5.1).
     Does(&'a [Stmt]),
+    /// The newest operand is a condition: these statements are done if it is true, else one of the other branches (5.3).
+    Decides {
+        statements: &'a [Stmt],
+        branches: &'a [Branch],
+        otherwise: &'a [Stmt],
+    },
+    /// A loop comes to its next turn (5.5).
+    Repeats {
+        condition: Option<&'a Expression>,
+        statements: &'a [Stmt],
+    },
+    /// The newest operand is the condition of a loop: there is a turn if it is true (5.5).
+    Turns {
+        condition: &'a Expression,
+        statements: &'a [Stmt],
+    },
+    /// The two newest operands are the bounds of a `for` loop (5.5).
+    Ranges {
+        parameter: VariableNo,
+        statements: &'a [Stmt],
+    },
+    /// A `for` loop has begun a turn with this value of its parameter, and comes to the next one, up to the last (5.5).
+    Counts {
+        parameter: VariableNo,
+        value: i32,
+        last: i32,
+        statements: &'a [Stmt],
+    },
+    /// The newest operand is the condition of an exit (5.7).
+    Exits,
+    /// The statements in front of this have these handlers (11.2).
+    Handles(&'a [Handler]),
     /// The statements of the innermost master are in front of this; it is left then (7.6.1).
     Closes,
     /// The innermost master is being left, newest item first; then the mode goes on (7.6.1).
@@ -29,6 +65,10 @@ pub(crate) enum Frame<'a> {
     Computes(&'a Expression),
     /// The newest operand is an access value, and these components are named behind it (4.1.3).
     Follows(&'a [ComponentNo]),
+    /// The newest operand is an access value: is it null, or is it not (4.5.2)?
+    TestsNull {
+        equal: bool,
+    },
     /// The operators of a chain that are left; the newest operand is the left one of the first (4.5).
     Continues(&'a [Link]),
     /// An operator is to be applied to the two newest operands (4.5).
@@ -66,12 +106,12 @@ impl<'a> Frame<'a> {
         ensures { result ≡ begins_by (frame_of self.now) }
     {
         match self {
-            Frame::Does(statements) => !statements.is_empty(),
+            Frame::Does(statements) => statements.first().is_some(),
             _ => false,
         }
     }
 
-    /// Does an exception stop here, until a master has been left (11.4)?
+    /// Does a jump stop here, until a master has been left (7.6.1, 11.4)?
     pub(crate) fn is_master(&self) -> bool
         ensures { result ≡ is_master (frame_of self.now) }
     {
@@ -79,9 +119,50 @@ impl<'a> Frame<'a> {
             Frame::Elaborates {
                 declarations: _,
                 statements: _,
+                handlers: _,
             } => true,
             Frame::Closes => true,
             _ => false,
+        }
+    }
+
+    /// Where a jump lands that comes to this frame.
+    pub(crate) fn landing(&self, mode: Mode) -> Landing<'a>
+        ensures { landing_of result ≡ landing mode (frame_of self.now) }
+    {
+        match mode {
+            Mode::Raising(exception) => self.exception_landing(exception),
+            Mode::Exiting => self.exit_landing(),
+            Mode::Running | Mode::Returning => Landing::PassesOn,
+        }
+    }
+
+    /// An exit goes on behind the innermost loop (5.7).
+    fn exit_landing(&self) -> Landing<'a>
+        ensures { landing_of result ≡ exit_landing (frame_of self.now) }
+    {
+        match self {
+            Frame::Repeats {
+                condition: _,
+                statements: _,
+            } => Landing::GoesBehind,
+            Frame::Counts {
+                parameter: _,
+                value: _,
+                last: _,
+                statements: _,
+            } => Landing::GoesBehind,
+            _ => Landing::PassesOn,
+        }
+    }
+
+    /// An exception goes on in the first handler that takes it (11.4).
+    fn exception_landing(&self, exception: Exception) -> Landing<'a>
+        ensures { landing_of result ≡ exception_landing exception (frame_of self.now) }
+    {
+        match self {
+            Frame::Handles(handlers) => landing_among(exception, handlers),
+            _ => Landing::PassesOn,
         }
     }
 }

@@ -1,28 +1,33 @@
 //! The machine that runs programs over names.
 //!
 //! [`Machine`] makes one step of the definition in `ada_meaning` at a time. What a step leaves open, [`Choices`]
-//! answers: whether a request for storage is granted, and which member of a collection is taken. [`GrantAll`] grants
-//! everything and takes the newest member; [`Listed`] follows a list of answers.
+//! answers: whether a request for storage is granted, and which member of a collection is taken. [`RefuseOne`] refuses
+//! one request at most, and takes the newest member; [`Listed`] follows a list of answers.
 //!
-//! A step costs constant time, whatever the program has allocated: a collection knows its members, and an object its
-//! collection.
+//! A step costs constant time, whatever the program has allocated and entered: a collection knows its members, an object
+//! its collection, and an access type its newest open collection. An exception looks at the handlers that it comes to.
 #![tactic(auto)]
 
 mod allocators;
+mod branches;
 mod choices;
+mod control;
 mod endings;
 mod expressions;
 mod frame;
+mod handling;
+mod input;
 mod listed;
 mod machine;
 mod masters;
 mod objects;
+mod operators;
 mod process;
 mod stack;
 mod steps;
 mod turn;
 mod values;
 
-pub use crate::choices::{Choices, GrantAll};
+pub use crate::choices::{Choices, RefuseOne};
 pub use crate::listed::Listed;
 pub use crate::machine::Machine;

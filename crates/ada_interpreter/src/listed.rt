@@ -61,7 +61,7 @@ impl Choices for Listed {
 }
 
 /// Whether a request is answered, and not only told.
-fn is_asked(request: &Request) -> bool
+pub(crate) fn is_asked(request: &Request) -> bool
     ensures { result ≡ is_asked request.now }
 {
     match request {

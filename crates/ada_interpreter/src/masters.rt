@@ -90,6 +90,13 @@ impl Masters {
         })
     }
 
+    /// A master is entered under a number, and owns nothing yet.
+    pub(crate) fn enter(&mut self, number: u64) -> Result<(), AllocError>
+        ensures { OnOk result (self.new ≡ record { number = number; items = [] } ∷ self.old) }
+    {
+        self.entered.push(Master { number, count: 0 })
+    }
+
     /// The innermost master owns one item more.
     pub(crate) fn own(&mut self, owned: Owned) -> Result<(), AllocError>
         ensures { OnOk result

@@ -1,25 +1,24 @@
-//! A run in progress, and its turns: what comes next, up to what it asks.
+//! A run in progress: what is left to do, what is computed, and what variables hold.
 
-ghost use Rattle.std.specs.Prelude.{◌≡◌, ◌∷◌, IfOk, OnOk};
-ghost use Rattle.std.specs.List.{slice_index_or};
-ghost use Rattle.std.proofs.Math.ListN.{replicate};
-ghost use Rattle.ada_meaning.specs.declared.state.Mode.TheVariants.{Raising};
+ghost use Rattle.std.specs.Prelude.{◌≡◌, map, IfOk, OnOk};
 ghost use Rattle.ada_meaning.specs.State.{begins};
-ghost use Rattle.ada_meaning.specs.Frame.{is_master, begins_by};
 ghost use Rattle.ada_meaning.specs.Event.{Quiet};
-ghost use Rattle.ada_meaning.specs.Step.{moves, running_next, raising_next, frame_next, pass_next, raised, computed, popped, put, newest, held};
-ghost use Rattle.ada_meaning.specs.Named.{next, named};
-ghost use Rattle.ada_meaning.specs.Run.{first_state};
+ghost use Rattle.ada_meaning.specs.Step.{moves, jumping, raised, computed, popped, put, entered, newest, held};
+ghost use Rattle.ada_meaning.specs.Named.{named};
+ghost use Rattle.ada_meaning.specs.Run.{first_state, blank, blank_of};
 ghost use Rattle.ada_interpreter.specs.Process.{frame_of, state_of, passed, replaced, pushed, Turns};
 
 use crate::frame::Frame;
+use crate::input::Input;
 use crate::masters::Masters;
 use crate::objects::Objects;
 use crate::stack::Stack;
 use crate::turn::{QUIET, Turn};
 use crate::values::{set_value, value_at};
-use ada_meaning::{Exception, Halt, Mode, Value};
+use ada_meaning::{Exception, Mode, Value};
+use ada_program::program::{Variable, VariableKind};
 use ada_program::{Program, VariableNo};
+use ada_values::Value as Scalar;
 use std::alloc::{AllocError, Global};
 
 /// The state of a run of a program.
@@ -34,7 +33,7 @@ pub(crate) struct Process<'a> {
     pub(crate) objects: Objects,
     pub(crate) masters: Masters,
     pub(crate) mode: Mode,
-    pub(crate) input: Vec<i32>,
+    pub(crate) input: Input,
     /// The next number of a master or a cause.
     pub(crate) next: u64,
     /// How many objects have been allocated.
@@ -56,15 +55,16 @@ impl<'a> Process<'a> {
         frames.push(Frame::Elaborates {
             declarations: program.declarations.as_slice(),
             statements: program.statements.as_slice(),
+            handlers: program.handlers.as_slice(),
         })?;
         Ok(Process {
             frames,
-            places: nulls(alloc, program.variables.len())?,
+            places: blanks(alloc, program.variables.as_slice())?,
             operands: Stack::new(alloc),
             objects: Objects::new(alloc),
             masters: Masters::new(alloc)?,
             mode: Mode::Running,
-            input,
+            input: Input::new(input),
             next: 1,
             allocated: 0,
             born: 0,
@@ -80,96 +80,8 @@ impl<'a> Process<'a> {
                 Some(frame) => frame.begins(),
                 None => false,
             },
-            Mode::Raising(_) => false,
+            Mode::Raising(_) | Mode::Exiting | Mode::Returning => false,
         }
-    }
-
-    /// What comes next; the step is made, up to what it asks.
-    #[tactic(auto, unfolding(ada_meaning::specs::Named::next))]
-    pub(crate) fn turn(&mut self, program: &Program) -> Result<Turn, AllocError>
-        ensures { Turns (next program.now.types.items (state_of self.old)) (state_of self.old) result (state_of self.new) }
-    {
-        match self.mode {
-            Mode::Running => self.run(program),
-            Mode::Raising(exception) => self.unwind(exception),
-        }
-    }
-
-    /// What comes next where no exception is on its way.
-    fn run(&mut self, program: &Program) -> Result<Turn, AllocError>
-        ensures { let s = state_of self.old in
-            Turns (running_next named program.now.types.items s.control s)
-            s result (state_of self.new) }
-    {
-        match self.frames.top() {
-            None => Ok(Turn::Halts(Halt::Finished)),
-            Some(frame) => {
-                let frame = *frame;
-                self.advance(program, frame)
-            }
-        }
-    }
-
-    /// What the first of what is left to do does.
-    fn advance(&mut self, program: &Program, frame: Frame<'a>) -> Result<Turn, AllocError>
-        ensures { let s = state_of self.old in
-            Turns (frame_next named program.now.types.items (frame_of frame.entry) (passed s))
-            s result (state_of self.new) }
-    {
-        match frame {
-            Frame::Elaborates {
-                declarations,
-                statements,
-            } => self.elaborate(declarations, statements),
-            Frame::Does(statements) => self.begin(statements),
-            Frame::Closes => self.close(),
-            Frame::Leaves(mode) => self.leave(mode),
-            Frame::Evaluates(right) => self.evaluate(right),
-            Frame::Computes(expression) => self.compute(expression),
-            Frame::Follows(selectors) => self.follow(selectors),
-            Frame::Continues(links) => self.go_on(links),
-            Frame::Applies(operator) => self.apply(operator),
-            Frame::AppliesAlone(operator) => self.apply_alone(operator),
-            Frame::Fills(items) => self.fill(items),
-            Frame::Creates { access, count } => Ok(self.ask(program, access, count)),
-            Frame::Stores(variable) => Ok(self.store(variable)),
-            Frame::Declares(variable) => self.create(variable),
-            Frame::Writes => Ok(self.write()),
-            Frame::Ends(object) => Ok(self.end(object)),
-            Frame::GivesBack {
-                object,
-                cause,
-                pool,
-            } => Ok(self.give_back(object, cause, pool)),
-            Frame::Clears(variable) => Ok(self.clear(variable)),
-        }
-    }
-
-    /// What comes next while an exception propagates (11.4).
-    fn unwind(&mut self, exception: Exception) -> Result<Turn, AllocError>
-        ensures { let s = state_of self.old in
-            Turns (raising_next named exception s.control s) s result (state_of self.new) }
-    {
-        match self.frames.top() {
-            None => Ok(Turn::Halts(Halt::Unhandled(exception))),
-            Some(frame) => {
-                let is_master = frame.is_master();
-                self.discard(exception, is_master)
-            }
-        }
-    }
-
-    /// An exception discards pending work. Only a master interrupts it: that is left first.
-    fn discard(&mut self, exception: Exception, is_master: bool) -> Result<Turn, AllocError>
-        ensures { let s = state_of self.old in
-            Turns (pass_next named is_master exception (passed s)) s result (state_of self.new) }
-    {
-        self.pass();
-        if is_master {
-            self.push(Frame::Leaves(Mode::Raising(exception)))?;
-            self.mode = Mode::Running;
-        }
-        Ok(QUIET)
     }
 
     /// The first of what is left to do is taken off.
@@ -229,12 +141,52 @@ impl<'a> Process<'a> {
         Ok(QUIET)
     }
 
-    /// An exception is raised (11.3), and what pending forms have computed is dropped.
+    /// Four things are left to do in place of the first.
+    pub(crate) fn replace_by_four(
+        &mut self,
+        inner: Frame<'a>,
+        second: Frame<'a>,
+        third: Frame<'a>,
+        outer: Frame<'a>,
+    ) -> Result<Turn, AllocError>
+        ensures { let s = replaced (frame_of outer.entry) (state_of self.old) in
+            Turns
+            (moves Quiet (pushed (frame_of inner.entry) (pushed (frame_of second.entry) (pushed (frame_of third.entry) s))))
+            (state_of self.old) result (state_of self.new) }
+    {
+        self.replace(outer)?;
+        self.push(third)?;
+        self.push(second)?;
+        self.push(inner)?;
+        Ok(QUIET)
+    }
+
+    /// A jump begins (5.7, 6.5, 11.3), and what pending forms have computed is dropped.
+    pub(crate) fn jump(&mut self, mode: Mode)
+        ensures { state_of self.new ≡ jumping mode (state_of self.old) }
+    {
+        self.operands.clear();
+        self.mode = mode;
+    }
+
+    /// An exception is raised (11.3).
     pub(crate) fn raise(&mut self, exception: Exception)
         ensures { state_of self.new ≡ raised exception (state_of self.old) }
     {
-        self.operands.clear();
-        self.mode = Mode::Raising(exception);
+        self.jump(Mode::Raising(exception));
+    }
+
+    /// A master is entered (7.6.1), with a number that no other has.
+    pub(crate) fn enter(&mut self) -> Result<(), AllocError>
+        ensures { OnOk result (state_of self.new ≡ entered (state_of self.old)) }
+    {
+        let number = self.next;
+        let Some(next) = number.checked_add(1) else {
+            return Err(AllocError);
+        };
+        self.masters.enter(number)?;
+        self.next = next;
+        Ok(())
     }
 
     /// A value is kept for the form that waits for it.
@@ -296,13 +248,24 @@ impl<'a> Process<'a> {
     }
 }
 
-/// So many nulls.
-fn nulls(alloc: Global, n: usize) -> Result<Vec<Value>, AllocError>
-    ensures { IfOk result (λ values. values.items ≡ replicate n Value.Null) }
+/// What lies in the place of each variable before its declaration is elaborated.
+fn blanks(alloc: Global, variables: &[Variable]) -> Result<Vec<Value>, AllocError>
+    ensures { IfOk result (λ values. values.items ≡ map blank_of variables.now) }
 {
     let mut values = Vec::new(alloc);
-    for i in 0..n {
-        values.push(Value::Null)?;
+    for variable in variables {
+        values.push(blank(variable.kind))?;
     }
     Ok(values)
+}
+
+/// A value of a kind: what lies in a variable's place before its declaration is elaborated.
+fn blank(kind: VariableKind) -> Value
+    ensures { result ≡ blank kind }
+{
+    match kind {
+        VariableKind::Integer => Value::Scalar(Scalar::Integer(0)),
+        VariableKind::Boolean => Value::Scalar(Scalar::Boolean(false)),
+        VariableKind::Access(_) => Value::Null,
+    }
 }

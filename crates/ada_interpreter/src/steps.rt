@@ -1,44 +1,50 @@
 //! Declarations and statements.
 
-ghost use Rattle.std.specs.Prelude.{◌≡◌, map};
+ghost use Rattle.std.specs.Prelude.{◌≡◌, [], map};
 ghost use Rattle.std.specs.Option.{option_copied};
-ghost use Rattle.ada_program.specs.Form.{initial_form, right_form, stmt_form, declaration_form};
+ghost use Rattle.ada_program.specs.Form.{initial_form, right_form, stmt_form, stmts_form, handlers_form, declaration_form};
 ghost use Rattle.ada_meaning.specs.Frame as frame;
 ghost use Rattle.ada_meaning.specs.Event.{Quiet};
 ghost use Rattle.ada_meaning.specs.State.{declared};
 ghost use Rattle.ada_meaning.specs.Step as step;
 ghost use Rattle.ada_meaning.specs.Named.{named, reads_integer};
-ghost use Rattle.ada_interpreter.specs.Process.{frame_of, state_of, passed, replaced, Turns, IsTurn};
+ghost use Rattle.ada_interpreter.specs.Process.{frame_of, state_of, passed, replaced, pushed, Turns, IsTurn};
 
 use crate::frame::Frame;
 use crate::masters::Owned;
 use crate::process::Process;
 use crate::turn::{QUIET, Turn};
-use ada_meaning::{Event, Halt, Line, Mode, Value};
-use ada_program::program::{Declaration, Right};
+use ada_meaning::{Event, Exception, Halt, Line, Mode, Value};
+use ada_program::program::{Declaration, Handler, Right};
 use ada_program::{Stmt, VariableNo};
 use ada_values::Value as Scalar;
 use std::alloc::AllocError;
 
 impl<'a> Process<'a> {
-    /// The declarations that are left (3.11). Then the statements come.
+    /// The declarations that are left (3.11). Then the statements come, with their handlers.
     pub(crate) fn elaborate(
         &mut self,
         declarations: &'a [Declaration],
         statements: &'a [Stmt],
+        handlers: &'a [Handler],
     ) -> Result<Turn, AllocError>
-        ensures { let s = state_of self.old in
+        ensures { let s = state_of self.old in let hs = handlers_form handlers.now in
             Turns
-            (step.declarations_next named (map declaration_form declarations.now) (map stmt_form statements.now) (passed s))
+            (step.declarations_next named (map declaration_form declarations.now) (stmts_form statements.now) hs (passed s))
             s result (state_of self.new) }
     {
         match declarations.split_first() {
-            None => self.replace_by_two(Frame::Does(statements), Frame::Closes),
+            None => self.replace_by_three(
+                Frame::Does(statements),
+                Frame::Handles(handlers),
+                Frame::Closes,
+            ),
             Some((first, rest)) => self.declare(
                 first,
                 Frame::Elaborates {
                     declarations: rest,
                     statements,
+                    handlers,
                 },
             ),
         }
@@ -68,7 +74,7 @@ impl<'a> Process<'a> {
     /// The statements that are left (5.1).
     pub(crate) fn begin(&mut self, statements: &'a [Stmt]) -> Result<Turn, AllocError>
         ensures { let s = state_of self.old in
-            Turns (step.stmts_next named (map stmt_form statements.now) (passed s))
+            Turns (step.stmts_next named (stmts_form statements.now) (passed s))
             s result (state_of self.new) }
     {
         match statements.split_first() {
@@ -81,6 +87,7 @@ impl<'a> Process<'a> {
     }
 
     /// A statement (5.1). What is assigned to, and what is freed, is a variable.
+    #[tactic(auto, using(std::proofs::lemmas::Grind::common_steps, ada_program::specs::Form::statement_rules))]
     fn execute(&mut self, statement: &'a Stmt, rest: Frame<'a>) -> Result<Turn, AllocError>
         ensures { let s = state_of self.old in
             Turns
@@ -110,6 +117,13 @@ impl<'a> Process<'a> {
                     Ok(Turn::Halts(Halt::Stuck))
                 }
             }
+            Stmt::Get(path) => {
+                if path.selectors.is_empty() {
+                    self.get(path.root, rest)
+                } else {
+                    Ok(Turn::Halts(Halt::Stuck))
+                }
+            }
             Stmt::PutImage(expression) => {
                 self.replace_by_three(Frame::Computes(expression), Frame::Writes, rest)
             }
@@ -117,7 +131,98 @@ impl<'a> Process<'a> {
                 self.replace(rest)?;
                 Ok(Turn::Moves(Event::Line(Line::Literal(*text))))
             }
+            Stmt::If {
+                branches,
+                otherwise,
+            } => {
+                self.replace(rest)?;
+                self.choose(branches.as_slice(), otherwise.as_slice())?;
+                Ok(QUIET)
+            }
+            Stmt::Loop {
+                condition,
+                statements,
+                end: _,
+            } => self.replace_by_two(
+                Frame::Repeats {
+                    condition: condition.as_ref(),
+                    statements: statements.as_slice(),
+                },
+                rest,
+            ),
+            Stmt::For {
+                parameter,
+                first,
+                last,
+                statements,
+                end: _,
+            } => self.replace_by_four(
+                Frame::Computes(first),
+                Frame::Computes(last),
+                Frame::Ranges {
+                    parameter: *parameter,
+                    statements: statements.as_slice(),
+                },
+                rest,
+            ),
+            Stmt::Exit { condition, spot: _ } => self.exit(condition.as_ref(), rest),
+            Stmt::Return(_) => {
+                self.replace(rest)?;
+                self.jump(Mode::Returning);
+                Ok(QUIET)
+            }
+            Stmt::Raise(exception) => {
+                self.replace(rest)?;
+                self.raise(*exception);
+                Ok(QUIET)
+            }
+            Stmt::Block {
+                declarations,
+                statements,
+                handlers,
+            } => self.enclose(
+                declarations.as_slice(),
+                statements.as_slice(),
+                handlers.as_slice(),
+                rest,
+            ),
         }
+    }
+
+    /// A block (5.6): a master is entered, and its declarations are elaborated. Its handlers don't cover these (11.4).
+    fn enclose(
+        &mut self,
+        declarations: &'a [Declaration],
+        statements: &'a [Stmt],
+        handlers: &'a [Handler],
+        rest: Frame<'a>,
+    ) -> Result<Turn, AllocError>
+        ensures { let s = replaced (frame_of rest.entry) (state_of self.old) in
+            let hs = handlers_form handlers.now in
+            let block = frame.Elaborates (map declaration_form declarations.now) (stmts_form statements.now) hs in
+            Turns (step.moves Quiet (step.entered (pushed block s))) (state_of self.old) result (state_of self.new) }
+    {
+        self.replace(rest)?;
+        self.push(Frame::Elaborates {
+            declarations,
+            statements,
+            handlers,
+        })?;
+        self.enter()?;
+        Ok(QUIET)
+    }
+
+    /// The next number of the input goes to a variable; where there is none, End_Error is raised.
+    fn get(&mut self, variable: VariableNo, rest: Frame<'a>) -> Result<Turn, AllocError>
+        ensures { let s = replaced (frame_of rest.entry) (state_of self.old) in
+            Turns (step.gets_next named [] variable.0 s.input s) (state_of self.old) result (state_of self.new) }
+    {
+        self.replace(rest)?;
+        match self.input.next() {
+            None => self.raise(Exception::EndError),
+            Some(number) => self.put(variable, Value::Scalar(Scalar::Integer(number))),
+        }
+        Ok(QUIET)
     }
 
     /// What is assigned is evaluated (4.1, 4.8); null where nothing is written.

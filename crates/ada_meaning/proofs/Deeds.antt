@@ -1,10 +1,11 @@
 -- What one step does to the heap, and what follows for runs.
 
-use Rattle.std.proofs.Common.{◌≡◌, ℕ, ℤ, ◌==◌, Bool, true, false, if◌then◌else◌, List, [], ◌∷◌, ◌++◌, Option, Some, None, Result, Ok, Err, refl, ap}
+use Rattle.std.proofs.Common.{◌≡◌, ℕ, ℤ, int_le, ◌==◌, Bool, true, false, if◌then◌else◌, List, [], ◌∷◌, ◌++◌, Option, Some, None, Result, Ok, Err, refl, ap}
 use Rattle.std.specs.List.{slice_get, slice_set, slice_index_or}
 use Rattle.ada_program.specs.declared.program.Program.{Program}
 use Rattle.ada_program.specs.declared.program.TypeDefinition.{TypeDefinition}
-use Rattle.ada_program.specs.Form.{ExpressionForm, integer, boolean, reads, applied_to, chained, LinksForm, no_more_links, a_link, ItemForm, null_item, item_of_value, RightForm, nothing, value_of, allocates, computes, StmtForm, skips, assigns, frees, writes, writes_text, DeclarationForm, collects, declares}
+use Rattle.ada_program.specs.Form.{ExpressionForm, integer, boolean, reads, is_null, applied_to, chained, LinksForm, no_more_links, a_link, ItemForm, null_item, item_of_value, RightForm, nothing, value_of, allocates, computes, StmtForm, skips, assigns, frees, gets, writes, writes_text, chooses, repeats, counts, exits, raises, encloses, StmtsForm, no_stmts, a_stmt, BranchesForm, otherwise, a_branch, HandlersForm, DeclarationForm, collects, declares}
+use Rattle.ada_program.specs.Form as form
 use Rattle.ada_program.specs.Typed.{words_of}
 use Rattle.ada_values.specs.declared.operator.BinaryOperator.{BinaryOperator}
 use Rattle.ada_values.specs.declared.fault.OperatorFault.{OperatorFault}
@@ -13,19 +14,18 @@ use Rattle.ada_meaning.specs.declared.state.Id.{Id}
 use Rattle.ada_meaning.specs.declared.state.Value.{Value}
 use Rattle.ada_meaning.specs.declared.state.Value.TheVariants.{Null, Names, Scalar}
 use Rattle.ada_meaning.specs.declared.state.Mode.{Mode}
-use Rattle.ada_meaning.specs.declared.state.Mode.TheVariants.{Running, Raising}
+use Rattle.ada_meaning.specs.declared.state.Mode.TheVariants.{Running, Raising, Exiting, Returning}
 use Rattle.ada_meaning.specs.declared.event.Cause.{Cause}
 use Rattle.ada_meaning.specs.declared.event.Cause.TheVariants.{Leaving}
-use Rattle.ada_meaning.specs.declared.event.Exception.{Exception}
 use Rattle.ada_meaning.specs.declared.event.Halt.TheVariants.{Erroneous}
 use Rattle.ada_meaning.specs.declared.event.Why.TheVariants.{GivesElsewhere}
 use Rattle.ada_meaning.specs.Event.{Quiet}
-use Rattle.ada_meaning.specs.Frame.{Frame, is_master}
+use Rattle.ada_meaning.specs.Frame.{Frame, is_master, is_loop, Landing, passes_on, goes_behind, goes_in, landing}
 use Rattle.ada_meaning.specs.Frame as frame
 use Rattle.ada_meaning.specs.State.{Owned, declared, collection, Item, Master, home_of}
 use Rattle.ada_meaning.specs.Heap.{Cell, Found, on_null, on_gone, on_other, finds}
-use Rattle.ada_meaning.specs.Step.{halts, moves, tells, asks, picks, at, popped, held, newest, reading, component_next, follow_next, path_next, expression_next, is_decided, link_next, links_next, outcome_next, item_next, items_next, answered, new_next, new_cell, right_next, free_next, end_next, given_back, back_next, assign_next, frees_next, stmt_next, stmts_next, line_next, declaration_next, declarations_next, members_next, item_leave_next, master_leave_next, leave_next, frame_next, pass_next, running_next, raising_next, mode_next}
-use Rattle.ada_meaning.specs.Named.{Object, State, Next, next, named, look, lent, lent_by, reads_boolean, reads_integer, unary_given, binary_given, members, object_at, changed, on_object, new_object, parted, finished, returned}
+use Rattle.ada_meaning.specs.Step.{halts, moves, tells, asks, picks, at, popped, held, newest, reading, component_next, follow_next, path_next, expression_next, null_test_next, is_decided, link_next, links_next, outcome_next, item_next, items_next, answered, new_next, new_cell, right_next, free_next, end_next, given_back, back_next, assign_next, frees_next, branches_next, decided_next, turn_next, repeats_next, turned_next, count_turn_next, counts_next, ranges_next, gets_next, exit_next, exited_next, stmt_next, stmts_next, line_next, declaration_next, declarations_next, members_next, item_leave_next, master_leave_next, leave_next, frame_next, landed, pass_next, running_next, jump_next, mode_next}
+use Rattle.ada_meaning.specs.Named.{Object, State, Next, next, named, look, lent, lent_by, reads_boolean, reads_null, reads_integer, unary_given, binary_given, members, object_at, changed, on_object, new_object, parted, finished, returned}
 use Rattle.ada_meaning.specs.Run.{Event, Choice, settled, grants, takes, Leads, Step}
 use Rattle.ada_meaning.specs.Law.{back_of}
 
@@ -72,8 +72,14 @@ expression_does : (e : ExpressionForm) (s : State) → Does s.heap (expression_n
 expression_does (integer i) s = same refl refl
 expression_does (boolean b) s = same refl refl
 expression_does (reads path) s = path_does path.selectors (held named s path.root) s
+expression_does (is_null equal path) s = path_does path.selectors (held named s path.root) (at (frame.TestsNull equal ∷ s.control) s)
 expression_does (applied_to operator e) s = same refl refl
 expression_does (chained e links) s = same refl refl
+
+null_test_does : (equal : Bool) (null : Option Bool) (s : State) → Does s.heap (null_test_next named equal null s)
+null_test_does equal None s = tt
+null_test_does true (Some null) s = same refl refl
+null_test_does false (Some null) s = same refl refl
 
 link_does : (decided : Bool) (operator : BinaryOperator) (e : ExpressionForm) (links : LinksForm) (s : State) → Does s.heap (link_next named decided operator e links s)
 link_does true operator e links s = same refl refl
@@ -151,16 +157,76 @@ frees_do : (cs : List ℕ) (access x : ℕ) (s : State) → Does s.heap (frees_n
 frees_do [] access x s = free_does access x (held named s x) (look s.heap (held named s x)) s
 frees_do (c ∷ cs) access x s = tt
 
+branches_do : (branches : BranchesForm) (s : State) → Does s.heap (branches_next named branches s)
+branches_do (otherwise fs) s = same refl refl
+branches_do (a_branch e fs branches) s = same refl refl
+
+decided_does : (fs : StmtsForm) (branches : BranchesForm) (truth : Option Bool) (s : State) → Does s.heap (decided_next named fs branches truth s)
+decided_does fs branches None s = tt
+decided_does fs branches (Some true) s = same refl refl
+decided_does fs branches (Some false) s = branches_do branches s
+
+turn_does : (condition : Option ExpressionForm) (fs : StmtsForm) (s : State) → Does s.heap (turn_next named condition fs s)
+turn_does condition no_stmts s = tt
+turn_does condition (a_stmt f fs) s = same refl refl
+
+repeats_do : (condition : Option ExpressionForm) (fs : StmtsForm) (s : State) → Does s.heap (repeats_next named condition fs s)
+repeats_do None fs s = turn_does None fs s
+repeats_do (Some e) fs s = same refl refl
+
+turned_does : (e : ExpressionForm) (fs : StmtsForm) (truth : Option Bool) (s : State) → Does s.heap (turned_next named e fs truth s)
+turned_does e fs None s = tt
+turned_does e fs (Some true) s = turn_does (Some e) fs s
+turned_does e fs (Some false) s = same refl refl
+
+count_turn_does : (x : ℕ) (value last : ℤ) (fs : StmtsForm) (s : State) → Does s.heap (count_turn_next named x value last fs s)
+count_turn_does x value last no_stmts s = tt
+count_turn_does x value last (a_stmt f fs) s = same refl refl
+
+counted_does : (turns : Bool) (x : ℕ) (value last : ℤ) (fs : StmtsForm) (s : State) → Does s.heap (if turns then count_turn_next named x value last fs s else moves Quiet s)
+counted_does true x value last fs s = count_turn_does x value last fs s
+counted_does false x value last fs s = same refl refl
+
+counts_do : (x : ℕ) (value last : ℤ) (fs : StmtsForm) (s : State) → Does s.heap (counts_next named x value last fs s)
+counts_do x value last fs s = counted_does (int_le value last) x value last fs s
+
+ranges_do : (x : ℕ) (fs : StmtsForm) (low high : Option ℤ) (s : State) → Does s.heap (ranges_next named x fs low high s)
+ranges_do x fs None high s = tt
+ranges_do x fs (Some low) None s = tt
+ranges_do x fs (Some low) (Some high) s = counts_do x low high fs s
+
+gets_do : (cs : List ℕ) (x : ℕ) (input : List ℤ) (s : State) → Does s.heap (gets_next named cs x input s)
+gets_do (c ∷ cs) x input s = tt
+gets_do [] x [] s = same refl refl
+gets_do [] x (i ∷ is) s = same refl refl
+
+exit_does : (condition : Option ExpressionForm) (s : State) → Does s.heap (exit_next named condition s)
+exit_does None s = same refl refl
+exit_does (Some e) s = same refl refl
+
+exited_does : (truth : Option Bool) (s : State) → Does s.heap (exited_next named truth s)
+exited_does None s = tt
+exited_does (Some true) s = same refl refl
+exited_does (Some false) s = same refl refl
+
 stmt_does : (f : StmtForm) (s : State) → Does s.heap (stmt_next named f s)
 stmt_does skips s = same refl refl
 stmt_does (assigns target right) s = assign_does target.selectors target.root right s
 stmt_does (frees access variable) s = frees_do variable.selectors access variable.root s
+stmt_does (gets target) s = gets_do target.selectors target.root s.input s
 stmt_does (writes e) s = same refl refl
 stmt_does (writes_text text) s = same refl refl
+stmt_does (chooses branches) s = branches_do branches s
+stmt_does (repeats condition fs end_spot) s = same refl refl
+stmt_does (counts x low high fs end_spot) s = same refl refl
+stmt_does (exits condition spot) s = exit_does condition s
+stmt_does (form.returns spot) s = same refl refl
+stmt_does (raises e) s = same refl refl
+stmt_does (encloses ds fs hs) s = same refl refl
 
-stmts_do : (fs : List StmtForm) (s : State) → Does s.heap (stmts_next named fs s)
-stmts_do [] s = same refl refl
-stmts_do (f ∷ fs) s = stmt_does f (at (frame.Does fs ∷ s.control) s)
+stmts_do : (fs : StmtsForm) (s : State) → Does s.heap (stmts_next named fs s)
+stmts_do no_stmts s = same refl refl
+stmts_do (a_stmt f fs) s = stmt_does f (at (frame.Does fs ∷ s.control) s)
 
 line_does : (read : Option ℤ) (s : State) → Does s.heap (line_next named read s)
 line_does None s = tt
@@ -170,9 +236,9 @@ declaration_does : (d : DeclarationForm) (s : State) → Does s.heap (declaratio
 declaration_does (collects access) s = same refl refl
 declaration_does (declares x right) s = same refl refl
 
-declarations_do : (ds : List DeclarationForm) (fs : List StmtForm) (s : State) → Does s.heap (declarations_next named ds fs s)
-declarations_do [] fs s = same refl refl
-declarations_do (d ∷ ds) fs s = declaration_does d (at (frame.Elaborates ds fs ∷ s.control) s)
+declarations_do : (ds : List DeclarationForm) (fs : StmtsForm) (hs : HandlersForm) (s : State) → Does s.heap (declarations_next named ds fs hs s)
+declarations_do [] fs hs s = same refl refl
+declarations_do (d ∷ ds) fs hs s = declaration_does d (at (frame.Elaborates ds fs hs ∷ s.control) s)
 
 -- The leaving of a master.
 members_do : (cause : Cause) (access : ℕ) (vs : List Value) (s : State) → Does s.heap (members_next named cause access vs s)
@@ -193,13 +259,22 @@ leave_does mode (m ∷ ms) s = master_leave_does mode m.number m.items s
 
 -- Each frame that is taken off.
 frame_does : (types : List TypeDefinition) (f : Frame Value) (s : State) → Does s.heap (frame_next named types f s)
-frame_does types (frame.Elaborates ds fs) s = declarations_do ds fs s
+frame_does types (frame.Elaborates ds fs hs) s = declarations_do ds fs hs s
 frame_does types (frame.Does fs) s = stmts_do fs s
+frame_does types (frame.Decides fs branches) s = decided_does fs branches (reads_boolean (newest named s)) (popped s)
+frame_does types (frame.Repeats condition fs) s = repeats_do condition fs s
+frame_does types (frame.Turns condition fs) s = turned_does condition fs (reads_boolean (newest named s)) (popped s)
+frame_does types (frame.Ranges x fs) s =
+    ranges_do x fs (reads_integer (newest named (popped s))) (reads_integer (newest named s)) (popped (popped s))
+frame_does types (frame.Counts x value last fs) s = counts_do x value last fs s
+frame_does types frame.Exits s = exited_does (reads_boolean (newest named s)) (popped s)
+frame_does types (frame.Handles hs) s = same refl refl
 frame_does types frame.Closes s = same refl refl
 frame_does types (frame.Leaves mode) s = leave_does mode s.masters s
 frame_does types (frame.Evaluates right) s = right_does right s
 frame_does types (frame.Computes e) s = expression_does e s
 frame_does types (frame.Follows cs) s = path_does cs (newest named s) (popped s)
+frame_does types (frame.TestsNull equal) s = null_test_does equal (reads_null (newest named s)) (popped s)
 frame_does types (frame.Continues links) s = links_do links s
 frame_does types (frame.Applies operator) s = outcome_does (binary_given operator (newest named (popped s)) (newest named s)) (popped (popped s))
 frame_does types (frame.AppliesAlone operator) s = outcome_does (unary_given operator (newest named s)) (popped s)
@@ -216,17 +291,25 @@ running_does : (types : List TypeDefinition) (k : List (Frame Value)) (s : State
 running_does types [] s = tt
 running_does types (f ∷ k) s = frame_does types f (at k s)
 
-pass_does : (master : Bool) (e : Exception) (s : State) → Does s.heap (pass_next named master e s)
-pass_does true e s = same refl refl
-pass_does false e s = same refl refl
+landed_does : (l : Landing) (s : State) → Does s.heap (landed named l s)
+landed_does passes_on s = same refl refl
+landed_does goes_behind s = same refl refl
+landed_does (goes_in no_stmts) s = tt
+landed_does (goes_in (a_stmt f fs)) s = same refl refl
 
-raising_does : (e : Exception) (k : List (Frame Value)) (s : State) → Does s.heap (raising_next named e k s)
-raising_does e [] s = tt
-raising_does e (f ∷ k) s = pass_does (is_master f) e (at k s)
+pass_does : (master : Bool) (l : Landing) (mode : Mode) (s : State) → Does s.heap (pass_next named master l mode s)
+pass_does true l mode s = same refl refl
+pass_does false l mode s = landed_does l s
+
+jump_does : (mode : Mode) (k : List (Frame Value)) (s : State) → Does s.heap (jump_next named mode k s)
+jump_does mode [] s = tt
+jump_does mode (f ∷ k) s = pass_does (is_master f) (landing mode f) mode (at k s)
 
 mode_does : (types : List TypeDefinition) (mode : Mode) (s : State) → Does s.heap (mode_next named types mode s)
 mode_does types Running s = running_does types s.control s
-mode_does types (Raising e) s = raising_does e s.control s
+mode_does types (Raising e) s = jump_does (Raising e) s.control s
+mode_does types Exiting s = jump_does Exiting s.control s
+mode_does types Returning s = jump_does Returning s.control s
 
 next_does : (types : List TypeDefinition) (s : State) → Does s.heap (next types s)
 unfolding next

@@ -8,3 +8,5 @@ pub mod Deeds
 pub mod Lives
 -- where a statement begins
 pub mod Beginnings
+-- what the law of the innermost master refuses
+pub mod Innermost

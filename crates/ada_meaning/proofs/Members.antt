@@ -75,9 +75,6 @@ on_object_lighter change objects Null lighter = omega arith
 on_object_lighter change objects (Names o) lighter = changed_lighter change (slice_get objects o.0) objects o lighter refl
 on_object_lighter change objects (Scalar v) lighter = omega arith
 
-pub parted_lighter : (objects : List Object) (v : Value) → heap_weight (on_object parted objects v) ≤ heap_weight objects
-parted_lighter objects v = on_object_lighter parted objects v (λ object. omega arith)
-
 pub finished_lighter : (objects : List Object) (v : Value) → heap_weight (on_object finished objects v) ≤ heap_weight objects
 finished_lighter objects v = on_object_lighter finished objects v (λ object. omega arith)
 

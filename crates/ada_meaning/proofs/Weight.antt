@@ -1,10 +1,11 @@
--- Each step makes a state lighter, so that each run comes to its end.
+-- Each step that begins no statement makes a state lighter, so that a run comes to the next statement, or to its end.
 
-use Rattle.std.proofs.Common.{◌≡◌, ◌≢◌, ℕ, ℤ, ◌+◌, ◌<◌, ◌≤◌, ◌==◌, Bool, true, false, if◌then◌else◌, List, [], ◌∷◌, length, Option, Some, None, Result, Ok, Err, arith, refl, ap}
+use Rattle.std.proofs.Common.{◌≡◌, ◌≢◌, ℕ, ℤ, ◌+◌, ◌<◌, ◌≤◌, ◌==◌, int_le, Bool, true, false, ◌||◌, if◌then◌else◌, List, [], ◌∷◌, length, Option, Some, None, Result, Ok, Err, arith, refl}
 use Rattle.std.specs.List.{slice_get, slice_index_or}
 use Rattle.ada_program.specs.declared.program.Program.{Program}
 use Rattle.ada_program.specs.declared.program.TypeDefinition.{TypeDefinition}
-use Rattle.ada_program.specs.Form.{ExpressionForm, integer, boolean, reads, applied_to, chained, LinksForm, no_more_links, a_link, ItemForm, null_item, item_of_value, RightForm, nothing, value_of, allocates, computes, StmtForm, skips, assigns, frees, writes, writes_text, DeclarationForm, collects, declares}
+use Rattle.ada_program.specs.Form.{ExpressionForm, integer, boolean, reads, is_null, applied_to, chained, LinksForm, no_more_links, a_link, ItemForm, null_item, item_of_value, RightForm, nothing, value_of, allocates, computes, StmtForm, skips, assigns, frees, gets, writes, writes_text, chooses, repeats, counts, exits, returns, raises, encloses, StmtsForm, no_stmts, a_stmt, BranchesForm, otherwise, a_branch, HandlersForm, DeclarationForm, collects, declares}
+use Rattle.ada_program.specs.Handling.{handler_of}
 use Rattle.ada_program.specs.Typed.{words_of}
 use Rattle.ada_values.specs.declared.operator.BinaryOperator.{BinaryOperator}
 use Rattle.ada_values.specs.declared.fault.OperatorFault.{OperatorFault}
@@ -12,25 +13,38 @@ use Rattle.ada_values.specs.declared.fault.OperatorFault.TheVariants.{Overflow, 
 use Rattle.ada_meaning.specs.declared.state.Value.{Value}
 use Rattle.ada_meaning.specs.declared.state.Value.TheVariants.{Null}
 use Rattle.ada_meaning.specs.declared.state.Mode.{Mode}
-use Rattle.ada_meaning.specs.declared.state.Mode.TheVariants.{Running, Raising}
+use Rattle.ada_meaning.specs.declared.state.Mode.TheVariants.{Running, Raising, Exiting, Returning}
 use Rattle.ada_meaning.specs.declared.event.Cause.{Cause}
 use Rattle.ada_meaning.specs.declared.event.Cause.TheVariants.{Leaving}
-use Rattle.ada_meaning.specs.declared.event.Exception.{Exception}
+use Rattle.ada_program.specs.declared.program.Exception.{Exception}
 use Rattle.ada_meaning.specs.declared.event.Halt.TheVariants.{Erroneous, Memory}
 use Rattle.ada_meaning.specs.declared.event.Why.TheVariants.{GivesElsewhere}
-use Rattle.ada_meaning.specs.Frame.{Frame, is_master}
+use Rattle.ada_meaning.specs.Frame.{Frame, is_master, is_loop, Landing, passes_on, goes_behind, goes_in, handler_landing, exception_landing, begins_by}
 use Rattle.ada_meaning.specs.Frame as frame
-use Rattle.ada_meaning.specs.State.{Owned, declared, collection, Item, Master, height, home_of}
+use Rattle.ada_meaning.specs.State.{Owned, declared, collection, Item, Master, height, home_of, begins, begins_in, begins_among}
+use Rattle.ada_meaning.specs.Event.{Quiet}
 use Rattle.ada_meaning.specs.Heap.{Cell, Found, on_null, on_gone, on_other, finds}
-use Rattle.ada_meaning.specs.Step.{halts, moves, tells, asks, picks, at, older, owning, shorter, popped, held, newest, reading, component_next, follow_next, path_next, expression_next, is_decided, link_next, links_next, outcome_next, item_next, items_next, answered, new_next, new_cell, right_next, free_next, end_next, given_back, back_next, assign_next, frees_next, stmt_next, stmts_next, line_next, declaration_next, declarations_next, members_next, item_leave_next, master_leave_next, leave_next, frame_next, pass_next, running_next, raising_next, mode_next}
-use Rattle.ada_meaning.specs.Named.{State, Next, next, named, look, lent, reads_boolean, reads_integer, unary_given, binary_given, members, new_object}
-use Rattle.ada_meaning.specs.Run.{Event, Choice, settled, grants, takes, Leads, Step, Run, here, there, first_state}
-use Rattle.ada_meaning.specs.Ending.{expression_weight, links_weight, item_weight, items_weight, right_weight, stmt_weight, stmts_weight, declaration_weight, declarations_weight, frame_weight, control_weight, heap_weight, masters_weight, weight, GoesOn}
-use Rattle.ada_meaning.proofs.Members.{member_listed, heap_append, parted_lighter, finished_lighter, returned_lighter, taken_lighter}
+use Rattle.ada_meaning.specs.Step.{halts, moves, tells, asks, picks, at, older, owning, shorter, popped, held, newest, reading, component_next, follow_next, path_next, expression_next, null_test_next, is_decided, link_next, links_next, outcome_next, item_next, items_next, answered, new_next, new_cell, right_next, free_next, end_next, given_back, back_next, assign_next, frees_next, branches_next, decided_next, turn_next, repeats_next, turned_next, count_turn_next, counts_next, ranges_next, gets_next, exit_next, exited_next, stmt_next, line_next, declaration_next, declarations_next, members_next, item_leave_next, master_leave_next, leave_next, frame_next, pass_next, running_next, mode_next}
+use Rattle.ada_meaning.specs.Named.{State, Next, next, named, look, lent, reads_boolean, reads_null, reads_integer, unary_given, binary_given, members, new_object}
+use Rattle.ada_meaning.specs.Run.{Event, Choice, settled, grants, takes, Leads, Step}
+use Rattle.ada_meaning.specs.Beginning.{BeginsStatement}
+use Rattle.ada_meaning.specs.Ending.{expression_weight, links_weight, item_weight, items_weight, right_weight, branches_weight, condition_weight, declaration_weight, declarations_weight, frame_weight, has_handlers, pass_weight, passed_weight, by_mode, behind_weight, run_weight, exit_weight, heap_weight, masters_weight, weight, GoesOn, WithinStatement, here, there}
+use Rattle.ada_meaning.proofs.Members.{member_listed, heap_append, finished_lighter, returned_lighter, taken_lighter}
+use Rattle.ada_meaning.proofs.Beginnings.{statements_begin}
 
--- The weight of a state, open.
+-- What the objects and the items weigh, and the weight of a state, open.
+abbrev stored : State → ℕ
+stored s = heap_weight s.heap + masters_weight s.masters
+
 abbrev load : State → ℕ
-load s = heap_weight s.heap + masters_weight s.masters + control_weight s.control
+load s = stored s + by_mode s.mode (passed_weight s.control) (exit_weight s.control) (run_weight s.control)
+
+-- The state in a mode.
+abbrev in_mode : Mode → State → State
+in_mode mode s = record s { mode = mode }
+
+abbrev running : State → State
+running s = in_mode Running s
 
 -- What comes next is lighter, whatever is answered; it is no want of memory, and there is something to be picked.
 abbrev Lightens : Next → ℕ → Type 0
@@ -45,6 +59,7 @@ some_expression : (e : ExpressionForm) → 1 ≤ expression_weight e
 some_expression (integer i) = omega arith
 some_expression (boolean b) = omega arith
 some_expression (reads path) = omega arith
+some_expression (is_null equal path) = omega arith
 some_expression (applied_to operator e) = omega arith
 some_expression (chained e links) = omega arith
 
@@ -62,29 +77,59 @@ some_right (value_of path) = omega arith
 some_right (allocates access items) = omega arith
 some_right (computes e) = omega arith
 
-some_stmts : (fs : List StmtForm) → 1 ≤ stmts_weight fs
-some_stmts [] = omega arith
-some_stmts (f ∷ fs) = omega (arith, some_stmts fs)
+-- What an exception passes weighs no more than what runs, and than what an exit passes.
+mode_passed : (mode : Mode) (passed exited run : ℕ) → passed ≤ run → passed ≤ exited → passed ≤ by_mode mode passed exited run
+mode_passed Running passed exited run h i = h
+mode_passed (Raising e) passed exited run h i = omega arith
+mode_passed Exiting passed exited run h i = i
+mode_passed Returning passed exited run h i = omega arith
 
-some_frame : (f : Frame Value) → 1 ≤ frame_weight f
-some_frame (frame.Elaborates ds fs) = omega arith
-some_frame (frame.Does fs) = some_stmts fs
-some_frame frame.Closes = omega arith
-some_frame (frame.Leaves mode) = omega arith
-some_frame (frame.Evaluates right) = some_right right
-some_frame (frame.Computes e) = some_expression e
-some_frame (frame.Follows cs) = omega arith
-some_frame (frame.Continues links) = some_links links
-some_frame (frame.Applies operator) = omega arith
-some_frame (frame.AppliesAlone operator) = omega arith
-some_frame (frame.Fills items) = some_items items
-some_frame (frame.Creates access count) = omega arith
-some_frame (frame.Stores x) = omega arith
-some_frame (frame.Declares x) = omega arith
-some_frame frame.Writes = omega arith
-some_frame (frame.Ends v) = omega arith
-some_frame (frame.GivesBack v cause pool) = omega arith
-some_frame (frame.Clears x) = omega arith
+frame_passed : (f : Frame Value) (passed exited run : ℕ) → passed ≤ run → passed ≤ exited → pass_weight f + passed ≤ frame_weight f + behind_weight f passed exited run
+frame_passed (frame.Elaborates ds fs hs) passed exited run h i = omega (arith, h)
+frame_passed (frame.Does no_stmts) passed exited run h i = omega (arith, h)
+frame_passed (frame.Does (a_stmt f fs)) passed exited run h i = omega arith
+frame_passed (frame.Decides fs branches) passed exited run h i = omega (arith, h)
+frame_passed (frame.Repeats condition fs) passed exited run h i = omega (arith, h)
+frame_passed (frame.Turns condition fs) passed exited run h i = omega (arith, h)
+frame_passed (frame.Ranges x fs) passed exited run h i = omega (arith, h)
+frame_passed (frame.Counts x value last fs) passed exited run h i = omega (arith, h)
+frame_passed frame.Exits passed exited run h i = omega (arith, h)
+frame_passed (frame.Handles hs) passed exited run h i = omega (arith, h)
+frame_passed frame.Closes passed exited run h i = omega (arith, h)
+frame_passed (frame.Leaves mode) passed exited run h i = omega (arith, mode_passed mode passed exited run h i)
+frame_passed (frame.Evaluates right) passed exited run h i = omega (arith, h, some_right right)
+frame_passed (frame.Computes e) passed exited run h i = omega (arith, h, some_expression e)
+frame_passed (frame.Follows cs) passed exited run h i = omega (arith, h)
+frame_passed (frame.TestsNull equal) passed exited run h i = omega (arith, h)
+frame_passed (frame.Continues links) passed exited run h i = omega (arith, h, some_links links)
+frame_passed (frame.Applies operator) passed exited run h i = omega (arith, h)
+frame_passed (frame.AppliesAlone operator) passed exited run h i = omega (arith, h)
+frame_passed (frame.Fills items) passed exited run h i = omega (arith, h, some_items items)
+frame_passed (frame.Creates access count) passed exited run h i = omega (arith, h)
+frame_passed (frame.Stores x) passed exited run h i = omega (arith, h)
+frame_passed (frame.Declares x) passed exited run h i = omega (arith, h)
+frame_passed frame.Writes passed exited run h i = omega (arith, h)
+frame_passed (frame.Ends v) passed exited run h i = omega (arith, h)
+frame_passed (frame.GivesBack v cause pool) passed exited run h i = omega (arith, h)
+frame_passed (frame.Clears x) passed exited run h i = omega (arith, h)
+
+loop_passed : (loop : Bool) (passed exited run : ℕ) → passed ≤ run → passed ≤ exited → passed ≤ (if loop then run else exited)
+loop_passed true passed exited run h i = h
+loop_passed false passed exited run h i = i
+
+mutual
+  passed_run : (k : List (Frame Value)) → passed_weight k ≤ run_weight k
+  passed_run [] = omega arith
+  passed_run (f ∷ k) = frame_passed f (passed_weight k) (exit_weight k) (run_weight k) (passed_run k) (passed_exit k)
+
+  passed_exit : (k : List (Frame Value)) → passed_weight k ≤ exit_weight k
+  passed_exit [] = omega arith
+  passed_exit (f ∷ k) = omega (arith, loop_passed (is_loop f) (passed_weight k) (exit_weight k) (run_weight k) (passed_run k) (passed_exit k))
+
+-- Statements that are to be done count once, and what is behind them.
+does_once : (fs : StmtsForm) (k : List (Frame Value)) → run_weight (frame.Does fs ∷ k) ≤ 1 + run_weight k
+does_once no_stmts k = omega arith
+does_once (a_stmt f fs) k = omega (arith, passed_run k)
 
 -- A new item.
 masters_owning : (item : Item) (ms : List Master) → masters_weight (owning item ms) ≤ 1 + masters_weight ms
@@ -92,136 +137,166 @@ masters_owning item [] = omega arith
 masters_owning item (m ∷ ms) = omega arith
 
 -- Paths.
-reading_lightens : (cs : List ℕ) (v : Value) (s : State) (w : ℕ) → load s + length cs + 2 ≤ w → load (reading named cs v s) < w
+reading_lightens : (cs : List ℕ) (v : Value) (s : State) (w : ℕ) → load (running s) + length cs + 2 ≤ w → load (reading named cs v (running s)) < w
 reading_lightens [] v s w h = omega (arith, h)
 reading_lightens (c ∷ cs) v s w h = omega (arith, h)
 
-component_lightens : (v : Value) (cs : List ℕ) (found : Option Value) (s : State) (w : ℕ) → load s + length cs + 2 ≤ w → Lightens (component_next named v cs found s) w
+component_lightens : (v : Value) (cs : List ℕ) (found : Option Value) (s : State) (w : ℕ) → load (running s) + length cs + 2 ≤ w → Lightens (component_next named v cs found (running s)) w
 component_lightens v cs None s w h = λ memory. cc
 component_lightens v cs (Some u) s w h = reading_lightens cs u s w h
 
-follow_lightens : (v : Value) (c : ℕ) (cs : List ℕ) (found : Found (Cell Value)) (s : State) (w : ℕ) → load s + length cs + 2 ≤ w → Lightens (follow_next named v c cs found s) w
-follow_lightens v c cs on_null s w h = omega (arith, h)
+follow_lightens : (v : Value) (c : ℕ) (cs : List ℕ) (found : Found (Cell Value)) (s : State) (w : ℕ) → load (running s) + length cs + 2 ≤ w → Lightens (follow_next named v c cs found (running s)) w
+follow_lightens v c cs on_null s w h = omega (arith, h, passed_run s.control)
 follow_lightens v c cs on_gone s w h = λ memory. cc
 follow_lightens v c cs on_other s w h = λ memory. cc
 follow_lightens v c cs (finds cell) s w h = component_lightens v cs (slice_get cell.values c) s w h
 
-path_lightens : (cs : List ℕ) (v : Value) (s : State) (w : ℕ) → load s + length cs + 1 ≤ w → Lightens (path_next named cs v s) w
+path_lightens : (cs : List ℕ) (v : Value) (s : State) (w : ℕ) → load (running s) + length cs + 1 ≤ w → Lightens (path_next named cs v (running s)) w
 path_lightens [] v s w h = omega (arith, h)
 path_lightens (c ∷ cs) v s w h = follow_lightens v c cs (look s.heap v) s w (omega (arith, h))
 
 -- Expressions.
-expression_lightens : (e : ExpressionForm) (s : State) (w : ℕ) → load s + expression_weight e ≤ w → Lightens (expression_next named e s) w
+expression_lightens : (e : ExpressionForm) (s : State) (w : ℕ) → load (running s) + expression_weight e ≤ w → Lightens (expression_next named e (running s)) w
 expression_lightens (integer i) s w h = omega (arith, h)
 expression_lightens (boolean b) s w h = omega (arith, h)
 expression_lightens (reads path) s w h = path_lightens path.selectors (held named s path.root) s w (omega (arith, h))
+expression_lightens (is_null equal path) s w h =
+    path_lightens path.selectors (held named s path.root) (at (frame.TestsNull equal ∷ s.control) s) w (omega (arith, h))
 expression_lightens (applied_to operator e) s w h = omega (arith, h)
 expression_lightens (chained e links) s w h = omega (arith, h)
 
-link_lightens : (decided : Bool) (operator : BinaryOperator) (e : ExpressionForm) (links : LinksForm) (s : State) (w : ℕ) → load s + links_weight (a_link operator e links) ≤ w → Lightens (link_next named decided operator e links s) w
+null_test_lightens : (equal : Bool) (null : Option Bool) (s : State) (w : ℕ) → load (running s) + 1 ≤ w → Lightens (null_test_next named equal null (running s)) w
+null_test_lightens equal None s w h = λ memory. cc
+null_test_lightens true (Some null) s w h = omega (arith, h)
+null_test_lightens false (Some null) s w h = omega (arith, h)
+
+link_lightens : (decided : Bool) (operator : BinaryOperator) (e : ExpressionForm) (links : LinksForm) (s : State) (w : ℕ) → load (running s) + links_weight (a_link operator e links) ≤ w → Lightens (link_next named decided operator e links (running s)) w
 link_lightens true operator e links s w h = omega (arith, h)
 link_lightens false operator e links s w h = omega (arith, h)
 
-links_lighten : (links : LinksForm) (s : State) (w : ℕ) → load s + links_weight links ≤ w → Lightens (links_next named links s) w
+links_lighten : (links : LinksForm) (s : State) (w : ℕ) → load (running s) + links_weight links ≤ w → Lightens (links_next named links (running s)) w
 links_lighten no_more_links s w h = omega (arith, h)
 links_lighten (a_link operator e links) s w h = link_lightens (is_decided named operator (reads_boolean (newest named s))) operator e links s w h
 
-outcome_lightens : (outcome : Result Value OperatorFault) (s : State) (w : ℕ) → load s + 1 ≤ w → Lightens (outcome_next named outcome s) w
+outcome_lightens : (outcome : Result Value OperatorFault) (s : State) (w : ℕ) → load (running s) + 1 ≤ w → Lightens (outcome_next named outcome (running s)) w
 outcome_lightens (Ok v) s w h = omega (arith, h)
-outcome_lightens (Err Overflow) s w h = omega (arith, h)
-outcome_lightens (Err DivisionByZero) s w h = omega (arith, h)
+outcome_lightens (Err Overflow) s w h = omega (arith, h, passed_run s.control)
+outcome_lightens (Err DivisionByZero) s w h = omega (arith, h, passed_run s.control)
 outcome_lightens (Err WrongType) s w h = λ memory. cc
 
 -- Allocators.
-item_lightens : (item : ItemForm) (s : State) (w : ℕ) → load s + item_weight item ≤ w → Lightens (item_next named item s) w
+item_lightens : (item : ItemForm) (s : State) (w : ℕ) → load (running s) + item_weight item ≤ w → Lightens (item_next named item (running s)) w
 item_lightens null_item s w h = omega (arith, h)
 item_lightens (item_of_value e) s w h = omega (arith, h)
 
-items_lighten : (items : List ItemForm) (s : State) (w : ℕ) → load s + items_weight items ≤ w → Lightens (items_next named items s) w
+items_lighten : (items : List ItemForm) (s : State) (w : ℕ) → load (running s) + items_weight items ≤ w → Lightens (items_next named items (running s)) w
 items_lighten [] s w h = omega (arith, h)
 items_lighten (i ∷ is) s w h = item_lightens i (at (frame.Fills is ∷ s.control) s) w (omega (arith, h))
 
-answered_lightens : (access count item words : ℕ) (s : State) (w : ℕ) → load s + 4 ≤ w → (granted : Bool) → load (answered named access count item words s granted) < w
+answered_lightens : (access count item words : ℕ) (s : State) (w : ℕ) → load (running s) + 4 ≤ w → (granted : Bool) → load (answered named access count item words (running s) granted) < w
 answered_lightens access count item words s w h true = omega (arith, h, heap_append s.heap (new_object (new_cell named access count item s) ∷ []))
-answered_lightens access count item words s w h false = omega (arith, h)
+answered_lightens access count item words s w h false = omega (arith, h, passed_run s.control)
 
-new_lightens : (access count words : ℕ) (home : Option ℕ) (s : State) (w : ℕ) → load s + 4 ≤ w → Lightens (new_next named access count words home s) w
-new_lightens access count words None s w h = omega (arith, h)
+new_lightens : (access count words : ℕ) (home : Option ℕ) (s : State) (w : ℕ) → load (running s) + 4 ≤ w → Lightens (new_next named access count words home (running s)) w
+new_lightens access count words None s w h = omega (arith, h, passed_run s.control)
 new_lightens access count words (Some item) s w h = answered_lightens access count item words s w h
 
-right_lightens : (right : RightForm) (s : State) (w : ℕ) → load s + right_weight right ≤ w → Lightens (right_next named right s) w
+right_lightens : (right : RightForm) (s : State) (w : ℕ) → load (running s) + right_weight right ≤ w → Lightens (right_next named right (running s)) w
 right_lightens nothing s w h = omega (arith, h)
 right_lightens (value_of path) s w h = path_lightens path.selectors (held named s path.root) s w (omega (arith, h))
 right_lightens (allocates access items) s w h = omega (arith, h)
 right_lightens (computes e) s w h = omega (arith, h)
 
--- Free, and what it leads to.
-free_lightens : (access x : ℕ) (v : Value) (found : Found (Cell Value)) (s : State) (w : ℕ) → load s + 4 ≤ w → Lightens (free_next named access x v found s) w
-free_lightens access x v on_null s w h = omega (arith, h)
-free_lightens access x v on_gone s w h = λ memory. cc
-free_lightens access x v on_other s w h = λ memory. cc
-free_lightens access x v (finds cell) s w h = omega (arith, h, parted_lighter s.heap v)
-
-end_lightens : (v : Value) (found : Found (Cell Value)) (s : State) (w : ℕ) → load s + 1 ≤ w → Lightens (end_next named v found s) w
+-- The end of an object.
+end_lightens : (v : Value) (found : Found (Cell Value)) (s : State) (w : ℕ) → load (running s) + 1 ≤ w → Lightens (end_next named v found (running s)) w
 end_lightens v on_null s w h = λ memory. cc
 end_lightens v on_gone s w h = λ memory. cc
 end_lightens v on_other s w h = λ memory. cc
 end_lightens v (finds cell) s w h = omega (arith, h, finished_lighter s.heap v)
 
-returned_lightens : (same : Bool) (v : Value) (cause : Cause) (cell : Cell Value) (s : State) (w : ℕ) → load s + 1 ≤ w → Lightens (if same then given_back named v cause cell s else halts (Erroneous GivesElsewhere)) w
+returned_lightens : (same : Bool) (v : Value) (cause : Cause) (cell : Cell Value) (s : State) (w : ℕ) → load (running s) + 1 ≤ w → Lightens (if same then given_back named v cause cell (running s) else halts (Erroneous GivesElsewhere)) w
 returned_lightens true v cause cell s w h = omega (arith, h, returned_lighter s.heap v)
 returned_lightens false v cause cell s w h = λ memory. cc
 
-back_lightens : (v : Value) (cause : Cause) (pool : ℕ) (found : Found (Cell Value)) (s : State) (w : ℕ) → load s + 1 ≤ w → Lightens (back_next named v cause pool found s) w
+back_lightens : (v : Value) (cause : Cause) (pool : ℕ) (found : Found (Cell Value)) (s : State) (w : ℕ) → load (running s) + 1 ≤ w → Lightens (back_next named v cause pool found (running s)) w
 back_lightens v cause pool on_null s w h = λ memory. cc
 back_lightens v cause pool on_gone s w h = λ memory. cc
 back_lightens v cause pool on_other s w h = λ memory. cc
 back_lightens v cause pool (finds cell) s w h = returned_lightens (pool == cell.home.pool) v cause cell s w h
 
--- Statements.
-assign_lightens : (cs : List ℕ) (x : ℕ) (right : RightForm) (s : State) (w : ℕ) → load s + 2 + right_weight right ≤ w → Lightens (assign_next named cs x right s) w
-assign_lightens [] x right s w h = omega (arith, h)
-assign_lightens (c ∷ cs) x right s w h = λ memory. cc
+-- Branches, loops and exits, behind their conditions.
+branches_lighten : (branches : BranchesForm) (s : State) (w : ℕ) → load (running s) + 1 + branches_weight branches ≤ w → Lightens (branches_next named branches (running s)) w
+branches_lighten (otherwise fs) s w h = omega (arith, h, does_once fs s.control)
+branches_lighten (a_branch e fs branches) s w h = omega (arith, h)
 
-frees_lighten : (cs : List ℕ) (access x : ℕ) (s : State) (w : ℕ) → load s + 4 ≤ w → Lightens (frees_next named cs access x s) w
-frees_lighten [] access x s w h = free_lightens access x (held named s x) (look s.heap (held named s x)) s w h
-frees_lighten (c ∷ cs) access x s w h = λ memory. cc
+decided_lightens : (fs : StmtsForm) (branches : BranchesForm) (truth : Option Bool) (s : State) (w : ℕ) → load (running s) + 2 ≤ w → load (running s) + 1 + branches_weight branches ≤ w → Lightens (decided_next named fs branches truth (running s)) w
+decided_lightens fs branches None s w h i = λ memory. cc
+decided_lightens fs branches (Some true) s w h i = omega (arith, h, does_once fs s.control)
+decided_lightens fs branches (Some false) s w h i = branches_lighten branches s w i
 
-stmt_lightens : (f : StmtForm) (s : State) (w : ℕ) → load s + stmt_weight f ≤ w → Lightens (stmt_next named f s) w
-stmt_lightens skips s w h = omega (arith, h)
-stmt_lightens (assigns target right) s w h = assign_lightens target.selectors target.root right s w (omega (arith, h))
-stmt_lightens (frees access variable) s w h = frees_lighten variable.selectors access variable.root s w h
-stmt_lightens (writes e) s w h = omega (arith, h)
-stmt_lightens (writes_text text) s w h = omega (arith, h)
+some_branches : (branches : BranchesForm) → 1 ≤ branches_weight branches
+some_branches (otherwise fs) = omega arith
+some_branches (a_branch e fs branches) = omega arith
 
-stmts_lighten : (fs : List StmtForm) (s : State) (w : ℕ) → load s + stmts_weight fs ≤ w → Lightens (stmts_next named fs s) w
-stmts_lighten [] s w h = omega (arith, h)
-stmts_lighten (f ∷ fs) s w h = stmt_lightens f (at (frame.Does fs ∷ s.control) s) w (omega (arith, h))
+turn_lightens : (condition : Option ExpressionForm) (fs : StmtsForm) (s : State) (w : ℕ) → load (running s) + 3 ≤ w → Lightens (turn_next named condition fs (running s)) w
+turn_lightens condition no_stmts s w h = λ memory. cc
+turn_lightens condition (a_stmt f fs) s w h = omega (arith, h, passed_run s.control)
 
-line_lightens : (read : Option ℤ) (s : State) (w : ℕ) → load s + 1 ≤ w → Lightens (line_next named read s) w
+repeats_lighten : (condition : Option ExpressionForm) (fs : StmtsForm) (s : State) (w : ℕ) → load (running s) + 3 + condition_weight condition ≤ w → Lightens (repeats_next named condition fs (running s)) w
+repeats_lighten None fs s w h = turn_lightens None fs s w (omega (arith, h))
+repeats_lighten (Some e) fs s w h = omega (arith, h)
+
+turned_lightens : (e : ExpressionForm) (fs : StmtsForm) (truth : Option Bool) (s : State) (w : ℕ) → load (running s) + 3 ≤ w → Lightens (turned_next named e fs truth (running s)) w
+turned_lightens e fs None s w h = λ memory. cc
+turned_lightens e fs (Some true) s w h = turn_lightens (Some e) fs s w h
+turned_lightens e fs (Some false) s w h = omega (arith, h)
+
+-- Counting loops.
+count_turn_lightens : (x : ℕ) (value last : ℤ) (fs : StmtsForm) (s : State) (w : ℕ) → load (running s) + 3 ≤ w → Lightens (count_turn_next named x value last fs (running s)) w
+count_turn_lightens x value last no_stmts s w h = λ memory. cc
+count_turn_lightens x value last (a_stmt f fs) s w h = omega (arith, h, passed_run s.control)
+
+counted_lightens : (turns : Bool) (x : ℕ) (value last : ℤ) (fs : StmtsForm) (s : State) (w : ℕ) → load (running s) + 3 ≤ w → Lightens (if turns then count_turn_next named x value last fs (running s) else moves Quiet (running s)) w
+counted_lightens true x value last fs s w h = count_turn_lightens x value last fs s w h
+counted_lightens false x value last fs s w h = omega (arith, h)
+
+counts_lighten : (x : ℕ) (value last : ℤ) (fs : StmtsForm) (s : State) (w : ℕ) → load (running s) + 3 ≤ w → Lightens (counts_next named x value last fs (running s)) w
+counts_lighten x value last fs s w h = counted_lightens (int_le value last) x value last fs s w h
+
+ranges_lighten : (x : ℕ) (fs : StmtsForm) (low high : Option ℤ) (s : State) (w : ℕ) → load (running s) + 3 ≤ w → Lightens (ranges_next named x fs low high (running s)) w
+ranges_lighten x fs None high s w h = λ memory. cc
+ranges_lighten x fs (Some low) None s w h = λ memory. cc
+ranges_lighten x fs (Some low) (Some high) s w h = counts_lighten x low high fs s w h
+
+exited_lightens : (truth : Option Bool) (s : State) (w : ℕ) → load (running s) + 1 + exit_weight s.control ≤ w → Lightens (exited_next named truth (running s)) w
+exited_lightens None s w h = λ memory. cc
+exited_lightens (Some true) s w h = omega (arith, h)
+exited_lightens (Some false) s w h = omega (arith, h)
+
+line_lightens : (read : Option ℤ) (s : State) (w : ℕ) → load (running s) + 1 ≤ w → Lightens (line_next named read (running s)) w
 line_lightens None s w h = λ memory. cc
 line_lightens (Some i) s w h = omega (arith, h)
 
 -- Declarations.
-declaration_lightens : (d : DeclarationForm) (s : State) (w : ℕ) → load s + declaration_weight d ≤ w → Lightens (declaration_next named d s) w
+declaration_lightens : (d : DeclarationForm) (s : State) (w : ℕ) → load (running s) + declaration_weight d ≤ w → Lightens (declaration_next named d (running s)) w
 declaration_lightens (collects access) s w h = omega (arith, h, masters_owning (record { number = height s.masters; owned = collection access }) s.masters)
 declaration_lightens (declares x right) s w h = omega (arith, h)
 
-declarations_lighten : (ds : List DeclarationForm) (fs : List StmtForm) (s : State) (w : ℕ) → load s + 2 + declarations_weight ds + stmts_weight fs ≤ w → Lightens (declarations_next named ds fs s) w
-declarations_lighten [] fs s w h = omega (arith, h)
-declarations_lighten (d ∷ ds) fs s w h = declaration_lightens d (at (frame.Elaborates ds fs ∷ s.control) s) w (omega (arith, h))
+declarations_lighten : (ds : List DeclarationForm) (fs : StmtsForm) (hs : HandlersForm) (s : State) (w : ℕ) → load (running s) + 5 + declarations_weight ds ≤ w → Lightens (declarations_next named ds fs hs (running s)) w
+declarations_lighten [] fs hs s w h = omega (arith, h, does_once fs (frame.Handles hs ∷ frame.Closes ∷ s.control))
+declarations_lighten (d ∷ ds) fs hs s w h = declaration_lightens d (at (frame.Elaborates ds fs hs ∷ s.control) s) w (omega (arith, h))
 
 -- The leaving of a master: `s` has its frame on top again, and weighs no more than before.
-members_lighten : (cause : Cause) (access item : ℕ) (vs : List Value) (s : State) (w : ℕ) → members s.heap item ≡ vs → masters_weight (shorter s.masters) + 1 ≡ masters_weight s.masters → load s ≤ w → Lightens (members_next named cause access vs s) w
+members_lighten : (cause : Cause) (access item : ℕ) (vs : List Value) (s : State) (w : ℕ) → members s.heap item ≡ vs → masters_weight (shorter s.masters) + 1 ≡ masters_weight s.masters → load (running s) ≤ w → Lightens (members_next named cause access vs (running s)) w
 members_lighten cause access item [] s w are fewer h = omega (arith, h, fewer)
 members_lighten cause access item (v ∷ vs) s w are fewer h =
     (omega arith, λ i lt. omega (arith, h, taken_lighter s.heap (slice_index_or (v ∷ vs) i Null) (member_listed s.heap item (v ∷ vs) i are lt)))
 
-item_leaves_lighter : (m : ℕ) (item : Item) (owned : Owned) (s : State) (w : ℕ) → masters_weight (shorter s.masters) + 1 ≡ masters_weight s.masters → load s ≤ w → Lightens (item_leave_next named m item owned s) w
+item_leaves_lighter : (m : ℕ) (item : Item) (owned : Owned) (s : State) (w : ℕ) → masters_weight (shorter s.masters) + 1 ≡ masters_weight s.masters → load (running s) ≤ w → Lightens (item_leave_next named m item owned (running s)) w
 item_leaves_lighter m item (declared x) s w fewer h = omega (arith, h, fewer)
 item_leaves_lighter m item (collection access) s w fewer h = members_lighten (Leaving m item.number) access item.number (members s.heap item.number) s w refl fewer h
 
-master_leaves_lighter : (mode : Mode) (m : Master) (ms : List Master) (items : List Item) (s : State) (w : ℕ) → s.masters ≡ m ∷ ms → m.items ≡ items → load s + 1 ≤ w → Lightens (master_leave_next named mode m.number items s) w
+master_leaves_lighter : (mode : Mode) (m : Master) (ms : List Master) (items : List Item) (s : State) (w : ℕ) → s.masters ≡ m ∷ ms → m.items ≡ items → load (in_mode mode s) + 1 ≤ w → Lightens (master_leave_next named mode m.number items (running s)) w
 master_leaves_lighter mode m ms [] s w top none h =
     let fewer : masters_weight (older s.masters) ≤ masters_weight s.masters = rw top (omega arith) in
     omega (arith, h, fewer)
@@ -229,75 +304,154 @@ master_leaves_lighter mode m ms (item ∷ items) s w top some h =
     let fewer : masters_weight (shorter s.masters) + 1 ≡ masters_weight s.masters = rw (top, some) (omega arith) in
     item_leaves_lighter m.number item item.owned (at (frame.Leaves mode ∷ s.control) s) w fewer (omega (arith, h))
 
-leave_lightens : (mode : Mode) (ms : List Master) (s : State) (w : ℕ) → s.masters ≡ ms → load s + 1 ≤ w → Lightens (leave_next named mode ms s) w
+leave_lightens : (mode : Mode) (ms : List Master) (s : State) (w : ℕ) → s.masters ≡ ms → load (in_mode mode s) + 1 ≤ w → Lightens (leave_next named mode ms (running s)) w
 leave_lightens mode [] s w top h = λ memory. cc
 leave_lightens mode (m ∷ ms) s w top h = master_leaves_lighter mode m ms m.items s w top refl h
 
--- Each frame that is taken off.
-frame_lightens : (types : List TypeDefinition) (f : Frame Value) (s : State) (w : ℕ) → load s + frame_weight f ≤ w → Lightens (frame_next named types f s) w
-frame_lightens types (frame.Elaborates ds fs) s w h = declarations_lighten ds fs s w (omega (arith, h))
-frame_lightens types (frame.Does fs) s w h = stmts_lighten fs s w h
-frame_lightens types frame.Closes s w h = omega (arith, h)
-frame_lightens types (frame.Leaves mode) s w h = leave_lightens mode s.masters s w refl h
-frame_lightens types (frame.Evaluates right) s w h = right_lightens right s w h
-frame_lightens types (frame.Computes e) s w h = expression_lightens e s w h
-frame_lightens types (frame.Follows cs) s w h = path_lightens cs (newest named s) (popped s) w (omega (arith, h))
-frame_lightens types (frame.Continues links) s w h = links_lighten links s w h
-frame_lightens types (frame.Applies operator) s w h = outcome_lightens (binary_given operator (newest named (popped s)) (newest named s)) (popped (popped s)) w h
-frame_lightens types (frame.AppliesAlone operator) s w h = outcome_lightens (unary_given operator (newest named s)) (popped s) w h
-frame_lightens types (frame.Fills items) s w h = items_lighten items s w h
-frame_lightens types (frame.Creates access count) s w h = new_lightens access count (words_of types access) (home_of access s.masters) s w h
-frame_lightens types (frame.Stores x) s w h = omega (arith, h)
-frame_lightens types (frame.Declares x) s w h = omega (arith, h, masters_owning (record { number = height s.masters; owned = declared x }) s.masters)
-frame_lightens types frame.Writes s w h = line_lightens (reads_integer (newest named s)) (popped s) w h
-frame_lightens types (frame.Ends v) s w h = end_lightens v (look s.heap v) s w h
-frame_lightens types (frame.GivesBack v cause pool) s w h = back_lightens v cause pool (lent s.heap v) s w h
-frame_lightens types (frame.Clears x) s w h = omega (arith, h)
+-- Each frame that is taken off, unless a statement begins.
+frame_lightens : (types : List TypeDefinition) (f : Frame Value) (s : State) (w : ℕ) → begins_by f ≡ false → stored s + run_weight (f ∷ s.control) ≤ w → Lightens (frame_next named types f (running s)) w
+frame_lightens types (frame.Elaborates ds fs hs) s w b h = declarations_lighten ds fs hs s w (omega (arith, h))
+frame_lightens types (frame.Does no_stmts) s w b h = omega (arith, h)
+frame_lightens types (frame.Does (a_stmt f fs)) s w b h = absurd (cc)
+frame_lightens types (frame.Decides fs branches) s w b h =
+    decided_lightens fs branches (reads_boolean (newest named s)) (popped s) w (omega (arith, h, some_branches branches)) (omega (arith, h))
+frame_lightens types (frame.Repeats condition fs) s w b h = repeats_lighten condition fs s w (omega (arith, h))
+frame_lightens types (frame.Turns condition fs) s w b h = turned_lightens condition fs (reads_boolean (newest named s)) (popped s) w (omega (arith, h))
+frame_lightens types (frame.Ranges x fs) s w b h =
+    ranges_lighten x fs (reads_integer (newest named (popped s))) (reads_integer (newest named s)) (popped (popped s)) w (omega (arith, h))
+frame_lightens types (frame.Counts x value last fs) s w b h = counts_lighten x value last fs s w (omega (arith, h))
+frame_lightens types frame.Exits s w b h = exited_lightens (reads_boolean (newest named s)) (popped s) w (omega (arith, h))
+frame_lightens types (frame.Handles hs) s w b h = omega (arith, h)
+frame_lightens types frame.Closes s w b h = omega (arith, h)
+frame_lightens types (frame.Leaves mode) s w b h = leave_lightens mode s.masters s w refl (omega (arith, h))
+frame_lightens types (frame.Evaluates right) s w b h = right_lightens right s w (omega (arith, h))
+frame_lightens types (frame.Computes e) s w b h = expression_lightens e s w (omega (arith, h))
+frame_lightens types (frame.Follows cs) s w b h = path_lightens cs (newest named s) (popped s) w (omega (arith, h))
+frame_lightens types (frame.TestsNull equal) s w b h = null_test_lightens equal (reads_null (newest named s)) (popped s) w (omega (arith, h))
+frame_lightens types (frame.Continues links) s w b h = links_lighten links s w (omega (arith, h))
+frame_lightens types (frame.Applies operator) s w b h =
+    outcome_lightens (binary_given operator (newest named (popped s)) (newest named s)) (popped (popped s)) w (omega (arith, h))
+frame_lightens types (frame.AppliesAlone operator) s w b h = outcome_lightens (unary_given operator (newest named s)) (popped s) w (omega (arith, h))
+frame_lightens types (frame.Fills items) s w b h = items_lighten items s w (omega (arith, h))
+frame_lightens types (frame.Creates access count) s w b h =
+    new_lightens access count (words_of types access) (home_of access s.masters) s w (omega (arith, h))
+frame_lightens types (frame.Stores x) s w b h = omega (arith, h)
+frame_lightens types (frame.Declares x) s w b h = omega (arith, h, masters_owning (record { number = height s.masters; owned = declared x }) s.masters)
+frame_lightens types frame.Writes s w b h = line_lightens (reads_integer (newest named s)) (popped s) w (omega (arith, h))
+frame_lightens types (frame.Ends v) s w b h = end_lightens v (look s.heap v) s w (omega (arith, h))
+frame_lightens types (frame.GivesBack v cause pool) s w b h = back_lightens v cause pool (lent s.heap v) s w (omega (arith, h))
+frame_lightens types (frame.Clears x) s w b h = omega (arith, h)
 
-running_lightens : (types : List TypeDefinition) (k : List (Frame Value)) (s : State) (w : ℕ) → s.control ≡ k → load s ≤ w → Lightens (running_next named types k s) w
-running_lightens types [] s w top h = λ memory. cc
-running_lightens types (f ∷ k) s w top h =
-    let same : control_weight s.control ≡ frame_weight f + control_weight k = ap control_weight top in
-    frame_lightens types f (at k s) w (omega (arith, h, same))
+running_lightens : (types : List TypeDefinition) (k : List (Frame Value)) (s : State) (w : ℕ) → begins_among k ≡ false → stored s + run_weight k ≤ w → Lightens (running_next named types k (running s)) w
+running_lightens types [] s w b h = λ memory. cc
+running_lightens types (f ∷ k) s w b h = frame_lightens types f (at k s) w b h
 
--- A master weighs more than its leaving.
-master_heavier : (f : Frame Value) → is_master f ≡ true → 2 ≤ frame_weight f
-master_heavier (frame.Elaborates ds fs) is = omega arith
-master_heavier frame.Closes is = omega arith
-master_heavier (frame.Does fs) is = absurd (cc)
-master_heavier (frame.Leaves mode) is = absurd (cc)
-master_heavier (frame.Evaluates right) is = absurd (cc)
-master_heavier (frame.Computes e) is = absurd (cc)
-master_heavier (frame.Follows cs) is = absurd (cc)
-master_heavier (frame.Continues links) is = absurd (cc)
-master_heavier (frame.Applies operator) is = absurd (cc)
-master_heavier (frame.AppliesAlone operator) is = absurd (cc)
-master_heavier (frame.Fills items) is = absurd (cc)
-master_heavier (frame.Creates access count) is = absurd (cc)
-master_heavier (frame.Stores x) is = absurd (cc)
-master_heavier (frame.Declares x) is = absurd (cc)
-master_heavier frame.Writes is = absurd (cc)
-master_heavier (frame.Ends v) is = absurd (cc)
-master_heavier (frame.GivesBack v cause pool) is = absurd (cc)
-master_heavier (frame.Clears x) is = absurd (cc)
+-- A frame that an exception passes: a master is to be left before, and it lands in handlers alone.
+abbrev LandsIn : Bool → Landing → Type 0
+LandsIn handlers passes_on = Unit {0}
+LandsIn handlers goes_behind = ⊥
+LandsIn handlers (goes_in fs) = handlers ≡ true
 
-pass_lightens : (master : Bool) (e : Exception) (f : Frame Value) (s : State) (w : ℕ) → is_master f ≡ master → load s + frame_weight f ≤ w → Lightens (pass_next named master e s) w
-pass_lightens true e f s w is h = omega (arith, h, master_heavier f is)
-pass_lightens false e f s w is h = omega (arith, h, some_frame f)
+handler_lands : (taken : Option StmtsForm) → LandsIn true (handler_landing taken)
+handler_lands None = tt
+handler_lands (Some fs) = refl
 
-raising_lightens : (e : Exception) (k : List (Frame Value)) (s : State) (w : ℕ) → s.control ≡ k → load s ≤ w → Lightens (raising_next named e k s) w
-raising_lightens e [] s w top h = λ memory. cc
-raising_lightens e (f ∷ k) s w top h =
-    let same : control_weight s.control ≡ frame_weight f + control_weight k = ap control_weight top in
-    pass_lightens (is_master f) e f (at k s) w refl (omega (arith, h, same))
+exception_lands : (e : Exception) (f : Frame Value) → LandsIn (has_handlers f) (exception_landing e f)
+exception_lands e (frame.Elaborates ds fs hs) = tt
+exception_lands e (frame.Does fs) = tt
+exception_lands e (frame.Decides fs branches) = tt
+exception_lands e (frame.Repeats condition fs) = tt
+exception_lands e (frame.Turns condition fs) = tt
+exception_lands e (frame.Ranges x fs) = tt
+exception_lands e (frame.Counts x value last fs) = tt
+exception_lands e frame.Exits = tt
+exception_lands e (frame.Handles hs) = handler_lands (handler_of e hs)
+exception_lands e frame.Closes = tt
+exception_lands e (frame.Leaves mode) = tt
+exception_lands e (frame.Evaluates right) = tt
+exception_lands e (frame.Computes x) = tt
+exception_lands e (frame.Follows cs) = tt
+exception_lands e (frame.TestsNull equal) = tt
+exception_lands e (frame.Continues links) = tt
+exception_lands e (frame.Applies operator) = tt
+exception_lands e (frame.AppliesAlone operator) = tt
+exception_lands e (frame.Fills items) = tt
+exception_lands e (frame.Creates access count) = tt
+exception_lands e (frame.Stores x) = tt
+exception_lands e (frame.Declares x) = tt
+exception_lands e frame.Writes = tt
+exception_lands e (frame.Ends v) = tt
+exception_lands e (frame.GivesBack v cause pool) = tt
+exception_lands e (frame.Clears x) = tt
 
-mode_lightens : (types : List TypeDefinition) (mode : Mode) (s : State) → Lightens (mode_next named types mode s) (load s)
-mode_lightens types Running s = running_lightens types s.control s (load s) refl (omega arith)
-mode_lightens types (Raising e) s = raising_lightens e s.control s (load s) refl (omega arith)
+raise_lightens : (master handlers : Bool) (l : Landing) (e : Exception) (s : State) (w : ℕ) → LandsIn handlers l → load (in_mode (Raising e) s) + (if master || handlers then 2 else 1) ≤ w → Lightens (pass_next named master l (Raising e) (in_mode (Raising e) s)) w
+raise_lightens true handlers l e s w lands h = omega (arith, h)
+raise_lightens false true passes_on e s w lands h = omega (arith, h)
+raise_lightens false true goes_behind e s w lands h = absurd lands
+raise_lightens false true (goes_in no_stmts) e s w lands h = λ memory. cc
+raise_lightens false true (goes_in (a_stmt f fs)) e s w lands h = omega (arith, h)
+raise_lightens false false passes_on e s w lands h = omega (arith, h)
+raise_lightens false false goes_behind e s w lands h = absurd lands
+raise_lightens false false (goes_in fs) e s w lands h = absurd (cc)
 
-next_lightens : (types : List TypeDefinition) (s : State) → Lightens (next types s) (load s)
+-- A frame that a return passes.
+return_lightens : (master handlers : Bool) (s : State) (w : ℕ) → load (in_mode Returning s) + (if master || handlers then 2 else 1) ≤ w → Lightens (pass_next named master passes_on Returning (in_mode Returning s)) w
+return_lightens true handlers s w h = omega (arith, h)
+return_lightens false true s w h = omega (arith, h)
+return_lightens false false s w h = omega (arith, h)
+
+-- A frame that an exit passes: behind a loop it lands. No master is a loop.
+master_no_loop : (f : Frame Value) → is_master f ≡ true → is_loop f ≡ false
+master_no_loop (frame.Elaborates ds fs hs) is = refl
+master_no_loop (frame.Does fs) is = refl
+master_no_loop (frame.Decides fs branches) is = refl
+master_no_loop (frame.Repeats condition fs) is = absurd (cc)
+master_no_loop (frame.Turns condition fs) is = refl
+master_no_loop (frame.Ranges x fs) is = refl
+master_no_loop (frame.Counts x value last fs) is = absurd (cc)
+master_no_loop frame.Exits is = refl
+master_no_loop (frame.Handles hs) is = refl
+master_no_loop frame.Closes is = refl
+master_no_loop (frame.Leaves mode) is = refl
+master_no_loop (frame.Evaluates right) is = refl
+master_no_loop (frame.Computes e) is = refl
+master_no_loop (frame.Follows cs) is = refl
+master_no_loop (frame.TestsNull equal) is = refl
+master_no_loop (frame.Continues links) is = refl
+master_no_loop (frame.Applies operator) is = refl
+master_no_loop (frame.AppliesAlone operator) is = refl
+master_no_loop (frame.Fills items) is = refl
+master_no_loop (frame.Creates access count) is = refl
+master_no_loop (frame.Stores x) is = refl
+master_no_loop (frame.Declares x) is = refl
+master_no_loop frame.Writes is = refl
+master_no_loop (frame.Ends v) is = refl
+master_no_loop (frame.GivesBack v cause pool) is = refl
+master_no_loop (frame.Clears x) is = refl
+
+exit_lightens : (master handlers loop : Bool) (s : State) (w : ℕ) → (master ≡ true → loop ≡ false) → stored s + (if master || handlers then 2 else 1) + (if loop then run_weight s.control else exit_weight s.control) ≤ w → Lightens (pass_next named master (if loop then goes_behind else passes_on) Exiting (in_mode Exiting s)) w
+exit_lightens true handlers true s w apart h = let never : true ≡ false = apart refl in absurd (cc)
+exit_lightens true handlers false s w apart h = omega (arith, h)
+exit_lightens false true true s w apart h = omega (arith, h)
+exit_lightens false true false s w apart h = omega (arith, h)
+exit_lightens false false true s w apart h = omega (arith, h)
+exit_lightens false false false s w apart h = omega (arith, h)
+
+-- What is left to do, in each mode.
+control_lightens : (types : List TypeDefinition) (mode : Mode) (k : List (Frame Value)) (s : State) (w : ℕ) → begins_in mode k ≡ false → load (in_mode mode (at k s)) ≤ w → s.control ≡ k → Lightens (mode_next named types mode (in_mode mode s)) w
+control_lightens types Running k s w b h is = rw is (running_lightens types k (at k s) w b h)
+control_lightens types (Raising e) [] s w b h is = rw is (λ memory. cc)
+control_lightens types (Raising e) (f ∷ k) s w b h is =
+    rw is (raise_lightens (is_master f) (has_handlers f) (exception_landing e f) e (at k s) w (exception_lands e f) (omega (arith, h)))
+control_lightens types Exiting [] s w b h is = rw is (λ memory. cc)
+control_lightens types Exiting (f ∷ k) s w b h is =
+    rw is (exit_lightens (is_master f) (has_handlers f) (is_loop f) (at k s) w (master_no_loop f) (omega (arith, h)))
+control_lightens types Returning [] s w b h is = rw is (λ memory. cc)
+control_lightens types Returning (f ∷ k) s w b h is = rw is (return_lightens (is_master f) (has_handlers f) (at k s) w (omega (arith, h)))
+
+next_lightens : (types : List TypeDefinition) (s : State) → begins s ≡ false → Lightens (next types s) (load s)
 unfolding next
-next_lightens types s = mode_lightens types s.mode s
+next_lightens types s b = control_lightens types s.mode s.control s (load s) b (omega arith) refl
 
 leads_lighter : (coming : Next) (choice : Choice) (event : Event) (w : ℕ) (after : State) → Lightens coming w → Leads coming choice event after → load after < w
 leads_lighter (halts halt) choice event w after h l = absurd l
@@ -314,6 +468,18 @@ leads_lighter (picks n taking) settled event w after h l = absurd l
 leads_lighter (picks n taking) (grants granted) event w after h l = absurd l
 leads_lighter (picks n taking) (takes i) event w after h l = rw (l.2) (h.1 i l.0)
 
+-- Each step that begins no statement makes the state lighter.
+pub steps_make_lighter : (program : Program) (s : State) (choice : Choice) (event : Event) (after : State) → begins s ≡ false → Step program s choice event after → weight after < weight s
+unfolding weight
+steps_make_lighter program s choice event after b step =
+    leads_lighter (next program.types.items s) choice event (load s) after (next_lightens program.types.items s b) step
+
+-- So as many steps as the first state's weight follow one another at most before a statement begins.
+pub statements_end : (program : Program) (s last : State) (events : List Event) → WithinStatement program s events last → length events ≤ weight s
+statements_end program s last events here = omega arith
+statements_end program s last (e ∷ events) (there choice mid b step rest) =
+    omega (arith, statements_end program mid last events rest, steps_make_lighter program s choice e mid b step)
+
 lighter_goes_on : (coming : Next) (w : ℕ) → Lightens coming w → GoesOn coming
 lighter_goes_on (halts halt) w h = h
 lighter_goes_on (moves e s) w h = tt
@@ -321,20 +487,58 @@ lighter_goes_on (tells request e s) w h = tt
 lighter_goes_on (asks request answers) w h = tt
 lighter_goes_on (picks n taking) w h = h.0
 
+-- A statement that begins goes on.
+assign_goes_on : (cs : List ℕ) (x : ℕ) (right : RightForm) (s : State) → GoesOn (assign_next named cs x right s)
+assign_goes_on [] x right s = tt
+assign_goes_on (c ∷ cs) x right s = λ memory. cc
+
+free_goes_on : (access x : ℕ) (v : Value) (found : Found (Cell Value)) (s : State) → GoesOn (free_next named access x v found s)
+free_goes_on access x v on_null s = tt
+free_goes_on access x v on_gone s = λ memory. cc
+free_goes_on access x v on_other s = λ memory. cc
+free_goes_on access x v (finds cell) s = tt
+
+frees_go_on : (cs : List ℕ) (access x : ℕ) (s : State) → GoesOn (frees_next named cs access x s)
+frees_go_on [] access x s = free_goes_on access x (held named s x) (look s.heap (held named s x)) s
+frees_go_on (c ∷ cs) access x s = λ memory. cc
+
+branches_go_on : (branches : BranchesForm) (s : State) → GoesOn (branches_next named branches s)
+branches_go_on (otherwise fs) s = tt
+branches_go_on (a_branch e fs branches) s = tt
+
+gets_go_on : (cs : List ℕ) (x : ℕ) (input : List ℤ) (s : State) → GoesOn (gets_next named cs x input s)
+gets_go_on (c ∷ cs) x input s = λ memory. cc
+gets_go_on [] x [] s = tt
+gets_go_on [] x (i ∷ is) s = tt
+
+exit_goes_on : (condition : Option ExpressionForm) (s : State) → GoesOn (exit_next named condition s)
+exit_goes_on None s = tt
+exit_goes_on (Some e) s = tt
+
+stmt_goes_on : (f : StmtForm) (s : State) → GoesOn (stmt_next named f s)
+stmt_goes_on skips s = tt
+stmt_goes_on (assigns target right) s = assign_goes_on target.selectors target.root right s
+stmt_goes_on (frees access variable) s = frees_go_on variable.selectors access variable.root s
+stmt_goes_on (gets target) s = gets_go_on target.selectors target.root s.input s
+stmt_goes_on (writes e) s = tt
+stmt_goes_on (writes_text text) s = tt
+stmt_goes_on (chooses branches) s = branches_go_on branches s
+stmt_goes_on (repeats condition fs end_spot) s = tt
+stmt_goes_on (counts x low high fs end_spot) s = tt
+stmt_goes_on (exits condition spot) s = exit_goes_on condition s
+stmt_goes_on (returns spot) s = tt
+stmt_goes_on (raises e) s = tt
+stmt_goes_on (encloses ds fs hs) s = tt
+
+begun_goes_on : (types : List TypeDefinition) (s : State) → BeginsStatement s → GoesOn (next types s)
+unfolding next
+begun_goes_on types s b =
+    rw (b.runs, b.first) (stmt_goes_on b.stmt (running (at (frame.Does b.later ∷ b.outer) s)))
+
+either_goes_on : (types : List TypeDefinition) (s : State) (begun : Bool) → begins s ≡ begun → GoesOn (next types s)
+either_goes_on types s true b = begun_goes_on types s ((statements_begin s).0 b)
+either_goes_on types s false b = lighter_goes_on (next types s) (load s) (next_lightens types s b)
+
 -- A state has a step for whatever is answered, or halts, and not for want of memory.
 pub states_go_on : (program : Program) (s : State) → GoesOn (next program.types.items s)
-states_go_on program s = lighter_goes_on (next program.types.items s) (load s) (next_lightens program.types.items s)
-
--- Each step makes the state lighter.
-pub steps_make_lighter : (program : Program) (s : State) (choice : Choice) (event : Event) (after : State) → Step program s choice event after → weight after < weight s
-unfolding weight
-steps_make_lighter program s choice event after step = leads_lighter (next program.types.items s) choice event (load s) after (next_lightens program.types.items s) step
-
--- So each run is as long as its first state's weight at most.
-run_weight : (program : Program) (s last : State) (events : List Event) → Run program s events last → length events + weight last ≤ weight s
-run_weight program s last events here = omega arith
-run_weight program s last (e ∷ events) (there choice mid step rest) = omega (arith, run_weight program mid last events rest, steps_make_lighter program s choice e mid step)
-
-pub every_run_ends : (program : Program) → (most : ℕ) × ((input : List ℤ) (events : List Event) (last : State) → Run program (first_state program input) events last → length events ≤ most)
-unfolding weight
-every_run_ends program = (weight (first_state program []), λ input events last run. omega (arith, run_weight program (first_state program input) last events run))
+states_go_on program s = either_goes_on program.types.items s (begins s) refl

@@ -1,15 +1,18 @@
--- Every run ends: each step makes a number smaller, the weight of its state.
+-- Statements keep beginning, or the run ends: each step that begins none makes a number smaller, the weight of its state.
 
-use Rattle.std.specs.Prelude.{◌≢◌, ℕ, ℤ, ◌+◌, ◌<◌, ◌≤◌, if◌then◌else◌, List, [], ◌∷◌, length}
+use Rattle.std.specs.Prelude.{◌≡◌, ◌≢◌, ℕ, Bool, true, false, ◌||◌, ◌+◌, ◌<◌, ◌≤◌, if◌then◌else◌, List, [], ◌∷◌, length, Option, Some, None}
 use Rattle.ada_program.specs.declared.program.Program.{Program}
-use Rattle.ada_program.specs.Form.{PathForm, ExpressionForm, integer, boolean, reads, applied_to, chained, LinksForm, no_more_links, a_link, ItemForm, null_item, item_of_value, RightForm, nothing, value_of, allocates, computes, StmtForm, skips, assigns, frees, writes, writes_text, DeclarationForm, collects, declares}
+use Rattle.ada_program.specs.Form.{PathForm, ExpressionForm, integer, boolean, reads, is_null, applied_to, chained, LinksForm, no_more_links, a_link, ItemForm, null_item, item_of_value, RightForm, nothing, value_of, allocates, computes, a_stmt, BranchesForm, otherwise, a_branch, DeclarationForm, collects, declares}
 use Rattle.ada_meaning.specs.declared.event.Halt.TheVariants.{Memory}
-use Rattle.ada_meaning.specs.Frame.{Frame}
+use Rattle.ada_meaning.specs.declared.state.Value.{Value}
+use Rattle.ada_meaning.specs.declared.state.Mode.{Mode}
+use Rattle.ada_meaning.specs.declared.state.Mode.TheVariants.{Running, Raising, Exiting, Returning}
+use Rattle.ada_meaning.specs.Frame.{Frame, is_master, is_loop}
 use Rattle.ada_meaning.specs.Frame as frame
-use Rattle.ada_meaning.specs.State.{Master}
+use Rattle.ada_meaning.specs.State.{Master, begins}
 use Rattle.ada_meaning.specs.Step.{halts, moves, tells, asks, picks}
 use Rattle.ada_meaning.specs.Named.{Object, State, Next, next}
-use Rattle.ada_meaning.specs.Run.{Event, Choice, Step, Run, first_state}
+use Rattle.ada_meaning.specs.Run.{Event, Choice, Step}
 
 -- A path: a step for the variable, and one for each component behind it.
 abbrev pub path_weight : PathForm → ℕ
@@ -21,6 +24,7 @@ abbrev mutual
   expression_weight (integer i) = 1
   expression_weight (boolean b) = 1
   expression_weight (reads path) = path_weight path
+  expression_weight (is_null equal path) = 1 + path_weight path
   expression_weight (applied_to operator e) = 2 + expression_weight e
   expression_weight (chained e links) = 1 + expression_weight e + links_weight links
 
@@ -46,18 +50,15 @@ right_weight (value_of path) = path_weight path
 right_weight (allocates access items) = 5 + items_weight items
 right_weight (computes e) = 1 + expression_weight e
 
--- A statement: a Free leads to three steps.
-abbrev pub stmt_weight : StmtForm → ℕ
-stmt_weight skips = 1
-stmt_weight (assigns target right) = 2 + right_weight right
-stmt_weight (frees access variable) = 4
-stmt_weight (writes e) = 2 + expression_weight e
-stmt_weight (writes_text text) = 1
+-- The conditions of an `if`, up to the first statement behind them.
+abbrev pub branches_weight : BranchesForm → ℕ
+branches_weight (otherwise fs) = 2
+branches_weight (a_branch e fs branches) = 1 + expression_weight e + branches_weight branches
 
--- Statements, and a step where none is left.
-abbrev pub stmts_weight : List StmtForm → ℕ
-stmts_weight [] = 1
-stmts_weight (f ∷ fs) = stmt_weight f + stmts_weight fs
+-- The condition of a loop, where there is one.
+abbrev pub condition_weight : Option ExpressionForm → ℕ
+condition_weight None = 0
+condition_weight (Some e) = 1 + expression_weight e
 
 -- A declaration: the item that it makes weighs 1, since it is to be left, too.
 abbrev pub declaration_weight : DeclarationForm → ℕ
@@ -69,15 +70,23 @@ abbrev pub declarations_weight : List DeclarationForm → ℕ
 declarations_weight [] = 1
 declarations_weight (d ∷ ds) = declaration_weight d + declarations_weight ds
 
--- A frame: as much as it may lead to, and less than that for an exception that passes it.
+-- A frame: as much as it may lead to before a statement begins.
 abbrev pub frame_weight : {V : Type 0} → Frame V → ℕ
-frame_weight (frame.Elaborates ds fs) = 2 + declarations_weight ds + stmts_weight fs
-frame_weight (frame.Does fs) = stmts_weight fs
+frame_weight (frame.Elaborates ds fs hs) = 5 + declarations_weight ds
+frame_weight (frame.Does fs) = 1
+frame_weight (frame.Handles hs) = 2
 frame_weight frame.Closes = 2
 frame_weight (frame.Leaves mode) = 1
+frame_weight (frame.Decides fs branches) = 1 + branches_weight branches
+frame_weight (frame.Repeats condition fs) = 3 + condition_weight condition
+frame_weight (frame.Turns condition fs) = 3
+frame_weight (frame.Ranges x fs) = 3
+frame_weight (frame.Counts x value last fs) = 3
+frame_weight frame.Exits = 1
 frame_weight (frame.Evaluates right) = right_weight right
 frame_weight (frame.Computes e) = expression_weight e
 frame_weight (frame.Follows cs) = 1 + length cs
+frame_weight (frame.TestsNull equal) = 1
 frame_weight (frame.Continues links) = links_weight links
 frame_weight (frame.Applies operator) = 1
 frame_weight (frame.AppliesAlone operator) = 1
@@ -90,10 +99,44 @@ frame_weight (frame.Ends v) = 1
 frame_weight (frame.GivesBack v cause pool) = 1
 frame_weight (frame.Clears x) = 1
 
--- What is left to do.
-abbrev pub control_weight : {V : Type 0} → List (Frame V) → ℕ
-control_weight [] = 0
-control_weight (f ∷ k) = frame_weight f + control_weight k
+-- Are these handlers?
+abbrev pub has_handlers : {V : Type 0} → Frame V → Bool
+has_handlers (frame.Handles hs) = true
+has_handlers f = false
+
+-- A frame that a jump passes: a master is left besides, and in handlers an exception may land.
+abbrev pub pass_weight : {V : Type 0} → Frame V → ℕ
+pass_weight f = if is_master f || has_handlers f then 2 else 1
+
+-- All frames, for an exception or a return.
+abbrev pub passed_weight : {V : Type 0} → List (Frame V) → ℕ
+passed_weight [] = 0
+passed_weight (f ∷ k) = pass_weight f + passed_weight k
+
+-- What goes on in a mode: the weight of the frames that a jump passes, that an exit passes and lands behind, or that run.
+abbrev pub by_mode : Mode → (passed exited run : ℕ) → ℕ
+by_mode Running passed exited run = run
+by_mode (Raising e) passed exited run = passed
+by_mode Exiting passed exited run = exited
+by_mode Returning passed exited run = passed
+
+-- What comes behind a frame: where a statement begins, only an exception counts; a condition of an exit may lead either way.
+abbrev pub behind_weight : {V : Type 0} → Frame V → (passed exited run : ℕ) → ℕ
+behind_weight (frame.Does (a_stmt f fs)) passed exited run = passed
+behind_weight frame.Exits passed exited run = exited + run
+behind_weight (frame.Leaves mode) passed exited run = by_mode mode passed exited run
+behind_weight f passed exited run = run
+
+abbrev mutual
+  -- What is left to do before a statement begins.
+  pub run_weight : List (Frame Value) → ℕ
+  run_weight [] = 0
+  run_weight (f ∷ k) = frame_weight f + behind_weight f (passed_weight k) (exit_weight k) (run_weight k)
+
+  -- The same for an exit that is on its way: it lands behind a loop.
+  pub exit_weight : List (Frame Value) → ℕ
+  exit_weight [] = 0
+  exit_weight (f ∷ k) = pass_weight f + (if is_loop f then run_weight k else exit_weight k)
 
 -- The objects that are in their collections: each is yet to be ended and given back.
 abbrev pub object_weight : Object → ℕ
@@ -109,13 +152,14 @@ abbrev pub masters_weight : List Master → ℕ
 masters_weight [] = 0
 masters_weight (m ∷ ms) = length m.items + masters_weight ms
 
--- The weight of a state: more than the steps that any run can make from it.
+-- The weight of a state: more than the steps that any run can make from it before a statement begins.
 unfoldable pub weight : State → ℕ
-weight s = heap_weight s.heap + masters_weight s.masters + control_weight s.control
+weight s = heap_weight s.heap + masters_weight s.masters + by_mode s.mode (passed_weight s.control) (exit_weight s.control) (run_weight s.control)
 
--- Each step of a program makes the state lighter, whatever is granted and picked: a loop over a machine ends.
+-- Each step that begins no statement makes the state lighter, whatever is granted and picked: a loop over a machine comes to the next
+-- statement, or to the end.
 abbrev pub StepsMakeLighter : Type 0
-StepsMakeLighter = (program : Program) (s : State) (choice : Choice) (event : Event) (after : State) → Step program s choice event after → weight after < weight s
+StepsMakeLighter = (program : Program) (s : State) (choice : Choice) (event : Event) (after : State) → begins s ≡ false → Step program s choice event after → weight after < weight s
 
 -- The definition itself never wants memory, and where members are to be picked there is one.
 abbrev pub GoesOn : Next → Type 0
@@ -129,7 +173,11 @@ GoesOn (picks n taken) = 0 < n
 abbrev pub StatesGoOn : Type 0
 StatesGoOn = (program : Program) (s : State) → GoesOn (next program.types.items s)
 
--- There is a number of steps that no run of the program passes, whatever its input and whatever is granted and picked. (So far: with loops
--- it will be one between the beginnings of two statements.)
-abbrev pub EveryRunEnds : Type 0
-EveryRunEnds = (program : Program) → (most : ℕ) × ((input : List ℤ) (events : List Event) (last : State) → Run program (first_state program input) events last → length events ≤ most)
+-- Steps one after another, none of which begins a statement.
+pub data WithinStatement (program : Program) : State → List Event → State → Type 0 where
+  here : {s : State} → WithinStatement program s [] s
+  there : {s last : State} {event : Event} {events : List Event} (choice : Choice) (mid : State) → begins s ≡ false → Step program s choice event mid → WithinStatement program mid events last → WithinStatement program s (event ∷ events) last
+
+-- So many of them at most follow one another: a run begins another statement, or ends.
+abbrev pub StatementsEnd : Type 0
+StatementsEnd = (program : Program) (s last : State) (events : List Event) → WithinStatement program s events last → length events ≤ weight s

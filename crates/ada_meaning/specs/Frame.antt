@@ -1,19 +1,36 @@
 -- What is left to do: a list of frames, the innermost first. A frame holds values where the step that takes it needs them, and no names of
 -- objects as such, so that it can be read over names and over words alike.
 
-use Rattle.std.specs.Prelude.{ℕ, Bool, true, false, List, ◌∷◌}
+use Rattle.std.specs.Prelude.{ℕ, ℤ, Bool, true, false, if◌then◌else◌, List, Option, Some, None}
 use Rattle.ada_values.specs.declared.operator.BinaryOperator.{BinaryOperator}
 use Rattle.ada_values.specs.declared.operator.UnaryOperator.{UnaryOperator}
-use Rattle.ada_program.specs.Form.{ExpressionForm, LinksForm, ItemForm, RightForm, StmtForm, DeclarationForm}
+use Rattle.ada_program.specs.declared.program.Exception.{Exception}
+use Rattle.ada_program.specs.Form.{ExpressionForm, LinksForm, ItemForm, RightForm, StmtsForm, a_stmt, BranchesForm, HandlersForm, DeclarationForm}
+use Rattle.ada_program.specs.Handling.{handler_of}
 use Rattle.ada_meaning.specs.declared.state.Mode.{Mode}
+use Rattle.ada_meaning.specs.declared.state.Mode.TheVariants.{Running, Raising, Exiting, Returning}
 use Rattle.ada_meaning.specs.declared.event.Cause.{Cause}
 
 -- One thing that is left to do.
 pub data Frame (V : Type 0) : Type 0 where
-  -- the declarations that are left of a master, and the statements behind them (3.11)
-  Elaborates : List DeclarationForm → List StmtForm → Frame V
+  -- the declarations that are left of a master, and the statements behind them with their handlers (3.11)
+  Elaborates : List DeclarationForm → StmtsForm → HandlersForm → Frame V
   -- the statements that are left (5.1)
-  Does : List StmtForm → Frame V
+  Does : StmtsForm → Frame V
+  -- the newest operand is a condition: these statements are done if it is true, else one of the other branches (5.3)
+  Decides : StmtsForm → BranchesForm → Frame V
+  -- a loop comes to its next turn (5.5)
+  Repeats : (condition : Option ExpressionForm) → StmtsForm → Frame V
+  -- the newest operand is the condition of a loop: there is a turn if it is true (5.5)
+  Turns : (condition : ExpressionForm) → StmtsForm → Frame V
+  -- the two newest operands are the bounds of a `for` loop (5.5)
+  Ranges : (parameter : ℕ) → StmtsForm → Frame V
+  -- a `for` loop comes to its next turn, if that value of its parameter isn't past the last one (5.5)
+  Counts : (parameter : ℕ) → (value last : ℤ) → StmtsForm → Frame V
+  -- the newest operand is the condition of an exit (5.7)
+  Exits : Frame V
+  -- the statements in front of this have these handlers (11.2)
+  Handles : HandlersForm → Frame V
   -- the statements of the innermost master are in front of this; it is left then (7.6.1)
   Closes : Frame V
   -- the innermost master is being left, newest item first; then the mode goes on (7.6.1)
@@ -24,6 +41,8 @@ pub data Frame (V : Type 0) : Type 0 where
   Computes : ExpressionForm → Frame V
   -- the newest operand is an access value, and these components are named behind it (4.1.3)
   Follows : List ℕ → Frame V
+  -- the newest operand is an access value: is it null, or is it not (4.5.2)?
+  TestsNull : (equal : Bool) → Frame V
   -- the operators of a chain that are left; the newest operand is the left one of the first (4.5)
   Continues : LinksForm → Frame V
   -- an operator is to be applied to the two newest operands (4.5)
@@ -47,13 +66,44 @@ pub data Frame (V : Type 0) : Type 0 where
   -- a variable becomes null: the end of a Free (13.11.2)
   Clears : (variable : ℕ) → Frame V
 
--- Does an exception stop at this frame? Only a master does not let it pass before it has been left (11.4, 7.6.1).
+-- Does a jump stop at this frame? A master does not let it pass before it has been left (7.6.1, 11.4).
 abbrev pub is_master : {V : Type 0} → Frame V → Bool
-is_master (Elaborates ds fs) = true
+is_master (Elaborates ds fs hs) = true
 is_master Closes = true
 is_master f = false
 
+-- Is it a loop that comes to its next turn?
+abbrev pub is_loop : {V : Type 0} → Frame V → Bool
+is_loop (Repeats condition fs) = true
+is_loop (Counts x value last fs) = true
+is_loop f = false
+
+-- Where a jump lands: it passes this frame; or it ends, and what is behind the frame is next; or it ends in these statements.
+pub data Landing : Type 0 where
+  passes_on : Landing
+  goes_behind : Landing
+  goes_in : StmtsForm → Landing
+
+-- An exit goes on behind the innermost loop (5.7).
+abbrev pub exit_landing : {V : Type 0} → Frame V → Landing
+exit_landing f = if is_loop f then goes_behind else passes_on
+
+-- An exception goes on in the first handler that takes it (11.4).
+abbrev pub handler_landing : Option StmtsForm → Landing
+handler_landing None = passes_on
+handler_landing (Some fs) = goes_in fs
+
+abbrev pub exception_landing : {V : Type 0} → Exception → Frame V → Landing
+exception_landing e (Handles hs) = handler_landing (handler_of e hs)
+exception_landing e f = passes_on
+
+abbrev pub landing : {V : Type 0} → Mode → Frame V → Landing
+landing Running f = passes_on
+landing (Raising e) f = exception_landing e f
+landing Exiting f = exit_landing f
+landing Returning f = passes_on
+
 -- Does this frame begin a statement?
 abbrev pub begins_by : {V : Type 0} → Frame V → Bool
-begins_by (Does (f ∷ fs)) = true
+begins_by (Does (a_stmt f fs)) = true
 begins_by f = false

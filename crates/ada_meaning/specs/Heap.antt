@@ -30,9 +30,10 @@ pub record Ops (V H : Type 0) : Type 0 where
   pub null : V
   pub integer : ℤ → V
   pub boolean : Bool → V
-  -- the number, or the truth, that a value is: none where it is of another kind
+  -- the number, or the truth, that a value is, and whether an access value is null: none where it is of another kind
   pub reads_integer : V → Option ℤ
   pub reads_boolean : V → Option Bool
+  pub reads_null : V → Option Bool
   -- what the predefined operators give (4.5)
   pub unary : UnaryOperator → V → Result V OperatorFault
   pub binary : BinaryOperator → V → V → Result V OperatorFault

@@ -10,11 +10,11 @@ use Rattle.ada_meaning.specs.declared.event.Cause.TheVariants.{Leaving, Freeing,
 use Rattle.ada_meaning.specs.declared.event.Halt.{Halt}
 use Rattle.ada_meaning.specs.declared.event.Halt.TheVariants.{Finished, Unhandled, Erroneous, Stuck, Memory}
 use Rattle.ada_meaning.specs.declared.event.Why.{Why}
-use Rattle.ada_meaning.specs.Event.{Finalized, Back, Followed}
+use Rattle.ada_meaning.specs.Event.{Finalized, Back, Followed, Left}
 use Rattle.ada_meaning.specs.State.{Item, Master}
 use Rattle.ada_meaning.specs.Heap.{Home}
 use Rattle.ada_meaning.specs.Named.{Object, State, object_at}
-use Rattle.ada_meaning.specs.Run.{Event, Run, Halts, first_state}
+use Rattle.ada_meaning.specs.Run.{Event, Choice, Step, Run, Halts, first_state}
 
 -- What an event is about.
 
@@ -71,6 +71,15 @@ leaving_by (Some (Undoing number)) = None
 abbrev pub leaving_of : Event → Option AtItem
 leaving_of e = leaving_by (cause_of e)
 
+-- The master that an event tells to be left, or to be about to.
+abbrev pub master_in : Option AtItem → Option ℕ
+master_in None = None
+master_in (Some at_item) = Some at_item.master
+
+abbrev pub left_by : Event → Option ℕ
+left_by (Left master) = Some master
+left_by e = master_in (leaving_of e)
+
 -- Laws of two events, the first before the second.
 
 -- Of two things that are there, this holds.
@@ -107,14 +116,15 @@ InReverseOrder e f = Between NeverRises (leaving_of e) (leaving_of f)
 abbrev pub LeavesHome : Home → Option AtItem → Type 0
 LeavesHome home leaving = IfSome leaving (λ at_item. at_item.item ≡ home.item)
 
--- The words of this object go back: it is there, with this trace number, and the pool and the subpool are those of its home.
-abbrev pub GoesHome : List Object → Option Id → (number pool : ℕ) → Option ℕ → Option AtItem → Type 0
-GoesHome objects None number pool subpool leaving = ⊥
-GoesHome objects (Some o) number pool subpool leaving =
-    (object : Object) × (object_at objects o ≡ Some object) × (object.cell.number ≡ number) × (object.cell.home.pool ≡ pool) × (object.cell.home.subpool ≡ subpool) × LeavesHome object.cell.home leaving
+-- The words of this object go back: it is there, of this access type and with this trace number, and the pool and the subpool are those of
+-- its home.
+abbrev pub GoesHome : List Object → Option Id → (access number pool : ℕ) → Option ℕ → Option AtItem → Type 0
+GoesHome objects None access number pool subpool leaving = ⊥
+GoesHome objects (Some o) access number pool subpool leaving =
+    (object : Object) × (object_at objects o ≡ Some object) × (object.cell.access ≡ access) × (object.cell.number ≡ number) × (object.cell.home.pool ≡ pool) × (object.cell.home.subpool ≡ subpool) × LeavesHome object.cell.home leaving
 
 abbrev pub IsBackHome : List Object → Event → Type 0
-IsBackHome objects (Back object access number pool subpool cause) = GoesHome objects (named_by object) number pool subpool (leaving_by (Some cause))
+IsBackHome objects (Back object access number pool subpool cause) = GoesHome objects (named_by object) access number pool subpool (leaving_by (Some cause))
 IsBackHome objects e = Unit {0}
 
 -- An event gives the words of this object back.
@@ -165,6 +175,15 @@ pub record Law (events : List Event) (last : State) : Type 0 where
   -- as long as the words of an object are out, its home is an item of a master that is entered: so they are back once that one was left (7.6.1)
   pub housed : (o : Id) (object : Object) → object_at last.heap o ≡ Some object → object.out ≡ true → IsHoused last.masters object
 
+-- A master is the innermost one.
+abbrev pub IsInnermost : ℕ → List Master → Type 0
+IsInnermost m [] = ⊥
+IsInnermost m (n ∷ ns) = n.number ≡ m
+
+-- Only the innermost master is being left, among those that are entered: whichever was entered later has been left before (7.6.1).
+abbrev pub LeavesInnermost : Event → List Master → Type 0
+LeavesInnermost e masters = IfSome (left_by e) (λ m. IsInnermost m masters)
+
 -- A run has come to its end.
 abbrev pub HasEnded : Halt → Type 0
 HasEnded Finished = Unit {0}
@@ -173,9 +192,10 @@ HasEnded (Erroneous why) = ⊥
 HasEnded Stuck = ⊥
 HasEnded Memory = ⊥
 
--- Every run, whatever its input and whatever is granted and picked, is not at an erroneous action and keeps the laws; where it has come to
--- its end, each master has been left, and the words of each object are back.
+-- Every run, whatever its input and whatever is granted and picked, is not at an erroneous action and keeps the laws; masters are left inner
+-- first; where the run has come to its end, each master has been left, and the words of each object are back.
 pub record Safe (program : Program) : Type 0 where
   pub never_erroneous : (input : List ℤ) (events : List Event) (last : State) (why : Why) → Run program (first_state program input) events last → Halts program last (Erroneous why) → ⊥
   pub keeps : (input : List ℤ) (events : List Event) (last : State) → Run program (first_state program input) events last → Law events last
   pub ends : (input : List ℤ) (events : List Event) (last : State) (halt : Halt) → Run program (first_state program input) events last → Halts program last halt → HasEnded halt → (last.masters ≡ []) × All IsBack last.heap
+  pub inner_first : (input : List ℤ) (events : List Event) (before : State) (choice : Choice) (event : Event) (after : State) → Run program (first_state program input) events before → Step program before choice event after → LeavesInnermost event before.masters

@@ -127,6 +127,12 @@ reads_boolean Null = None
 reads_boolean (Names o) = None
 reads_boolean (Scalar v) = boolean_in v
 
+-- Whether an access value is null (4.5.2): the object that it names need not exist.
+abbrev pub reads_null : Value → Option Bool
+reads_null Null = Some true
+reads_null (Names o) = Some false
+reads_null (Scalar v) = None
+
 -- What an operator gives of values (4.5): Integers and Booleans have operators, access values have none yet.
 abbrev pub as_value : Result ScalarValue OperatorFault → Result Value OperatorFault
 as_value (Ok v) = Ok (Scalar v)
@@ -154,6 +160,7 @@ named = record {
   boolean = a_boolean;
   reads_integer = reads_integer;
   reads_boolean = reads_boolean;
+  reads_null = reads_null;
   unary = unary_given;
   binary = binary_given;
   look = look;

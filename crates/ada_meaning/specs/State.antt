@@ -2,7 +2,7 @@
 
 use Rattle.std.specs.Prelude.{ℕ, ℤ, List, [], ◌∷◌, length, ◌+◌, Option, Some, None, ◌==◌, if◌then◌else◌, Bool, false}
 use Rattle.ada_meaning.specs.declared.state.Mode.{Mode}
-use Rattle.ada_meaning.specs.declared.state.Mode.TheVariants.{Running, Raising}
+use Rattle.ada_meaning.specs.declared.state.Mode.TheVariants.{Running, Raising, Exiting, Returning}
 use Rattle.ada_meaning.specs.Frame.{Frame, begins_by}
 
 -- An activation of a body (6.4): what each of its variables holds, by number, and what pending forms have computed, newest first.
@@ -68,7 +68,7 @@ pool_of access = 0
 abbrev pub counted : ℕ → ℕ
 counted n = if n == 18446744073709551615 then n else n + 1
 
--- Does the next step begin a statement? No exception is on its way, and a statement is first of what is left to do.
+-- Does the next step begin a statement? No jump is on its way, and a statement is first of what is left to do.
 abbrev pub begins_among : {V : Type 0} → List (Frame V) → Bool
 begins_among [] = false
 begins_among (f ∷ fs) = begins_by f
@@ -76,6 +76,8 @@ begins_among (f ∷ fs) = begins_by f
 abbrev pub begins_in : {V : Type 0} → Mode → List (Frame V) → Bool
 begins_in Running k = begins_among k
 begins_in (Raising e) k = false
+begins_in Exiting k = false
+begins_in Returning k = false
 
 abbrev pub begins : {V H : Type 0} → State V H → Bool
 begins s = begins_in s.mode s.control

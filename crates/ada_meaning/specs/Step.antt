@@ -1,26 +1,26 @@
 -- The small steps: what a state does next, form by form in the order of the manual. They are generic in what a value is and in the heap.
 
-use Rattle.std.specs.Prelude.{ℕ, ◌+◌, ◌==◌, ℤ, Bool, true, false, not, if◌then◌else◌, List, [], ◌∷◌, length, take, drop, reverse, Option, Some, None, Result, Ok, Err}
+use Rattle.std.specs.Prelude.{ℕ, ◌+◌, ◌==◌, ℤ, pos, ◌+ℤ◌, int_le, Bool, true, false, not, if◌then◌else◌, List, [], ◌∷◌, length, take, drop, reverse, Option, Some, None, Result, Ok, Err}
 use Rattle.std.specs.List.{slice_get, slice_index_or, slice_set}
 use Rattle.ada_values.specs.declared.operator.BinaryOperator.{BinaryOperator}
 use Rattle.ada_values.specs.declared.operator.BinaryOperator.TheVariants as binary
 use Rattle.ada_values.specs.declared.fault.OperatorFault.{OperatorFault}
 use Rattle.ada_values.specs.declared.fault.OperatorFault.TheVariants.{Overflow, DivisionByZero, WrongType}
 use Rattle.ada_program.specs.declared.program.TypeDefinition.{TypeDefinition}
-use Rattle.ada_program.specs.Form.{ExpressionForm, integer, boolean, reads, applied_to, chained, LinksForm, no_more_links, a_link, ItemForm, null_item, item_of_value, RightForm, nothing, value_of, allocates, computes, StmtForm, skips, assigns, frees, writes, writes_text, DeclarationForm, collects, declares}
+use Rattle.ada_program.specs.Form.{ExpressionForm, integer, boolean, reads, is_null, applied_to, chained, LinksForm, no_more_links, a_link, ItemForm, null_item, item_of_value, RightForm, nothing, value_of, allocates, computes, StmtForm, skips, assigns, frees, gets, writes, writes_text, chooses, repeats, counts, exits, returns, raises, encloses, StmtsForm, no_stmts, a_stmt, BranchesForm, otherwise, a_branch, HandlersForm, DeclarationForm, collects, declares}
 use Rattle.ada_program.specs.Typed.{words_of}
 use Rattle.ada_meaning.specs.declared.state.Mode.{Mode}
-use Rattle.ada_meaning.specs.declared.state.Mode.TheVariants.{Running, Raising}
+use Rattle.ada_meaning.specs.declared.state.Mode.TheVariants.{Running, Raising, Exiting, Returning}
 use Rattle.ada_meaning.specs.declared.event.Cause.{Cause}
 use Rattle.ada_meaning.specs.declared.event.Cause.TheVariants.{Leaving, Freeing}
-use Rattle.ada_meaning.specs.declared.event.Exception.{Exception}
-use Rattle.ada_meaning.specs.declared.event.Exception.TheVariants.{ConstraintError, StorageError}
+use Rattle.ada_program.specs.declared.program.Exception.{Exception}
+use Rattle.ada_program.specs.declared.program.Exception.TheVariants.{ConstraintError, StorageError, EndError}
 use Rattle.ada_meaning.specs.declared.event.Halt.{Halt}
 use Rattle.ada_meaning.specs.declared.event.Halt.TheVariants.{Finished, Unhandled, Erroneous, Stuck}
 use Rattle.ada_meaning.specs.declared.event.Line.TheVariants.{Image, Literal}
 use Rattle.ada_meaning.specs.declared.event.Why.TheVariants.{FollowsGone, EndsTwice, GivesElsewhere}
 use Rattle.ada_meaning.specs.Event.{Event, Back, Followed, Left, Line, Quiet, Request, Allocate, GiveBack}
-use Rattle.ada_meaning.specs.Frame.{Frame, is_master}
+use Rattle.ada_meaning.specs.Frame.{Frame, is_master, Landing, passes_on, goes_behind, goes_in, landing}
 use Rattle.ada_meaning.specs.Frame as frame
 use Rattle.ada_meaning.specs.State.{Activation, Owned, declared, collection, Item, Master, State, height, home_of, pool_of, counted}
 use Rattle.ada_meaning.specs.Heap.{Cell, Found, on_null, on_gone, on_other, finds, Ops}
@@ -85,9 +85,13 @@ computed v s = set_operands (v ∷ operands s) s
 abbrev pub popped : {V H : Type 0} → State V H → State V H
 popped s = set_operands (older (operands s)) s
 
--- An exception is raised (11.3): what pending forms have computed is dropped, and the frames are passed that it does not stop at.
+-- A jump begins (5.7, 6.5, 11.3): what pending forms have computed is dropped, and the frames are passed that it does not stop at.
+abbrev pub jumping : {V H : Type 0} → Mode → State V H → State V H
+jumping mode s = record (set_operands [] s) { mode = mode }
+
+-- An exception is raised (11.3).
 abbrev pub raised : {V H : Type 0} → Exception → State V H → State V H
-raised e s = record (set_operands [] s) { mode = Raising e }
+raised e s = jumping (Raising e) s
 
 -- A variable gets a value (5.2).
 abbrev pub put : {V H : Type 0} → ℕ → V → State V H → State V H
@@ -101,6 +105,10 @@ owning item (m ∷ ms) = record m { items = item ∷ m.items } ∷ ms
 abbrev pub owned : {V H : Type 0} → Owned → State V H → State V H
 owned what s = record s { masters = owning (record { number = height s.masters; owned = what }) s.masters }
 
+-- A master is entered (7.6.1), with a number that no other has.
+abbrev pub entered : {V H : Type 0} → State V H → State V H
+entered s = record s { masters = record { number = s.next; items = [] } ∷ s.masters; next = s.next + 1 }
+
 -- The innermost master has lost its newest item.
 abbrev pub shorter : List Master → List Master
 shorter [] = []
@@ -109,6 +117,13 @@ shorter (m ∷ ms) = record m { items = older m.items } ∷ ms
 -- A number is used up for a master or a cause.
 abbrev pub numbered : {V H : Type 0} → State V H → State V H
 numbered s = record s { next = s.next + 1 }
+
+-- How a run ends where nothing is left to do, or to pass: an exit always has a loop.
+abbrev pub end_of : Mode → Halt
+end_of Running = Finished
+end_of (Raising e) = Unhandled e
+end_of Exiting = Stuck
+end_of Returning = Finished
 
 module _ {V H : Type 0} (ops : Ops V H) where
   -- What a variable holds.
@@ -146,8 +161,15 @@ module _ {V H : Type 0} (ops : Ops V H) where
   expression_next (integer i) s = moves Quiet (computed (ops.integer i) s)
   expression_next (boolean b) s = moves Quiet (computed (ops.boolean b) s)
   expression_next (reads path) s = path_next path.selectors (held s path.root) s
+  expression_next (is_null equal path) s = path_next path.selectors (held s path.root) (at (frame.TestsNull equal ∷ s.control) s)
   expression_next (applied_to operator e) s = moves Quiet (at (frame.Computes e ∷ frame.AppliesAlone operator ∷ s.control) s)
   expression_next (chained e links) s = moves Quiet (at (frame.Computes e ∷ frame.Continues links ∷ s.control) s)
+
+  -- Whether an access value is null, or is not (4.5.2).
+  abbrev pub null_test_next : (equal : Bool) → Option Bool → State V H → Next V H
+  null_test_next equal None s = halts Stuck
+  null_test_next true (Some null) s = moves Quiet (computed (ops.boolean null) s)
+  null_test_next false (Some null) s = moves Quiet (computed (ops.boolean (not null)) s)
 
   -- Whether the left operand decides a short-circuit form (4.5.1): its right operand isn't evaluated then.
   abbrev pub is_decided : BinaryOperator → Option Bool → Bool
@@ -250,30 +272,94 @@ module _ {V H : Type 0} (ops : Ops V H) where
   frees_next [] access x s = free_next access x (held s x) (ops.look s.heap (held s x)) s
   frees_next (c ∷ cs) access x s = halts Stuck
 
+  -- Branches (5.3): the conditions are evaluated one after another, until one is true.
+  abbrev pub branches_next : BranchesForm → State V H → Next V H
+  branches_next (otherwise fs) s = moves Quiet (at (frame.Does fs ∷ s.control) s)
+  branches_next (a_branch e fs branches) s = moves Quiet (at (frame.Computes e ∷ frame.Decides fs branches ∷ s.control) s)
+
+  abbrev pub decided_next : StmtsForm → BranchesForm → Option Bool → State V H → Next V H
+  decided_next fs branches None s = halts Stuck
+  decided_next fs branches (Some true) s = moves Quiet (at (frame.Does fs ∷ s.control) s)
+  decided_next fs branches (Some false) s = branches_next branches s
+
+  -- Loops (5.5): a turn begins with the condition, where there is one; what it repeats is at least one statement.
+  abbrev pub turn_next : (condition : Option ExpressionForm) → StmtsForm → State V H → Next V H
+  turn_next condition no_stmts s = halts Stuck
+  turn_next condition (a_stmt f fs) s = moves Quiet (at (frame.Does (a_stmt f fs) ∷ frame.Repeats condition (a_stmt f fs) ∷ s.control) s)
+
+  abbrev pub repeats_next : (condition : Option ExpressionForm) → StmtsForm → State V H → Next V H
+  repeats_next None fs s = turn_next None fs s
+  repeats_next (Some e) fs s = moves Quiet (at (frame.Computes e ∷ frame.Turns e fs ∷ s.control) s)
+
+  abbrev pub turned_next : (condition : ExpressionForm) → StmtsForm → Option Bool → State V H → Next V H
+  turned_next e fs None s = halts Stuck
+  turned_next e fs (Some true) s = turn_next (Some e) fs s
+  turned_next e fs (Some false) s = moves Quiet s
+
+  -- Counting loops (5.5): once the bounds are known, each turn gives the parameter the next value, up to the last.
+  abbrev pub count_turn_next : (parameter : ℕ) → (value last : ℤ) → StmtsForm → State V H → Next V H
+  count_turn_next x value last no_stmts s = halts Stuck
+  count_turn_next x value last (a_stmt f fs) s =
+      moves Quiet (at (frame.Does (a_stmt f fs) ∷ frame.Counts x (value +ℤ pos 1) last (a_stmt f fs) ∷ s.control) (put x (ops.integer value) s))
+
+  abbrev pub counts_next : (parameter : ℕ) → (value last : ℤ) → StmtsForm → State V H → Next V H
+  counts_next x value last fs s = if int_le value last then count_turn_next x value last fs s else moves Quiet s
+
+  abbrev pub ranges_next : (parameter : ℕ) → StmtsForm → (low high : Option ℤ) → State V H → Next V H
+  ranges_next x fs None high s = halts Stuck
+  ranges_next x fs (Some low) None s = halts Stuck
+  ranges_next x fs (Some low) (Some high) s = counts_next x low high fs s
+
+  -- The next number of the input goes to a variable; where there is none, End_Error is raised.
+  abbrev pub gets_next : List ℕ → ℕ → List ℤ → State V H → Next V H
+  gets_next (c ∷ cs) x input s = halts Stuck
+  gets_next [] x [] s = moves Quiet (raised EndError s)
+  gets_next [] x (i ∷ is) s = moves Quiet (put x (ops.integer i) (record s { input = is }))
+
+  -- An exit (5.7), at once or on a condition.
+  abbrev pub exit_next : Option ExpressionForm → State V H → Next V H
+  exit_next None s = moves Quiet (jumping Exiting s)
+  exit_next (Some e) s = moves Quiet (at (frame.Computes e ∷ frame.Exits ∷ s.control) s)
+
+  abbrev pub exited_next : Option Bool → State V H → Next V H
+  exited_next None s = halts Stuck
+  exited_next (Some true) s = moves Quiet (jumping Exiting s)
+  exited_next (Some false) s = moves Quiet s
+
   abbrev pub stmt_next : StmtForm → State V H → Next V H
   stmt_next skips s = moves Quiet s
   stmt_next (assigns target right) s = assign_next target.selectors target.root right s
   stmt_next (frees access variable) s = frees_next variable.selectors access variable.root s
+  stmt_next (gets target) s = gets_next target.selectors target.root s.input s
   stmt_next (writes e) s = moves Quiet (at (frame.Computes e ∷ frame.Writes ∷ s.control) s)
   stmt_next (writes_text text) s = moves (Line (Literal (record { 0 = text }))) s
+  stmt_next (chooses branches) s = branches_next branches s
+  stmt_next (repeats condition fs end_spot) s = moves Quiet (at (frame.Repeats condition fs ∷ s.control) s)
+  stmt_next (counts x low high fs end_spot) s =
+      moves Quiet (at (frame.Computes low ∷ frame.Computes high ∷ frame.Ranges x fs ∷ s.control) s)
+  stmt_next (exits condition spot) s = exit_next condition s
+  stmt_next (returns spot) s = moves Quiet (jumping Returning s)
+  stmt_next (raises e) s = moves Quiet (raised e s)
+  stmt_next (encloses ds fs hs) s = moves Quiet (entered (at (frame.Elaborates ds fs hs ∷ s.control) s))
 
-  abbrev pub stmts_next : List StmtForm → State V H → Next V H
-  stmts_next [] s = moves Quiet s
-  stmts_next (f ∷ fs) s = stmt_next f (at (frame.Does fs ∷ s.control) s)
+  abbrev pub stmts_next : StmtsForm → State V H → Next V H
+  stmts_next no_stmts s = moves Quiet s
+  stmts_next (a_stmt f fs) s = stmt_next f (at (frame.Does fs ∷ s.control) s)
 
   -- The line of an Integer (3.5, A.10.7).
   abbrev pub line_next : Option ℤ → State V H → Next V H
   line_next None s = halts Stuck
   line_next (Some i) s = moves (Line (Image i)) s
 
-  -- Declarations (3.11): a collection is created; a variable is created once its initial value is known. Then the statements come.
+  -- Declarations (3.11): a collection is created; a variable is created once its initial value is known. Then the statements come, and their
+  -- handlers with them: these don't cover the declarations (11.4).
   abbrev pub declaration_next : DeclarationForm → State V H → Next V H
   declaration_next (collects access) s = moves Quiet (owned (collection access) s)
   declaration_next (declares x right) s = moves Quiet (at (frame.Evaluates right ∷ frame.Declares x ∷ s.control) s)
 
-  abbrev pub declarations_next : List DeclarationForm → List StmtForm → State V H → Next V H
-  declarations_next [] fs s = moves Quiet (at (frame.Does fs ∷ frame.Closes ∷ s.control) s)
-  declarations_next (d ∷ ds) fs s = declaration_next d (at (frame.Elaborates ds fs ∷ s.control) s)
+  abbrev pub declarations_next : List DeclarationForm → StmtsForm → HandlersForm → State V H → Next V H
+  declarations_next [] fs hs s = moves Quiet (at (frame.Does fs ∷ frame.Handles hs ∷ frame.Closes ∷ s.control) s)
+  declarations_next (d ∷ ds) fs hs s = declaration_next d (at (frame.Elaborates ds fs hs ∷ s.control) s)
 
   -- The leaving of a master (7.6.1), newest item first: the objects of a collection go in an arbitrary order, and the collection after them;
   -- when no item is left, the master is left. The object that is taken leaves its collection at once.
@@ -301,13 +387,22 @@ module _ {V H : Type 0} (ops : Ops V H) where
 
   -- What a frame does that has been taken off, where no exception is on its way.
   abbrev pub frame_next : List TypeDefinition → Frame V → State V H → Next V H
-  frame_next types (frame.Elaborates ds fs) s = declarations_next ds fs s
+  frame_next types (frame.Elaborates ds fs hs) s = declarations_next ds fs hs s
   frame_next types (frame.Does fs) s = stmts_next fs s
+  frame_next types (frame.Decides fs branches) s = decided_next fs branches (ops.reads_boolean (newest s)) (popped s)
+  frame_next types (frame.Repeats condition fs) s = repeats_next condition fs s
+  frame_next types (frame.Turns condition fs) s = turned_next condition fs (ops.reads_boolean (newest s)) (popped s)
+  frame_next types (frame.Ranges x fs) s =
+      ranges_next x fs (ops.reads_integer (newest (popped s))) (ops.reads_integer (newest s)) (popped (popped s))
+  frame_next types (frame.Counts x value last fs) s = counts_next x value last fs s
+  frame_next types frame.Exits s = exited_next (ops.reads_boolean (newest s)) (popped s)
+  frame_next types (frame.Handles hs) s = moves Quiet s
   frame_next types frame.Closes s = moves Quiet (at (frame.Leaves Running ∷ s.control) s)
   frame_next types (frame.Leaves mode) s = leave_next mode s.masters s
   frame_next types (frame.Evaluates right) s = right_next right s
   frame_next types (frame.Computes e) s = expression_next e s
   frame_next types (frame.Follows cs) s = path_next cs (newest s) (popped s)
+  frame_next types (frame.TestsNull equal) s = null_test_next equal (ops.reads_null (newest s)) (popped s)
   frame_next types (frame.Continues links) s = links_next links s
   frame_next types (frame.Applies operator) s = outcome_next (ops.binary operator (newest (popped s)) (newest s)) (popped (popped s))
   frame_next types (frame.AppliesAlone operator) s = outcome_next (ops.unary operator (newest s)) (popped s)
@@ -320,20 +415,28 @@ module _ {V H : Type 0} (ops : Ops V H) where
   frame_next types (frame.GivesBack v cause pool) s = back_next v cause pool (ops.lent s.heap v) s
   frame_next types (frame.Clears x) s = moves Quiet (put x ops.null s)
 
-  -- While an exception propagates (11.4), pending work is discarded frame by frame. Only a master interrupts it: the master is left first, and
-  -- then propagation continues.
-  abbrev pub pass_next : Bool → Exception → State V H → Next V H
-  pass_next true e s = moves Quiet (record s { control = frame.Leaves (Raising e) ∷ s.control; mode = Running })
-  pass_next false e s = moves Quiet s
+  -- While a jump is on its way (5.7, 6.5, 11.4), pending work is discarded frame by frame, up to where it lands. Only a master interrupts it:
+  -- the master is left first, and then the jump continues.
+  abbrev pub landed : Landing → State V H → Next V H
+  landed passes_on s = moves Quiet s
+  landed goes_behind s = moves Quiet (record s { mode = Running })
+  landed (goes_in no_stmts) s = halts Stuck
+  landed (goes_in (a_stmt f fs)) s = moves Quiet (record s { control = frame.Does (a_stmt f fs) ∷ s.control; mode = Running })
+
+  abbrev pub pass_next : (master : Bool) → Landing → Mode → State V H → Next V H
+  pass_next true landing mode s = moves Quiet (record s { control = frame.Leaves mode ∷ s.control; mode = Running })
+  pass_next false landing mode s = landed landing s
 
   abbrev pub running_next : List TypeDefinition → List (Frame V) → State V H → Next V H
-  running_next types [] s = halts Finished
+  running_next types [] s = halts (end_of Running)
   running_next types (f ∷ k) s = frame_next types f (at k s)
 
-  abbrev pub raising_next : Exception → List (Frame V) → State V H → Next V H
-  raising_next e [] s = halts (Unhandled e)
-  raising_next e (f ∷ k) s = pass_next (is_master f) e (at k s)
+  abbrev pub jump_next : Mode → List (Frame V) → State V H → Next V H
+  jump_next mode [] s = halts (end_of mode)
+  jump_next mode (f ∷ k) s = pass_next (is_master f) (landing mode f) mode (at k s)
 
   abbrev pub mode_next : List TypeDefinition → Mode → State V H → Next V H
   mode_next types Running s = running_next types s.control s
-  mode_next types (Raising e) s = raising_next e s.control s
+  mode_next types (Raising e) s = jump_next (Raising e) s.control s
+  mode_next types Exiting s = jump_next Exiting s.control s
+  mode_next types Returning s = jump_next Returning s.control s

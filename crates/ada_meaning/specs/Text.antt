@@ -1,15 +1,8 @@
 -- What the run's words print.
 
 use Rattle.std.specs.Prelude.{ℕ, List, codes}
-use Rattle.ada_meaning.specs.declared.event.Exception.{Exception}
-use Rattle.ada_meaning.specs.declared.event.Exception.TheVariants.{ConstraintError, StorageError}
 use Rattle.ada_meaning.specs.declared.event.Why.{Why}
 use Rattle.ada_meaning.specs.declared.event.Why.TheVariants.{FollowsGone, EndsTwice, GivesElsewhere, FinalizesTwice}
-
--- The name of an exception, in upper case (11.4.1).
-abbrev pub exception_text : Exception → List ℕ
-exception_text ConstraintError = codes "CONSTRAINT_ERROR"
-exception_text StorageError = codes "STORAGE_ERROR"
 
 -- The number of what would be erroneous.
 abbrev pub why_text : Why → List ℕ

@@ -2,7 +2,7 @@
 
 use crate::state::Id;
 use ada_program::TypeNo;
-use ada_program::program::TextNo;
+use ada_program::program::{Exception, TextNo};
 use std::fmt;
 
 /// What one step does that can be seen from outside.
@@ -104,13 +104,6 @@ pub enum Halt {
     Memory,
 }
 
-/// An exception; it prints its name in upper case.
-#[derive(Clone, Copy)]
-pub enum Exception {
-    ConstraintError,
-    StorageError,
-}
-
 /// Why an action would be erroneous (13.11.2); it prints its number.
 #[derive(Clone, Copy)]
 pub enum Why {
@@ -122,21 +115,6 @@ pub enum Why {
     GivesElsewhere,
     /// It would finalize a controlled value that is not alive. No program has one yet.
     FinalizesTwice,
-}
-
-impl Exception {
-    ghost use Rattle.std.specs.Prelude.{◌≡◌};
-    ghost use Rattle.ada_meaning.specs.Text.{exception_text};
-
-    /// Its name in upper case.
-    pub fn name(self) -> &'static str
-        ensures { result.now ≡ exception_text self }
-    {
-        match self {
-            Exception::ConstraintError => "CONSTRAINT_ERROR",
-            Exception::StorageError => "STORAGE_ERROR",
-        }
-    }
 }
 
 impl fmt::Display for Why {

@@ -2,9 +2,10 @@
 
 ghost use Rattle.ada_meaning.specs.Beginning.{StatementsBegin};
 ghost use Rattle.ada_meaning.specs.Life.{NamesAreUsedOnce, GoneForEver, BackOnce};
-ghost use Rattle.ada_meaning.specs.Ending.{StepsMakeLighter, StatesGoOn, EveryRunEnds};
+ghost use Rattle.ada_meaning.specs.Ending.{StepsMakeLighter, StatesGoOn, StatementsEnd};
 
-/// Each step makes the weight of the state smaller, so a loop that runs a machine ends.
+/// Each step that begins no statement makes the weight of the state smaller, so a loop that runs a machine comes to the
+/// next statement, or to the end.
 pub fn steps_make_lighter()
     ensures { StepsMakeLighter }
 {}
@@ -14,9 +15,9 @@ pub fn states_go_on()
     ensures { StatesGoOn }
 {}
 
-/// Every run ends: there is a number of steps that no run of a program passes.
-pub fn every_run_ends()
-    ensures { EveryRunEnds }
+/// A statement ends, or another one begins: there is a number of steps that no run passes before.
+pub fn statements_end()
+    ensures { StatementsEnd }
 {}
 
 /// A name is never used twice: each keeps its object, with the home and the trace number that it had.
@@ -34,7 +35,7 @@ pub fn back_once()
     ensures { BackOnce }
 {}
 
-/// `begins` says where a statement begins: no exception is on its way, and a statement is first of what is left to do.
+/// `begins` says where a statement begins: no jump is on its way, and a statement is first of what is left to do.
 pub fn statements_begin()
     ensures { StatementsBegin }
 {}

@@ -10,6 +10,7 @@ pub mod laws;
 mod request;
 mod state;
 
-pub use crate::event::{Birth, Cause, Controlled, Event, Exception, Halt, Line, Why};
+pub use crate::event::{Birth, Cause, Controlled, Event, Halt, Line, Why};
 pub use crate::request::Request;
 pub use crate::state::{Id, Mode, Stage, Value};
+pub use ada_program::program::Exception;

@@ -1,6 +1,6 @@
 //! Values, the stages of objects, and how a run goes on.
 
-use crate::event::Exception;
+use ada_program::program::Exception;
 
 /// The name of an allocated object: names are counted, and none is used twice.
 #[derive(Clone, Copy)]
@@ -24,9 +24,14 @@ pub enum Stage {
     Gone,
 }
 
-/// Whether the run goes on, or an exception is on its way (11.4).
+/// Whether the run goes on, or a jump is on its way (5.7, 6.5, 11.4).
 #[derive(Clone, Copy)]
 pub enum Mode {
     Running,
+    /// An exception looks for a handler (11.4).
     Raising(Exception),
+    /// An exit looks for the innermost loop (5.7).
+    Exiting,
+    /// A return looks for the end of the body (6.5).
+    Returning,
 }

@@ -5,3 +5,5 @@ pub mod Inside
 pub mod Nesting
 -- chains of operators, as the code keeps them
 pub mod Links
+-- trees that are built of their parts
+pub mod Built

@@ -126,15 +126,26 @@ object_typed_at room name type_name =
     choose (at (delimiter LeftParenthesis)) (mapped (pool_from name type_name) (both (constraint_at room) end_at))
     (mapped (object_from name type_name) (both (initial_at room) end_at))
 
+-- `exception;`, behind `E :`.
+abbrev pub exception_at : Ident → Phrase DeclarationTree
+exception_at name = mapped (λ _. exception_declaration name) (after (reserved word.Exception) end_at)
+
+-- `constant := 1;`, behind `N :`.
+abbrev pub constant_at : Ident → Phrase DeclarationTree
+constant_at name =
+    mapped (constant_from name) (after (reserved word.Constant) (after (delimiter Assign) (both static_at end_at)))
+
+-- `access T := ..;`, behind `X :`.
+abbrev pub borrower_at : ℕ → Ident → Phrase DeclarationTree
+borrower_at room name =
+    mapped (borrower_from name) (after (reserved word.Access) (both identifier_at (both (initial_at room) end_at)))
+
 -- What stands behind `X :`.
 unfoldable pub object_named_at : ℕ → Ident → Phrase DeclarationTree
 object_named_at room name =
-    choose (at (reserved word.Exception)) (mapped (λ _. exception_declaration name) (after (reserved word.Exception) end_at))
-    (choose (at (reserved word.Constant))
-    (mapped (constant_from name) (after (reserved word.Constant) (after (delimiter Assign) (both static_at end_at))))
-    (choose (at (reserved word.Access))
-    (mapped (borrower_from name) (after (reserved word.Access) (both identifier_at (both (initial_at room) end_at))))
-    (continued name_at (object_typed_at room name))))
+    choose (at (reserved word.Exception)) (exception_at name)
+    (choose (at (reserved word.Constant)) (constant_at name)
+    (choose (at (reserved word.Access)) (borrower_at room name) (continued name_at (object_typed_at room name))))
 
 -- `X : ..;`
 unfoldable pub object_at : ℕ → Phrase DeclarationTree
@@ -167,14 +178,25 @@ record_from spot name x = record_type spot name x.0
 abbrev pub derived_from : Spot → Ident → NameTree × (RecordTree × Unit {0}) → DeclarationTree
 derived_from spot name x = derived_type spot name x.0 x.1.0
 
+-- `access T with ..;`, behind `type A is`.
+abbrev pub access_at : Spot → Ident → Phrase DeclarationTree
+access_at spot name =
+    mapped (access_from spot name) (after (reserved word.Access) (both identifier_at (both optional_aspect_at end_at)))
+
+-- `new P with record .. end record;`, behind `type T is`.
+abbrev pub derived_at : Spot → Ident → Phrase DeclarationTree
+derived_at spot name =
+    mapped (derived_from spot name) (after (reserved word.New) (both name_at (after (reserved word.With) (both record_at end_at))))
+
+-- `record .. end record;`, behind `type T is`.
+abbrev pub record_type_at : Spot → Ident → Phrase DeclarationTree
+record_type_at spot name = mapped (record_from spot name) (both record_at end_at)
+
 -- What stands behind `type T is`.
 unfoldable pub definition_at : Spot → Ident → Phrase DeclarationTree
 definition_at spot name =
-    choose (at (reserved word.Access))
-    (mapped (access_from spot name) (after (reserved word.Access) (both identifier_at (both optional_aspect_at end_at))))
-    (choose (at (reserved word.New))
-    (mapped (derived_from spot name) (after (reserved word.New) (both name_at (after (reserved word.With) (both record_at end_at)))))
-    (mapped (record_from spot name) (both record_at end_at)))
+    choose (at (reserved word.Access)) (access_at spot name)
+    (choose (at (reserved word.New)) (derived_at spot name) (record_type_at spot name))
 
 -- What stands behind `type T`.
 unfoldable pub type_named_at : Spot → Ident → Phrase DeclarationTree

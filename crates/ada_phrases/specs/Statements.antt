@@ -98,15 +98,22 @@ while_from x = (x.0, while_scheme x.1.0)
 abbrev pub for_from : Spot × (Ident × (ExpressionTree × (ExpressionTree × Unit {0}))) → Spot × SchemeTree
 for_from x = (x.0, for_scheme x.1.0 x.1.1.0 x.1.1.1.0)
 
+-- `while X loop`, and where the first word stands.
+abbrev pub while_at : ℕ → Phrase (Spot × SchemeTree)
+while_at room =
+    mapped while_from (both (opening_in room (reserved word.While)) (both (expression_at (room - 1)) (after (reserved word.Loop) nothing)))
+
+-- `for I in X .. Y loop`, and where the first word stands.
+abbrev pub for_at : ℕ → Phrase (Spot × SchemeTree)
+for_at room =
+    mapped for_from (both (opening_in room (reserved word.For)) (both identifier_at (after (reserved word.«In»)
+    (both (expression_at (room - 1)) (after (delimiter DoubleDot) (both (expression_at (room - 1)) (after (reserved word.Loop) nothing)))))))
+
 -- `loop`, `while X loop` or `for I in X .. Y loop`, and where the first word stands.
 unfoldable pub scheme_at : ℕ → Phrase (Spot × SchemeTree)
 scheme_at room =
-    choose (at (reserved word.While))
-    (mapped while_from (both (opening_in room (reserved word.While)) (both (expression_at (room - 1)) (after (reserved word.Loop) nothing))))
-    (choose (at (reserved word.For))
-    (mapped for_from (both (opening_in room (reserved word.For)) (both identifier_at (after (reserved word.«In»)
-    (both (expression_at (room - 1)) (after (delimiter DoubleDot) (both (expression_at (room - 1)) (after (reserved word.Loop) nothing))))))))
-    (mapped endless_from (opening_in room (reserved word.Loop))))
+    choose (at (reserved word.While)) (while_at room)
+    (choose (at (reserved word.For)) (for_at room) (mapped endless_from (opening_in room (reserved word.Loop))))
 
 -- Whether a loop is next.
 abbrev pub at_loop : List Lexeme → Bool

@@ -25,13 +25,14 @@ use Rattle.ada_tree.specs.declared.statements.Handler.{Handler}
 use Rattle.ada_tree.specs.declared.statements.Scheme.{Scheme}
 use Rattle.ada_tree.specs.declared.statements.Sequence.{Sequence}
 use Rattle.ada_tree.specs.declared.statements.Statement.{Statement}
+use Rattle.ada_tree.specs.declared.unit.Unit.{Unit as UnitOf}
 use Rattle.ada_tree.specs.Names.{Ident, NameTree, ident_of, is_name, name_of, optional_ident_of, path_of}
 use Rattle.ada_tree.specs.Expressions.{ArgumentTree, ExpressionTree, ItemsTree, RightTree, attribute_argument, binary_expression}
 use Rattle.ada_tree.specs.ExpressionView.{argument_of, expression_of, item_of, items_of, right_of}
 use Rattle.ada_tree.specs.Records.{ComponentTree}
 use Rattle.ada_tree.specs.Declarations.{ChoiceTree, ClauseTree, FormalTree, SizeTree, head_of, size_of}
-use Rattle.ada_tree.specs.Statements.{BranchTree, DeclarationTree, HandlerTree, SchemeTree, SequenceTree, StatementTree, for_scheme}
-use Rattle.ada_tree.specs.StatementView.{branch_of, declaration_of, handler_of, scheme_of, sequence_of, statement_of}
+use Rattle.ada_tree.specs.Statements.{BranchTree, DeclarationTree, HandlerTree, SchemeTree, SequenceTree, StatementTree, UnitTree, for_scheme}
+use Rattle.ada_tree.specs.StatementView.{branch_of, declaration_of, handler_of, scheme_of, sequence_of, statement_of, unit_of}
 use Rattle.ada_reader.specs.declared.reader.Reader.{Reader}
 use Rattle.ada_reader.specs.declared.reader.Stop.{Stop}
 use Rattle.ada_reader.specs.Step.{Phrase, Stops, after, all_of, at, both, chain, fixed, not_at}
@@ -41,7 +42,7 @@ use Rattle.ada_phrases.specs.StartView.{start_of}
 use Rattle.ada_phrases.specs.Expressions.{argument_led, behind_path, behind_tick, beside, logical_from, part_at, relation_from, right_led, sum_from, term_from}
 use Rattle.ada_phrases.specs.Phrases.{attribute_at, behind_primary_at, expression_led_at, factor_at, more_items_at, primary_led_at, relation_at, repeated_at, sum_at, term_at}
 use Rattle.ada_phrases.specs.Records.{component_at}
-use Rattle.ada_phrases.specs.Declarations.{definition_at, end_at, formals_at, instance_at, instance_named_at, next_choice_at, next_formal_at, next_name_at, object_named_at, object_typed_at, size_led, type_named_at}
+use Rattle.ada_phrases.specs.Declarations.{access_at, borrower_at, constant_at, definition_at, derived_at, end_at, exception_at, formals_at, instance_at, instance_named_at, next_choice_at, next_formal_at, next_name_at, object_named_at, object_typed_at, record_type_at, size_led, type_named_at}
 use Rattle.ada_phrases.specs.Statements.{behind_formals_in, behind_is_in, behind_name_in, block_in, body_in, branch_in, branches_in, declare_block_in, goes_on, handler_in, handlers_in, if_in, loop_in, next_argument_at, next_branch_in, otherwise_in, path_statement_at, procedure_in, sequence_in, statement_at, statements_at, with_formals_in, without_room}
 use Rattle.ada_phrases.specs.Nesting.{inside_at}
 
@@ -90,6 +91,10 @@ boxed_handler b = handler_of b.value
 -- A declaration.
 abbrev pub boxed_declaration : Box Declaration → DeclarationTree
 boxed_declaration b = declaration_of b.value
+
+-- A unit.
+abbrev pub boxed_unit : Box UnitOf → UnitTree
+boxed_unit b = unit_of b.value
 
 -- Where a word stands, and nothing more.
 abbrev pub and_nothing : Spot → Spot × Unit {0}
@@ -236,6 +241,30 @@ type_named spot name = type_named_at spot (ident_of name)
 -- What a type of that name is.
 abbrev pub definition_of : Spot → Identifier → Phrase DeclarationTree
 definition_of spot name = definition_at spot (ident_of name)
+
+-- An exception of that name.
+abbrev pub exception_named : Identifier → Phrase DeclarationTree
+exception_named name = exception_at (ident_of name)
+
+-- A constant of that name.
+abbrev pub constant_named : Identifier → Phrase DeclarationTree
+constant_named name = constant_at (ident_of name)
+
+-- An object of that name and of an anonymous access type.
+abbrev pub borrower_named : ℕ → Identifier → Phrase DeclarationTree
+borrower_named room name = borrower_at room (ident_of name)
+
+-- An access type of that name.
+abbrev pub access_named : Spot → Identifier → Phrase DeclarationTree
+access_named spot name = access_at spot (ident_of name)
+
+-- A derived type of that name.
+abbrev pub derived_named : Spot → Identifier → Phrase DeclarationTree
+derived_named spot name = derived_at spot (ident_of name)
+
+-- A record type of that name.
+abbrev pub record_named : Spot → Identifier → Phrase DeclarationTree
+record_named spot name = record_type_at spot (ident_of name)
 
 -- Procedures.
 

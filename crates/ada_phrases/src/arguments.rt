@@ -51,8 +51,7 @@ fn read_argument_led<'t>(
     ensures shorter { OnOk result (length reader.new.tokens.now ≤ length reader.old.tokens.now) }
     ensures read { Reads boxed_argument reader (argument_led_by room first.entry) result }
 {
-    if reader.is_at(Delimiter::Tick) {
-        reader.delimiter(Delimiter::Tick)?;
+    if reader.taken_delimiter(Delimiter::Tick).is_some() {
         return read_argument_behind(alloc, reader, room, first);
     }
     let path = read_path_behind(alloc, reader, first)?;

@@ -74,24 +74,19 @@ fn read_logical<'t>(
     ensures shorter { OnOk result (length reader.new.tokens.now ≤ length reader.old.tokens.now) }
     ensures read { Reads boxed_expression reader (logical_behind room left.entry) result }
 {
-    if reader.is_at_word(Word::And) {
-        reader.word(Word::And)?;
-        if reader.is_at_word(Word::Then) {
-            reader.word(Word::Then)?;
+    if reader.taken_word(Word::And).is_some() {
+        if reader.taken_word(Word::Then).is_some() {
             return read_repeated(alloc, reader, room, BinaryOperator::AndThen, left);
         }
         return read_repeated(alloc, reader, room, BinaryOperator::And, left);
     }
-    if reader.is_at_word(Word::Or) {
-        reader.word(Word::Or)?;
-        if reader.is_at_word(Word::Else) {
-            reader.word(Word::Else)?;
+    if reader.taken_word(Word::Or).is_some() {
+        if reader.taken_word(Word::Else).is_some() {
             return read_repeated(alloc, reader, room, BinaryOperator::OrElse, left);
         }
         return read_repeated(alloc, reader, room, BinaryOperator::Or, left);
     }
-    if reader.is_at_word(Word::Xor) {
-        reader.word(Word::Xor)?;
+    if reader.taken_word(Word::Xor).is_some() {
         return read_repeated(alloc, reader, room, BinaryOperator::Xor, left);
     }
     Ok(left)

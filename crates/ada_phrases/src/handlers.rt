@@ -7,6 +7,7 @@ ghost use Rattle.ada_phrases.specs.Statements.{begin_in, statements_at};
 ghost use Rattle.ada_phrases.specs.Words.{boxed_handler, boxed_sequence, handler_at, handlers_at, more_handlers_at, sequence_at};
 
 use crate::boxes::{add, boxed};
+use crate::nested::sequence;
 use crate::parts::read_choices;
 use crate::statements::read_statements;
 use ada_reader::{Reader, Stop};
@@ -31,7 +32,7 @@ pub(crate) fn read_begin<'t>(
 
 /// What stands behind `begin`, up to `end`.
 #[cycle(nesting)]
-#[tactic(auto, using(std::proofs::lemmas::Grind::common_steps, ada_tree::specs::StatementView::statement_rules), unfolding(crate::specs::Statements::sequence_in))]
+#[tactic(auto, unfolding(crate::specs::Statements::sequence_in))]
 pub(crate) fn read_sequence<'t>(
     alloc: Global,
     reader: &mut Reader<'t>,
@@ -44,15 +45,7 @@ pub(crate) fn read_sequence<'t>(
     let statements = read_statements(alloc, reader, room)?;
     let handlers = read_handlers(alloc, reader, room)?;
     let end = reader.word(Word::End)?;
-    boxed(
-        alloc,
-        Sequence {
-            begin,
-            statements,
-            handlers,
-            end,
-        },
-    )
+    sequence(alloc, begin, statements, handlers, end)
 }
 
 /// `exception` and its handlers, or none.
@@ -66,10 +59,9 @@ fn read_handlers<'t>(
     ensures shorter { OnOk result (length reader.new.tokens.now ≤ length reader.old.tokens.now) }
     ensures read { Reads (each handler_of) reader (handlers_at room) result }
 {
-    if !reader.is_at_word(Word::Exception) {
+    if reader.taken_word(Word::Exception).is_none() {
         return Ok(Vec::new(alloc));
     }
-    reader.word(Word::Exception)?;
     if !reader.is_at_word(Word::When) {
         return Err(Stop::Here);
     }

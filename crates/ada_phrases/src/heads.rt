@@ -9,7 +9,7 @@ ghost use Rattle.ada_phrases.specs.Statements.{at_instance};
 ghost use Rattle.ada_phrases.specs.StartView.{actuals_of, start_of};
 ghost use Rattle.ada_phrases.specs.Words.{RefusesFormals, boxed_declaration, instance_behind, instance_named};
 
-use crate::boxes::boxed;
+use crate::boxes::ended_declaration;
 use crate::names::read_name;
 use crate::parts::{optional_word, read_formals};
 use ada_reader::{Reader, Stop};
@@ -95,7 +95,7 @@ pub(crate) fn read_instance<'t>(
 }
 
 /// What stands behind the generic unit of an instance.
-#[tactic(auto, using(std::proofs::lemmas::Grind::common_steps, ada_tree::specs::StatementView::statement_rules), unfolding(crate::specs::Declarations::instance_named_at))]
+#[tactic(auto, unfolding(ada_tree::specs::StatementView::declaration_of, crate::specs::Declarations::instance_named_at))]
 fn read_instance_named<'t>(
     alloc: Global,
     reader: &mut Reader<'t>,
@@ -107,9 +107,9 @@ fn read_instance_named<'t>(
     ensures read { Reads boxed_declaration reader (instance_named room start.entry generic.entry) result }
 {
     let (object, access) = read_actuals(reader, room)?;
-    reader.delimiter(Delimiter::Semicolon)?;
-    Ok(boxed(
+    ended_declaration(
         alloc,
+        reader,
         Declaration::Instance {
             spot: start.spot,
             name: start.name,
@@ -117,7 +117,7 @@ fn read_instance_named<'t>(
             object,
             access,
         },
-    )?)
+    )
 }
 
 /// `(T, A)`

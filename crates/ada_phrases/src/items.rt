@@ -91,8 +91,7 @@ fn read_item<'t>(alloc: Global, reader: &mut Reader<'t>, room: u32) -> Result<Bo
         return item(alloc, None, value);
     }
     let first = reader.identifier()?;
-    if reader.is_at(Delimiter::Arrow) {
-        reader.delimiter(Delimiter::Arrow)?;
+    if reader.taken_delimiter(Delimiter::Arrow).is_some() {
         let value = read_expression(alloc, reader, room)?;
         return item(alloc, Some(first), value);
     }

@@ -24,6 +24,7 @@ mod rights;
 // Declarations and statements.
 mod declarations;
 mod handlers;
+mod nested;
 mod procedures;
 mod simple_statements;
 mod statements;

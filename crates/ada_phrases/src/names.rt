@@ -80,8 +80,8 @@ fn read_selector<'t>(reader: &mut Reader<'t>) -> Result<Selector<'t>, Stop>
     ensures read { Reads selector_of reader selector_at result }
 {
     reader.delimiter(Delimiter::Dot)?;
-    if reader.is_at_word(Word::All) {
-        return Ok(Selector::All(reader.word(Word::All)?));
+    if let Some(spot) = reader.taken_word(Word::All) {
+        return Ok(Selector::All(spot));
     }
     Ok(Selector::Component(reader.identifier()?))
 }

@@ -139,8 +139,8 @@ fn read_choice<'t>(alloc: Global, reader: &mut Reader<'t>) -> Result<Choice<'t>,
     ensures shorter { OnOk result (length reader.new.tokens.now < length reader.old.tokens.now) }
     ensures read { Reads choice_of reader choice_at result }
 {
-    if reader.is_at_word(Word::Others) {
-        return Ok(Choice::Others(reader.word(Word::Others)?));
+    if let Some(spot) = reader.taken_word(Word::Others) {
+        return Ok(Choice::Others(spot));
     }
     Ok(Choice::Named(read_name(alloc, reader)?))
 }
@@ -198,10 +198,9 @@ fn read_size_led<'t>(
     ensures shorter { OnOk result (length reader.new.tokens.now ≤ length reader.old.tokens.now) }
     ensures read { Reads labelled_size_of reader (size_led_by first.entry) result }
 {
-    if !reader.is_at(Delimiter::Arrow) {
+    if reader.taken_delimiter(Delimiter::Arrow).is_none() {
         return Ok((None, Size::Named(first)));
     }
-    reader.delimiter(Delimiter::Arrow)?;
     let size = read_size(reader)?;
     Ok((Some(first), size))
 }

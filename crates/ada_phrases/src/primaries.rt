@@ -27,19 +27,18 @@ pub(crate) fn read_factor<'t>(
     ensures shorter { OnOk result (length reader.new.tokens.now < length reader.old.tokens.now) }
     ensures read { Reads boxed_expression reader (factor_at room) result }
 {
-    if !reader.is_at_word(Word::Not) {
-        return read_primary(alloc, reader, room);
+    if let Some(spot) = reader.taken_word(Word::Not) {
+        let operand = read_primary(alloc, reader, room)?;
+        return boxed(
+            alloc,
+            Expression::Unary {
+                operator: UnaryOperator::Not,
+                spot,
+                operand,
+            },
+        );
     }
-    let spot = reader.word(Word::Not)?;
-    let operand = read_primary(alloc, reader, room)?;
-    boxed(
-        alloc,
-        Expression::Unary {
-            operator: UnaryOperator::Not,
-            spot,
-            operand,
-        },
-    )
+    read_primary(alloc, reader, room)
 }
 
 /// A number, `null`, an expression in parentheses, an aggregate or a path (4.4).
@@ -57,8 +56,7 @@ fn read_primary<'t>(
         let (value, spot) = reader.number()?;
         return boxed(alloc, Expression::Number { spot, value });
     }
-    if reader.is_at_word(Word::Null) {
-        let spot = reader.word(Word::Null)?;
+    if let Some(spot) = reader.taken_word(Word::Null) {
         return boxed(alloc, Expression::Null(spot));
     }
     if reader.is_at(Delimiter::LeftParenthesis) {
@@ -97,11 +95,10 @@ pub(crate) fn read_primary_led<'t>(
     ensures shorter { OnOk result (length reader.new.tokens.now ≤ length reader.old.tokens.now) }
     ensures read { Reads boxed_expression reader (primary_led_by room first.entry) result }
 {
-    if !reader.is_at(Delimiter::Tick) {
+    if reader.taken_delimiter(Delimiter::Tick).is_none() {
         let path = read_path_behind(alloc, reader, first)?;
         return boxed(alloc, Expression::Path(path));
     }
-    reader.delimiter(Delimiter::Tick)?;
     let items = read_enclosed_items(alloc, reader, room)?;
     boxed(
         alloc,

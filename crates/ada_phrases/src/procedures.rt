@@ -7,10 +7,11 @@ ghost use Rattle.ada_reader.specs.Step.{each, Reads};
 ghost use Rattle.ada_phrases.specs.Statements.{at_procedure, declaration_at, declarations_at};
 ghost use Rattle.ada_phrases.specs.Words.{body_behind, boxed_declaration, formals_behind, head_behind, is_behind, name_behind, procedure_at};
 
-use crate::boxes::{add, boxed};
+use crate::boxes::{add, ended_declaration};
 use crate::declarations::{read_attribute_clause, read_object, read_type};
 use crate::handlers::read_begin;
 use crate::heads::{Start, is_at_instance, read_instance, read_start, refuse_formals};
+use crate::nested::body_declaration;
 use crate::parts::{optional_identifier, read_formals};
 use ada_reader::{Reader, Stop};
 use ada_text::{Delimiter, Spot, Word};
@@ -82,7 +83,7 @@ fn read_procedure<'t>(
 
 /// What stands behind the name of a procedure.
 #[cycle(nesting)]
-#[tactic(auto, using(std::proofs::lemmas::Grind::common_steps, ada_tree::specs::StatementView::statement_rules), unfolding(crate::specs::Statements::behind_name_in))]
+#[tactic(auto, unfolding(ada_tree::specs::StatementView::declaration_of, crate::specs::Statements::behind_name_in))]
 fn read_behind_name<'t>(
     alloc: Global,
     reader: &mut Reader<'t>,
@@ -92,17 +93,14 @@ fn read_behind_name<'t>(
     ensures shorter { OnOk result (length reader.new.tokens.now < length reader.old.tokens.now) }
     ensures read { Reads boxed_declaration reader (name_behind room start.entry) result }
 {
-    if reader.is_at(Delimiter::LeftParenthesis) {
-        let parenthesis = reader.delimiter(Delimiter::LeftParenthesis)?;
+    if let Some(parenthesis) = reader.taken_delimiter(Delimiter::LeftParenthesis) {
         return read_with_formals(alloc, reader, room, start, parenthesis);
     }
-    if reader.is_at_word(Word::Is) {
-        reader.word(Word::Is)?;
+    if reader.taken_word(Word::Is).is_some() {
         return read_behind_is(alloc, reader, room, start);
     }
-    reader.delimiter(Delimiter::Semicolon)?;
     let head = start.head(Vec::new(alloc));
-    boxed(alloc, Declaration::Specification(head))
+    ended_declaration(alloc, reader, Declaration::Specification(head))
 }
 
 /// What stands behind the parenthesis of formals.
@@ -126,7 +124,7 @@ fn read_with_formals<'t>(
 
 /// What stands behind formals: a body, whose first level of nesting is open at its first word, or `;`.
 #[cycle(nesting)]
-#[tactic(auto, using(std::proofs::lemmas::Grind::common_steps, ada_tree::specs::StatementView::statement_rules), unfolding(crate::specs::Statements::behind_formals_in))]
+#[tactic(auto, unfolding(ada_tree::specs::StatementView::declaration_of, crate::specs::Statements::behind_formals_in))]
 fn read_behind_formals<'t>(
     alloc: Global,
     reader: &mut Reader<'t>,
@@ -138,8 +136,7 @@ fn read_behind_formals<'t>(
     ensures read { Reads boxed_declaration reader (head_behind room head.entry parenthesis) result }
 {
     if !reader.is_at_word(Word::Is) {
-        reader.delimiter(Delimiter::Semicolon)?;
-        return boxed(alloc, Declaration::Specification(head));
+        return ended_declaration(alloc, reader, Declaration::Specification(head));
     }
     if room == 0 {
         return Err(Stop::TooDeep(parenthesis));
@@ -171,7 +168,7 @@ fn read_behind_is<'t>(
 
 /// What stands behind the `is` of a body (6.3).
 #[cycle(nesting)]
-#[tactic(auto, using(std::proofs::lemmas::Grind::common_steps, ada_tree::specs::StatementView::statement_rules), unfolding(crate::specs::Statements::body_in))]
+#[tactic(auto, unfolding(crate::specs::Statements::body_in))]
 fn read_body<'t>(
     alloc: Global,
     reader: &mut Reader<'t>,
@@ -185,13 +182,5 @@ fn read_body<'t>(
     let body = read_begin(alloc, reader, room)?;
     let end_name = optional_identifier(reader)?;
     reader.delimiter(Delimiter::Semicolon)?;
-    Ok(boxed(
-        alloc,
-        Declaration::Body {
-            head,
-            declarations,
-            body: Box::into_inner(body),
-            end_name,
-        },
-    )?)
+    body_declaration(alloc, head, declarations, body, end_name)
 }

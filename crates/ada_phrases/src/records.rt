@@ -20,14 +20,12 @@ pub(crate) fn read_record<'t>(
     ensures shorter { OnOk result (length reader.new.tokens.now < length reader.old.tokens.now) }
     ensures read { Reads record_of reader record_at result }
 {
-    if reader.is_at_word(Word::Null) {
-        reader.word(Word::Null)?;
+    if reader.taken_word(Word::Null).is_some() {
         reader.word(Word::Record)?;
         return Ok(RecordDefinition::NullRecord);
     }
     reader.word(Word::Record)?;
-    if reader.is_at_word(Word::Null) {
-        reader.word(Word::Null)?;
+    if reader.taken_word(Word::Null).is_some() {
         reader.delimiter(Delimiter::Semicolon)?;
         read_end_record(reader)?;
         return Ok(RecordDefinition::NullComponents);
@@ -98,10 +96,9 @@ fn optional_static<'t>(reader: &mut Reader<'t>) -> Result<Option<StaticValue<'t>
     ensures shorter { OnOk result (length reader.new.tokens.now ≤ length reader.old.tokens.now) }
     ensures read { Reads initial_static_of reader initial_static_at result }
 {
-    if !reader.is_at(Delimiter::Assign) {
+    if reader.taken_delimiter(Delimiter::Assign).is_none() {
         return Ok(None);
     }
-    reader.delimiter(Delimiter::Assign)?;
     Ok(Some(read_static(reader)?))
 }
 
@@ -114,8 +111,7 @@ pub(crate) fn read_static<'t>(reader: &mut Reader<'t>) -> Result<StaticValue<'t>
     if reader.is_at_identifier() {
         return Ok(StaticValue::Named(reader.identifier()?));
     }
-    if reader.is_at(Delimiter::Minus) {
-        let spot = reader.delimiter(Delimiter::Minus)?;
+    if let Some(spot) = reader.taken_delimiter(Delimiter::Minus) {
         let (magnitude, _) = reader.number()?;
         return Ok(StaticValue::Number {
             spot,

@@ -29,10 +29,9 @@ pub(crate) fn read_initial<'t>(
     ensures shorter { OnOk result (length reader.new.tokens.now ≤ length reader.old.tokens.now) }
     ensures read { Reads optional_right_in reader (initial_at room) result }
 {
-    if !reader.is_at(Delimiter::Assign) {
+    if reader.taken_delimiter(Delimiter::Assign).is_none() {
         return Ok(None);
     }
-    reader.delimiter(Delimiter::Assign)?;
     Ok(Some(read_right(alloc, reader, room)?))
 }
 
@@ -116,10 +115,9 @@ fn read_aggregate<'t>(
     ensures shorter { OnOk result (length reader.new.tokens.now ≤ length reader.old.tokens.now) }
     ensures read { Reads listed_items reader (aggregate_at room) result }
 {
-    if !reader.is_at(Delimiter::Tick) {
+    if reader.taken_delimiter(Delimiter::Tick).is_none() {
         return Ok(Vec::new(alloc));
     }
-    reader.delimiter(Delimiter::Tick)?;
     read_enclosed_items(alloc, reader, room)
 }
 

@@ -7,11 +7,11 @@ ghost use Rattle.ada_tree.specs.Statements.{while_scheme as while_tree};
 ghost use Rattle.ada_phrases.specs.StatementPhrases.{BuildsScheme, condition_in};
 ghost use Rattle.ada_tree.specs.ExpressionView.{argument_of, expression_of};
 ghost use Rattle.ada_reader.specs.Step.{each, Reads};
-ghost use Rattle.ada_phrases.specs.Statements.{arguments_at, at_loop, next_argument_at, optional_when_at, path_at, scheme_at, simple_statement_at};
+ghost use Rattle.ada_phrases.specs.Statements.{arguments_at, at_loop, for_at, next_argument_at, optional_when_at, path_at, scheme_at, simple_statement_at, while_at};
 ghost use Rattle.ada_phrases.specs.Words.{and_nothing, boxed_argument, boxed_scheme, boxed_statement, end_word_at, for_tree, next_arguments_at, statement_led_by};
 
 use crate::arguments::read_argument;
-use crate::boxes::{add, boxed, opened};
+use crate::boxes::{add, boxed, ended_statement, opened};
 use crate::expressions::read_expression;
 use crate::names::{read_name, read_path_behind};
 use crate::rights::read_right;
@@ -23,7 +23,7 @@ use ada_tree::statements::{Scheme, Statement};
 use std::alloc::Global;
 
 /// `null;`, `exit when X;`, `return;`, `raise E;`, an assignment or a call.
-#[tactic(auto, using(std::proofs::lemmas::Grind::common_steps, ada_tree::specs::StatementView::statement_rules), unfolding(crate::specs::Statements::simple_statement_at))]
+#[tactic(auto, unfolding(ada_tree::specs::StatementView::statement_of, crate::specs::Statements::simple_statement_at))]
 pub(crate) fn read_simple_statement<'t>(
     alloc: Global,
     reader: &mut Reader<'t>,
@@ -32,28 +32,20 @@ pub(crate) fn read_simple_statement<'t>(
     ensures shorter { OnOk result (length reader.new.tokens.now < length reader.old.tokens.now) }
     ensures read { Reads boxed_statement reader (simple_statement_at room) result }
 {
-    if reader.is_at_word(Word::Null) {
-        let spot = reader.word(Word::Null)?;
-        reader.delimiter(Delimiter::Semicolon)?;
-        return boxed(alloc, Statement::Null(spot));
+    if let Some(spot) = reader.taken_word(Word::Null) {
+        return ended_statement(alloc, reader, Statement::Null(spot));
     }
-    if reader.is_at_word(Word::Exit) {
-        let spot = reader.word(Word::Exit)?;
+    if let Some(spot) = reader.taken_word(Word::Exit) {
         let condition = optional_when(alloc, reader, room)?;
-        reader.delimiter(Delimiter::Semicolon)?;
         let condition = opened(condition);
-        return boxed(alloc, Statement::Exit { spot, condition });
+        return ended_statement(alloc, reader, Statement::Exit { spot, condition });
     }
-    if reader.is_at_word(Word::Return) {
-        let spot = reader.word(Word::Return)?;
-        reader.delimiter(Delimiter::Semicolon)?;
-        return boxed(alloc, Statement::Return(spot));
+    if let Some(spot) = reader.taken_word(Word::Return) {
+        return ended_statement(alloc, reader, Statement::Return(spot));
     }
-    if reader.is_at_word(Word::Raise) {
-        let spot = reader.word(Word::Raise)?;
+    if let Some(spot) = reader.taken_word(Word::Raise) {
         let name = read_name(alloc, reader)?;
-        reader.delimiter(Delimiter::Semicolon)?;
-        return boxed(alloc, Statement::Raise { spot, name });
+        return ended_statement(alloc, reader, Statement::Raise { spot, name });
     }
     let path = read_path(alloc, reader)?;
     read_path_statement(alloc, reader, room, path)
@@ -69,10 +61,9 @@ fn optional_when<'t>(
     ensures shorter { OnOk result (length reader.new.tokens.now ≤ length reader.old.tokens.now) }
     ensures read { Reads condition_in reader (optional_when_at room) result }
 {
-    if !reader.is_at_word(Word::When) {
+    if reader.taken_word(Word::When).is_none() {
         return Ok(None);
     }
-    reader.word(Word::When)?;
     Ok(Some(read_expression(alloc, reader, room)?))
 }
 
@@ -87,7 +78,7 @@ fn read_path<'t>(alloc: Global, reader: &mut Reader<'t>) -> Result<Path<'t>, Sto
 }
 
 /// What stands behind a path: `:= ..;`, `(..);` or `;` (5.2, 6.4).
-#[tactic(auto, using(std::proofs::lemmas::Grind::common_steps, ada_tree::specs::StatementView::statement_rules), unfolding(crate::specs::Statements::path_statement_at))]
+#[tactic(auto, unfolding(ada_tree::specs::StatementView::statement_of, crate::specs::Statements::path_statement_at))]
 fn read_path_statement<'t>(
     alloc: Global,
     reader: &mut Reader<'t>,
@@ -97,12 +88,11 @@ fn read_path_statement<'t>(
     ensures shorter { OnOk result (length reader.new.tokens.now < length reader.old.tokens.now) }
     ensures read { Reads boxed_statement reader (statement_led_by room path.entry) result }
 {
-    if reader.is_at(Delimiter::Assign) {
-        reader.delimiter(Delimiter::Assign)?;
+    if reader.taken_delimiter(Delimiter::Assign).is_some() {
         let value = read_right(alloc, reader, room)?;
-        reader.delimiter(Delimiter::Semicolon)?;
-        return boxed(
+        return ended_statement(
             alloc,
+            reader,
             Statement::Assignment {
                 target: path,
                 value: Box::into_inner(value),
@@ -112,18 +102,18 @@ fn read_path_statement<'t>(
     if reader.is_at(Delimiter::LeftParenthesis) {
         reader.opening(Delimiter::LeftParenthesis, room)?;
         let arguments = read_arguments(alloc, reader, room - 1)?;
-        reader.delimiter(Delimiter::Semicolon)?;
-        return boxed(
+        return ended_statement(
             alloc,
+            reader,
             Statement::Call {
                 procedure: path,
                 arguments,
             },
         );
     }
-    reader.delimiter(Delimiter::Semicolon)?;
-    boxed(
+    ended_statement(
         alloc,
+        reader,
         Statement::Call {
             procedure: path,
             arguments: Vec::new(alloc),
@@ -198,25 +188,51 @@ pub(crate) fn read_scheme<'t>(
     ensures read { Reads boxed_scheme reader (scheme_at room) result }
 {
     if reader.is_at_word(Word::While) {
-        let spot = reader.opening_word(Word::While, room)?;
-        let condition = read_expression(alloc, reader, room - 1)?;
-        reader.word(Word::Loop)?;
-        let scheme = while_scheme(alloc, condition)?;
-        return Ok((spot, scheme));
+        return read_while(alloc, reader, room);
     }
     if reader.is_at_word(Word::For) {
-        let spot = reader.opening_word(Word::For, room)?;
-        let name = reader.identifier()?;
-        reader.word(Word::In)?;
-        let first = read_expression(alloc, reader, room - 1)?;
-        reader.delimiter(Delimiter::DoubleDot)?;
-        let last = read_expression(alloc, reader, room - 1)?;
-        reader.word(Word::Loop)?;
-        let scheme = for_scheme(alloc, name, first, last)?;
-        return Ok((spot, scheme));
+        return read_for(alloc, reader, room);
     }
     let spot = reader.opening_word(Word::Loop, room)?;
     let scheme = boxed(alloc, Scheme::Endless)?;
+    Ok((spot, scheme))
+}
+
+/// `while X loop`
+fn read_while<'t>(
+    alloc: Global,
+    reader: &mut Reader<'t>,
+    room: u32,
+) -> Result<(Spot, Box<Scheme<'t>>), Stop>
+    ensures shorter { OnOk result (length reader.new.tokens.now < length reader.old.tokens.now) }
+    ensures room { OnOk result (0 < room) }
+    ensures read { Reads boxed_scheme reader (while_at room) result }
+{
+    let spot = reader.opening_word(Word::While, room)?;
+    let condition = read_expression(alloc, reader, room - 1)?;
+    reader.word(Word::Loop)?;
+    let scheme = while_scheme(alloc, condition)?;
+    Ok((spot, scheme))
+}
+
+/// `for I in X .. Y loop`
+fn read_for<'t>(
+    alloc: Global,
+    reader: &mut Reader<'t>,
+    room: u32,
+) -> Result<(Spot, Box<Scheme<'t>>), Stop>
+    ensures shorter { OnOk result (length reader.new.tokens.now < length reader.old.tokens.now) }
+    ensures room { OnOk result (0 < room) }
+    ensures read { Reads boxed_scheme reader (for_at room) result }
+{
+    let spot = reader.opening_word(Word::For, room)?;
+    let name = reader.identifier()?;
+    reader.word(Word::In)?;
+    let first = read_expression(alloc, reader, room - 1)?;
+    reader.delimiter(Delimiter::DoubleDot)?;
+    let last = read_expression(alloc, reader, room - 1)?;
+    reader.word(Word::Loop)?;
+    let scheme = for_scheme(alloc, name, first, last)?;
     Ok((spot, scheme))
 }
 

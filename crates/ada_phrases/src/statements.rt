@@ -7,9 +7,10 @@ ghost use Rattle.ada_reader.specs.Step.{each, Reads};
 ghost use Rattle.ada_phrases.specs.Statements.{ends_statements, statement_at, statements_at};
 ghost use Rattle.ada_phrases.specs.Words.{block_at, boxed_branch, boxed_statement, branch_at, branches_at, declare_block_at, if_at, loop_at, more_branches_at, more_statements_at, next_branch_at, otherwise_at};
 
-use crate::boxes::{add, boxed};
+use crate::boxes::add;
 use crate::expressions::read_expression;
 use crate::handlers::{read_begin, read_sequence};
+use crate::nested::{block, branch, declare_block, if_statement, loop_statement};
 use crate::procedures::read_declarations;
 use crate::simple_statements::{is_at_loop, read_end, read_scheme, read_simple_statement};
 use ada_reader::{Reader, Stop};
@@ -91,7 +92,7 @@ fn read_statement<'t>(
 
 /// `if X then .. elsif Y then .. else .. end if;` (5.3)
 #[cycle(nesting)]
-#[tactic(auto, using(std::proofs::lemmas::Grind::common_steps, ada_tree::specs::StatementView::statement_rules), unfolding(crate::specs::Statements::if_in, crate::specs::Statements::end_if_at))]
+#[tactic(auto, unfolding(crate::specs::Statements::if_in, crate::specs::Statements::end_if_at))]
 fn read_if<'t>(
     alloc: Global,
     reader: &mut Reader<'t>,
@@ -104,15 +105,7 @@ fn read_if<'t>(
     let branches = read_branches(alloc, reader, room)?;
     let otherwise = read_otherwise(alloc, reader, room - 1)?;
     let end = read_end(reader, Word::If)?;
-    boxed(
-        alloc,
-        Statement::If {
-            spot,
-            branches,
-            otherwise,
-            end,
-        },
-    )
+    if_statement(alloc, spot, branches, otherwise, end)
 }
 
 /// What stands behind `if`, up to `else` or `end`.
@@ -148,13 +141,7 @@ fn read_branch<'t>(
     let condition = read_expression(alloc, reader, room - 1)?;
     reader.word(Word::Then)?;
     let statements = read_statements(alloc, reader, room - 1)?;
-    boxed(
-        alloc,
-        Branch {
-            condition: Box::into_inner(condition),
-            statements,
-        },
-    )
+    branch(alloc, condition, statements)
 }
 
 /// `elsif X then ..`, as many as there are.
@@ -203,16 +190,15 @@ fn read_otherwise<'t>(
     ensures shorter { OnOk result (length reader.new.tokens.now ≤ length reader.old.tokens.now) }
     ensures read { Reads (each statement_of) reader (otherwise_at room) result }
 {
-    if !reader.is_at_word(Word::Else) {
+    if reader.taken_word(Word::Else).is_none() {
         return Ok(Vec::new(alloc));
     }
-    reader.word(Word::Else)?;
     read_statements(alloc, reader, room)
 }
 
 /// `while X loop .. end loop;` (5.5)
 #[cycle(nesting)]
-#[tactic(auto, using(std::proofs::lemmas::Grind::common_steps, ada_tree::specs::StatementView::statement_rules), unfolding(crate::specs::Statements::loop_in, crate::specs::Statements::end_loop_at))]
+#[tactic(auto, unfolding(crate::specs::Statements::loop_in, crate::specs::Statements::end_loop_at))]
 fn read_loop<'t>(
     alloc: Global,
     reader: &mut Reader<'t>,
@@ -224,20 +210,12 @@ fn read_loop<'t>(
     let (spot, scheme) = read_scheme(alloc, reader, room)?;
     let statements = read_statements(alloc, reader, room - 1)?;
     let end = read_end(reader, Word::Loop)?;
-    boxed(
-        alloc,
-        Statement::Loop {
-            spot,
-            scheme: Box::into_inner(scheme),
-            statements,
-            end,
-        },
-    )
+    loop_statement(alloc, spot, scheme, statements, end)
 }
 
 /// `begin .. end;` (5.6)
 #[cycle(nesting)]
-#[tactic(auto, using(std::proofs::lemmas::Grind::common_steps, ada_tree::specs::StatementView::statement_rules), unfolding(crate::specs::Statements::block_in))]
+#[tactic(auto, unfolding(crate::specs::Statements::block_in))]
 fn read_block<'t>(
     alloc: Global,
     reader: &mut Reader<'t>,
@@ -249,12 +227,12 @@ fn read_block<'t>(
     let begin = reader.opening_word(Word::Begin, room)?;
     let body = read_sequence(alloc, reader, room - 1, begin)?;
     reader.delimiter(Delimiter::Semicolon)?;
-    boxed(alloc, Statement::Block(Box::into_inner(body)))
+    block(alloc, body)
 }
 
 /// `declare .. begin .. end;` (5.6)
 #[cycle(nesting)]
-#[tactic(auto, using(std::proofs::lemmas::Grind::common_steps, ada_tree::specs::StatementView::statement_rules), unfolding(crate::specs::Statements::declare_block_in))]
+#[tactic(auto, unfolding(crate::specs::Statements::declare_block_in))]
 fn read_declare_block<'t>(
     alloc: Global,
     reader: &mut Reader<'t>,
@@ -267,12 +245,5 @@ fn read_declare_block<'t>(
     let declarations = read_declarations(alloc, reader, room - 1)?;
     let body = read_begin(alloc, reader, room - 1)?;
     reader.delimiter(Delimiter::Semicolon)?;
-    boxed(
-        alloc,
-        Statement::DeclareBlock {
-            spot,
-            declarations,
-            body: Box::into_inner(body),
-        },
-    )
+    declare_block(alloc, spot, declarations, body)
 }

@@ -3,7 +3,9 @@
 ghost use Rattle.ada_tree.specs.StatementView.{unit_of};
 ghost use Rattle.ada_reader.specs.Step.{Reads};
 ghost use Rattle.ada_phrases.specs.Units.{unit_at};
+ghost use Rattle.ada_phrases.specs.Words.{boxed_unit};
 
+use crate::boxes::boxed;
 use crate::handlers::read_begin;
 use crate::parts::{optional_identifier, read_clauses};
 use crate::procedures::read_declarations;
@@ -27,9 +29,19 @@ impl Drop for Parsed<'_> {
 }
 
 /// `with .. procedure P is .. begin .. end P;`; `room` levels of nesting may be open inside.
-#[tactic(auto, unfolding(crate::specs::Units::unit_at, crate::specs::Declarations::clauses_at))]
 pub fn read_unit<'t>(alloc: Global, reader: &mut Reader<'t>, room: u32) -> Result<Parsed<'t>, Stop>
     ensures { Reads (λ parsed. unit_of parsed.unit) reader (unit_at room) result }
+{
+    let unit = read_parts(alloc, reader, room)?;
+    Ok(Parsed {
+        unit: Box::into_inner(unit),
+    })
+}
+
+/// The unit on the heap.
+#[tactic(auto, unfolding(crate::specs::Units::unit_at, crate::specs::Declarations::clauses_at))]
+fn read_parts<'t>(alloc: Global, reader: &mut Reader<'t>, room: u32) -> Result<Box<Unit<'t>>, Stop>
+    ensures { Reads boxed_unit reader (unit_at room) result }
 {
     let clauses = read_clauses(alloc, reader)?;
     let spot = reader.word(Word::Procedure)?;
@@ -39,13 +51,16 @@ pub fn read_unit<'t>(alloc: Global, reader: &mut Reader<'t>, room: u32) -> Resul
     let body = read_begin(alloc, reader, room)?;
     let end_name = optional_identifier(reader)?;
     reader.delimiter(Delimiter::Semicolon)?;
-    let unit = Unit {
-        clauses,
-        spot,
-        name,
-        declarations,
-        body: Box::into_inner(body),
-        end_name,
-    };
-    Ok(Parsed { unit })
+    let body = Box::into_inner(body);
+    boxed(
+        alloc,
+        Unit {
+            clauses,
+            spot,
+            name,
+            declarations,
+            body,
+            end_name,
+        },
+    )
 }

@@ -2,9 +2,17 @@
 
 -- statements and declarations as plain data
 pub mod Form
+-- which exception a handler takes
+pub mod Handling
 -- a whole program as plain data
 pub mod ProgramForm
 -- what the types of a program give
 pub mod Typed
 -- what a well-formed program is
 pub mod WellFormed
+-- what fits, said of the lists that a program keeps
+pub mod Kept
+-- what is seen of the creations of a program
+pub mod Created
+-- the names of exceptions
+pub mod Names

@@ -9,7 +9,7 @@ use Rattle.ada_program.specs.declared.program.VariableKind.{VariableKind}
 use Rattle.ada_program.specs.declared.program.Program.{Program}
 use Rattle.ada_program.specs.declared.program.TypeDefinition.{TypeDefinition}
 use Rattle.ada_program.specs.declared.program.TypeDefinition.TheVariants as definition
-use Rattle.ada_program.specs.Form.{StmtForm, DeclarationForm, declaration_forms, stmt_forms}
+use Rattle.ada_program.specs.Form.{StmtsForm, HandlersForm, DeclarationForm, declaration_forms, stmt_forms, handler_forms}
 
 -- A component of a record type: its name, and what it holds (3.8).
 pub record ComponentForm : Type 0 where
@@ -26,13 +26,15 @@ pub record VariableForm : Type 0 where
   pub name : List ℕ
   pub kind : VariableKind
 
--- A program: types, variables and texts by their numbers, its declarations (3.11) and its statements.
+-- A program: types, variables, texts and exceptions by their numbers, its declarations (3.11), its statements and their handlers (11.2).
 pub record ProgramForm : Type 0 where
   pub types : List TypeForm
   pub variables : List VariableForm
   pub texts : List (List ℕ)
+  pub exceptions : List (List ℕ)
   pub declarations : List DeclarationForm
-  pub statements : List StmtForm
+  pub statements : StmtsForm
+  pub handlers : HandlersForm
 
 abbrev pub component_form : Component → ComponentForm
 component_form c = record { name = string_bytes c.name; kind = c.kind }
@@ -49,6 +51,8 @@ program_form p = record {
   types = map type_form p.types.items;
   variables = map variable_form p.variables.items;
   texts = map string_bytes p.texts.items;
+  exceptions = map string_bytes p.exceptions.items;
   declarations = declaration_forms p;
   statements = stmt_forms p;
+  handlers = handler_forms p;
 }

@@ -1,18 +1,22 @@
 -- What a well-formed program is: each number is that of something there, and each form has the types that it wants.
 
-use Rattle.std.specs.Prelude.{◌≡◌, ℕ, ◌+◌, Bool, true, false, ◌&&◌, ◌==◌, nat_lt, nat_le, if◌then◌else◌, List, [], ◌∷◌, length, count_by, Option, Some, None, is_some}
+use Rattle.std.specs.Prelude.{◌≡◌, ℕ, ◌+◌, Bool, true, false, ◌&&◌, ◌==◌, nat_lt, nat_le, if◌then◌else◌, List, [], ◌∷◌, ◌++◌, length, map, count_by, Option, Some, None, is_some}
 use Rattle.std.specs.List.{list_all, slice_get}
 use Rattle.ada_values.specs.declared.operator.UnaryOperator.{UnaryOperator}
 use Rattle.ada_values.specs.declared.operator.UnaryOperator.TheVariants as unary
 use Rattle.ada_values.specs.declared.operator.BinaryOperator.{BinaryOperator}
 use Rattle.ada_values.specs.declared.operator.BinaryOperator.TheVariants as binary
+use Rattle.ada_program.specs.declared.program.Choice.{Choice}
+use Rattle.ada_program.specs.declared.program.Choice.TheVariants as choice
 use Rattle.ada_program.specs.declared.program.ComponentKind.{ComponentKind}
 use Rattle.ada_program.specs.declared.program.ComponentKind.TheVariants as component
+use Rattle.ada_program.specs.declared.program.Exception.{Exception}
+use Rattle.ada_program.specs.declared.program.Exception.TheVariants.{ConstraintError, ProgramError, StorageError, EndError, Declared}
 use Rattle.ada_program.specs.declared.program.VariableKind.{VariableKind}
 use Rattle.ada_program.specs.declared.program.VariableKind.TheVariants as variable
 use Rattle.ada_program.specs.declared.program.ScalarType.{ScalarType}
 use Rattle.ada_program.specs.declared.program.ScalarType.TheVariants.{Integer, Boolean}
-use Rattle.ada_program.specs.Form.{PathForm, ExpressionForm, integer, boolean, reads, applied_to, chained, LinksForm, no_more_links, a_link, ItemForm, null_item, item_of_value, RightForm, nothing, value_of, allocates, computes, StmtForm, skips, assigns, frees, writes, writes_text, DeclarationForm, collects, declares}
+use Rattle.ada_program.specs.Form.{PathForm, ExpressionForm, integer, boolean, reads, is_null, applied_to, chained, LinksForm, no_more_links, a_link, ItemForm, null_item, item_of_value, RightForm, nothing, value_of, allocates, computes, StmtForm, skips, assigns, frees, gets, writes, writes_text, chooses, repeats, counts, exits, returns, raises, encloses, StmtsForm, no_stmts, a_stmt, BranchesForm, otherwise, a_branch, HandlersForm, no_handlers, a_handler, DeclarationForm, collects, declares}
 use Rattle.ada_program.specs.ProgramForm.{ComponentForm, TypeForm, record_of, access_to, VariableForm, ProgramForm}
 
 -- The type that an access type designates (3.10): none, if it is no access type.
@@ -77,11 +81,68 @@ variable_kind_fits types (variable.Access access) = is_access types access.0
 abbrev pub variable_fits : List TypeForm → VariableForm → Bool
 variable_fits types x = variable_kind_fits types x.kind
 
--- Collections are created before the first variable, and the variables in order from one on, each once, up to their count (3.11).
-abbrev pub creates_from : ℕ → ℕ → List DeclarationForm → Bool
+-- What is created where a program runs (3.11, 7.6.1): the collection of an access type, or a variable; a loop parameter is one (5.5).
+pub data Creation : Type 0 where
+  of_collection : (access : ℕ) → Creation
+  of_variable : (variable : ℕ) → Creation
+
+-- What a declaration creates.
+abbrev pub creation : DeclarationForm → Creation
+creation (collects access) = of_collection access
+creation (declares x right) = of_variable x
+
+abbrev mutual
+  -- What a statement creates, in the order of the text.
+  pub created_by : StmtForm → List Creation
+  created_by skips = []
+  created_by (assigns target right) = []
+  created_by (frees access path) = []
+  created_by (gets target) = []
+  created_by (writes e) = []
+  created_by (writes_text text) = []
+  created_by (chooses branches) = created_by_branches branches
+  created_by (repeats condition fs end_spot) = created_by_all fs
+  created_by (counts x low high fs end_spot) = of_variable x ∷ created_by_all fs
+  created_by (exits condition spot) = []
+  created_by (returns spot) = []
+  created_by (raises e) = []
+  created_by (encloses ds fs hs) = map creation ds ++ created_by_all fs ++ created_by_handlers hs
+
+  -- What statements create.
+  pub created_by_all : StmtsForm → List Creation
+  created_by_all no_stmts = []
+  created_by_all (a_stmt f fs) = created_by f ++ created_by_all fs
+
+  -- What branches create.
+  pub created_by_branches : BranchesForm → List Creation
+  created_by_branches (otherwise fs) = created_by_all fs
+  created_by_branches (a_branch e fs branches) = created_by_all fs ++ created_by_branches branches
+
+  -- What handlers create.
+  pub created_by_handlers : HandlersForm → List Creation
+  created_by_handlers no_handlers = []
+  created_by_handlers (a_handler choices fs hs) = created_by_all fs ++ created_by_handlers hs
+
+-- All that a program creates, in the order of the text.
+abbrev pub creations : ProgramForm → List Creation
+creations p = map creation p.declarations ++ created_by_all p.statements ++ created_by_handlers p.handlers
+
+-- The variables are created in order from one on, each once, up to their count (3.11).
+abbrev pub creates_from : ℕ → ℕ → List Creation → Bool
 creates_from count k [] = k == count
-creates_from count k (collects access ∷ es) = (k == 0) && creates_from count k es
-creates_from count k (declares x right ∷ es) = (x == k) && creates_from count (k + 1) es
+creates_from count k (of_collection access ∷ cs) = creates_from count k cs
+creates_from count k (of_variable x ∷ cs) = (x == k) && creates_from count (k + 1) cs
+
+-- A declaration creates a variable.
+abbrev pub is_object : DeclarationForm → Bool
+is_object (collects access) = false
+is_object (declares x right) = true
+
+-- In each part collections are created before the first variable (3.11).
+abbrev pub collections_first : List DeclarationForm → Bool
+collections_first [] = true
+collections_first (collects access ∷ ds) = collections_first ds
+collections_first (declares x right ∷ ds) = list_all is_object ds
 
 -- A collection is that of an access type (7.6.1).
 abbrev pub collection_fits : List TypeForm → DeclarationForm → Bool
@@ -89,15 +150,15 @@ collection_fits types (collects access) = is_access types access
 collection_fits types (declares x right) = true
 
 -- Whether the collection of this access type is created.
-abbrev pub is_collection : ℕ → DeclarationForm → Bool
-is_collection access (collects t) = t == access
-is_collection access (declares x right) = false
+abbrev pub is_collection : ℕ → Creation → Bool
+is_collection access (of_collection t) = t == access
+is_collection access (of_variable x) = false
 
 -- Each access type, from a number on, has one collection (7.6.1).
-abbrev pub has_collections : List DeclarationForm → ℕ → List TypeForm → Bool
-has_collections es t [] = true
-has_collections es t (record_of name components ∷ types) = has_collections es (t + 1) types
-has_collections es t (access_to name designated ∷ types) = (count_by (is_collection t) es == 1) && has_collections es (t + 1) types
+abbrev pub has_collections : List Creation → ℕ → List TypeForm → Bool
+has_collections cs t [] = true
+has_collections cs t (record_of name components ∷ types) = has_collections cs (t + 1) types
+has_collections cs t (access_to name designated ∷ types) = (count_by (is_collection t) cs == 1) && has_collections cs (t + 1) types
 
 -- What a variable holds (3.3.1).
 abbrev pub kind_in : Option VariableForm → Option VariableKind
@@ -226,12 +287,18 @@ binary_type binary.Remainder left right = given_two Integer Integer left right
 abbrev pub read_type : List TypeForm → List VariableForm → PathForm → Option ScalarType
 read_type types variables path = if follows_at_most_one path then scalar_of (path_kind types variables path) else None
 
+-- A value that is compared with null is an access value; the comparison gives a Boolean (4.5.2).
+abbrev pub null_test_type : List TypeForm → List VariableForm → PathForm → Option ScalarType
+null_test_type types variables path =
+    if follows_at_most_one path && is_some (path_access types variables path) then Some Boolean else None
+
 abbrev mutual
   -- The type of an expression (4.4): none, where an operand has none or a wrong one.
   pub type_of : List TypeForm → List VariableForm → ExpressionForm → Option ScalarType
   type_of types variables (integer value) = Some Integer
   type_of types variables (boolean value) = Some Boolean
   type_of types variables (reads path) = read_type types variables path
+  type_of types variables (is_null equal path) = null_test_type types variables path
   type_of types variables (applied_to operator e) = unary_type operator (type_of types variables e)
   type_of types variables (chained e links) = chain_type types variables (type_of types variables e) links
 
@@ -296,6 +363,7 @@ abbrev mutual
   expression_before x (integer value) = true
   expression_before x (boolean value) = true
   expression_before x (reads path) = nat_lt path.root x
+  expression_before x (is_null equal path) = nat_lt path.root x
   expression_before x (applied_to operator e) = expression_before x e
   expression_before x (chained e links) = expression_before x e && links_before x links
 
@@ -331,16 +399,83 @@ abbrev pub is_freed_by : List TypeForm → ℕ → Option ℕ → Bool
 is_freed_by types access None = false
 is_freed_by types access (Some own) = same_record (designated_type types access) (designated_type types own)
 
--- A statement names variables and texts of the program, and has the types that it wants: what is written by Integer'Image is an
--- Integer (A.10.7, 3.5).
-abbrev pub statement_fits : List TypeForm → List VariableForm → List (List ℕ) → StmtForm → Bool
-statement_fits types variables texts skips = true
-statement_fits types variables texts (assigns target right) =
-    names_variable target && right_fits types variables (path_kind types variables target) right
-statement_fits types variables texts (frees access path) =
-    names_variable path && is_freed_by types access (path_access types variables path)
-statement_fits types variables texts (writes e) = has_type types variables Integer e
-statement_fits types variables texts (writes_text text) = nat_lt text (length texts)
+-- A condition, where there is one, is a Boolean (5.5, 5.7).
+abbrev pub condition_fits : List TypeForm → List VariableForm → Option ExpressionForm → Bool
+condition_fits types variables None = true
+condition_fits types variables (Some e) = has_type types variables Boolean e
+
+-- There is a statement (5.1).
+abbrev pub has_statement : StmtsForm → Bool
+has_statement no_stmts = false
+has_statement (a_stmt f fs) = true
+
+-- An exception is predefined, or one of the declared ones (11.1).
+abbrev pub exception_fits : (exceptions : List (List ℕ)) → Exception → Bool
+exception_fits exceptions ConstraintError = true
+exception_fits exceptions ProgramError = true
+exception_fits exceptions StorageError = true
+exception_fits exceptions EndError = true
+exception_fits exceptions (Declared e) = nat_lt e.0 (length exceptions)
+
+-- A choice of a handler names such an exception (11.2).
+abbrev pub choice_fits : (exceptions : List (List ℕ)) → Choice → Bool
+choice_fits exceptions (choice.Exception e) = exception_fits exceptions e
+choice_fits exceptions choice.Others = true
+
+-- What the input gives goes to an Integer variable.
+abbrev pub is_integer_variable : List TypeForm → List VariableForm → PathForm → Bool
+is_integer_variable types variables path = names_variable path && is_type Integer (scalar_of (path_kind types variables path))
+
+-- A part creates its collections first, each of an access type, and its variables, whose initial values fit (3.11).
+abbrev pub declarations_fit : List TypeForm → List VariableForm → List DeclarationForm → Bool
+declarations_fit types variables ds =
+    collections_first ds && list_all (collection_fits types) ds && list_all (initial_fits types variables) ds
+
+abbrev mutual
+  -- A statement names variables and texts of the program, and has the types that it wants: what is written by Integer'Image is an Integer
+  -- (A.10.7, 3.5), a condition is a Boolean (5.3), a loop repeats a statement and counts by an Integer (5.5), an exit stands inside a loop
+  -- (5.7), an exception is one of the program (11.1), and each handler has a statement (11.2).
+  pub statement_fits : List TypeForm → List VariableForm → (texts exceptions : List (List ℕ)) → (inside_loop : Bool) → StmtForm → Bool
+  statement_fits types variables texts exceptions inside_loop skips = true
+  statement_fits types variables texts exceptions inside_loop (assigns target right) =
+      names_variable target && right_fits types variables (path_kind types variables target) right
+  statement_fits types variables texts exceptions inside_loop (frees access path) =
+      names_variable path && is_freed_by types access (path_access types variables path)
+  statement_fits types variables texts exceptions inside_loop (gets target) = is_integer_variable types variables target
+  statement_fits types variables texts exceptions inside_loop (writes e) = has_type types variables Integer e
+  statement_fits types variables texts exceptions inside_loop (writes_text text) = nat_lt text (length texts)
+  statement_fits types variables texts exceptions inside_loop (chooses branches) = branches_fit types variables texts exceptions inside_loop branches
+  statement_fits types variables texts exceptions inside_loop (repeats condition fs end_spot) =
+      condition_fits types variables condition && has_statement fs && stmts_fit types variables texts exceptions true fs
+  statement_fits types variables texts exceptions inside_loop (counts x low high fs end_spot) =
+      is_type Integer (scalar_of (variable_kind variables x)) && has_type types variables Integer low && has_type types variables Integer high &&
+      has_statement fs && stmts_fit types variables texts exceptions true fs
+  statement_fits types variables texts exceptions inside_loop (exits condition spot) = inside_loop && condition_fits types variables condition
+  statement_fits types variables texts exceptions inside_loop (returns spot) = true
+  statement_fits types variables texts exceptions inside_loop (raises e) = exception_fits exceptions e
+  statement_fits types variables texts exceptions inside_loop (encloses ds fs hs) =
+      declarations_fit types variables ds && stmts_fit types variables texts exceptions inside_loop fs &&
+      handlers_fit types variables texts exceptions inside_loop hs
+
+  -- Statements, in order.
+  pub stmts_fit : List TypeForm → List VariableForm → (texts exceptions : List (List ℕ)) → (inside_loop : Bool) → StmtsForm → Bool
+  stmts_fit types variables texts exceptions inside_loop no_stmts = true
+  stmts_fit types variables texts exceptions inside_loop (a_stmt f fs) =
+      statement_fits types variables texts exceptions inside_loop f && stmts_fit types variables texts exceptions inside_loop fs
+
+  -- Branches, each with a condition (5.3).
+  pub branches_fit : List TypeForm → List VariableForm → (texts exceptions : List (List ℕ)) → (inside_loop : Bool) → BranchesForm → Bool
+  branches_fit types variables texts exceptions inside_loop (otherwise fs) = stmts_fit types variables texts exceptions inside_loop fs
+  branches_fit types variables texts exceptions inside_loop (a_branch e fs branches) =
+      has_type types variables Boolean e && stmts_fit types variables texts exceptions inside_loop fs &&
+      branches_fit types variables texts exceptions inside_loop branches
+
+  -- Handlers, each of exceptions of the program, and with a statement (11.2).
+  pub handlers_fit : List TypeForm → List VariableForm → (texts exceptions : List (List ℕ)) → (inside_loop : Bool) → HandlersForm → Bool
+  handlers_fit types variables texts exceptions inside_loop no_handlers = true
+  handlers_fit types variables texts exceptions inside_loop (a_handler choices fs hs) =
+      list_all (choice_fits exceptions) choices && has_statement fs && stmts_fit types variables texts exceptions inside_loop fs &&
+      handlers_fit types variables texts exceptions inside_loop hs
 
 -- A well-formed program.
 pub record IsWellFormed (p : ProgramForm) : Type 0 where
@@ -348,13 +483,17 @@ pub record IsWellFormed (p : ProgramForm) : Type 0 where
   pub types_fit : list_all (type_fits p.types) p.types ≡ true
   -- variables are Integers or Booleans, or of access types (3.3.1)
   pub variables_fit : list_all (variable_fits p.types) p.variables ≡ true
-  -- collections are created first, and then each variable once, in order (3.11)
-  pub creates_in_order : creates_from (length p.variables) 0 p.declarations ≡ true
+  -- each variable is created once, in the order of the text (3.11)
+  pub creates_in_order : creates_from (length p.variables) 0 (creations p) ≡ true
+  -- the collections of the main part are created before its first variable (3.11)
+  pub collections_first : collections_first p.declarations ≡ true
   -- each collection is that of an access type (7.6.1)
   pub collections_fit : list_all (collection_fits p.types) p.declarations ≡ true
   -- each access type has one collection (7.6.1)
-  pub has_one_each : has_collections p.declarations 0 p.types ≡ true
+  pub has_one_each : has_collections (creations p) 0 p.types ≡ true
   -- each initial value names earlier variables, and has the variable's type (3.3.1)
   pub initials_fit : list_all (initial_fits p.types p.variables) p.declarations ≡ true
   -- each statement names variables and texts, and has the types that it wants (5.2, 13.11.2, A.10.7)
-  pub statements_fit : list_all (statement_fits p.types p.variables p.texts) p.statements ≡ true
+  pub statements_fit : stmts_fit p.types p.variables p.texts p.exceptions false p.statements ≡ true
+  -- and so does each statement of a handler (11.2)
+  pub handlers_fit : handlers_fit p.types p.variables p.texts p.exceptions false p.handlers ≡ true

@@ -5,6 +5,7 @@
 //! well-formed program is.
 #![tactic(auto)]
 
+mod creations;
 mod lookup;
 pub mod program;
 mod typing;

@@ -2,7 +2,9 @@
 
 ghost use Rattle.std.specs.Prelude.{◌≡◌, map, option_map, option_copied};
 ghost use Rattle.ada_program.specs.Form.{path_form};
-ghost use Rattle.ada_program.specs.ProgramForm.{component_form, variable_form, type_form};
+ghost use Rattle.ada_program.specs.ProgramForm.{component_form};
+ghost use Rattle.ada_program.specs.Kept as kept;
+ghost use Rattle.ada_program.specs.Kept.{types_in, variables_in};
 ghost use Rattle.ada_program.specs.WellFormed as fits;
 
 use crate::program::{
@@ -11,7 +13,7 @@ use crate::program::{
 
 /// The type that an access type designates (3.10): none, if it is no access type.
 pub(crate) fn designated_type(types: &[TypeDefinition], number: usize) -> Option<usize>
-    ensures { result ≡ fits.designated_type (map type_form types.now) number }
+    ensures { result ≡ fits.designated_type (types_in types.now) number }
 {
     match types.get(number) {
         Some(
@@ -26,14 +28,14 @@ pub(crate) fn designated_type(types: &[TypeDefinition], number: usize) -> Option
 
 /// Whether a number is that of an access type.
 pub(crate) fn is_access(types: &[TypeDefinition], number: usize) -> bool
-    ensures { result ≡ fits.is_access (map type_form types.now) number }
+    ensures { result ≡ fits.is_access (types_in types.now) number }
 {
     designated_type(types, number).is_some()
 }
 
 /// Whether a number is that of a record type.
 pub(crate) fn is_record(types: &[TypeDefinition], number: usize) -> bool
-    ensures { result ≡ fits.is_record (map type_form types.now) number }
+    ensures { result ≡ fits.is_record (types_in types.now) number }
 {
     match types.get(number) {
         Some(TypeDefinition::Record { .. }) => true,
@@ -46,7 +48,8 @@ pub(crate) fn reached_components<'p>(
     types: &'p [TypeDefinition],
     access: usize,
 ) -> Option<&'p [Component]>
-    ensures { option_map (map component_form) (option_copied result) ≡ fits.reached_components (map type_form types.now) access }
+    ensures { option_map (map component_form) (option_copied result)
+        ≡ fits.reached_components (types_in types.now) access }
 {
     match types.get(designated_type(types, access)?) {
         Some(
@@ -61,7 +64,7 @@ pub(crate) fn reached_components<'p>(
 
 /// What a variable holds.
 pub(crate) fn variable_kind(variables: &[Variable], number: usize) -> Option<VariableKind>
-    ensures { result ≡ fits.variable_kind (map variable_form variables.now) number }
+    ensures { result ≡ fits.variable_kind (variables_in variables.now) number }
 {
     match variables.get(number) {
         Some(variable) => Some(variable.kind),
@@ -107,7 +110,7 @@ fn selected_kind(
     kind: Option<VariableKind>,
     component: usize,
 ) -> Option<VariableKind>
-    ensures { result ≡ fits.selected_kind (map type_form types.now) kind component }
+    ensures { result ≡ fits.selected_kind (types_in types.now) kind component }
 {
     let components = reached_components(types, access_of(kind)?)?;
     match components.get(component) {
@@ -122,7 +125,7 @@ pub(crate) fn path_kind(
     variables: &[Variable],
     path: &Path,
 ) -> Option<VariableKind>
-    ensures { result ≡ fits.path_kind (map type_form types.now) (map variable_form variables.now) (path_form path.now) }
+    ensures { result ≡ kept.path_kind types.now variables.now path.now }
 {
     let mut kind = variable_kind(variables, path.root.0);
     'selectors: for component in &path.selectors {
@@ -137,7 +140,7 @@ pub(crate) fn path_access(
     variables: &[Variable],
     path: &Path,
 ) -> Option<usize>
-    ensures { result ≡ fits.path_access (map type_form types.now) (map variable_form variables.now) (path_form path.now) }
+    ensures { result ≡ kept.path_access types.now variables.now path.now }
 {
     access_of(path_kind(types, variables, path))
 }

@@ -15,6 +15,10 @@ pub struct VariableNo(pub usize);
 #[derive(Clone, Copy, Debug, PartialEq, Eq)]
 pub struct TextNo(pub usize);
 
+/// The number of an exception in `Program::exceptions`.
+#[derive(Clone, Copy, Debug, PartialEq, Eq)]
+pub struct ExceptionNo(pub usize);
+
 /// The number of a component in its record type, from 0.
 #[derive(Clone, Copy, Debug, PartialEq, Eq)]
 pub struct ComponentNo(pub usize);
@@ -26,9 +30,13 @@ pub struct Program {
     pub variables: Vec<Variable>,
     /// The string literals that it writes, in the order of the text (2.6).
     pub texts: Vec<String>,
+    /// The names of the exceptions that it declares, in upper case, in the order of the text (11.1).
+    pub exceptions: Vec<String>,
     /// What is elaborated before the statements, in order (3.11).
     pub declarations: Vec<Declaration>,
     pub statements: Vec<Stmt>,
+    /// What handles the exceptions that the statements raise (11.2).
+    pub handlers: Vec<Handler>,
 }
 
 /// A type that the program declares.
@@ -85,6 +93,23 @@ pub enum ScalarType {
     Boolean,
 }
 
+/// An exception (11.1): a predefined one, that of a read behind the last number of the input, or a declared one.
+#[derive(Clone, Copy, Debug, PartialEq, Eq)]
+pub enum Exception {
+    ConstraintError,
+    ProgramError,
+    StorageError,
+    EndError,
+    Declared(ExceptionNo),
+}
+
+/// What a handler names (11.2).
+#[derive(Clone, Copy, Debug, PartialEq, Eq)]
+pub enum Choice {
+    Exception(Exception),
+    Others,
+}
+
 /// What one step of the elaboration of the declarations does (3.11).
 #[derive(Drop)]
 pub enum Declaration {
@@ -99,16 +124,77 @@ pub enum Declaration {
 
 /// A statement (5.1).
 #[derive(Drop)]
+#[cycle(statement)]
 pub enum Stmt {
     Null,
     /// The value goes to what the path names (5.2).
-    Assign { target: Path, value: Right },
+    Assign {
+        target: Path,
+        value: Right,
+    },
     /// A call of the instance of Unchecked_Deallocation for an access type (13.11.2).
-    Free { access: TypeNo, variable: Path },
+    Free {
+        access: TypeNo,
+        variable: Path,
+    },
+    /// `Run_Input.Get (..);` The next number of the input goes to an Integer variable.
+    Get(Path),
     /// `Ada.Text_IO.Put_Line (Integer'Image (..));` (A.10.7)
     PutImage(Expression),
     /// `Ada.Text_IO.Put_Line ("..");` (A.10.7)
     PutText(TextNo),
+    /// `if`: the statements of the first branch whose condition is true, or the others (5.3).
+    If {
+        branches: Vec<Branch>,
+        otherwise: Vec<Stmt>,
+    },
+    /// `loop`, or `while` with a condition (5.5); it has a statement.
+    Loop {
+        condition: Option<Expression>,
+        statements: Vec<Stmt>,
+        /// Where its `end` stands.
+        end: Spot,
+    },
+    /// `for`: the parameter takes each value from the first to the last, both of which are evaluated once (5.5).
+    For {
+        parameter: VariableNo,
+        first: Expression,
+        last: Expression,
+        statements: Vec<Stmt>,
+        /// Where its `end` stands.
+        end: Spot,
+    },
+    /// `exit`, perhaps with a condition, of the innermost loop (5.7).
+    Exit {
+        condition: Option<Expression>,
+        spot: Spot,
+    },
+    /// `return` (6.5).
+    Return(Spot),
+    /// `raise` (11.3).
+    Raise(Exception),
+    /// A block: a master with declarations and handlers of its own (5.6).
+    Block {
+        declarations: Vec<Declaration>,
+        statements: Vec<Stmt>,
+        handlers: Vec<Handler>,
+    },
+}
+
+/// A branch of an `if` (5.3).
+#[derive(Drop)]
+#[cycle(statement)]
+pub struct Branch {
+    pub condition: Expression,
+    pub statements: Vec<Stmt>,
+}
+
+/// A handler (11.2); it has a statement.
+#[derive(Drop)]
+#[cycle(statement)]
+pub struct Handler {
+    pub choices: Vec<Choice>,
+    pub statements: Vec<Stmt>,
 }
 
 /// What is assigned.
@@ -139,6 +225,11 @@ pub enum Expression {
     Boolean(bool),
     /// The value that a path names: that of a variable, or of a component (4.1).
     Path(Path),
+    /// `X = null`, or `X /= null` where it is not equal that is asked (4.5.2).
+    NullTest {
+        path: Path,
+        equal: bool,
+    },
     /// `-X`, `not X` (4.5.4, 4.5.6)
     Unary {
         operator: UnaryOperator,
@@ -194,6 +285,28 @@ impl Program {
                 _ => 0,
             },
             _ => 0,
+        }
+    }
+}
+
+impl Exception {
+    ghost use Rattle.std.specs.Prelude.{◌≡◌, map};
+    ghost use Rattle.std.specs.String.{string_bytes};
+    ghost use Rattle.ada_program.specs.Names.{exception_name};
+
+    /// Its name in upper case (11.4.1): the empty text, if the program declares no such exception.
+    pub fn name<'a>(self, program: &'a Program) -> &'a str
+        ensures { result.now ≡ exception_name (map string_bytes program.now.exceptions.items) self }
+    {
+        match self {
+            Exception::ConstraintError => "CONSTRAINT_ERROR",
+            Exception::ProgramError => "PROGRAM_ERROR",
+            Exception::StorageError => "STORAGE_ERROR",
+            Exception::EndError => "END_ERROR",
+            Exception::Declared(exception) => match program.exceptions.get(exception.0) {
+                None => "",
+                Some(name) => name,
+            },
         }
     }
 }

@@ -1,11 +1,10 @@
 //! The types of expressions (4.4, 4.5).
 
-ghost use Rattle.std.specs.Prelude.{◌≡◌, map};
-ghost use Rattle.ada_program.specs.Form.{expression_form, links_form, path_form};
-ghost use Rattle.ada_program.specs.ProgramForm.{variable_form, type_form};
+ghost use Rattle.std.specs.Prelude.{◌≡◌};
+ghost use Rattle.ada_program.specs.Kept as kept;
 ghost use Rattle.ada_program.specs.WellFormed as fits;
 
-use crate::lookup::{follows_at_most_one, path_kind, scalar_of};
+use crate::lookup::{follows_at_most_one, path_access, path_kind, scalar_of};
 use crate::program::{Expression, Link, Path, ScalarType, TypeDefinition, Variable};
 use ada_values::operator::{BinaryOperator, UnaryOperator};
 
@@ -16,7 +15,7 @@ pub(crate) fn has_type(
     wanted: ScalarType,
     expression: &Expression,
 ) -> bool
-    ensures { result ≡ fits.has_type (map type_form types.now) (map variable_form variables.now) wanted (expression_form expression.now) }
+    ensures { result ≡ kept.has_type types.now variables.now wanted expression.now }
 {
     is_type(wanted, type_of(types, variables, expression))
 }
@@ -29,12 +28,13 @@ fn type_of(
     variables: &[Variable],
     expression: &Expression,
 ) -> Option<ScalarType>
-    ensures { result ≡ fits.type_of (map type_form types.now) (map variable_form variables.now) (expression_form expression.now) }
+    ensures { result ≡ kept.type_of types.now variables.now expression.now }
 {
     match expression {
         Expression::Integer(_) => Some(ScalarType::Integer),
         Expression::Boolean(_) => Some(ScalarType::Boolean),
         Expression::Path(path) => read_type(types, variables, path),
+        Expression::NullTest { path, equal: _ } => null_test_type(types, variables, path),
         Expression::Unary { operator, operand } => unary_type(
             *operator,
             type_of(types, variables, operand),
@@ -48,10 +48,25 @@ fn type_of(
 
 /// The type of what an expression reads.
 fn read_type(types: &[TypeDefinition], variables: &[Variable], path: &Path) -> Option<ScalarType>
-    ensures { result ≡ fits.read_type (map type_form types.now) (map variable_form variables.now) (path_form path.now) }
+    ensures { result ≡ kept.read_type types.now variables.now path.now }
 {
     if follows_at_most_one(path) {
         scalar_of(path_kind(types, variables, path))
+    } else {
+        None
+    }
+}
+
+/// The type of a comparison with null.
+fn null_test_type(
+    types: &[TypeDefinition],
+    variables: &[Variable],
+    path: &Path,
+) -> Option<ScalarType>
+    ensures { result ≡ kept.null_test_type types.now variables.now path.now }
+{
+    if follows_at_most_one(path) && path_access(types, variables, path).is_some() {
+        Some(ScalarType::Boolean)
     } else {
         None
     }
@@ -65,7 +80,7 @@ fn chain_type(
     left: Option<ScalarType>,
     links: &[Link],
 ) -> Option<ScalarType>
-    ensures { result ≡ fits.chain_type (map type_form types.now) (map variable_form variables.now) left (links_form links.now) }
+    ensures { result ≡ kept.chain_type types.now variables.now left links.now }
 {
     let mut so_far = left;
     'links: for link in links {
@@ -161,7 +176,7 @@ fn given_alike(left: Option<ScalarType>, right: Option<ScalarType>) -> Option<Sc
 }
 
 /// Whether there is a type, and it is this one.
-fn is_type(wanted: ScalarType, found: Option<ScalarType>) -> bool
+pub(crate) fn is_type(wanted: ScalarType, found: Option<ScalarType>) -> bool
     ensures { result ≡ fits.is_type wanted found }
 {
     match (wanted, found) {

@@ -1,9 +1,9 @@
 //! What may be assigned to a variable (4.3.1, 4.8, 5.2).
 
-ghost use Rattle.std.specs.Prelude.{◌≡◌, map};
+ghost use Rattle.std.specs.Prelude.{◌≡◌};
 ghost use Rattle.std.specs.List.{list_all};
 ghost use Rattle.ada_program.specs.Form.{expression_form, item_form, links_form, right_form};
-ghost use Rattle.ada_program.specs.ProgramForm.{component_form, variable_form, type_form};
+ghost use Rattle.ada_program.specs.Kept as kept;
 ghost use Rattle.ada_program.specs.WellFormed as fits;
 
 use crate::lookup::{
@@ -22,7 +22,7 @@ pub(crate) fn right_fits(
     kind: Option<VariableKind>,
     value: &Right,
 ) -> bool
-    ensures { result ≡ fits.right_fits (map type_form types.now) (map variable_form variables.now) kind (right_form value.now) }
+    ensures { result ≡ kept.right_fits types.now variables.now kind value.now }
 {
     match kind {
         None => false,
@@ -39,7 +39,7 @@ fn scalar_fits(
     wanted: ScalarType,
     value: &Right,
 ) -> bool
-    ensures { result ≡ fits.scalar_fits (map type_form types.now) (map variable_form variables.now) wanted (right_form value.now) }
+    ensures { result ≡ kept.scalar_fits types.now variables.now wanted value.now }
 {
     match value {
         Right::Value(expression) => has_type(types, variables, wanted, expression),
@@ -54,7 +54,7 @@ fn access_fits(
     access: usize,
     value: &Right,
 ) -> bool
-    ensures { result ≡ fits.access_fits (map type_form types.now) (map variable_form variables.now) access (right_form value.now) }
+    ensures { result ≡ kept.access_fits types.now variables.now access value.now }
 {
     match value {
         Right::Null => true,
@@ -75,7 +75,7 @@ fn is_filled(
     access: usize,
     items: &[Item],
 ) -> bool
-    ensures { result ≡ fits.is_filled (map type_form types.now) (map variable_form variables.now) (fits.reached_components (map type_form types.now) access) (map item_form items.now) }
+    ensures { result ≡ kept.is_filled types.now variables.now access items.now }
 {
     match reached_components(types, access) {
         None => false,
@@ -90,7 +90,7 @@ fn items_fit(
     components: &[Component],
     items: &[Item],
 ) -> bool
-    ensures { result ≡ fits.items_fit (map type_form types.now) (map variable_form variables.now) (map component_form components.now) (map item_form items.now) }
+    ensures { result ≡ kept.items_fit types.now variables.now components.now items.now }
 {
     for (at, component) in components.iter().enumerate() {
         let filled = match items.get(at) {
@@ -111,7 +111,7 @@ fn item_fits(
     kind: ComponentKind,
     item: &Item,
 ) -> bool
-    ensures { result ≡ fits.item_fits (map type_form types.now) (map variable_form variables.now) kind (item_form item.now) }
+    ensures { result ≡ kept.item_fits types.now variables.now kind item.now }
 {
     match (scalar_of(Some(held_kind(kind))), item) {
         (None, Item::Null) => true,
@@ -158,7 +158,7 @@ fn expression_before(number: usize, expression: &Expression) -> bool
 {
     match expression {
         Expression::Integer(_) | Expression::Boolean(_) => true,
-        Expression::Path(path) => path.root.0 < number,
+        Expression::Path(path) | Expression::NullTest { path, equal: _ } => path.root.0 < number,
         Expression::Unary {
             operator: _,
             operand,

@@ -1,21 +1,23 @@
 //! Whether a program is well formed: each number is that of something there, and each form has the types that it wants.
 
-ghost use Rattle.std.specs.Prelude.{◌≡◌, ◌&&◌, true, map, length, count_by};
+ghost use Rattle.std.specs.Prelude.{◌≡◌, ◌&&◌, true, map};
 ghost use Rattle.std.specs.List.{list_all};
-ghost use Rattle.std.specs.String.{string_bytes};
-ghost use Rattle.ada_program.specs.Form.{declaration_form, stmt_form, initial_form};
+ghost use Rattle.ada_program.specs.Form.{StmtsForm, declaration_form, path_form, stmts_form};
 ghost use Rattle.ada_program.specs.ProgramForm.{component_form, type_form, variable_form, program_form};
+ghost use Rattle.ada_program.specs.Kept as kept;
+ghost use Rattle.ada_program.specs.Kept.{types_in, texts_in};
 ghost use Rattle.ada_program.specs.WellFormed as fits;
 
+use crate::creations::{creates_in_order, has_collections};
 use crate::lookup::{
     access_of, designated_type, is_access, is_record, is_this, names_variable, path_access,
-    path_kind, variable_kind,
+    path_kind, scalar_of, variable_kind,
 };
 use crate::program::{
-    Component, ComponentKind, Declaration, Program, ScalarType, Stmt, TypeDefinition, Variable,
-    VariableKind,
+    Branch, Choice, Component, ComponentKind, Declaration, Exception, Expression, Handler, Path,
+    Program, ScalarType, Stmt, TypeDefinition, Variable, VariableKind,
 };
-use crate::typing::has_type;
+use crate::typing::{has_type, is_type};
 use crate::values::{names_before, right_fits};
 
 impl Program {
@@ -27,16 +29,21 @@ impl Program {
     {
         let types = &self.types;
         let variables = &self.variables;
+        let texts = &self.texts;
+        let exceptions = &self.exceptions;
         types_fit(types)
             && variables_fit(types, variables)
+            && creates_in_order(self)
+            && has_collections(self)
             && declarations_fit(types, variables, &self.declarations)
-            && statements_fit(types, variables, &self.texts, &self.statements)
+            && statements_fit(types, variables, texts, exceptions, false, &self.statements)
+            && handlers_fit(types, variables, texts, exceptions, false, &self.handlers)
     }
 }
 
 /// Whether each component and each designated type is of the right kind (3.8, 3.10).
 fn types_fit(types: &[TypeDefinition]) -> bool
-    ensures { result ≡ list_all (λ d. fits.type_fits (map type_form types.now) (type_form d)) types.now }
+    ensures { result ≡ list_all (λ d. fits.type_fits (types_in types.now) (type_form d)) types.now }
 {
     types.iter().all(|definition| type_fits(types, definition))
 }
@@ -44,7 +51,7 @@ fn types_fit(types: &[TypeDefinition]) -> bool
 /// Whether a type is made of types of the right kind.
 #[tactic(auto, using(std::proofs::lemmas::Grind::common_steps, crate::proofs::Viewed::views))]
 fn type_fits(types: &[TypeDefinition], definition: &TypeDefinition) -> bool
-    ensures { result ≡ fits.type_fits (map type_form types.now) (type_form definition.now) }
+    ensures { result ≡ fits.type_fits (types_in types.now) (type_form definition.now) }
 {
     match definition {
         TypeDefinition::Record {
@@ -60,7 +67,8 @@ fn type_fits(types: &[TypeDefinition], definition: &TypeDefinition) -> bool
 
 /// Whether each component fits.
 fn components_fit(types: &[TypeDefinition], components: &[Component]) -> bool
-    ensures { result ≡ list_all (λ c. fits.component_fits (map type_form types.now) (component_form c)) components.now }
+    ensures { result ≡ list_all (λ c. fits.component_fits (types_in types.now) (component_form c))
+        components.now }
 {
     components
         .iter()
@@ -69,7 +77,7 @@ fn components_fit(types: &[TypeDefinition], components: &[Component]) -> bool
 
 /// Whether a component is an Integer or a Boolean, or of an access type (3.8).
 fn kind_fits(types: &[TypeDefinition], kind: ComponentKind) -> bool
-    ensures { result ≡ fits.kind_fits (map type_form types.now) kind }
+    ensures { result ≡ fits.kind_fits (types_in types.now) kind }
 {
     match kind {
         ComponentKind::Integer { initial: _ } | ComponentKind::Boolean { initial: _ } => true,
@@ -79,7 +87,8 @@ fn kind_fits(types: &[TypeDefinition], kind: ComponentKind) -> bool
 
 /// Whether each variable fits.
 fn variables_fit(types: &[TypeDefinition], variables: &[Variable]) -> bool
-    ensures { result ≡ list_all (λ x. fits.variable_fits (map type_form types.now) (variable_form x)) variables.now }
+    ensures { result
+        ≡ list_all (λ x. fits.variable_fits (types_in types.now) (variable_form x)) variables.now }
 {
     variables
         .iter()
@@ -88,7 +97,7 @@ fn variables_fit(types: &[TypeDefinition], variables: &[Variable]) -> bool
 
 /// Whether a variable is an Integer or a Boolean, or of an access type (3.3.1).
 fn variable_kind_fits(types: &[TypeDefinition], kind: VariableKind) -> bool
-    ensures { result ≡ fits.variable_kind_fits (map type_form types.now) kind }
+    ensures { result ≡ fits.variable_kind_fits (types_in types.now) kind }
 {
     match kind {
         VariableKind::Integer | VariableKind::Boolean => true,
@@ -96,53 +105,41 @@ fn variable_kind_fits(types: &[TypeDefinition], kind: VariableKind) -> bool
     }
 }
 
-/// Whether what is elaborated is what has to be, in order, and with values that fit.
+/// Whether a part creates its collections first, each of an access type, and its variables with values that fit (3.11).
 #[tactic(auto, using(std::proofs::lemmas::Grind::common_steps, crate::proofs::Viewed::views))]
 fn declarations_fit(
     types: &[TypeDefinition],
     variables: &[Variable],
     declarations: &[Declaration],
 ) -> bool
-    ensures { result ≡ (fits.creates_from (length variables.now) 0 (map declaration_form declarations.now)
-        && list_all (fits.collection_fits (map type_form types.now)) (map declaration_form declarations.now)
-        && fits.has_collections (map declaration_form declarations.now) 0 (map type_form types.now)
-        && list_all (fits.initial_fits (map type_form types.now) (map variable_form variables.now)) (map declaration_form declarations.now)) }
+    ensures { result ≡ kept.declarations_fit types.now variables.now declarations.now }
 {
-    creates_in_order(variables.len(), declarations)
+    collections_first(declarations)
         && collections_fit(types, declarations)
-        && has_collections(declarations, types)
         && initials_fit(types, variables, declarations)
 }
 
-/// Whether collections are created first, and then each variable once, in order (3.11).
-fn creates_in_order(count: usize, declarations: &[Declaration]) -> bool
-    ensures { result ≡ fits.creates_from count 0 (map declaration_form declarations.now) }
+/// Whether collections are created before the first variable (3.11).
+fn collections_first(declarations: &[Declaration]) -> bool
+    ensures { result ≡ kept.collections_first declarations.now }
 {
-    let mut next: usize = 0;
+    let mut in_front = true;
     for declaration in declarations {
         match declaration {
             Declaration::Collection(_) => {
-                if next != 0 {
+                if !in_front {
                     return false;
                 }
             }
-            Declaration::Variable {
-                variable,
-                initial: _,
-            } => {
-                if variable.0 != next {
-                    return false;
-                }
-                next += 1;
-            }
+            Declaration::Variable { .. } => in_front = false,
         }
     }
-    next == count
+    true
 }
 
 /// Whether each collection is that of an access type (7.6.1).
 fn collections_fit(types: &[TypeDefinition], declarations: &[Declaration]) -> bool
-    ensures { result ≡ list_all (λ d. fits.collection_fits (map type_form types.now) (declaration_form d)) declarations.now }
+    ensures { result ≡ list_all (kept.collection_fits types.now) declarations.now }
 {
     declarations
         .iter()
@@ -151,48 +148,11 @@ fn collections_fit(types: &[TypeDefinition], declarations: &[Declaration]) -> bo
 
 /// Whether what is created, if it is a collection, is that of an access type.
 fn collection_fits(types: &[TypeDefinition], declaration: &Declaration) -> bool
-    ensures { result ≡ fits.collection_fits (map type_form types.now) (declaration_form declaration.now) }
+    ensures { result ≡ kept.collection_fits types.now declaration.now }
 {
     match declaration {
         Declaration::Collection(access) => is_access(types, access.0),
         Declaration::Variable { .. } => true,
-    }
-}
-
-/// Whether each access type has one collection (7.6.1).
-#[tactic(auto, using(std::proofs::lemmas::Grind::common_steps, crate::proofs::Viewed::views))]
-fn has_collections(declarations: &[Declaration], types: &[TypeDefinition]) -> bool
-    ensures { result ≡ fits.has_collections (map declaration_form declarations.now) 0 (map type_form types.now) }
-{
-    for (number, definition) in types.iter().enumerate() {
-        let fits = match definition {
-            TypeDefinition::Record { .. } => true,
-            TypeDefinition::Access { .. } => collections_of(number, declarations) == 1,
-        };
-        if !fits {
-            return false;
-        }
-    }
-    true
-}
-
-/// How many collections an access type has.
-fn collections_of(access: usize, declarations: &[Declaration]) -> usize
-    ensures { result ≡ count_by (λ d. fits.is_collection access (declaration_form d)) declarations.now }
-{
-    declarations
-        .iter()
-        .filter(|declaration| is_collection(access, declaration))
-        .count()
-}
-
-/// Whether the collection of this access type is created.
-fn is_collection(access: usize, declaration: &Declaration) -> bool
-    ensures { result ≡ fits.is_collection access (declaration_form declaration.now) }
-{
-    match declaration {
-        Declaration::Collection(created) => created.0 == access,
-        Declaration::Variable { .. } => false,
     }
 }
 
@@ -202,7 +162,7 @@ fn initials_fit(
     variables: &[Variable],
     declarations: &[Declaration],
 ) -> bool
-    ensures { result ≡ list_all (λ d. fits.initial_fits (map type_form types.now) (map variable_form variables.now) (declaration_form d)) declarations.now }
+    ensures { result ≡ list_all (kept.initial_fits types.now variables.now) declarations.now }
 {
     declarations
         .iter()
@@ -211,7 +171,7 @@ fn initials_fit(
 
 /// Whether an initial value, where one is written, names earlier variables and has the variable's type.
 fn initial_fits(types: &[TypeDefinition], variables: &[Variable], declaration: &Declaration) -> bool
-    ensures { result ≡ fits.initial_fits (map type_form types.now) (map variable_form variables.now) (declaration_form declaration.now) }
+    ensures { result ≡ kept.initial_fits types.now variables.now declaration.now }
 {
     match declaration {
         Declaration::Collection(_) => true,
@@ -233,40 +193,221 @@ fn initial_fits(types: &[TypeDefinition], variables: &[Variable], declaration: &
 }
 
 /// Whether each statement names variables and texts, and has the types that it wants.
+#[cycle(fitting)]
 fn statements_fit(
     types: &[TypeDefinition],
     variables: &[Variable],
     texts: &[String],
+    exceptions: &[String],
+    inside_loop: bool,
     statements: &[Stmt],
 ) -> bool
-    ensures { result ≡ list_all (λ s. fits.statement_fits (map type_form types.now) (map variable_form variables.now) (map string_bytes texts.now) (stmt_form s)) statements.now }
+    ensures { result
+        ≡ kept.stmts_fit types.now variables.now texts.now exceptions.now inside_loop statements.now }
 {
-    statements.iter().all(|statement| statement_fits(types, variables, texts, statement))
+    'statements: for statement in statements {
+        if !statement_fits(types, variables, texts, exceptions, inside_loop, statement) {
+            return false;
+        }
+    }
+    true
 }
 
 /// Whether a statement names variables and texts, and has the types that it wants.
+#[cycle(fitting)]
+#[tactic(auto, using(std::proofs::lemmas::Grind::common_steps, crate::proofs::Viewed::views, crate::specs::Form::statement_rules))]
 fn statement_fits(
     types: &[TypeDefinition],
     variables: &[Variable],
     texts: &[String],
+    exceptions: &[String],
+    inside_loop: bool,
     statement: &Stmt,
 ) -> bool
-    ensures { result ≡ fits.statement_fits (map type_form types.now) (map variable_form variables.now) (map string_bytes texts.now) (stmt_form statement.now) }
+    ensures { result
+        ≡ kept.statement_fits types.now variables.now texts.now exceptions.now inside_loop statement.now }
 {
     match statement {
-        Stmt::Null => true,
+        Stmt::Null | Stmt::Return(_) => true,
         Stmt::Assign { target, value } => names_variable(target)
             && right_fits(types, variables, path_kind(types, variables, target), value),
         Stmt::Free { access, variable } => names_variable(variable)
             && is_freed_by(types, access.0, path_access(types, variables, variable)),
+        Stmt::Get(target) => is_integer_variable(types, variables, target),
         Stmt::PutImage(expression) => has_type(types, variables, ScalarType::Integer, expression),
         Stmt::PutText(text) => text.0 < texts.len(),
+        Stmt::If {
+            branches,
+            otherwise,
+        } => branches_fit(types, variables, texts, exceptions, inside_loop, branches)
+            && statements_fit(types, variables, texts, exceptions, inside_loop, otherwise),
+        Stmt::Loop {
+            condition,
+            statements,
+            end: _,
+        } => condition_fits(types, variables, condition)
+            && has_statement(statements)
+            && statements_fit(types, variables, texts, exceptions, true, statements),
+        Stmt::For {
+            parameter,
+            first,
+            last,
+            statements,
+            end: _,
+        } => is_type(
+            ScalarType::Integer,
+            scalar_of(variable_kind(variables, parameter.0)),
+        ) && has_type(types, variables, ScalarType::Integer, first)
+            && has_type(types, variables, ScalarType::Integer, last)
+            && has_statement(statements)
+            && statements_fit(types, variables, texts, exceptions, true, statements),
+        Stmt::Exit { condition, spot: _ } => inside_loop
+            && condition_fits(types, variables, condition),
+        Stmt::Raise(exception) => exception_fits(exceptions, *exception),
+        Stmt::Block {
+            declarations,
+            statements,
+            handlers,
+        } => declarations_fit(types, variables, declarations)
+            && statements_fit(types, variables, texts, exceptions, inside_loop, statements)
+            && handlers_fit(types, variables, texts, exceptions, inside_loop, handlers),
+    }
+}
+
+/// Whether each branch has a condition and statements that fit.
+#[cycle(fitting)]
+fn branches_fit(
+    types: &[TypeDefinition],
+    variables: &[Variable],
+    texts: &[String],
+    exceptions: &[String],
+    inside_loop: bool,
+    branches: &[Branch],
+) -> bool
+    ensures { (others : StmtsForm)
+        → kept.branches_fit types.now variables.now texts.now exceptions.now inside_loop branches.now others
+        ≡ (result && kept.forms_fit types.now variables.now texts.now exceptions.now inside_loop others) }
+{
+    'branches: for branch in branches {
+        if !has_type(types, variables, ScalarType::Boolean, &branch.condition) {
+            return false;
+        }
+        if !statements_fit(
+            types,
+            variables,
+            texts,
+            exceptions,
+            inside_loop,
+            &branch.statements,
+        ) {
+            return false;
+        }
+    }
+    true
+}
+
+/// Whether each handler is of exceptions of the program, and has statements that fit (11.2).
+#[cycle(fitting)]
+#[tactic(auto, using(std::proofs::lemmas::Grind::common_steps))]
+fn handlers_fit(
+    types: &[TypeDefinition],
+    variables: &[Variable],
+    texts: &[String],
+    exceptions: &[String],
+    inside_loop: bool,
+    handlers: &[Handler],
+) -> bool
+    ensures { result
+        ≡ kept.handlers_fit types.now variables.now texts.now exceptions.now inside_loop handlers.now }
+{
+    'handlers: for handler in handlers {
+        if !(choices_fit(exceptions, &handler.choices) && has_statement(&handler.statements)) {
+            return false;
+        }
+        if !statements_fit(
+            types,
+            variables,
+            texts,
+            exceptions,
+            inside_loop,
+            &handler.statements,
+        ) {
+            return false;
+        }
+    }
+    true
+}
+
+/// Whether each choice of a handler names an exception of the program (11.2).
+fn choices_fit(exceptions: &[String], choices: &[Choice]) -> bool
+    ensures { result ≡ list_all (fits.choice_fits (texts_in exceptions.now)) choices.now }
+{
+    choices
+        .iter()
+        .all(|choice| choice_fits(exceptions, *choice))
+}
+
+/// Whether a choice names an exception of the program, or all others.
+fn choice_fits(exceptions: &[String], choice: Choice) -> bool
+    ensures { result ≡ fits.choice_fits (texts_in exceptions.now) choice }
+{
+    match choice {
+        Choice::Exception(exception) => exception_fits(exceptions, exception),
+        Choice::Others => true,
+    }
+}
+
+/// Whether an exception is predefined, or one that the program declares (11.1).
+fn exception_fits(exceptions: &[String], exception: Exception) -> bool
+    ensures { result ≡ fits.exception_fits (texts_in exceptions.now) exception }
+{
+    match exception {
+        Exception::ConstraintError
+        | Exception::ProgramError
+        | Exception::StorageError
+        | Exception::EndError => true,
+        Exception::Declared(declared) => declared.0 < exceptions.len(),
+    }
+}
+
+/// Whether a path is an Integer variable, to which a number of the input may go.
+fn is_integer_variable(types: &[TypeDefinition], variables: &[Variable], path: &Path) -> bool
+    ensures { result ≡ kept.is_integer_variable types.now variables.now path.now }
+{
+    names_variable(path)
+        && is_type(
+            ScalarType::Integer,
+            scalar_of(path_kind(types, variables, path)),
+        )
+}
+
+/// Whether there is a statement (5.1).
+fn has_statement(statements: &[Stmt]) -> bool
+    ensures { result ≡ fits.has_statement (stmts_form statements.now) }
+{
+    match statements.first() {
+        None => false,
+        Some(_) => true,
+    }
+}
+
+/// Whether a condition, where there is one, is a Boolean.
+fn condition_fits(
+    types: &[TypeDefinition],
+    variables: &[Variable],
+    condition: &Option<Expression>,
+) -> bool
+    ensures { result ≡ kept.condition_fits types.now variables.now condition.now }
+{
+    match condition {
+        None => true,
+        Some(condition) => has_type(types, variables, ScalarType::Boolean, condition),
     }
 }
 
 /// Whether a variable's access type and that of an instance designate one record type (13.11.2).
 fn is_freed_by(types: &[TypeDefinition], access: usize, own: Option<usize>) -> bool
-    ensures { result ≡ fits.is_freed_by (map type_form types.now) access own }
+    ensures { result ≡ fits.is_freed_by (types_in types.now) access own }
 {
     match own {
         None => false,

@@ -1,6 +1,6 @@
 -- Phrases: what reading gives of the tokens that are left, which is a value and the tokens that are left then, or where reading stops.
 
-use Rattle.std.specs.Prelude.{◌≡◌, ℕ, zero, suc, Bool, true, false, not, List, [], ◌∷◌, length, map, Option, Some, None, IfSome, Result, Ok, Err, if◌then◌else◌}
+use Rattle.std.specs.Prelude.{◌≡◌, ◌<◌, ℕ, zero, suc, Bool, true, false, not, List, [], ◌∷◌, length, map, Option, Some, None, IfSome, Result, Ok, Err, if◌then◌else◌}
 use Rattle.std.specs.Global.{Vec}
 use denote.Enum.Bare.{sameb}
 use denote.MutBor.{MutBor}
@@ -195,3 +195,12 @@ at k = is_at (is_kind k)
 -- Whether it is not.
 abbrev pub not_at : Kind → List Lexeme → Bool
 not_at k ts = not (at k ts)
+
+-- A word or delimiter was next and is taken, or it was not next and nothing is taken.
+abbrev pub TakesIfNext : Kind → Both (MutBor Reader) (MutBor Reader) → Option Spot → Type 0
+TakesIfNext k reader None =
+    (at k (lexemes_of reader.entry.now.tokens.now) ≡ false) × (reader.exit.now.tokens.now ≡ reader.entry.now.tokens.now)
+TakesIfNext k reader (Some spot) =
+    (at k (lexemes_of reader.entry.now.tokens.now) ≡ true) ×
+    (fixed k (lexemes_of reader.entry.now.tokens.now) ≡ Ok (spot, lexemes_of reader.exit.now.tokens.now)) ×
+    (length reader.exit.now.tokens.now < length reader.entry.now.tokens.now)

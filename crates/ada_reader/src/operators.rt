@@ -45,16 +45,13 @@ pub fn read_multiplying(reader: &mut Reader<'_>) -> Result<BinaryOperator, Stop>
     ensures shorter { OnOk result (length reader.new.tokens.now < length reader.old.tokens.now) }
     ensures read { Reads itself reader multiplying_at result }
 {
-    if reader.is_at(Delimiter::Star) {
-        reader.delimiter(Delimiter::Star)?;
+    if reader.taken_delimiter(Delimiter::Star).is_some() {
         return Ok(BinaryOperator::Multiply);
     }
-    if reader.is_at(Delimiter::Slash) {
-        reader.delimiter(Delimiter::Slash)?;
+    if reader.taken_delimiter(Delimiter::Slash).is_some() {
         return Ok(BinaryOperator::Divide);
     }
-    if reader.is_at_word(Word::Mod) {
-        reader.word(Word::Mod)?;
+    if reader.taken_word(Word::Mod).is_some() {
         return Ok(BinaryOperator::Modulo);
     }
     reader.word(Word::Rem)?;
@@ -67,8 +64,7 @@ pub fn read_adding(reader: &mut Reader<'_>) -> Result<BinaryOperator, Stop>
     ensures shorter { OnOk result (length reader.new.tokens.now < length reader.old.tokens.now) }
     ensures read { Reads itself reader adding_at result }
 {
-    if reader.is_at(Delimiter::Plus) {
-        reader.delimiter(Delimiter::Plus)?;
+    if reader.taken_delimiter(Delimiter::Plus).is_some() {
         return Ok(BinaryOperator::Add);
     }
     reader.delimiter(Delimiter::Minus)?;
@@ -81,8 +77,8 @@ pub fn read_sign(reader: &mut Reader<'_>) -> Result<(UnaryOperator, Spot), Stop>
     ensures shorter { OnOk result (length reader.new.tokens.now < length reader.old.tokens.now) }
     ensures read { Reads itself reader sign_at result }
 {
-    if reader.is_at(Delimiter::Plus) {
-        return Ok((UnaryOperator::Plus, reader.delimiter(Delimiter::Plus)?));
+    if let Some(spot) = reader.taken_delimiter(Delimiter::Plus) {
+        return Ok((UnaryOperator::Plus, spot));
     }
     Ok((UnaryOperator::Minus, reader.delimiter(Delimiter::Minus)?))
 }
@@ -93,24 +89,19 @@ pub fn read_comparing(reader: &mut Reader<'_>) -> Result<BinaryOperator, Stop>
     ensures shorter { OnOk result (length reader.new.tokens.now < length reader.old.tokens.now) }
     ensures read { Reads itself reader comparing_at result }
 {
-    if reader.is_at(Delimiter::Equal) {
-        reader.delimiter(Delimiter::Equal)?;
+    if reader.taken_delimiter(Delimiter::Equal).is_some() {
         return Ok(BinaryOperator::Equal);
     }
-    if reader.is_at(Delimiter::NotEqual) {
-        reader.delimiter(Delimiter::NotEqual)?;
+    if reader.taken_delimiter(Delimiter::NotEqual).is_some() {
         return Ok(BinaryOperator::NotEqual);
     }
-    if reader.is_at(Delimiter::Less) {
-        reader.delimiter(Delimiter::Less)?;
+    if reader.taken_delimiter(Delimiter::Less).is_some() {
         return Ok(BinaryOperator::Less);
     }
-    if reader.is_at(Delimiter::LessEqual) {
-        reader.delimiter(Delimiter::LessEqual)?;
+    if reader.taken_delimiter(Delimiter::LessEqual).is_some() {
         return Ok(BinaryOperator::LessOrEqual);
     }
-    if reader.is_at(Delimiter::Greater) {
-        reader.delimiter(Delimiter::Greater)?;
+    if reader.taken_delimiter(Delimiter::Greater).is_some() {
         return Ok(BinaryOperator::Greater);
     }
     reader.delimiter(Delimiter::GreaterEqual)?;

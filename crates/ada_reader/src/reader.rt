@@ -3,7 +3,7 @@
 ghost use Rattle.std.specs.Prelude.{◌≡◌, ◌<◌, length, OnOk};
 ghost use Rattle.ada_text.specs.Token.{delimiter as delimiter_kind, lexemes_of, reserved};
 ghost use Rattle.ada_tree.specs.Names.{ident_of};
-ghost use Rattle.ada_reader.specs.Step.{at, fixed, identifier_at, is_at as is_at_kind, is_identifier, is_number, is_string, itself, number_at, opening_in, Reads, string_at};
+ghost use Rattle.ada_reader.specs.Step.{at, fixed, identifier_at, is_at as is_at_kind, is_identifier, is_number, is_string, itself, number_at, opening_in, Reads, string_at, TakesIfNext};
 
 use ada_text::{Delimiter, Spot, Token, TokenKind, Word};
 use ada_tree::names::Identifier;
@@ -232,6 +232,56 @@ impl<'t> Reader<'t> {
                 })
             }
             _ => Err(Stop::Here),
+        }
+    }
+
+    /// Takes a reserved word, if it is next, and tells where it stood.
+    #[tactic(auto, unfolding(crate::specs::Step::fixed))]
+    pub fn taken_word(&mut self, word: Word) -> Option<Spot>
+        ensures { TakesIfNext (reserved word) self result }
+    {
+        match self.tokens {
+            [
+                Token {
+                    kind: TokenKind::Word(next),
+                    line,
+                    column,
+                    ..
+                },
+                rest @ ..,
+            ] if *next == word => {
+                self.tokens = rest;
+                Some(Spot {
+                    line: *line,
+                    column: *column,
+                })
+            }
+            _ => None,
+        }
+    }
+
+    /// Takes a delimiter, if it is next, and tells where it stood.
+    #[tactic(auto, unfolding(crate::specs::Step::fixed))]
+    pub fn taken_delimiter(&mut self, delimiter: Delimiter) -> Option<Spot>
+        ensures { TakesIfNext (delimiter_kind delimiter) self result }
+    {
+        match self.tokens {
+            [
+                Token {
+                    kind: TokenKind::Delimiter(next),
+                    line,
+                    column,
+                    ..
+                },
+                rest @ ..,
+            ] if *next == delimiter => {
+                self.tokens = rest;
+                Some(Spot {
+                    line: *line,
+                    column: *column,
+                })
+            }
+            _ => None,
         }
     }
 

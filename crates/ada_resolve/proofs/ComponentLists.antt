@@ -1,6 +1,6 @@
 -- Components as the code keeps them, and as they are written.
 
-use Rattle.std.proofs.Common.{◌≡◌, ◌∙◌, ℕ, zero, suc, ◌+◌, Bool, true, false, cond, List, [], ◌∷◌, ◌++◌, map, length, refl, ap, sym, arith, add-zero, append_assoc}
+use Rattle.std.proofs.Common.{◌≡◌, ◌∙◌, ℕ, suc, ◌+◌, Bool, true, false, cond, List, [], ◌∷◌, ◌++◌, map, length, refl, ap, sym, arith, add-zero, append_assoc}
 use Rattle.std.specs.Prelude.{Option, Some, None, is_some, bytes_eq, not, nat_lt, slice_get, position, option_map, option_and_then, ◌||◌}
 use Rattle.std.specs.List.{position_or_len}
 use Rattle.std.specs.Map.{keys_of}

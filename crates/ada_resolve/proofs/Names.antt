@@ -1,9 +1,9 @@
 -- Names and numbers in lists, and what they stand for.
 
-use Rattle.std.proofs.Common.{◌≡◌, ◌∙◌, ◌≤◌, ℕ, zero, suc, List, [], ◌∷◌, ◌++◌, map, length, refl, ap, sym, ◌+◌, bytes_eq, Option, Some, None, slice_get, slice_set, true, false, ◌==◌, ◌&&◌, arith}
+use Rattle.std.proofs.Common.{◌≡◌, ◌∙◌, ◌≤◌, ℕ, zero, suc, List, [], ◌∷◌, ◌++◌, map, reverse, length, refl, ap, sym, ◌+◌, bytes_eq, Option, Some, None, slice_get, slice_set, true, false, ◌==◌, ◌&&◌, arith}
 use Rattle.std.specs.Map.{lookup}
 use Rattle.std.specs.Prelude.{if◌then◌else◌, option_map, Bool}
-use Rattle.std.proofs.lemmas.List.{length-append, length-map}
+use Rattle.std.proofs.lemmas.List.{length-append, length-map, reverse-append}
 use Rattle.indexmap.specs.IndexMap.{insert_entry}
 use Rattle.ada_resolve.specs.declared.scope.Entity.{Entity}
 use Rattle.ada_resolve.specs.Known.{named, entered}
@@ -95,3 +95,11 @@ entities_map (e ∷ es) = ap (λ (xs : List Entity). e.1 ∷ xs) (entities_map e
 -- as many texts as before, and those that are added
 pub length_added : {X Y : Type 0} (f : X → Y) (xs ys : List X) (zs : List Y) → map f ys ≡ map f xs ++ zs → length ys ≡ length xs + length zs
 length_added f xs ys zs e = sym (length-map ys f) ∙ ap length e ∙ length-append (map f xs) zs ∙ ap (λ (n : ℕ). n + length zs) (length-map xs f)
+
+-- the last of these is the first of what is made of them the other way around
+pub reversed_snoc : {X Y : Type 0} (f : X → Y) (xs : List X) (x : X) → reverse (map f (xs ++ x ∷ [])) ≡ f x ∷ reverse (map f xs)
+reversed_snoc f xs x = ap reverse (map_snoc f xs x) ∙ reverse-append (map f xs) (f x ∷ [])
+
+-- as many as before, in what is made of each
+pub mapped_length : {X Y : Type 0} (f : X → Y) (xs : List X) → length (map f xs) ≡ length xs
+mapped_length f xs = length-map xs f

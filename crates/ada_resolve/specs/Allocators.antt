@@ -12,7 +12,7 @@ use Rattle.ada_resolve.specs.declared.scope.Entity.{Entity}
 use Rattle.ada_resolve.specs.declared.scope.Entity.TheVariants as entity
 use Rattle.ada_resolve.specs.Known.{Known, visible, missing}
 use Rattle.ada_resolve.specs.Remark.{Remark, wrong, ◌also◌, wrong_if}
-use Rattle.ada_resolve.specs.Items.{count_remark, filling_of, first_filling, item_or_null, items_remark, names_component}
+use Rattle.ada_resolve.specs.Items.{all_items_remark, count_remark, filling_of, item_or_null, names_component}
 use Rattle.ada_resolve.specs.Paths.{components_of}
 use Rattle.ada_resolve.specs.Types.{designates}
 
@@ -31,13 +31,13 @@ allocated_wanted None types access spot name = missing None name
 unfoldable pub allocated_remark : Known → Option TypeNo → Spot → Ident → Remark
 allocated_remark known access spot name = allocated_wanted (visible known name.text) known.types access spot name
 
--- That record type.
+-- The complete record type that a name stands for, if it stands for one.
 abbrev pub complete_in : Option Entity → Option TypeNo
 complete_in (Some (entity.Record t)) = Some t
 complete_in (Some other) = None
 complete_in None = None
 
--- The record type that an allocator names; none where something is wrong.
+-- The record type that an allocator names, or `None` where its type is wrong.
 unfoldable pub allocated_found : Known → Ident → Option TypeNo
 allocated_found known name = complete_in (visible known name.text)
 
@@ -50,22 +50,21 @@ filled_components known None = None
 unfoldable pub aggregate_remark : Known → Option TypeNo → Spot → Ident → ItemsTree → Remark
 aggregate_remark known access spot type_name items =
     allocated_remark known access spot type_name also
-    items_remark known (filled_components known (allocated_found known type_name)) (names_component items)
-    (first_filling (filled_components known (allocated_found known type_name))) items also
+    all_items_remark known (filled_components known (allocated_found known type_name)) items also
     count_remark (names_component items) (filling_of known (filled_components known (allocated_found known type_name)) items) type_name.spot
 
--- A new object of the access type that is wanted, where that is known.
+-- The type whose objects a new object joins: the access type that is wanted, where that is known.
 abbrev pub wanted_or : Option TypeNo → TypeNo → ℕ
 wanted_or (Some access) t = access.0
 wanted_or None t = t.0
 
--- The allocation of these items, in the order of the components; none where the record type is not known.
+-- The allocation of these items, in the order of the components, or `None` where the record type is not known.
 abbrev pub allocation : Known → Option TypeNo → Option TypeNo → ItemsTree → Option RightForm
 allocation known access (Some t) items =
     Some (allocates (wanted_or access t) (map item_or_null (filling_of known (Some (components_of known.types t.0)) items).slots))
 allocation known access None items = None
 
--- The allocation that `new T'(..)` makes; none where its type is wrong.
+-- The allocation that `new T'(..)` makes, or `None` where its type is wrong.
 unfoldable pub aggregate_found : Known → Option TypeNo → Ident → ItemsTree → Option RightForm
 aggregate_found known access type_name items = allocation known access (allocated_found known type_name) items
 
@@ -83,7 +82,7 @@ unfoldable pub allocator_remark : Known → Option TypeNo → Spot → Option Id
 allocator_remark known access spot handle type_name items =
     if is_in_use handle items then aggregate_remark known access spot type_name items else wrong spot NotInProfile
 
--- The allocation that an allocator makes; none where something is wrong.
+-- The allocation that an allocator makes, or `None` where something is wrong.
 unfoldable pub allocator_found : Known → Option TypeNo → Option Ident → Ident → ItemsTree → Option RightForm
 allocator_found known access handle type_name items =
     if is_in_use handle items then aggregate_found known access type_name items else None

@@ -37,12 +37,12 @@ argument_remark known (expression_argument e) = expression_remark known e
 argument_remark known (text_argument spot text) = fine
 argument_remark known (attribute_argument prefix attribute value) = image_value_remark known prefix attribute value
 
--- The same of arguments, in order.
+-- What is wrong with arguments, in order.
 abbrev pub arguments_remark : Known → List ArgumentTree → Remark
 arguments_remark known [] = fine
 arguments_remark known (argument ∷ more) = argument_remark known argument also arguments_remark known more
 
--- One argument is wanted (6.4): behind it the first is one too many.
+-- A call takes one argument (6.4): any argument behind it is one too many, and the first of them is told.
 abbrev pub none_wanted : List ArgumentTree → Remark
 none_wanted [] = fine
 none_wanted (argument ∷ more) = wrong (argument_spot argument) WrongType

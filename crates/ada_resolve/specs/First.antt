@@ -7,26 +7,26 @@ use Rattle.ada_resolve.specs.declared.fault.NameRule.TheVariants.{Limit}
 use Rattle.ada_resolve.specs.Remark.{Remark, fine, wrong, node, both, is_before, most_nodes, noted}
 use Rattle.ada_resolve.specs.declared.notes.Notes.{Notes}
 
--- How many nodes come up to the end of a remark, where so many come before it; those past the limit are not counted.
+-- The number of nodes up to the end of a remark, given the number before it. Nodes past the limit are not counted.
 abbrev pub nodes_after : Remark → ℕ → ℕ
 nodes_after fine n = n
 nodes_after (wrong spot rule) n = n
 nodes_after (node spot) n = if nat_lt n most_nodes then n + 1 else n
 nodes_after (both a b) n = nodes_after b (nodes_after a n)
 
--- A fault is among what is remarked, where so many nodes come before it.
+-- A remark tells of a fault, given the number of nodes before it.
 abbrev pub Breaks : Remark → ℕ → Spot × NameRule → Type 0
 Breaks fine n f = ⊥
 Breaks (wrong spot rule) n f = f ≡ (spot, rule)
 Breaks (node spot) n f = (nat_lt n most_nodes ≡ false) × (f ≡ (spot, Limit))
 Breaks (both a b) n f = Breaks a n f ⊎ Breaks b (nodes_after a n) f
 
--- It is among what is remarked, where so many nodes come before, and nothing there comes before it; or nothing is among it.
+-- A fault is the first that a remark tells of, given the number of nodes before it; `None` says that the remark tells of no fault.
 abbrev pub IsFirstOf : ℕ → Option (Spot × NameRule) → Remark → Type 0
 IsFirstOf n (Some f) remark = Breaks remark n f × ((g : Spot × NameRule) → Breaks remark n g → is_before g f ≡ false)
 IsFirstOf n None remark = (g : Spot × NameRule) → Breaks remark n g → ⊥
 
--- Nothing is wrong so far, and so many nodes came.
+-- Nothing is wrong so far, and this is the number of nodes.
 abbrev pub fine_so_far : ℕ → Notes
 fine_so_far n = record { fault = None; nodes = n }
 

@@ -1,6 +1,6 @@
 -- Instances of Unchecked_Deallocation: what is wrong with each, and what is known after it.
 
-use Rattle.std.specs.Prelude.{ℕ, Bool, true, false, ◌||◌, ◌==◌, not, if◌then◌else◌, List, [], ◌∷◌, ◌++◌, Option, Some, None}
+use Rattle.std.specs.Prelude.{ℕ, Bool, true, false, ◌||◌, ◌==◌, nat_lt, not, if◌then◌else◌, List, [], ◌∷◌, ◌++◌, Option, Some, None}
 use Rattle.ada_text.specs.declared.spot.Spot.{Spot}
 use Rattle.ada_program.specs.Form.{DeclarationForm, collects, declares}
 use Rattle.ada_tree.specs.Names.{Ident, NameTree}
@@ -56,7 +56,7 @@ access_in (Some (entity.Access t)) types record_type = access_if (designates_if_
 access_in (Some other) types record_type = None
 access_in None types record_type = None
 
--- The access type of an instance; none where something is wrong.
+-- The access type of an instance, or `None` where something is wrong.
 unfoldable pub freed_found : Known → Ident → Option TypeNo → Option TypeNo
 freed_found known access record_type = access_in (visible known access.text) known.types record_type
 
@@ -87,8 +87,14 @@ abbrev pub one_instance : Option TypeNo → List DeclarationForm → Spot → Re
 one_instance (Some t) elaborated spot = wrong_if (is_collected t.0 elaborated) spot Layout
 one_instance None elaborated spot = fine
 
+-- An instance frees objects of an access type of its own part, the first type of which has this number (the profile's): the collection is
+-- created where the instance is.
+abbrev pub own_type : Option TypeNo → ℕ → Spot → Remark
+own_type (Some t) first_type spot = wrong_if (nat_lt t.0 first_type) spot Layout
+own_type None first_type spot = fine
+
 -- `procedure Free is new Ada.Unchecked_Deallocation (T, A);` (13.11.2): a new name, the generic, a complete record type, and an access type
--- to it that has no other instance.
+-- to it, of the same part, that has no other instance.
 abbrev pub instance_remark : Known → Spot → Ident → NameTree → Ident → Ident → Remark
 instance_remark known spot name generic object access =
     type_begins known spot also
@@ -97,11 +103,16 @@ instance_remark known spot name generic object access =
     record_remark known object also
     complete_wanted (visible known object.text) object.spot also
     freed_remark known access (record_found known object) also
-    one_instance (access_type_in (visible known access.text)) known.elaborated spot
+    one_instance (access_type_in (visible known access.text)) known.here.elaborated spot also
+    own_type (access_type_in (visible known access.text)) known.here.first_type spot
+
+-- What is known once the innermost part elaborates these too, in order (3.11).
+abbrev pub with_elaborated : List DeclarationForm → Known → Known
+with_elaborated declarations known = record known { here = record known.here { elaborated = known.here.elaborated ++ declarations } }
 
 -- After it the collection of the access type is created (the profile's place for it), and the instance is known.
 abbrev pub instance_of : Known → Ident → Option TypeNo → Known
-instance_of known name (Some t) = declared (record known { elaborated = known.elaborated ++ collects t.0 ∷ [] }) name.text (entity.Instance t)
+instance_of known name (Some t) = declared (with_elaborated (collects t.0 ∷ []) known) name.text (entity.Instance t)
 instance_of known name None = known
 
 -- What is known after an instance.

@@ -47,7 +47,7 @@ abbrev pub null_wanted : Meant → Spot → Remark
 null_wanted unknown spot = fine
 null_wanted null_value spot = fine
 null_wanted (access_variable path t) spot = wrong spot NotInProfile
-null_wanted other_access spot = wrong spot NotInProfile
+null_wanted (other_access path) spot = wrong spot NotInProfile
 null_wanted (integer_value e) spot = wrong spot WrongType
 null_wanted (boolean_value e) spot = wrong spot WrongType
 
@@ -72,7 +72,7 @@ for_remark (Some found) filling label value meant =
     wrong_if (is_filled found.0 filling.slots) (item_spot label value) WrongType also fits_remark found.1 meant (expression_spot value)
 for_remark None filling label value meant = no_component label value
 
--- The same where the record type is known.
+-- What is wrong with an item for its component, which only a known record type has.
 abbrev pub component_item_remark : Option (List ComponentForm) → Filling → Option Ident → ExpressionTree → Meant → Remark
 component_item_remark (Some components) filling label value meant = for_remark (component_for components label filling.count) filling label value meant
 component_item_remark None filling label value meant = fine
@@ -89,6 +89,10 @@ item_remark known components is_named filling label value =
     expression_remark known value also
     component_item_remark components filling label value (expression_meant known value)
 
+-- What is known once the component of this number has this item.
+abbrev pub with_item : ℕ → ItemForm → Filling → Filling
+with_item c item filling = record filling { slots = slice_set filling.slots c (Some item) }
+
 -- What is known after an item for this component.
 abbrev pub filled_for : Option (ℕ × ComponentKind) → Filling → Bool → ItemForm → Filling
 filled_for (Some found) filling alike item = record {
@@ -98,12 +102,12 @@ filled_for (Some found) filling alike item = record {
 }
 filled_for None filling alike item = record { count = filling.count + 1; slots = filling.slots; whole = false }
 
--- The same where the record type is known.
+-- What is known after an item. Where the record type is not known, the item is only counted.
 abbrev pub filled_by : Option (List ComponentForm) → Filling → Option Ident → Bool → ItemForm → Filling
 filled_by (Some components) filling label alike item = filled_for (component_for components label filling.count) filling alike item
 filled_by None filling label alike item = record { count = filling.count + 1; slots = filling.slots; whole = false }
 
--- What is known after an item.
+-- What is known after an item, by what its value means.
 unfoldable pub after_item : Known → Option (List ComponentForm) → Bool → Filling → Option Ident → ExpressionTree → Filling
 after_item known components is_named filling label value =
     filled_by components filling label (is_alike is_named label) (item_meant (expression_meant known value))
@@ -115,7 +119,7 @@ items_remark known components is_named filling (an_item label value rest) =
     item_remark known components is_named filling label value also
     items_remark known components is_named (after_item known components is_named filling label value) rest
 
--- What is known after them.
+-- What is known after items.
 abbrev pub after_items : Known → Option (List ComponentForm) → Bool → Filling → ItemsTree → Filling
 after_items known components is_named filling no_more_items = filling
 after_items known components is_named filling (an_item label value rest) =
@@ -134,6 +138,10 @@ first_filling components = record { count = 0; slots = empty_slots components; w
 abbrev pub names_component : ItemsTree → Bool
 names_component no_more_items = false
 names_component (an_item label value rest) = is_some label
+
+-- What is wrong with all items of `new T'(..)`.
+abbrev pub all_items_remark : Known → Option (List ComponentForm) → ItemsTree → Remark
+all_items_remark known components items = items_remark known components (names_component items) (first_filling components) items
 
 -- What is wrong with how many items there are: an aggregate of one item names its component (4.3.1), and one is missing where there are more
 -- components; and where each item has a component of its own, each component has its item.

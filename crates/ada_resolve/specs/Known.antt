@@ -7,7 +7,7 @@ use Rattle.ada_program.specs.Form.{DeclarationForm}
 use Rattle.ada_program.specs.ProgramForm.{TypeForm, VariableForm}
 use Rattle.ada_resolve.specs.declared.fault.NameRule.TheVariants.{UnknownName, DeclaredTwice, NotInProfile, Layout, Limit}
 use Rattle.ada_resolve.specs.declared.library.LibraryName.{LibraryName}
-use Rattle.ada_resolve.specs.declared.library.LibraryName.TheVariants.{TextIo, PutLine, UncheckedDeallocation, OtherUnit, Unknown}
+use Rattle.ada_resolve.specs.declared.library.LibraryName.TheVariants.{TextIo, PutLine, UncheckedDeallocation, RunInput, Get, EndError, OtherUnit, Unknown}
 use Rattle.ada_resolve.specs.declared.library.Withs.{Withs}
 use Rattle.ada_resolve.specs.declared.scope.Entity.{Entity}
 use Rattle.ada_resolve.specs.declared.scope.Entity.TheVariants.{Procedure}
@@ -19,15 +19,45 @@ pub record Named : Type 0 where
   pub text : List ℕ
   pub entity : Entity
 
--- What is known: the library units of the with clauses, the procedure's name, the names that it declares so far, in order, its types and
--- variables by their numbers, and what is elaborated so far (3.11).
+-- A declarative part, or the scope of a loop parameter (8.1): the names that it declares so far, in order; the numbers of its first type and
+-- of its first variable; and what it elaborates so far (3.11).
+pub record Part : Type 0 where
+  pub names : List Named
+  pub first_type : ℕ
+  pub first_variable : ℕ
+  pub elaborated : List DeclarationForm
+
+-- What is known: the library units of the with clauses, the procedure's name, the declarative part that declares here, those around it, the
+-- inner ones first (8.1), and all types, variables and exceptions by their numbers; of an exception that is its name.
 pub record Known : Type 0 where
   pub withs : Withs
   pub procedure : List ℕ
-  pub names : List Named
+  pub here : Part
+  pub outer : List Part
   pub types : List TypeForm
   pub variables : List VariableForm
-  pub elaborated : List DeclarationForm
+  pub exceptions : List (List ℕ)
+
+-- The declarative parts of a place, the innermost first (8.1).
+abbrev pub parts : Known → List Part
+parts known = known.here ∷ known.outer
+
+-- A declarative part in which nothing is declared yet, behind so many types and variables.
+abbrev pub part_from : (types variables : ℕ) → Part
+part_from types variables = record { names = []; first_type = types; first_variable = variables; elaborated = [] }
+
+-- What is known where an inner part begins: it declares nothing yet.
+abbrev pub with_part : Known → Known
+with_part known = record known { here = part_from (length known.types) (length known.variables); outer = parts known }
+
+-- What is known once these are the parts: nothing is declared where there are none.
+abbrev pub left_to : List Part → Known → Known
+left_to [] known = record known { here = part_from (length known.types) (length known.variables) }
+left_to (part ∷ outer) known = record known { here = part; outer = outer }
+
+-- What is known once the innermost part ends: its names are gone, and its types and its variables keep their numbers (8.2).
+abbrev pub without_part : Known → Known
+without_part known = left_to known.outer known
 
 -- What a name stands for among these.
 abbrev pub named : List ℕ → List Named → Option Entity
@@ -41,9 +71,19 @@ entered text entity (n ∷ ns) = if bytes_eq text n.text then record { text = n.
 
 -- What is known once the name stands for that.
 abbrev pub declared : Known → List ℕ → Entity → Known
-declared known text entity = record known { names = entered text entity known.names }
+declared known text entity = record known { here = record known.here { names = entered text entity known.here.names } }
 
--- What a name stands for (8.3): what the procedure declares hides the procedure's own name, and this what is predefined.
+-- What a name stands for in the first part that declares it, the innermost first (8.3).
+abbrev pub first_named : Option Entity → Option Entity → Option Entity
+first_named (Some entity) outer = Some entity
+first_named None outer = outer
+
+-- What a name stands for in these parts, the innermost first: an inner declaration hides the outer ones (8.3).
+abbrev pub named_in : List ℕ → List Part → Option Entity
+named_in text [] = None
+named_in text (part ∷ outer) = first_named (named text part.names) (named_in text outer)
+
+-- What a name stands for (8.3): what the parts declare hides the procedure's own name, and this what is predefined.
 abbrev pub inner_first : Option Entity → Bool → Option Entity → Option Entity
 inner_first (Some entity) own standard = Some entity
 inner_first None true standard = Some Procedure
@@ -51,7 +91,7 @@ inner_first None false standard = standard
 
 -- What a name stands for at a place (8.3), if anything.
 unfoldable pub visible : Known → List ℕ → Option Entity
-visible known text = inner_first (named text known.names) (bytes_eq text known.procedure) (predefined text)
+visible known text = inner_first (named_in text (parts known)) (bytes_eq text known.procedure) (predefined text)
 
 -- A name of which nothing is visible is wrong (8.3).
 abbrev pub missing : Option Entity → Ident → Remark
@@ -62,24 +102,27 @@ missing None name = wrong name.spot (missing_rule name.text)
 abbrev pub name_remark : Known → Ident → Remark
 name_remark known name = missing (visible known name.text) name
 
--- The most names that the procedure declares.
+-- The most names that a declarative part declares.
 abbrev pub most_names : ℕ
 most_names = 500
 
--- What is wrong with declaring a name, in a declaration that begins at `first`: it is predefined; it is declared already (8.3); it is the
--- name of a primitive of controlled types; or there are too many.
+-- What is wrong with declaring a name, in a declaration that begins at `first`: it is predefined; its part declares it already (8.3);
+-- it is the name of a primitive of controlled types; or there are too many.
 abbrev pub new_name_remark : Known → Ident → Spot → Remark
 new_name_remark known name first =
     wrong_if (is_taken name.text) name.spot DeclaredTwice also
-    wrong_if (is_some (named name.text known.names)) name.spot DeclaredTwice also
+    wrong_if (is_some (named name.text known.here.names)) name.spot DeclaredTwice also
     wrong_if (is_primitive name.text) first NotInProfile also
-    wrong_if (not (nat_lt (length known.names) most_names)) name.spot Limit
+    wrong_if (not (nat_lt (length known.here.names) most_names)) name.spot Limit
 
 -- Whether the unit of a library name stands in a with clause (10.1.2).
 abbrev pub is_with : Withs → LibraryName → Bool
 is_with withs TextIo = withs.text_io
 is_with withs PutLine = withs.text_io
 is_with withs UncheckedDeallocation = withs.deallocation
+is_with withs RunInput = withs.run_input
+is_with withs Get = withs.run_input
+is_with withs EndError = withs.run_input
 is_with withs OtherUnit = false
 is_with withs Unknown = false
 
@@ -121,6 +164,10 @@ library_path_found known path =
 abbrev pub is_empty : {X : Type 0} → List X → Bool
 is_empty xs = length xs == 0
 
--- A type or an instance begins: it is a node of the source, and none follows a variable.
+-- Whether the innermost part has declared no variable yet.
+abbrev pub no_variable_yet : Known → Bool
+no_variable_yet known = length known.variables == known.here.first_variable
+
+-- A type, a number, an exception or an instance begins: it is a node of the source, and none follows a variable of its part.
 abbrev pub type_begins : Known → Spot → Remark
-type_begins known spot = node spot also wrong_if (not (is_empty known.variables)) spot Layout
+type_begins known spot = node spot also wrong_if (not (no_variable_yet known)) spot Layout

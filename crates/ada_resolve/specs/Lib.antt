@@ -38,10 +38,14 @@ pub mod Arguments
 pub mod Lines
 -- calls (6.4, 13.11.2)
 pub mod Calls
+-- exceptions, and the choices of handlers (11.1, 11.2)
+pub mod Exceptions
 -- statements (5.1, 5.2)
 pub mod Statements
 -- the program of a tree, or its first fault
 pub mod Resolution
+-- what the names of types, numbers and instances are read as
+pub mod Naming
 -- a program read back as its tree
 pub mod Reading
 -- the first fault, told by what is remarked alone
@@ -50,3 +54,7 @@ pub mod First
 pub mod Kept
 -- what the code keeps, in these words
 pub mod View
+-- what the methods of the resolver promise, in a word each
+pub mod Method
+-- what a look at each part of a tree gives
+pub mod Look

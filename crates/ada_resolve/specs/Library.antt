@@ -2,10 +2,11 @@
 
 use Rattle.std.specs.Prelude.{ℕ, Bool, true, false, ◌||◌, ◌&&◌, if◌then◌else◌, List, [], ◌∷◌, Option, Some, None, is_some, codes, bytes_eq}
 use Rattle.ada_tree.specs.Names.{Ident}
+use Rattle.ada_program.specs.declared.program.Exception.TheVariants.{ConstraintError, ProgramError, StorageError}
 use Rattle.ada_resolve.specs.declared.fault.NameRule.{NameRule}
 use Rattle.ada_resolve.specs.declared.fault.NameRule.TheVariants.{UnknownName, NotInProfile}
 use Rattle.ada_resolve.specs.declared.library.LibraryName.{LibraryName}
-use Rattle.ada_resolve.specs.declared.library.LibraryName.TheVariants.{TextIo, PutLine, UncheckedDeallocation, OtherUnit, Unknown}
+use Rattle.ada_resolve.specs.declared.library.LibraryName.TheVariants.{TextIo, PutLine, UncheckedDeallocation, RunInput, Get, EndError, OtherUnit, Unknown}
 use Rattle.ada_resolve.specs.declared.scope.Entity.{Entity}
 use Rattle.ada_resolve.specs.declared.scope.Entity.TheVariants.{Integer, Boolean, Truth, Exception}
 
@@ -16,8 +17,9 @@ predefined text =
     if bytes_eq text (codes "BOOLEAN") then Some Boolean else (
     if bytes_eq text (codes "TRUE") then Some (Truth true) else (
     if bytes_eq text (codes "FALSE") then Some (Truth false) else (
-    if bytes_eq text (codes "CONSTRAINT_ERROR") || (bytes_eq text (codes "PROGRAM_ERROR") || bytes_eq text (codes "STORAGE_ERROR"))
-    then Some Exception else None))))
+    if bytes_eq text (codes "CONSTRAINT_ERROR") then Some (Exception ConstraintError) else (
+    if bytes_eq text (codes "PROGRAM_ERROR") then Some (Exception ProgramError) else (
+    if bytes_eq text (codes "STORAGE_ERROR") then Some (Exception StorageError) else None))))))
 
 -- Whether a name that begins so is looked for in the library alone (10.1.1, A.2).
 unfoldable pub is_library_root : List ℕ → Bool
@@ -84,7 +86,10 @@ in_pools rest =
 
 -- Run_Input and its names, which are the profile's own.
 unfoldable pub in_input : List Ident → LibraryName
-in_input rest = other_if (spelled rest [] || (spelled rest (codes "GET" ∷ []) || spelled rest (codes "END_ERROR" ∷ [])))
+in_input rest =
+    if spelled rest [] then RunInput else (
+    if spelled rest (codes "GET" ∷ []) then Get else (
+    if spelled rest (codes "END_ERROR" ∷ []) then EndError else Unknown))
 
 -- What a name of the library stands for.
 unfoldable pub library_name : List ℕ → List Ident → LibraryName

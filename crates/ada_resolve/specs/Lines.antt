@@ -18,7 +18,7 @@ line_remark known (expression_argument e) = wrong (expression_spot e) WrongType 
 line_remark known (text_argument spot text) = fine
 line_remark known (attribute_argument prefix attribute value) = image_value_remark known prefix attribute value
 
--- What is done with it, where so many texts come before; none where something is wrong.
+-- What Put_Line does, or `None` where something is wrong. A text gets the number of texts before it.
 abbrev pub line_found : Known → ℕ → ArgumentTree → Option StmtForm
 line_found known texts (expression_argument e) = None
 line_found known texts (text_argument spot text) = Some (writes_text texts)
@@ -29,7 +29,7 @@ unfoldable pub put_line_remark : Known → Spot → List ArgumentTree → Remark
 put_line_remark known called [] = wrong called WrongType
 put_line_remark known called (argument ∷ more) = line_remark known argument also none_wanted more also arguments_remark known more
 
--- What a call of Put_Line does; none where something is wrong.
+-- What a call of Put_Line does, or `None` where something is wrong.
 unfoldable pub put_line_found : Known → ℕ → List ArgumentTree → Option StmtForm
 put_line_found known texts [] = None
 put_line_found known texts (argument ∷ more) = line_found known texts argument

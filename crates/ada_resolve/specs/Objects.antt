@@ -1,20 +1,21 @@
 -- Object declarations: what is wrong with each, and what is known after it.
 
-use Rattle.std.specs.Prelude.{ℕ, ◌+◌, Bool, true, false, not, if◌then◌else◌, List, [], ◌∷◌, ◌++◌, length, Option, Some, None, is_none}
+use Rattle.std.specs.Prelude.{ℕ, ◌+◌, Bool, true, false, ◌&&◌, not, if◌then◌else◌, List, [], ◌∷◌, ◌++◌, length, drop, Option, Some, None, is_none, is_some}
 use Rattle.ada_program.specs.Form.{RightForm, nothing, DeclarationForm, collects, declares}
 use Rattle.ada_tree.specs.Names.{Ident, NameTree}
 use Rattle.ada_tree.specs.Expressions.{RightTree}
-use Rattle.ada_program.specs.ProgramForm.{TypeForm, record_of, access_to}
+use Rattle.ada_program.specs.ProgramForm.{TypeForm, VariableForm, record_of, access_to}
 use Rattle.ada_program.specs.declared.program.VariableKind.{VariableKind}
+use Rattle.ada_program.specs.declared.program.VariableNo.{VariableNo}
 use Rattle.ada_program.specs.declared.program.VariableKind.TheVariants as variable
 use Rattle.ada_resolve.specs.declared.fault.NameRule.TheVariants.{WrongType, NotInProfile, NoInitialValue}
 use Rattle.ada_resolve.specs.declared.scope.Entity.{Entity}
 use Rattle.ada_resolve.specs.declared.scope.Entity.TheVariants as entity
-use Rattle.ada_resolve.specs.Known.{Known, declared, visible, missing, new_name_remark, library_remark, library_found, is_empty}
+use Rattle.ada_resolve.specs.Known.{Known, declared, visible, missing, new_name_remark, library_remark, library_found, is_empty, no_variable_yet}
 use Rattle.ada_resolve.specs.Library.{is_library_root}
 use Rattle.ada_resolve.specs.Remark.{Remark, fine, wrong, node, ◌also◌, wrong_if}
-use Rattle.ada_resolve.specs.Instances.{is_collected}
-use Rattle.ada_resolve.specs.Paths.{library_is_no_value}
+use Rattle.ada_resolve.specs.Instances.{is_collected, with_elaborated}
+use Rattle.ada_resolve.specs.Paths.{designated_of, library_is_no_value}
 use Rattle.ada_resolve.specs.Rights.{right_found, right_remark}
 
 -- What is wrong with an initial value, where one is written.
@@ -22,7 +23,7 @@ abbrev pub initial_remark : Known → Option VariableKind → Option RightTree �
 initial_remark known kind (Some right) = right_remark known kind right
 initial_remark known kind None = fine
 
--- The initial value; none where none is written or something is wrong.
+-- The initial value, or `None` where no value is written or something is wrong.
 abbrev pub initial_found : Known → Option VariableKind → Option RightTree → Option RightForm
 initial_found known kind (Some right) = right_found known kind right
 initial_found known kind None = None
@@ -90,29 +91,47 @@ collections_of t (record_of name parts ∷ types) elaborated = collections_of (t
 collections_of t (access_to name designated ∷ types) elaborated =
     if is_collected t elaborated then collections_of (t + 1) types elaborated else collects t ∷ collections_of (t + 1) types elaborated
 
--- What is known once the types end, at the first object or at `begin`: an access type without an instance has its collection created there.
+-- Whether the type of a number is an access type whose collection isn't created yet.
+abbrev pub lacks_collection : List TypeForm → List DeclarationForm → ℕ → Bool
+lacks_collection types elaborated t = is_some (designated_of types t) && not (is_collected t elaborated)
+
+-- The types of the innermost part.
+abbrev pub own_types : Known → List TypeForm
+own_types known = drop known.here.first_type known.types
+
+-- The collections that the types of the innermost part lack where they end.
+abbrev pub missing_collections : Known → List DeclarationForm
+missing_collections known = collections_of known.here.first_type (own_types known) known.here.elaborated
+
+-- What is known once the types of the innermost part end, at its first object or at its `begin`: an access type without an instance has its collection created there.
 abbrev pub ends_types : Bool → Known → Known
-ends_types true known = record known { elaborated = known.elaborated ++ collections_of 0 known.types known.elaborated }
+ends_types true known = with_elaborated (missing_collections known) known
 ends_types false known = known
 
 -- What is known once the types end, if they have not ended before.
 unfoldable pub after_types : Known → Known
-after_types known = ends_types (is_empty known.variables) known
+after_types known = ends_types (no_variable_yet known) known
 
 -- The initial value, null where none is written (3.10).
 abbrev pub initial_source : Option RightForm → RightForm
 initial_source (Some source) = source
 initial_source None = nothing
 
+-- The number of the next variable.
+abbrev pub next_variable : Known → VariableNo
+next_variable known = record { 0 = length known.variables }
+
+-- What is known once there is one more variable.
+abbrev pub with_variable : VariableForm → Known → Known
+with_variable variable known = record known { variables = known.variables ++ variable ∷ [] }
+
 -- After it the object is known, and is created with its initial value.
 abbrev pub object_created : Known → Ident → Option VariableKind → Option RightForm → Known
 object_created known name (Some kind) value =
     declared
-    (record known {
-      variables = known.variables ++ record { name = name.text; kind = kind } ∷ [];
-      elaborated = known.elaborated ++ declares (length known.variables) (initial_source value) ∷ [];
-    })
-    name.text (entity.Variable (record { 0 = length known.variables }) kind)
+    (with_elaborated (declares (length known.variables) (initial_source value) ∷ [])
+    (with_variable (record { name = name.text; kind = kind }) known))
+    name.text (entity.Variable (next_variable known) kind)
 object_created known name None value = known
 
 -- What is known after the declaration of an object.

@@ -1,14 +1,14 @@
 -- Operators: what each means with its operands, and what is wrong with these.
 
-use Rattle.std.specs.Prelude.{Bool, true, false, ◌||◌, if◌then◌else◌, pos}
+use Rattle.std.specs.Prelude.{Bool, true, false, pos}
 use Rattle.ada_text.specs.declared.spot.Spot.{Spot}
 use Rattle.ada_values.specs.declared.operator.UnaryOperator.{UnaryOperator}
 use Rattle.ada_values.specs.declared.operator.UnaryOperator.TheVariants as unary
 use Rattle.ada_values.specs.declared.operator.BinaryOperator.{BinaryOperator}
 use Rattle.ada_values.specs.declared.operator.BinaryOperator.TheVariants as binary
-use Rattle.ada_program.specs.Form.{ExpressionForm, integer, boolean, applied_to, chained, LinksForm, no_more_links, a_link}
-use Rattle.ada_resolve.specs.declared.fault.NameRule.TheVariants.{WrongType, NotInProfile}
-use Rattle.ada_resolve.specs.Remark.{Remark, fine, wrong, ◌also◌, wrong_if}
+use Rattle.ada_program.specs.Form.{ExpressionForm, integer, boolean, is_null, applied_to, chained, LinksForm, no_more_links, a_link}
+use Rattle.ada_resolve.specs.declared.fault.NameRule.TheVariants.{WrongType}
+use Rattle.ada_resolve.specs.Remark.{Remark, fine, wrong, ◌also◌}
 use Rattle.ada_resolve.specs.Paths.{Meant, boolean_value, integer_value, null_value, other_access, unknown, access_variable}
 
 -- The Integer of a meaning; 0 where it is none.
@@ -48,6 +48,7 @@ pub data Signature : Type 0 where
   -- `and` `or` `xor` `and then` `or else`: two Booleans give a Boolean
   logical : Signature
 
+-- The signature of each operator.
 abbrev pub signature_of : BinaryOperator → Signature
 signature_of binary.And = logical
 signature_of binary.Or = logical
@@ -67,13 +68,27 @@ signature_of binary.Divide = arithmetic
 signature_of binary.Modulo = arithmetic
 signature_of binary.Remainder = arithmetic
 
--- What an operator means with its operands.
+-- Whether an operator asks if two values are equal, or if they are not (4.5.2).
+abbrev pub asks_equal : BinaryOperator → Bool
+asks_equal binary.Equal = true
+asks_equal operator = false
+
+-- What an equality means: a value of an access type is compared with null alone (4.5.2).
+abbrev pub equality_meant : BinaryOperator → Meant → Meant → Meant
+equality_meant operator (access_variable path t) null_value = boolean_value (is_null (asks_equal operator) path)
+equality_meant operator (other_access path) null_value = boolean_value (is_null (asks_equal operator) path)
+equality_meant operator null_value (access_variable path t) = boolean_value (is_null (asks_equal operator) path)
+equality_meant operator null_value (other_access path) = boolean_value (is_null (asks_equal operator) path)
+equality_meant operator left right = boolean_value (joined (scalar_in left) operator (scalar_in right))
+
+-- What an operator of a signature means with its operands.
 abbrev pub binary_by : Signature → BinaryOperator → Meant → Meant → Meant
 binary_by arithmetic operator left right = integer_value (joined (integer_in left) operator (integer_in right))
 binary_by ordering operator left right = boolean_value (joined (integer_in left) operator (integer_in right))
-binary_by equality operator left right = boolean_value (joined (scalar_in left) operator (scalar_in right))
+binary_by equality operator left right = equality_meant operator left right
 binary_by logical operator left right = boolean_value (joined (boolean_in left) operator (boolean_in right))
 
+-- What an operator means, by its signature.
 abbrev pub binary_meant : BinaryOperator → Meant → Meant → Meant
 binary_meant operator left right = binary_by (signature_of operator) operator left right
 
@@ -95,32 +110,45 @@ boolean_wanted unknown spot = fine
 boolean_wanted (boolean_value e) spot = fine
 boolean_wanted other spot = wrong spot WrongType
 
--- Whether a value is of an access type.
-abbrev pub is_access_value : Meant → Bool
-is_access_value null_value = true
-is_access_value (access_variable path t) = true
-is_access_value other_access = true
-is_access_value other = false
+-- What can be compared for equality (4.5.2): an Integer, a Boolean, a value of an access type, or null, which is of all access types.
+pub data Comparable : Type 0 where
+  any_value : Comparable
+  an_integer : Comparable
+  a_boolean : Comparable
+  an_access : Comparable
+  the_null : Comparable
 
--- Whether the one is an Integer and the other a Boolean.
-abbrev pub are_apart : Meant → Meant → Bool
-are_apart (integer_value e) (boolean_value f) = true
-are_apart (boolean_value e) (integer_value f) = true
-are_apart left right = false
+abbrev pub comparable : Meant → Comparable
+comparable unknown = any_value
+comparable null_value = the_null
+comparable (access_variable path t) = an_access
+comparable (other_access path) = an_access
+comparable (integer_value e) = an_integer
+comparable (boolean_value e) = a_boolean
 
--- Operands of an equality are of one type; no comparison of access values is in the profile yet.
+-- Operands of an equality are of one type, and one of access values is null: where the left one is null, the right one has to be a value of an
+-- access type, and it is the left one that is wrong.
+abbrev pub compared_with : Comparable → Spot → Comparable → Spot → Remark
+compared_with any_value left_spot right right_spot = fine
+compared_with left left_spot any_value right_spot = fine
+compared_with the_null left_spot an_access right_spot = fine
+compared_with the_null left_spot right right_spot = wrong left_spot WrongType
+compared_with an_access left_spot the_null right_spot = fine
+compared_with an_integer left_spot an_integer right_spot = fine
+compared_with a_boolean left_spot a_boolean right_spot = fine
+compared_with left left_spot right right_spot = wrong right_spot WrongType
+
 abbrev pub equal_wanted : Meant → Spot → Meant → Spot → Remark
-equal_wanted left left_spot right right_spot =
-    if is_access_value left || is_access_value right then wrong left_spot NotInProfile
-    else wrong_if (are_apart left right) right_spot WrongType
+equal_wanted left left_spot right right_spot = compared_with (comparable left) left_spot (comparable right) right_spot
 
--- What is wrong with the operands of an operator, which begin here.
+-- What is wrong with the operands of an operator of a signature, and where each operand begins.
 abbrev pub operands_by : Signature → Meant → Spot → Meant → Spot → Remark
 operands_by arithmetic left left_spot right right_spot = integer_wanted left left_spot also integer_wanted right right_spot
 operands_by ordering left left_spot right right_spot = integer_wanted left left_spot also integer_wanted right right_spot
 operands_by equality left left_spot right right_spot = equal_wanted left left_spot right right_spot
 operands_by logical left left_spot right right_spot = boolean_wanted left left_spot also boolean_wanted right right_spot
 
+-- What is wrong with them, by the signature of the operator.
 abbrev pub operands_remark : BinaryOperator → Meant → Spot → Meant → Spot → Remark
 operands_remark operator left left_spot right right_spot = operands_by (signature_of operator) left left_spot right right_spot
 

@@ -1,6 +1,6 @@
 -- What paths mean where a value is wanted, and what is wrong with each.
 
-use Rattle.std.specs.Prelude.{ℕ, ◌+◌, Bool, false, ◌==◌, if◌then◌else◌, List, [], ◌∷◌, slice_get, Option, Some, None, bytes_eq}
+use Rattle.std.specs.Prelude.{ℕ, ◌+◌, Bool, false, ◌||◌, ◌==◌, if◌then◌else◌, List, [], ◌∷◌, slice_get, Option, Some, None, bytes_eq}
 use Rattle.ada_text.specs.declared.spot.Spot.{Spot}
 use Rattle.ada_tree.specs.Names.{Ident, SelectorTree, component, dereference, PathTree}
 use Rattle.ada_program.specs.Form.{PathForm, ExpressionForm, integer, boolean, reads}
@@ -15,7 +15,7 @@ use Rattle.ada_resolve.specs.declared.fault.NameRule.TheVariants.{WrongType, Not
 use Rattle.ada_resolve.specs.declared.library.LibraryName.{LibraryName}
 use Rattle.ada_resolve.specs.declared.scope.Entity.{Entity}
 use Rattle.ada_resolve.specs.declared.scope.Entity.TheVariants as entity
-use Rattle.ada_resolve.specs.Known.{Known, named, visible, missing, library_path_remark, library_path_found}
+use Rattle.ada_resolve.specs.Known.{Known, Part, named, parts, visible, missing, library_path_remark, library_path_found}
 use Rattle.ada_resolve.specs.Library.{is_library_root, no_component_rule}
 use Rattle.ada_resolve.specs.Remark.{Remark, fine, wrong, ◌also◌, wrong_if}
 
@@ -25,7 +25,7 @@ pub data Meant : Type 0 where
   unknown : Meant
   null_value : Meant
   access_variable : PathForm → TypeNo → Meant
-  other_access : Meant
+  other_access : PathForm → Meant
   integer_value : ExpressionForm → Meant
   boolean_value : ExpressionForm → Meant
 
@@ -53,7 +53,7 @@ designated_in (Some (access_to name designated)) = Some designated
 designated_in (Some (record_of name components)) = None
 designated_in None = None
 
--- The same by the access type's number.
+-- The type that the access type of a number designates.
 unfoldable pub designated_of : List TypeForm → ℕ → Option ℕ
 designated_of types access = designated_in (slice_get types access)
 
@@ -73,20 +73,25 @@ name_of_type (Some (record_of name components)) = Some name
 name_of_type (Some (access_to name designated)) = Some name
 name_of_type None = None
 
--- What the name of a type stands for.
-abbrev pub entity_of_type : Known → Option (List ℕ) → Option Entity
-entity_of_type known (Some name) = named name known.names
-entity_of_type known None = None
-
 -- Whether a name stands for this type, incomplete.
 abbrev pub is_incomplete_entity : ℕ → Option Entity → Bool
 is_incomplete_entity t (Some (entity.Incomplete u)) = u.0 == t
 is_incomplete_entity t (Some other) = false
 is_incomplete_entity t None = false
 
--- Whether a type is still incomplete (3.10.1): its name stands for it so.
+-- Whether a name stands for this type, incomplete, in one of these parts.
+abbrev pub is_incomplete_in : ℕ → List ℕ → List Part → Bool
+is_incomplete_in t name [] = false
+is_incomplete_in t name (part ∷ outer) = is_incomplete_entity t (named name part.names) || is_incomplete_in t name outer
+
+-- Whether a type of this name, if it has one, is incomplete in one of these parts.
+abbrev pub is_incomplete_named : ℕ → Option (List ℕ) → List Part → Bool
+is_incomplete_named t (Some name) parts = is_incomplete_in t name parts
+is_incomplete_named t None parts = false
+
+-- Whether a type is still incomplete (3.10.1): its name stands for it so, in the part that declares it.
 unfoldable pub is_incomplete_type : Known → ℕ → Bool
-is_incomplete_type known t = is_incomplete_entity t (entity_of_type known (name_of_type (slice_get known.types t)))
+is_incomplete_type known t = is_incomplete_named t (name_of_type (slice_get known.types t)) (parts known)
 
 -- The one component that is selected from what an access value designates, with or without `all` (4.1.3); none for other paths.
 abbrev pub selected : List SelectorTree → Option Ident
@@ -98,9 +103,9 @@ selected other = None
 abbrev pub component_found_meant : VariableNo → Spot → ℕ → ComponentKind → Meant
 component_found_meant x spot c (kind.Integer initial) = integer_value (reads (component_path x spot c))
 component_found_meant x spot c (kind.Boolean initial) = boolean_value (reads (component_path x spot c))
-component_found_meant x spot c (kind.Access t) = other_access
+component_found_meant x spot c (kind.Access t) = other_access (component_path x spot c)
 
--- The same, where it is found.
+-- What a selected component means, or unknown where the type has no such component.
 abbrev pub component_if : VariableNo → Spot → Option (ℕ × ComponentKind) → Meant
 component_if x spot (Some found) = component_found_meant x spot found.0 found.1
 component_if x spot None = unknown
@@ -136,11 +141,15 @@ entity_meant known (Some (entity.Number n)) spot [] = integer_value (integer n)
 entity_meant known (Some (entity.Truth b)) spot [] = boolean_value (boolean b)
 entity_meant known other spot selectors = unknown
 
+-- What a name means, with what is selected from it, where a value is wanted.
+abbrev pub named_meant : Known → Ident → List SelectorTree → Meant
+named_meant known name selectors = entity_meant known (visible known name.text) name.spot selectors
+
 -- What a path means, where a value is wanted.
 unfoldable pub path_meant : Known → PathTree → Meant
 path_meant known path =
     if is_library_root path.root.text then unknown
-    else entity_meant known (visible known path.root.text) path.root.spot path.selectors
+    else named_meant known path.root path.selectors
 
 -- A component of that name is wanted (4.1.3).
 abbrev pub component_wanted : Option (ℕ × ComponentKind) → Ident → Remark
@@ -179,6 +188,10 @@ value_wanted known (Some (entity.Truth b)) name [] = fine
 value_wanted known (Some other) name selectors = wrong name.spot WrongType
 value_wanted known None name selectors = missing None name
 
+-- What is wrong with a name and what is selected from it, where a value is wanted.
+abbrev pub named_remark : Known → Ident → List SelectorTree → Remark
+named_remark known name selectors = value_wanted known (visible known name.text) name selectors
+
 -- A name of the library stands for no value: it is of the wrong kind (8.6).
 abbrev pub library_is_no_value : Option LibraryName → Spot → Remark
 library_is_no_value (Some name) spot = wrong spot WrongType
@@ -189,4 +202,4 @@ unfoldable pub path_remark : Known → PathTree → Remark
 path_remark known path =
     if is_library_root path.root.text
     then library_path_remark known path also library_is_no_value (library_path_found known path) path.root.spot
-    else value_wanted known (visible known path.root.text) path.root path.selectors
+    else named_remark known path.root path.selectors

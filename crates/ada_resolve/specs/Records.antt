@@ -14,7 +14,7 @@ use Rattle.ada_resolve.specs.Known.{Known, declared, visible, missing, name_rema
 use Rattle.ada_resolve.specs.Library.{is_taken, is_primitive}
 use Rattle.ada_resolve.specs.Remark.{Remark, fine, wrong, node, ◌also◌, wrong_if}
 use Rattle.ada_resolve.specs.Statics.{static_remark, static_truth, static_truth_remark, static_value}
-use Rattle.ada_resolve.specs.Types.{completed, defined, new_unless, number_of}
+use Rattle.ada_resolve.specs.Types.{completed_type, defined, new_unless, number_of}
 
 -- An Integer component has an initial value, a static Integer (3.8; the profile wants one).
 abbrev pub integer_remark : Known → Ident → Option StaticTree → Remark
@@ -25,6 +25,14 @@ integer_remark known name None = wrong name.spot NoInitialValue
 abbrev pub boolean_remark : Known → Ident → Option StaticTree → Remark
 boolean_remark known name (Some value) = static_truth_remark known value
 boolean_remark known name None = wrong name.spot NoInitialValue
+
+-- What is wrong with the initial value of an Integer component.
+abbrev pub first_integer_remark : Known → ComponentTree → Remark
+first_integer_remark known c = integer_remark known c.name c.initial
+
+-- What is wrong with the initial value of a Boolean component.
+abbrev pub first_truth_remark : Known → ComponentTree → Remark
+first_truth_remark known c = boolean_remark known c.name c.initial
 
 -- What an Integer component holds at first.
 abbrev pub initial_value : Known → Option StaticTree → ℤ
@@ -45,9 +53,9 @@ no_value_remark known None = fine
 
 -- A component is an Integer, a Boolean or of an access type (3.8); record components are not in the profile yet.
 abbrev pub kind_wanted : Option Entity → Known → ComponentTree → Remark
-kind_wanted (Some entity.Integer) known c = integer_remark known c.name c.initial
+kind_wanted (Some entity.Integer) known c = first_integer_remark known c
 kind_wanted (Some (entity.Access t)) known c = no_value_remark known c.initial
-kind_wanted (Some entity.Boolean) known c = boolean_remark known c.name c.initial
+kind_wanted (Some entity.Boolean) known c = first_truth_remark known c
 kind_wanted (Some (entity.Record t)) known c = wrong c.type_name.spot NotInProfile
 kind_wanted (Some other) known c = wrong c.type_name.spot WrongType
 kind_wanted None known c = missing None c.type_name
@@ -60,6 +68,14 @@ kind_in (Some entity.Boolean) known initial = kind.Boolean (initial_truth known 
 kind_in (Some other) known initial = kind.Integer (pos 0)
 kind_in None known initial = kind.Integer (pos 0)
 
+-- What is wrong with what a component holds.
+abbrev pub kind_remark : Known → ComponentTree → Remark
+kind_remark known c = kind_wanted (visible known c.type_name.text) known c
+
+-- What a component holds, by its declaration.
+abbrev pub kind_of_component : Known → ComponentTree → ComponentKind
+kind_of_component known c = kind_in (visible known c.type_name.text) known c.initial
+
 -- Whether one of the components has the name.
 abbrev pub is_component : List ℕ → List ComponentForm → Bool
 is_component text [] = false
@@ -69,8 +85,8 @@ is_component text (c ∷ cs) = bytes_eq text c.name || is_component text cs
 abbrev pub most_components : ℕ
 most_components = 4096
 
--- What is wrong with a component, where so many stand before it, and where one of them may have its name: the name is predefined, or that of
--- one before it (8.3), or that of a primitive; there are too many; or what it holds is wrong.
+-- What is wrong with a component. The test says whether one before it has its name, and the count is how many stand before it. Its name is
+-- predefined, that of one before it (8.3) or that of a primitive; there are too many components; or what it holds is wrong.
 unfoldable pub component_remark : Known → Bool → ℕ → ComponentTree → Remark
 component_remark known is_named count c =
     node c.name.spot also
@@ -78,18 +94,26 @@ component_remark known is_named count c =
     wrong_if is_named c.name.spot DeclaredTwice also
     wrong_if (is_primitive c.name.text) c.name.spot NotInProfile also
     wrong_if (count == most_components) c.name.spot Limit also
-    kind_wanted (visible known c.type_name.text) known c
+    kind_remark known c
 
 -- The component.
 unfoldable pub component_meant : Known → ComponentTree → ComponentForm
-component_meant known c = record { name = c.name.text; kind = kind_in (visible known c.type_name.text) known c.initial }
+component_meant known c = record { name = c.name.text; kind = kind_of_component known c }
 
--- What is wrong with components, behind these, which are so many.
+-- What is wrong with a component behind others, whose number is the count.
+abbrev pub further_component_remark : Known → List ComponentForm → ℕ → ComponentTree → Remark
+further_component_remark known before count c = component_remark known (is_component c.name.text before) count c
+
+-- What is wrong with components behind others, whose number is the count.
 abbrev pub components_remark : Known → List ComponentForm → ℕ → List ComponentTree → Remark
 components_remark known before count [] = fine
 components_remark known before count (c ∷ cs) =
-    component_remark known (is_component c.name.text before) count c also
+    further_component_remark known before count c also
     components_remark known (before ++ component_meant known c ∷ []) (count + 1) cs
+
+-- What is wrong with all components of a record type.
+abbrev pub all_components_remark : Known → List ComponentTree → Remark
+all_components_remark known cs = components_remark known [] 0 cs
 
 -- The components that a record type is written with (3.8).
 abbrev pub components_written : RecordTree → List ComponentTree
@@ -101,12 +125,12 @@ components_written (components first rest) = first ∷ rest
 abbrev pub record_type_remark : Known → Spot → Ident → RecordTree → Remark
 record_type_remark known spot name definition =
     type_begins known spot also
-    new_unless (completed known name) (new_name_remark known name spot) also
-    components_remark known [] 0 (components_written definition)
+    new_unless (completed_type known name) (new_name_remark known name spot) also
+    all_components_remark known (components_written definition)
 
 -- After it the record type is known.
 abbrev pub record_type_known : Known → Ident → RecordTree → Known
 record_type_known known name definition =
     declared
-    (record known { types = defined (completed known name) (record_of name.text (map (component_meant known) (components_written definition))) known.types })
-    name.text (entity.Record (number_of (completed known name) known.types))
+    (record known { types = defined (completed_type known name) (record_of name.text (map (component_meant known) (components_written definition))) known.types })
+    name.text (entity.Record (number_of (completed_type known name) known.types))

@@ -28,7 +28,7 @@ abbrev pub access_wanted : TypeNo → Meant → Spot → Remark
 access_wanted access unknown spot = fine
 access_wanted access null_value spot = fine
 access_wanted access (access_variable path t) spot = wrong_if (not (access.0 == t.0)) spot WrongType
-access_wanted access other_access spot = wrong spot NotInProfile
+access_wanted access (other_access path) spot = wrong spot NotInProfile
 access_wanted access (integer_value e) spot = wrong spot WrongType
 access_wanted access (boolean_value e) spot = wrong spot WrongType
 
@@ -53,7 +53,7 @@ right_remark known kind (allocator_right spot handle type_name items) =
     access_object_wanted kind spot also allocator_remark known (access_kind kind) spot handle type_name items
 right_remark known kind (creation_right function argument) = wrong function.root.spot NotInProfile
 
--- What an expression assigns; none where something is wrong.
+-- What an expression assigns, or `None` where something is wrong.
 abbrev pub assigned : Meant → Option RightForm
 assigned null_value = Some nothing
 assigned (access_variable path t) = Some (value_of path)
@@ -61,7 +61,7 @@ assigned (integer_value e) = Some (computes e)
 assigned (boolean_value e) = Some (computes e)
 assigned other = None
 
--- What is assigned; none where something is wrong.
+-- What is assigned, or `None` where something is wrong.
 abbrev pub right_found : Known → Option VariableKind → RightTree → Option RightForm
 right_found known kind (expression_right e) = assigned (expression_meant known e)
 right_found known kind (allocator_right spot handle type_name items) = allocator_found known (access_kind kind) handle type_name items

@@ -1,11 +1,11 @@
 -- Statements: what is wrong with each, and what it does.
 
-use Rattle.std.specs.Prelude.{ℕ, if◌then◌else◌, List, [], ◌∷◌, ◌++◌, Option, Some, None}
+use Rattle.std.specs.Prelude.{ℕ, Bool, not, if◌then◌else◌, List, [], ◌∷◌, ◌++◌, Option, Some, None}
 use Rattle.ada_text.specs.declared.spot.Spot.{Spot}
 use Rattle.ada_tree.specs.Names.{Ident, PathTree}
-use Rattle.ada_tree.specs.Expressions.{RightTree, ArgumentTree, expression_argument, text_argument, attribute_argument}
-use Rattle.ada_tree.specs.Statements.{StatementTree, null_statement, assignment, call, StatementsTree, no_statements, a_statement}
-use Rattle.ada_program.specs.Form.{RightForm, StmtForm, skips, assigns}
+use Rattle.ada_tree.specs.Expressions.{ExpressionTree, RightTree, ArgumentTree, expression_argument, text_argument, attribute_argument}
+use Rattle.ada_tree.specs.Statements.{StatementTree, null_statement, assignment, call, if_statement, loop_statement, exit_statement, return_statement, raise_statement, block, declare_block, StatementsTree, no_statements, a_statement, BranchesTree, no_branches, a_branch, HandlersTree, no_handlers, a_handler}
+use Rattle.ada_program.specs.Form.{ExpressionForm, RightForm, StmtForm, skips, assigns, exits, returns}
 use Rattle.ada_program.specs.declared.program.VariableKind.{VariableKind}
 use Rattle.ada_program.specs.declared.program.VariableNo.{VariableNo}
 use Rattle.ada_resolve.specs.declared.fault.NameRule.TheVariants.{WrongType, NotInProfile}
@@ -13,9 +13,12 @@ use Rattle.ada_resolve.specs.declared.scope.Entity.{Entity}
 use Rattle.ada_resolve.specs.declared.scope.Entity.TheVariants as entity
 use Rattle.ada_resolve.specs.Known.{Known, visible, missing, is_empty}
 use Rattle.ada_resolve.specs.Paths.{variable_path}
-use Rattle.ada_resolve.specs.Remark.{Remark, fine, wrong, node, ◌also◌}
-use Rattle.ada_resolve.specs.Spots.{statement_spot}
+use Rattle.ada_resolve.specs.Remark.{Remark, fine, wrong, node, ◌also◌, wrong_if}
+use Rattle.ada_resolve.specs.Spots.{expression_spot, statement_spot}
+use Rattle.ada_resolve.specs.Expressions.{expression_meant, expression_remark}
+use Rattle.ada_resolve.specs.Operators.{boolean_in, boolean_wanted}
 use Rattle.ada_resolve.specs.Calls.{call_found, call_remark}
+use Rattle.ada_resolve.specs.Exceptions.{raise_found, raise_remark}
 use Rattle.ada_resolve.specs.Rights.{right_found, right_remark}
 
 -- The variable that a name stands for, and what it holds.
@@ -24,7 +27,7 @@ variable_in (Some (entity.Variable x kind)) = Some (x, kind)
 variable_in (Some other) = None
 variable_in None = None
 
--- The variable that is assigned to; none where something is wrong.
+-- The variable that is assigned to, or `None` where something is wrong.
 abbrev pub target_found : Known → Ident → Option (VariableNo × VariableKind)
 target_found known name = variable_in (visible known name.text)
 
@@ -43,39 +46,79 @@ abbrev pub kind_of_target : Option (VariableNo × VariableKind) → Option Varia
 kind_of_target (Some found) = Some found.1
 kind_of_target None = None
 
+-- What is wrong with a name that is assigned to, and with the value (5.2).
+abbrev pub named_assignment_remark : Known → Ident → RightTree → Remark
+named_assignment_remark known name value = target_remark known name also right_remark known (kind_of_target (target_found known name)) value
+
 -- What is wrong with `X := ..;` (5.2): a node of the source, a variable, and a value of its type.
 unfoldable pub assignment_remark : Known → PathTree → RightTree → Remark
 assignment_remark known target value =
     if is_empty target.selectors
-    then node target.root.spot also target_remark known target.root also
-    right_remark known (kind_of_target (target_found known target.root)) value
+    then node target.root.spot also named_assignment_remark known target.root value
     else wrong target.root.spot NotInProfile
 
--- The assignment of a value to a variable, which is named at the spot; none where either is not known.
+-- The assignment of a value to a variable, which is named at the spot, or `None` where either is not known.
 abbrev pub assignment_of : Spot → Option (VariableNo × VariableKind) → Option RightForm → Option StmtForm
 assignment_of spot (Some found) (Some value) = Some (assigns (variable_path found.0 spot) value)
 assignment_of spot (Some found) None = None
 assignment_of spot None value = None
 
--- What an assignment does; none where something is wrong.
+-- What an assignment to a name does, or `None` where something is wrong.
+abbrev pub named_assignment_found : Known → Ident → RightTree → Option StmtForm
+named_assignment_found known name value =
+    assignment_of name.spot (target_found known name) (right_found known (kind_of_target (target_found known name)) value)
+
+-- What an assignment does, or `None` where something is wrong.
 unfoldable pub assignment_found : Known → PathTree → RightTree → Option StmtForm
 assignment_found known target value =
     if is_empty target.selectors
-    then assignment_of target.root.spot (target_found known target.root) (right_found known (kind_of_target (target_found known target.root)) value)
+    then named_assignment_found known target.root value
     else None
 
--- What is wrong with a statement (5.1): no other is in the profile yet.
-abbrev pub statement_remark : Known → StatementTree → Remark
-statement_remark known (null_statement spot) = node spot
-statement_remark known (assignment target value) = assignment_remark known target value
-statement_remark known (call procedure arguments) = call_remark known procedure arguments
-statement_remark known other = wrong (statement_spot other) NotInProfile
+-- What is wrong with a condition (5.3): it is a Boolean.
+abbrev pub condition_remark : Known → ExpressionTree → Remark
+condition_remark known e = expression_remark known e also boolean_wanted (expression_meant known e) (expression_spot e)
 
--- What a statement does, where so many texts come before; none where something is wrong.
+-- What a condition means; False where something is wrong.
+abbrev pub condition_meant : Known → ExpressionTree → ExpressionForm
+condition_meant known e = boolean_in (expression_meant known e)
+
+-- The same of a condition that may be left out (5.7).
+abbrev pub optional_condition_remark : Known → Option ExpressionTree → Remark
+optional_condition_remark known None = fine
+optional_condition_remark known (Some e) = condition_remark known e
+
+abbrev pub optional_condition_meant : Known → Option ExpressionTree → Option ExpressionForm
+optional_condition_meant known None = None
+optional_condition_meant known (Some e) = Some (condition_meant known e)
+
+-- What is wrong with an exit (5.7): a node of the source, inside a loop, with a Boolean where a condition is written.
+abbrev pub exit_remark : Known → (inside_loop : Bool) → Spot → Option ExpressionTree → Remark
+exit_remark known inside_loop spot condition =
+    node spot also wrong_if (not inside_loop) spot NotInProfile also optional_condition_remark known condition
+
+-- What is wrong with a statement that has no others in it (5.1): no other is in the profile yet.
+abbrev pub statement_remark : Known → (inside_loop : Bool) → StatementTree → Remark
+statement_remark known inside_loop (null_statement spot) = node spot
+statement_remark known inside_loop (assignment target value) = assignment_remark known target value
+statement_remark known inside_loop (call procedure arguments) = call_remark known procedure arguments
+statement_remark known inside_loop (exit_statement spot condition) = exit_remark known inside_loop spot condition
+statement_remark known inside_loop (return_statement spot) = node spot
+statement_remark known inside_loop (raise_statement spot name) = raise_remark known spot name
+statement_remark known inside_loop other = wrong (statement_spot other) NotInProfile
+
+-- What an exit does.
+abbrev pub exit_found : Known → Spot → Option ExpressionTree → Option StmtForm
+exit_found known spot condition = Some (exits (optional_condition_meant known condition) spot)
+
+-- What such a statement does, where so many texts come before; none where something is wrong.
 abbrev pub statement_found : Known → ℕ → StatementTree → Option StmtForm
 statement_found known texts (null_statement spot) = Some skips
 statement_found known texts (assignment target value) = assignment_found known target value
 statement_found known texts (call procedure arguments) = call_found known texts procedure arguments
+statement_found known texts (exit_statement spot condition) = exit_found known spot condition
+statement_found known texts (return_statement spot) = Some (returns spot)
+statement_found known texts (raise_statement spot name) = raise_found known name
 statement_found known texts other = None
 
 -- The text that the first argument of a call is, if it is one.
@@ -85,15 +128,39 @@ text_in (text_argument spot text ∷ more) = text ∷ []
 text_in (expression_argument e ∷ more) = []
 text_in (attribute_argument prefix attribute value ∷ more) = []
 
--- The text that a statement writes, if it writes one.
-abbrev pub texts_in : StatementTree → List (List ℕ)
-texts_in (call procedure arguments) = text_in arguments
-texts_in other = []
+-- The text that a statement writes which has no others in it, if it writes one.
+abbrev pub simple_texts : StatementTree → List (List ℕ)
+simple_texts (call procedure arguments) = text_in arguments
+simple_texts other = []
 
--- The texts that statements write, in order.
-abbrev pub texts_of : StatementsTree → List (List ℕ)
-texts_of no_statements = []
-texts_of (a_statement statement statements) = texts_in statement ++ texts_of statements
+abbrev mutual
+  -- The texts that a statement writes, and those in it.
+  pub texts_in : StatementTree → List (List ℕ)
+  texts_in (null_statement spot) = []
+  texts_in (assignment target value) = []
+  texts_in (call procedure arguments) = text_in arguments
+  texts_in (if_statement spot branches others last) = texts_of_branches branches ++ texts_of others
+  texts_in (loop_statement spot scheme statements last) = texts_of statements
+  texts_in (exit_statement spot condition) = []
+  texts_in (return_statement spot) = []
+  texts_in (raise_statement spot name) = []
+  texts_in (block body) = []
+  texts_in (declare_block spot _ body) = []
+
+  -- The texts that statements write, in order.
+  pub texts_of : StatementsTree → List (List ℕ)
+  texts_of no_statements = []
+  texts_of (a_statement statement statements) = texts_in statement ++ texts_of statements
+
+  -- The texts that the statements of branches write, in order.
+  pub texts_of_branches : BranchesTree → List (List ℕ)
+  texts_of_branches no_branches = []
+  texts_of_branches (a_branch condition statements branches) = texts_of statements ++ texts_of_branches branches
+
+-- The texts that the statements of handlers write, in order.
+abbrev pub texts_of_handlers : HandlersTree → List (List ℕ)
+texts_of_handlers no_handlers = []
+texts_of_handlers (a_handler spot choices statements rest) = texts_of statements ++ texts_of_handlers rest
 
 -- A statement; nothing is done where something is wrong.
 abbrev pub form_or_null : Option StmtForm → StmtForm

@@ -40,11 +40,15 @@ number_wanted (Some (entity.Number n)) name = fine
 number_wanted (Some other) name = wrong name.spot WrongType
 number_wanted None name = missing None name
 
+-- What is wrong with a name where a number is wanted.
+abbrev pub number_name_remark : Known → Ident → Remark
+number_name_remark known name = number_wanted (visible known name.text) name
+
 -- What is wrong with a static Integer.
 abbrev pub static_remark : Known → StaticTree → Remark
 static_remark known (plain spot n) = fine
 static_remark known (minus spot n) = fine
-static_remark known (static_name name) = number_wanted (visible known name.text) name
+static_remark known (static_name name) = number_name_remark known name
 
 -- The truth value that a name stands for; False where it stands for none.
 abbrev pub truth_in : Option Entity → Bool
@@ -64,11 +68,15 @@ truth_wanted (Some (entity.Truth b)) name = fine
 truth_wanted (Some other) name = wrong name.spot WrongType
 truth_wanted None name = missing None name
 
+-- What is wrong with a name where True or False is wanted.
+abbrev pub truth_name_remark : Known → Ident → Remark
+truth_name_remark known name = truth_wanted (visible known name.text) name
+
 -- What is wrong with a static Boolean.
 abbrev pub static_truth_remark : Known → StaticTree → Remark
 static_truth_remark known (plain spot n) = wrong spot WrongType
 static_truth_remark known (minus spot n) = wrong spot WrongType
-static_truth_remark known (static_name name) = truth_wanted (visible known name.text) name
+static_truth_remark known (static_name name) = truth_name_remark known name
 
 -- `N : constant := 1;` (3.3.2): a node of the source before the objects, a new name, and a static Integer.
 abbrev pub constant_remark : Known → Ident → StaticTree → Remark

@@ -18,9 +18,9 @@ incomplete_of (Some (entity.Incomplete t)) = Some t
 incomplete_of (Some other) = None
 incomplete_of None = None
 
--- The incomplete type that a declaration of this name completes, if there is one.
-unfoldable pub completed : Known → Ident → Option TypeNo
-completed known name = incomplete_of (named name.text known.names)
+-- The incomplete type that a declaration of this name completes, if there is one: it is of the same part (3.10.1).
+unfoldable pub completed_type : Known → Ident → Option TypeNo
+completed_type known name = incomplete_of (named name.text known.here.names)
 
 -- The record type that a name stands for, complete or not (3.8, 3.10.1).
 abbrev pub record_in : Option Entity → Option TypeNo
@@ -29,7 +29,7 @@ record_in (Some (entity.Record t)) = Some t
 record_in (Some other) = None
 record_in None = None
 
--- The record type of a name; none where something is wrong.
+-- The record type of a name, or `None` where something is wrong.
 unfoldable pub record_found : Known → Ident → Option TypeNo
 record_found known name = record_in (visible known name.text)
 
@@ -70,6 +70,10 @@ abbrev pub defined : Option TypeNo → TypeForm → List TypeForm → List TypeF
 defined (Some t) form types = slice_set types t.0 form
 defined None form types = types ++ form ∷ []
 
+-- What is known once a declaration has defined its type: a new one, or the one that it completes.
+abbrev pub with_definition : Option TypeNo → TypeForm → Known → Known
+with_definition completes form known = record known { types = defined completes form known.types }
+
 -- A new name is wanted, except where an incomplete type is completed.
 abbrev pub new_unless : Option TypeNo → Remark → Remark
 new_unless (Some t) remark = fine
@@ -100,8 +104,8 @@ aspect_remark None = fine
 abbrev pub access_remark : Known → Spot → Ident → Ident → Option AspectTree → Remark
 access_remark known spot name designated aspect =
     type_begins known spot also
-    completion_remark (completed known name) known name designated also
-    new_unless (completed known name) (new_name_remark known name spot) also
+    completion_remark (completed_type known name) known name designated also
+    new_unless (completed_type known name) (new_name_remark known name spot) also
     record_remark known designated also
     aspect_remark aspect
 
@@ -114,4 +118,4 @@ access_defined known name completes None = known
 
 -- What is known after the declaration of an access type.
 abbrev pub access_known : Known → Ident → Ident → Known
-access_known known name designated = access_defined known name (completed known name) (record_found known designated)
+access_known known name designated = access_defined known name (completed_type known name) (record_found known designated)

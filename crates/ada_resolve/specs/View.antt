@@ -1,12 +1,18 @@
--- What the resolver's values stand for, and what it tells.
+-- What the values of the resolver stand for, and how its answers are tied to the definition.
 
-use Rattle.std.specs.Prelude.{◌≡◌, ℕ, List, map, Option, Some, None, Result, Ok, Err}
+use Rattle.std.specs.Prelude.{◌≡◌, ℕ, List, map, reverse, Option, Some, None, option_map, Result, Ok, Err}
 use Rattle.ada_tree.specs.Statements.{UnitTree}
-use Rattle.ada_program.specs.Form.{RightForm, StmtForm, ItemForm, path_form, expression_form, right_form, item_form, stmt_form, declaration_form}
+use Rattle.ada_program.specs.Form.{RightForm, StmtForm, StmtsForm, ItemForm, LinksForm, a_link, no_more_links, path_form, expression_form, right_form, item_form, stmt_form, stmts_form, branches_form, condition_form, BranchesForm, ExpressionForm, declaration_form, HandlersForm, handlers_form}
 use Rattle.ada_program.specs.ProgramForm.{variable_form}
 use Rattle.ada_program.specs.declared.program.Item.{Item}
+use Rattle.ada_program.specs.declared.program.Link.{Link}
 use Rattle.ada_program.specs.declared.program.Right.{Right}
+use Rattle.ada_program.specs.declared.program.Branch.{Branch}
+use Rattle.ada_program.specs.declared.program.Choice.{Choice}
+use Rattle.ada_program.specs.declared.program.Handler.{Handler}
+use Rattle.ada_program.specs.declared.program.Expression.{Expression}
 use Rattle.ada_program.specs.declared.program.Stmt.{Stmt}
+use Rattle.ada_program.specs.declared.program.TypeNo.{TypeNo}
 use Rattle.ada_text.specs.declared.spot.Spot.{Spot}
 use Rattle.ada_resolve.specs.declared.fault.NameFault.{NameFault}
 use Rattle.ada_resolve.specs.declared.fault.NameFault.TheVariants.{Broken, NoMemory}
@@ -16,29 +22,44 @@ use Rattle.ada_resolve.specs.declared.resolver.Resolver.{Resolver}
 use Rattle.ada_resolve.specs.declared.scope.Entity.{Entity}
 use Rattle.ada_resolve.specs.declared.meant.Meant.{Meant as MeantOf}
 use Rattle.ada_resolve.specs.declared.meant.Meant.TheVariants as meant
+use Rattle.ada_resolve.specs.declared.meant.Comparable.{Comparable as ComparableOf}
+use Rattle.ada_resolve.specs.declared.meant.Comparable.TheVariants as comparable
+use Rattle.ada_resolve.specs.Operators.{Comparable, any_value, an_integer, a_boolean, an_access, the_null}
 use Rattle.ada_resolve.specs.declared.items.Filling.{Filling as FillingOf}
+use Rattle.ada_resolve.specs.declared.part.Part.{Part as PartOf}
 use Rattle.ada_resolve.specs.Kept.{known_type_form}
-use Rattle.ada_resolve.specs.Known.{Known, Named}
+use Rattle.ada_resolve.specs.Known.{Known, Named, Part}
 use Rattle.ada_resolve.specs.Items.{Filling}
 use Rattle.ada_resolve.specs.declared.library.Withs.{Withs}
 use Rattle.std.specs.Global.{Vec}
+use Rattle.std.specs.String.{string_bytes}
 use denote.Ref.{Bor}
 use Rattle.ada_resolve.specs.Paths.{Meant, boolean_value, integer_value, null_value, other_access, unknown, access_variable}
-use Rattle.ada_resolve.specs.Resolution.{IsFirstNameFault, Told, broken, gives}
+use Rattle.ada_resolve.specs.Resolution.{IsFirstNameFault, Others, Told, broken, gives, made_into}
 
 -- An entry of the names.
 abbrev pub named_of : Bor (List ℕ) × Entity → Named
 named_of entry = record { text = entry.0.now; entity = entry.1 }
 
--- What a resolution in progress knows.
+-- A declarative part, as the code keeps it.
+unfoldable pub part_of : PartOf → Part
+part_of p = record {
+  names = map named_of p.names.entries;
+  first_type = p.first_type;
+  first_variable = p.first_variable;
+  elaborated = map declaration_form p.declarations.items;
+}
+
+-- What a resolution in progress knows: the code keeps the outer parts with the innermost last.
 unfoldable pub known_of : Resolver → Known
 known_of r = record {
   withs = r.withs;
   procedure = r.procedure.now;
-  names = map named_of r.names.entries;
+  here = part_of r.here;
+  outer = reverse (map part_of r.outer.items);
   types = map known_type_form r.types.items;
   variables = map variable_form r.variables.items;
-  elaborated = map declaration_form r.declarations.items;
+  exceptions = map string_bytes r.exceptions.items;
 }
 
 -- What an expression means, as the code keeps it.
@@ -46,9 +67,17 @@ abbrev pub meant_of : MeantOf → Meant
 meant_of meant.Unknown = unknown
 meant_of meant.Null = null_value
 meant_of (meant.Variable path access) = access_variable (path_form path) access
-meant_of meant.OtherAccess = other_access
+meant_of (meant.OtherAccess path) = other_access (path_form path)
 meant_of (meant.Integer e) = integer_value (expression_form e)
 meant_of (meant.Boolean e) = boolean_value (expression_form e)
+
+-- What can be compared, as the code tells it.
+abbrev pub comparable_of : ComparableOf → Comparable
+comparable_of comparable.AnyValue = any_value
+comparable_of comparable.Integer = an_integer
+comparable_of comparable.Boolean = a_boolean
+comparable_of comparable.Access = an_access
+comparable_of comparable.Null = the_null
 
 -- The item of a component, where it has one.
 abbrev pub item_in : Option Item → Option ItemForm
@@ -69,45 +98,84 @@ abbrev pub stmt_in : Option Stmt → Option StmtForm
 stmt_in (Some statement) = Some (stmt_form statement)
 stmt_in None = None
 
--- The fault that is answered is the first that is noted.
+-- The links of a chain of one operator.
+abbrev pub single_link : Link → LinksForm
+single_link link = a_link link.operator (expression_form link.operand) no_more_links
+
+-- The number of a type, where there is one.
+abbrev pub optional_number : Option TypeNo → Option ℕ
+optional_number t = option_map (λ (n : TypeNo). n.0) t
+
+-- The answered fault is the one that is noted first.
 abbrev pub Blames : NameFault → Option (Spot × NameRule) → Type 0
 Blames (Broken spot rule) fault = fault ≡ Some (spot, rule)
 Blames NoMemory fault = ⊥
 
--- What is answered tells whether a fault is noted.
+-- The call fails exactly where a fault is noted, and with that fault.
 abbrev pub Settles : {X : Type 0} → Result X NameFault → Option (Spot × NameRule) → Type 0
 Settles (Ok x) fault = fault ≡ None
 Settles (Err e) fault = Blames e fault
 
--- A fault that is answered is what comes first; of want of memory nothing is said.
+-- An answered fault is the outcome. Where memory ran out, nothing is said of the outcome.
 abbrev pub Refuses : {X : Type 0} → NameFault → Told X → Type 0
 Refuses (Broken spot rule) told = told ≡ broken spot rule
 Refuses NoMemory told = Unit {0}
 
--- What is answered, with the value after it, is what comes.
+-- The call succeeds exactly where the outcome is a value, and then this is the value; out of memory aside.
 abbrev pub Tells : {X Y : Type 0} → Result X NameFault → Y → Told Y → Type 0
 Tells (Ok x) y told = told ≡ gives y
 Tells (Err e) y told = Refuses e told
 
--- The value that is answered is what comes, in a view.
+-- The answer, its value seen through a view, is exactly the outcome, out of memory aside.
 abbrev pub Answers : {X Y : Type 0} → Result X NameFault → (X → Y) → Told Y → Type 0
 Answers (Ok x) view told = told ≡ gives (view x)
 Answers (Err e) view told = Refuses e told
 
--- The same with what is noted.
+-- The answer and the notes after the call are exactly the outcome, out of memory aside.
 abbrev pub AnswersWith : {X Y : Type 0} → Result X NameFault → (X → Y) → Notes → Told (Y × Notes) → Type 0
 AnswersWith (Ok x) view notes told = told ≡ gives (view x, notes)
 AnswersWith (Err e) view notes told = Refuses e told
 
 -- What the statements do.
-abbrev pub statements_in : Vec Stmt → List StmtForm
-statements_in statements = map stmt_form statements.items
+abbrev pub statements_in : Vec Stmt → StmtsForm
+statements_in statements = stmts_form statements.items
 
--- The library units as they are kept.
+-- A branch, and the condition of a loop where there is one.
+abbrev pub branch_form : Branch → ExpressionForm × StmtsForm
+branch_form b = (expression_form b.condition, stmts_form b.statements.items)
+
+abbrev pub condition_in : Option Expression → Option ExpressionForm
+condition_in condition = condition_form condition
+
+-- What the handlers do.
+abbrev pub handlers_in : Vec Handler → HandlersForm
+handlers_in handlers = handlers_form handlers.items
+
+-- The choices of a handler, and a handler with its statements.
+abbrev pub choices_in : Vec Choice → List Choice
+choices_in choices = choices.items
+
+abbrev pub handler_form : Handler → List Choice × StmtsForm
+handler_form h = (h.choices.items, stmts_form h.statements.items)
+
+-- The branches of an `if` are answered: whatever comes of the other statements behind them, they come first.
+abbrev pub AnswersBranches : Result (Vec Branch) NameFault → Notes → (texts : ℕ) → (Others → Told (BranchesForm × Notes)) → Type 0
+AnswersBranches (Ok made) notes texts told = (others : Others) → told others ≡ made_into (branches_form made.items) (others texts notes)
+AnswersBranches (Err e) notes texts told = (others : Others) → Refuses e (told others)
+
+-- A value as it is.
+abbrev pub itself : {X : Type 0} → X → X
+itself x = x
+
+-- The value of a part that only has to be without a fault.
+abbrev pub done : Unit {0}
+done = tt {0}
+
+-- The library units as they are: no view is needed.
 abbrev pub same_units : Withs → Withs
 same_units withs = withs
 
--- A fault that is answered is the tree's first.
+-- An answered fault is the first of the tree.
 abbrev pub Faults : NameFault → UnitTree → Type 0
 Faults (Broken spot rule) tree = IsFirstNameFault tree spot rule
 Faults NoMemory tree = Unit {0}

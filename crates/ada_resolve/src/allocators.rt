@@ -1,11 +1,12 @@
 //! Resolution of allocators (4.8).
 
-ghost use Rattle.std.specs.Prelude.{◌≡◌, IfOk, OnOk, IfErr};
+ghost use Rattle.std.specs.Prelude.{◌≡◌};
 ghost use Rattle.ada_tree.specs.ExpressionView.{items_of};
 ghost use Rattle.ada_tree.specs.Names.{ident_of, optional_ident_of};
-ghost use Rattle.ada_resolve.specs.Allocators.{aggregate_found, aggregate_remark, allocated_found, allocated_remark, designated_if_known, is_in_use};
-ghost use Rattle.ada_resolve.specs.Remark.{noted};
-ghost use Rattle.ada_resolve.specs.View.{known_of, right_in};
+ghost use Rattle.ada_resolve.specs.Allocators.{allocated_found, allocated_remark, designated_if_known, is_in_use};
+ghost use Rattle.ada_resolve.specs.Look.{Looks, aggregate_look};
+ghost use Rattle.ada_resolve.specs.Method.{known, IsNoted};
+ghost use Rattle.ada_resolve.specs.View.{right_in};
 
 use crate::fault::{NameFault, NameRule};
 use crate::items::names_component;
@@ -27,11 +28,9 @@ impl<'t> Resolver<'t> {
         access: Option<TypeNo>,
         notes: &mut Notes,
     ) -> Result<Option<program::Right>, NameFault>
-        ensures found { IfOk result (λ v. right_in v ≡ aggregate_found (known_of self.now) access (ident_of type_name.entry) (items_of items.now)) }
-        ensures remark { OnOk result (notes.new ≡ noted (aggregate_remark (known_of self.now) access spot (ident_of type_name.entry) (items_of items.now)) notes.old) }
-        ensures memory { IfErr result (λ e. e ≡ NameFault.NoMemory) }
+        ensures { Looks right_in result notes (aggregate_look self access spot type_name.entry items.now) }
     {
-        let found = self.allocated(spot, type_name, access, notes);
+        let found = self.allocated_type(spot, type_name, access, notes);
         let filling = self.items(items, found, notes)?;
         filling.all_given(names_component(items), type_name.spot, notes);
         match found {
@@ -45,15 +44,15 @@ impl<'t> Resolver<'t> {
 
     /// The complete record type that an allocator names and the access type designates.
     #[tactic(auto, unfolding(crate::specs::Allocators::allocated_found, crate::specs::Allocators::allocated_remark))]
-    fn allocated(
+    fn allocated_type(
         &self,
         spot: Spot,
         name: Identifier<'t>,
         access: Option<TypeNo>,
         notes: &mut Notes,
     ) -> Option<TypeNo>
-        ensures found { result ≡ allocated_found (known_of self.now) (ident_of name.entry) }
-        ensures remark { notes.new ≡ noted (allocated_remark (known_of self.now) access spot (ident_of name.entry)) notes.old }
+        ensures found { result ≡ allocated_found (known self) (ident_of name.entry) }
+        ensures remark { IsNoted notes (allocated_remark (known self) access spot (ident_of name.entry)) }
     {
         match self.lookup(name, notes) {
             Some(Entity::Record(number)) => {
@@ -74,7 +73,7 @@ impl<'t> Resolver<'t> {
 
     /// Whether the access type designates a record type, where it is known.
     fn designated_if_known(&self, access: Option<TypeNo>, number: TypeNo) -> bool
-        ensures { result ≡ designated_if_known (known_of self.now).types access number }
+        ensures { result ≡ designated_if_known (known self).types access number }
     {
         match access {
             Some(access) => self.designates(access, number),

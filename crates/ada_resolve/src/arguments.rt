@@ -1,14 +1,11 @@
 //! Resolution of the arguments of a call, whatever they are for (6.4).
 
-ghost use Rattle.std.specs.Prelude.{◌≡◌, map, IfOk, OnOk, IfErr};
-ghost use Rattle.ada_tree.specs.ExpressionView.{expression_of, argument_of};
-ghost use Rattle.ada_tree.specs.Names.{ident_of};
+ghost use Rattle.std.specs.Prelude.{◌≡◌, map, IfErr};
+ghost use Rattle.ada_tree.specs.ExpressionView.{argument_of};
 ghost use Rattle.ada_program.specs.Form.{expression_form};
-ghost use Rattle.ada_resolve.specs.Arguments.{argument_remark, arguments_remark, image_remark, image_value_remark, none_wanted};
-ghost use Rattle.ada_resolve.specs.Expressions.{expression_meant, expression_remark};
-ghost use Rattle.ada_resolve.specs.Operators.{integer_in};
-ghost use Rattle.ada_resolve.specs.Remark.{noted};
-ghost use Rattle.ada_resolve.specs.View.{known_of};
+ghost use Rattle.ada_resolve.specs.Arguments.{none_wanted};
+ghost use Rattle.ada_resolve.specs.Look.{Looks, image_look, expression_look};
+ghost use Rattle.ada_resolve.specs.Method.{IsNoted, Remarks, attribute_remark, remark_of_argument, remark_of_arguments};
 
 use crate::fault::{NameFault, NameRule};
 use crate::notes::Notes;
@@ -26,7 +23,7 @@ impl<'t> Resolver<'t> {
         arguments: &[Argument<'t>],
         notes: &mut Notes,
     ) -> Result<(), NameFault>
-        ensures remark { OnOk result (notes.new ≡ noted (arguments_remark (known_of self.now) (map argument_of arguments.now)) notes.old) }
+        ensures remark { Remarks result notes (remark_of_arguments self arguments.now) }
         ensures memory { IfErr result (λ e. e ≡ NameFault.NoMemory) }
     {
         for argument in arguments {
@@ -41,7 +38,7 @@ impl<'t> Resolver<'t> {
         argument: &Argument<'t>,
         notes: &mut Notes,
     ) -> Result<(), NameFault>
-        ensures remark { OnOk result (notes.new ≡ noted (argument_remark (known_of self.now) (argument_of argument.now)) notes.old) }
+        ensures remark { Remarks result notes (remark_of_argument self argument.now) }
         ensures memory { IfErr result (λ e. e ≡ NameFault.NoMemory) }
     {
         match argument {
@@ -64,7 +61,7 @@ impl<'t> Resolver<'t> {
         expression: &Expression<'t>,
         notes: &mut Notes,
     ) -> Result<(), NameFault>
-        ensures remark { OnOk result (notes.new ≡ noted (expression_remark (known_of self.now) (expression_of expression.now)) notes.old) }
+        ensures remark { Remarks result notes (expression_look self expression.now).remark }
         ensures memory { IfErr result (λ e. e ≡ NameFault.NoMemory) }
     {
         let _meant = self.expression(expression, notes)?;
@@ -80,9 +77,7 @@ impl<'t> Resolver<'t> {
         value: &Expression<'t>,
         notes: &mut Notes,
     ) -> Result<program::Expression, NameFault>
-        ensures found { IfOk result (λ e. expression_form e ≡ integer_in (expression_meant (known_of self.now) (expression_of value.now))) }
-        ensures remark { OnOk result (notes.new ≡ noted (image_value_remark (known_of self.now) (ident_of prefix.entry) (ident_of attribute.entry) (expression_of value.now)) notes.old) }
-        ensures memory { IfErr result (λ e. e ≡ NameFault.NoMemory) }
+        ensures { Looks expression_form result notes (image_look self prefix.entry attribute.entry value.now) }
     {
         self.image(prefix, attribute, notes);
         let meant = self.expression(value, notes)?;
@@ -93,7 +88,7 @@ impl<'t> Resolver<'t> {
     /// The attribute is `Integer'Image` (3.5).
     #[tactic(auto, unfolding(crate::specs::Arguments::image_remark))]
     fn image(&self, prefix: Identifier<'t>, attribute: Identifier<'t>, notes: &mut Notes)
-        ensures { notes.new ≡ noted (image_remark (known_of self.now) (ident_of prefix.entry) (ident_of attribute.entry)) notes.old }
+        ensures { IsNoted notes (attribute_remark self prefix.entry attribute.entry) }
     {
         match self.lookup(prefix, notes) {
             Some(Entity::Integer) => notes.note_if(
@@ -108,7 +103,7 @@ impl<'t> Resolver<'t> {
 
 /// One argument is wanted (6.4): behind it the first is one too many.
 pub(crate) fn none_wanted(arguments: &[Argument<'_>], notes: &mut Notes)
-    ensures { notes.new ≡ noted (none_wanted (map argument_of arguments.now)) notes.old }
+    ensures { IsNoted notes (none_wanted (map argument_of arguments.now)) }
 {
     if let Some(argument) = arguments.first() {
         notes.note(argument_spot(argument), NameRule::WrongType);

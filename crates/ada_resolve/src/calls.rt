@@ -1,15 +1,13 @@
 //! Resolution of calls: of instances of Unchecked_Deallocation, and of the library's procedures (6.4, 13.11.2).
 
-ghost use Rattle.std.specs.Prelude.{◌≡◌, map, IfOk, OnOk, IfErr};
-ghost use Rattle.ada_tree.specs.Expressions.{expression_argument};
-ghost use Rattle.ada_tree.specs.ExpressionView.{expression_of, argument_of};
-ghost use Rattle.ada_tree.specs.Names.{ident_of, path_of};
-ghost use Rattle.ada_resolve.specs.Calls.{freed_wanted, freeing, actual_remark, actual_found, free_remark, free_found, library_call_remark, library_call_found, own_call_remark, own_call_found, call_remark, call_found};
-ghost use Rattle.ada_resolve.specs.Expressions.{expression_remark};
-ghost use Rattle.ada_resolve.specs.Known.{visible};
-ghost use Rattle.ada_resolve.specs.Remark.{wrong, noted};
-ghost use Rattle.ada_resolve.specs.Spots.{expression_spot};
-ghost use Rattle.ada_resolve.specs.View.{known_of, stmt_in, meant_of};
+ghost use Rattle.std.specs.Prelude.{◌≡◌, IfErr};
+ghost use Rattle.ada_tree.specs.ExpressionView.{expression_of};
+ghost use Rattle.ada_program.specs.Form.{expression_form};
+ghost use Rattle.ada_resolve.specs.Calls.{actual_wanted, freed_wanted, freeing, getting, got_wanted, no_path_remark, taking};
+ghost use Rattle.ada_resolve.specs.Look.{Looks, actual_look, call_look, library_call_look, named_call_look, actual_value_look, taker_look};
+ghost use Rattle.ada_resolve.specs.Method.{known, IsNoted, Remarks};
+ghost use Rattle.ada_resolve.specs.Paths.{integer_value};
+ghost use Rattle.ada_resolve.specs.View.{stmt_in, meant_of};
 
 use crate::arguments::none_wanted;
 use crate::fault::{NameFault, NameRule};
@@ -19,13 +17,22 @@ use crate::notes::Notes;
 use crate::resolver::Resolver;
 use crate::scope::Entity;
 use crate::spots::{argument_spot, expression_spot};
-use ada_program::program::{Stmt, TextNo};
+use ada_program::program::{self, Stmt, TextNo};
 use ada_program::{Spot, TypeNo};
 use ada_tree::expressions::{Argument, Expression};
 use ada_tree::names::{Identifier, Path};
 
+/// A procedure whose one actual is a variable (6.4.1).
+#[derive(Clone, Copy)]
+pub(crate) enum Callee {
+    /// An instance of Unchecked_Deallocation for an access type (13.11.2).
+    Free(TypeNo),
+    /// `Run_Input.Get`
+    Get,
+}
+
 impl<'t> Resolver<'t> {
-    /// `P (..);` (6.4): an instance of Unchecked_Deallocation, or Put_Line. A text that it writes has this number.
+    /// `P (..);` (6.4): an instance of Unchecked_Deallocation, Get, or Put_Line. A text that it writes has this number.
     pub(crate) fn call(
         &self,
         procedure: &Path<'t>,
@@ -33,9 +40,7 @@ impl<'t> Resolver<'t> {
         text: TextNo,
         notes: &mut Notes,
     ) -> Result<Option<Stmt>, NameFault>
-        ensures found { IfOk result (λ s. stmt_in s ≡ call_found (known_of self.now) text.0 (path_of procedure.now) (map argument_of arguments.now)) }
-        ensures remark { OnOk result (notes.new ≡ noted (call_remark (known_of self.now) (path_of procedure.now) (map argument_of arguments.now)) notes.old) }
-        ensures memory { IfErr result (λ e. e ≡ NameFault.NoMemory) }
+        ensures { Looks stmt_in result notes (call_look self text.0 procedure.now arguments.now) }
     {
         let root = procedure.root;
         notes.node(root.spot);
@@ -55,12 +60,11 @@ impl<'t> Resolver<'t> {
         text: TextNo,
         notes: &mut Notes,
     ) -> Result<Option<Stmt>, NameFault>
-        ensures found { IfOk result (λ s. stmt_in s ≡ library_call_found found (known_of self.now) text.0 (map argument_of arguments.now)) }
-        ensures remark { OnOk result (notes.new ≡ noted (library_call_remark found (known_of self.now) called (map argument_of arguments.now)) notes.old) }
-        ensures memory { IfErr result (λ e. e ≡ NameFault.NoMemory) }
+        ensures { Looks stmt_in result notes (library_call_look self found text.0 called arguments.now) }
     {
         match found {
             Some(LibraryName::PutLine) => self.put_line(called, arguments, text, notes),
+            Some(LibraryName::Get) => self.taker(Callee::Get, called, arguments, notes),
             Some(_) => {
                 notes.note(called, NameRule::WrongType);
                 Ok(None)
@@ -77,13 +81,11 @@ impl<'t> Resolver<'t> {
         arguments: &[Argument<'t>],
         notes: &mut Notes,
     ) -> Result<Option<Stmt>, NameFault>
-        ensures found { IfOk result (λ s. stmt_in s ≡ own_call_found (visible (known_of self.now) name.entry.text.now) alone (known_of self.now) (map argument_of arguments.now)) }
-        ensures remark { OnOk result (notes.new ≡ noted (own_call_remark (visible (known_of self.now) name.entry.text.now) alone (known_of self.now) (ident_of name.entry) (map argument_of arguments.now)) notes.old) }
-        ensures memory { IfErr result (λ e. e ≡ NameFault.NoMemory) }
+        ensures { Looks stmt_in result notes (named_call_look self name.entry alone arguments.now) }
     {
         match self.lookup(name, notes) {
             Some(Entity::Instance(access)) if alone => {
-                self.free(access, name.spot, arguments, notes)
+                self.taker(Callee::Free(access), name.spot, arguments, notes)
             }
             Some(Entity::Procedure) if alone => {
                 notes.note(name.spot, NameRule::NotInProfile);
@@ -97,42 +99,38 @@ impl<'t> Resolver<'t> {
         }
     }
 
-    /// `Free (X);` (13.11.2)
-    #[tactic(auto, unfolding(crate::specs::Calls::free_found, crate::specs::Calls::free_remark))]
-    fn free(
+    /// `Free (X);` (13.11.2) or `Run_Input.Get (X);`
+    #[tactic(auto, unfolding(crate::specs::Calls::taker_found, crate::specs::Calls::taker_remark))]
+    fn taker(
         &self,
-        access: TypeNo,
+        callee: Callee,
         called: Spot,
         arguments: &[Argument<'t>],
         notes: &mut Notes,
     ) -> Result<Option<Stmt>, NameFault>
-        ensures found { IfOk result (λ s. stmt_in s ≡ free_found (known_of self.now) access (map argument_of arguments.now)) }
-        ensures remark { OnOk result (notes.new ≡ noted (free_remark (known_of self.now) access called (map argument_of arguments.now)) notes.old) }
-        ensures memory { IfErr result (λ e. e ≡ NameFault.NoMemory) }
+        ensures { Looks stmt_in result notes (taker_look self callee called arguments.now) }
     {
         let Some((argument, more)) = arguments.split_first() else {
             notes.note(called, NameRule::WrongType);
             return Ok(None);
         };
-        let done = self.actual(access, argument, notes)?;
+        let done = self.actual(callee, argument, notes)?;
         none_wanted(more, notes);
         self.arguments(more, notes)?;
         Ok(done)
     }
 
-    /// The actual of an instance is an expression.
+    /// The actual of such a procedure is an expression.
     fn actual(
         &self,
-        access: TypeNo,
+        callee: Callee,
         argument: &Argument<'t>,
         notes: &mut Notes,
     ) -> Result<Option<Stmt>, NameFault>
-        ensures found { IfOk result (λ s. stmt_in s ≡ actual_found (known_of self.now) access (argument_of argument.now)) }
-        ensures remark { OnOk result (notes.new ≡ noted (actual_remark (known_of self.now) access (argument_of argument.now)) notes.old) }
-        ensures memory { IfErr result (λ e. e ≡ NameFault.NoMemory) }
+        ensures { Looks stmt_in result notes (actual_look self callee argument.now) }
     {
         match argument {
-            Argument::Expression(value) => self.actual_value(access, value, notes),
+            Argument::Expression(value) => self.actual_value(callee, value, notes),
             Argument::Text { .. } | Argument::Attribute { .. } => {
                 notes.note(argument_spot(argument), NameRule::WrongType);
                 self.argument(argument, notes)?;
@@ -145,23 +143,21 @@ impl<'t> Resolver<'t> {
     #[tactic(auto, using(std::proofs::lemmas::Grind::common_steps, ada_tree::specs::ExpressionView::tree_rules, crate::proofs::Actuals::linked_found, crate::proofs::Actuals::linked_remark), unfolding(crate::specs::Expressions::expression_remark))]
     fn actual_value(
         &self,
-        access: TypeNo,
+        callee: Callee,
         value: &Expression<'t>,
         notes: &mut Notes,
     ) -> Result<Option<Stmt>, NameFault>
-        ensures found { IfOk result (λ s. stmt_in s ≡ actual_found (known_of self.now) access (expression_argument (expression_of value.now))) }
-        ensures remark { OnOk result (notes.new ≡ noted (actual_remark (known_of self.now) access (expression_argument (expression_of value.now))) notes.old) }
-        ensures memory { IfErr result (λ e. e ≡ NameFault.NoMemory) }
+        ensures { Looks stmt_in result notes (actual_value_look self callee value.now) }
     {
         match value {
             Expression::Path(path) => {
                 let spot = path.root.spot;
                 notes.node(spot);
                 let meant = self.path(path, notes)?;
-                Ok(freed(access, meant, spot, notes))
+                Ok(taking(callee, meant, spot, notes))
             }
             Expression::Chain { first, links } if links.is_empty() => {
-                self.actual_value(access, first, notes)
+                self.actual_value(callee, first, notes)
             }
             Expression::Number { .. }
             | Expression::Null(_)
@@ -177,7 +173,7 @@ impl<'t> Resolver<'t> {
 
     /// An expression that is no path is of the wrong kind.
     fn no_path(&self, value: &Expression<'t>, notes: &mut Notes) -> Result<(), NameFault>
-        ensures remark { OnOk result (notes.new ≡ noted (expression_remark (known_of self.now) (expression_of value.now)) (noted (wrong (expression_spot (expression_of value.now)) NameRule.WrongType) notes.old)) }
+        ensures remark { Remarks result notes (no_path_remark (known self) (expression_of value.now)) }
         ensures memory { IfErr result (λ e. e ≡ NameFault.NoMemory) }
     {
         notes.note(expression_spot(value), NameRule::WrongType);
@@ -185,10 +181,59 @@ impl<'t> Resolver<'t> {
     }
 }
 
+/// What a procedure does with its one actual.
+fn taking(callee: Callee, meant: Meant, spot: Spot, notes: &mut Notes) -> Option<Stmt>
+    ensures found { stmt_in result ≡ taking callee (meant_of meant) }
+    ensures remark { IsNoted notes (actual_wanted callee (meant_of meant) spot) }
+{
+    match callee {
+        Callee::Free(access) => freeing(access, meant, spot, notes),
+        Callee::Get => getting(meant, spot, notes),
+    }
+}
+
+/// The next number of the input goes to an Integer.
+fn getting(meant: Meant, spot: Spot, notes: &mut Notes) -> Option<Stmt>
+    ensures found { stmt_in result ≡ getting (meant_of meant) }
+    ensures remark { IsNoted notes (got_wanted (meant_of meant) spot) }
+{
+    match meant {
+        Meant::Unknown => None,
+        Meant::Integer(value) => getting_integer(value, spot, notes),
+        Meant::Null | Meant::Variable(_, _) | Meant::OtherAccess(_) | Meant::Boolean(_) => {
+            notes.note(spot, NameRule::WrongType);
+            None
+        }
+    }
+}
+
+/// The Integer is a variable: no component is in use where a number of the input goes.
+#[tactic(auto, using(std::proofs::lemmas::Grind::common_steps, ada_program::specs::Form::statement_rules, ada_program::specs::Form::expression_rules))]
+fn getting_integer(value: program::Expression, spot: Spot, notes: &mut Notes) -> Option<Stmt>
+    ensures found { stmt_in result ≡ getting (integer_value (expression_form value)) }
+    ensures remark { IsNoted notes (got_wanted (integer_value (expression_form value)) spot) }
+{
+    match value {
+        program::Expression::Path(path) => {
+            notes.note_if(!path.selectors.is_empty(), spot, NameRule::NotInProfile);
+            Some(Stmt::Get(path))
+        }
+        program::Expression::Integer(_)
+        | program::Expression::Boolean(_)
+        | program::Expression::NullTest { .. }
+        | program::Expression::Unary { .. }
+        | program::Expression::Chain { .. } => {
+            notes.note(spot, NameRule::WrongType);
+            None
+        }
+    }
+}
+
 /// What is freed: what a variable of the instance's access type gives access to.
-fn freed(access: TypeNo, meant: Meant, spot: Spot, notes: &mut Notes) -> Option<Stmt>
+#[tactic(auto, using(std::proofs::lemmas::Grind::common_steps, ada_program::specs::Form::statement_rules))]
+fn freeing(access: TypeNo, meant: Meant, spot: Spot, notes: &mut Notes) -> Option<Stmt>
     ensures found { stmt_in result ≡ freeing access (meant_of meant) }
-    ensures remark { notes.new ≡ noted (freed_wanted access (meant_of meant) spot) notes.old }
+    ensures remark { IsNoted notes (freed_wanted access (meant_of meant) spot) }
 {
     match meant {
         Meant::Unknown => None,
@@ -196,7 +241,7 @@ fn freed(access: TypeNo, meant: Meant, spot: Spot, notes: &mut Notes) -> Option<
             notes.note_if(found.0 != access.0, spot, NameRule::WrongType);
             Some(Stmt::Free { access, variable })
         }
-        Meant::OtherAccess => {
+        Meant::OtherAccess(_) => {
             notes.note(spot, NameRule::NotInProfile);
             None
         }

@@ -1,8 +1,9 @@
 //! Types as they are kept while names are looked up: components are found by their names.
 
-ghost use Rattle.std.specs.Prelude.{◌≡◌, map, length, slice_get, [], IfOk, OnOk, IfErr};
+ghost use Rattle.std.specs.Prelude.{◌≡◌, map, length, slice_get, [], OnOk, IfErr};
 ghost use Rattle.ada_program.specs.ProgramForm.{component_form, type_form};
-ghost use Rattle.ada_resolve.specs.Kept.{forms_of, known_type_form, with_component};
+ghost use Rattle.ada_resolve.specs.Kept.{forms_of, known_type_form};
+ghost use Rattle.ada_resolve.specs.Method.{Finds, AddsComponent, each};
 ghost use Rattle.ada_resolve.specs.Paths.{component_at, component_named};
 ghost use Rattle.ada_resolve.specs.Records.{is_component};
 
@@ -84,7 +85,7 @@ impl<'t> Components<'t> {
     /// One more component.
     #[tactic(auto, unfolding(crate::specs::Kept::forms_of), using(crate::proofs::ComponentLists::with_component_map))]
     pub(crate) fn add(&mut self, name: &'t str, kind: ComponentKind) -> Result<(), NameFault>
-        ensures added { OnOk result (forms_of self.new ≡ with_component (record { name = name.now; kind = kind }) (forms_of self.old)) }
+        ensures added { OnOk result (AddsComponent self (record { name = name.now; kind = kind })) }
         ensures memory { IfErr result (λ e. e ≡ NameFault.NoMemory) }
     {
         self.entries.insert(name, kind)?;
@@ -94,7 +95,7 @@ impl<'t> Components<'t> {
     /// The components as a program has them.
     #[tactic(auto, unfolding(crate::specs::Kept::forms_of))]
     fn definitions(&self, alloc: Global) -> Result<Vec<Component>, NameFault>
-        ensures same { IfOk result (λ v. map component_form v.items ≡ forms_of self.now) }
+        ensures components { Finds (each component_form) result (forms_of self.now) }
         ensures memory { IfErr result (λ e. e ≡ NameFault.NoMemory) }
     {
         let mut components = Vec::new(alloc);
@@ -109,7 +110,7 @@ impl<'t> Components<'t> {
 impl<'t> KnownType<'t> {
     /// The type as a program has it.
     fn definition(&self, alloc: Global) -> Result<TypeDefinition, NameFault>
-        ensures same { IfOk result (λ d. type_form d ≡ known_type_form self.now) }
+        ensures definition { Finds type_form result (known_type_form self.now) }
         ensures memory { IfErr result (λ e. e ≡ NameFault.NoMemory) }
     {
         match self {
@@ -130,7 +131,7 @@ pub(crate) fn definitions(
     alloc: Global,
     types: &[KnownType<'_>],
 ) -> Result<Vec<TypeDefinition>, NameFault>
-    ensures same { IfOk result (λ v. map type_form v.items ≡ map known_type_form types.now) }
+    ensures definitions { Finds (each type_form) result (map known_type_form types.now) }
     ensures memory { IfErr result (λ e. e ≡ NameFault.NoMemory) }
 {
     let mut made = Vec::new(alloc);

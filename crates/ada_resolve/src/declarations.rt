@@ -2,17 +2,14 @@
 
 ghost use Rattle.std.specs.Prelude.{◌≡◌, map};
 ghost use Rattle.ada_tree.specs.StatementView.{declaration_of, declarations_of};
-ghost use Rattle.ada_resolve.specs.Known.{Named};
-ghost use Rattle.ada_resolve.specs.Resolution.{declaration_told, declarations_told, some_incomplete, entity_in, is_incomplete, begin_remark, at_begin};
-ghost use Rattle.ada_resolve.specs.Remark.{wrong, noted};
-ghost use Rattle.ada_resolve.specs.Spots.{declaration_spot};
-ghost use Rattle.ada_resolve.specs.View.{known_of, named_of, Tells, Settles};
+ghost use Rattle.ada_resolve.specs.Method.{known, IsNoted, Takes};
+ghost use Rattle.ada_resolve.specs.Resolution.{declaration_told, declarations_told, some_incomplete, entity_in, at_begin, unused_remark};
+ghost use Rattle.ada_resolve.specs.View.{Settles};
 
 use crate::fault::{NameFault, NameRule};
 use crate::instances::Instance;
 use crate::notes::Notes;
 use crate::resolver::Resolver;
-use crate::scope::Entity;
 use crate::spots::declaration_spot;
 use ada_program::Spot;
 use ada_tree::declarations::Declaration;
@@ -24,7 +21,7 @@ impl<'t> Resolver<'t> {
         declarations: &[Declaration<'t>],
         notes: &mut Notes,
     ) -> Result<(), NameFault>
-        ensures { Tells result (known_of self.new, notes.new) (declarations_told (declarations_of declarations.now) (known_of self.old, notes.old)) }
+        ensures { Takes result self notes (declarations_told (declarations_of declarations.now)) }
     {
         for one in declarations {
             self.declaration(one, notes)?;
@@ -39,7 +36,7 @@ impl<'t> Resolver<'t> {
         declaration: &Declaration<'t>,
         notes: &mut Notes,
     ) -> Result<(), NameFault>
-        ensures { Tells result (known_of self.new, notes.new) (declaration_told (known_of self.old, notes.old) (declaration_of declaration.now)) }
+        ensures { Takes result self notes (declaration_told (declaration_of declaration.now)) }
     {
         match declaration {
             Declaration::IncompleteType { spot, name } => self.incomplete_type(*spot, *name, notes),
@@ -64,6 +61,7 @@ impl<'t> Resolver<'t> {
                 Instance::new(*spot, *name, generic, *object, *access),
                 notes,
             ),
+            Declaration::Exception { name } => self.exception(*name, notes),
             Declaration::Constant { name, value } => self.constant(*name, value, notes),
             Declaration::Object {
                 name,
@@ -73,8 +71,7 @@ impl<'t> Resolver<'t> {
                 self.end_of_types()?;
                 self.object(*name, type_name, initial, notes)
             }
-            Declaration::Exception { .. }
-            | Declaration::Pool { .. }
+            Declaration::Pool { .. }
             | Declaration::Borrower { .. }
             | Declaration::DerivedType { .. }
             | Declaration::Clause { .. }
@@ -83,41 +80,29 @@ impl<'t> Resolver<'t> {
         }
     }
 
-    /// At `begin` no type is left incomplete (3.10.1), and the types end.
+    /// At `begin` no type of the part is left incomplete (3.10.1), and the types end.
     pub(crate) fn begin(&mut self, spot: Spot, notes: &mut Notes) -> Result<(), NameFault>
-        ensures { Tells result (known_of self.new, notes.new) (at_begin spot (known_of self.old, notes.old)) }
+        ensures { Takes result self notes (at_begin spot) }
     {
         notes.note_if(self.has_incomplete(), spot, NameRule::BodyMissing);
         notes.settle()?;
         self.end_of_types()
     }
 
-    /// Whether a name stands for an incomplete type.
-    #[tactic(auto, unfolding(crate::specs::View::known_of), using(crate::proofs::Names::entities_map))]
+    /// Whether a name of the part stands for an incomplete type.
+    #[tactic(auto, unfolding(crate::specs::View::known_of))]
     fn has_incomplete(&self) -> bool
-        ensures { result ≡ some_incomplete (map entity_in (known_of self.now).names) }
+        ensures { result ≡ some_incomplete (map entity_in (known self).here.names) }
     {
-        some_incomplete(self.names.values().as_slice())
+        self.here.has_incomplete()
     }
 }
 
 /// A declaration of a kind that is not in use.
 fn not_in_use(declaration: &Declaration<'_>, notes: &mut Notes) -> Result<(), NameFault>
-    ensures noted { notes.new ≡ noted (wrong (declaration_spot (declaration_of declaration.now)) NameRule.NotInProfile) notes.old }
+    ensures noted { IsNoted notes (unused_remark (declaration_of declaration.now)) }
     ensures settled { Settles result notes.new.fault }
 {
     notes.note(declaration_spot(declaration), NameRule::NotInProfile);
     notes.settle()
-}
-
-/// Whether one of these is an incomplete type.
-fn some_incomplete(entities: &[Entity]) -> bool
-    ensures { result ≡ some_incomplete entities.now }
-{
-    for entity in entities {
-        if let Entity::Incomplete(_) = entity {
-            return true;
-        }
-    }
-    false
 }

@@ -1,12 +1,9 @@
 //! Expressions (4.4).
 
-ghost use Rattle.std.specs.Prelude.{◌≡◌, IfOk, OnOk, IfErr};
-ghost use Rattle.ada_tree.specs.ExpressionView.{expression_of};
-ghost use Rattle.ada_tree.specs.Expressions.{unary_expression};
-ghost use Rattle.ada_resolve.specs.Chains.{links_meant, links_remark, nodes_remark};
-ghost use Rattle.ada_resolve.specs.Expressions.{expression_meant, expression_remark};
-ghost use Rattle.ada_resolve.specs.Remark.{noted};
-ghost use Rattle.ada_resolve.specs.View.{known_of, meant_of};
+ghost use Rattle.ada_resolve.specs.Chains.{nodes_remark};
+ghost use Rattle.ada_resolve.specs.Look.{Looks, expression_look, links_look, unary_look};
+ghost use Rattle.ada_resolve.specs.Method.{IsNoted};
+ghost use Rattle.ada_resolve.specs.View.{meant_of};
 
 use crate::fault::{NameFault, NameRule};
 use crate::meant::Meant;
@@ -28,9 +25,7 @@ impl<'t> Resolver<'t> {
         expression: &Expression<'t>,
         notes: &mut Notes,
     ) -> Result<Meant, NameFault>
-        ensures found { IfOk result (λ m. meant_of m ≡ expression_meant (known_of self.now) (expression_of expression.now)) }
-        ensures remark { OnOk result (notes.new ≡ noted (expression_remark (known_of self.now) (expression_of expression.now)) notes.old) }
-        ensures memory { IfErr result (λ e. e ≡ NameFault.NoMemory) }
+        ensures { Looks meant_of result notes (expression_look self expression.now) }
     {
         match expression {
             Expression::Number { spot, value } => {
@@ -74,9 +69,7 @@ impl<'t> Resolver<'t> {
         operand: &Expression<'t>,
         notes: &mut Notes,
     ) -> Result<Meant, NameFault>
-        ensures found { IfOk result (λ m. meant_of m ≡ expression_meant (known_of self.now) (unary_expression operator spot (expression_of operand.now))) }
-        ensures remark { OnOk result (notes.new ≡ noted (expression_remark (known_of self.now) (unary_expression operator spot (expression_of operand.now))) notes.old) }
-        ensures memory { IfErr result (λ e. e ≡ NameFault.NoMemory) }
+        ensures { Looks meant_of result notes (unary_look self operator spot operand.now) }
     {
         notes.node(spot);
         let meant = self.expression(operand, notes)?;
@@ -93,9 +86,7 @@ impl<'t> Resolver<'t> {
         links: &[Link<'t>],
         notes: &mut Notes,
     ) -> Result<Meant, NameFault>
-        ensures found { IfOk result (λ m. meant_of m ≡ links_meant (known_of self.now) (meant_of first) links.now) }
-        ensures remark { OnOk result (notes.new ≡ noted (links_remark (known_of self.now) (meant_of first) spot links.now) notes.old) }
-        ensures memory { IfErr result (λ e. e ≡ NameFault.NoMemory) }
+        ensures { Looks meant_of result notes (links_look self (meant_of first) spot links.now) }
     {
         let mut left = first;
         'links: for link in links {
@@ -110,7 +101,7 @@ impl<'t> Resolver<'t> {
 
 /// Each operator of a chain is a node of the source, where the chain begins.
 fn nodes(spot: Spot, links: &[Link<'_>], notes: &mut Notes)
-    ensures { notes.new ≡ noted (nodes_remark spot links.now) notes.old }
+    ensures { IsNoted notes (nodes_remark spot links.now) }
 {
     for _link in links {
         notes.node(spot);

@@ -1,15 +1,11 @@
 //! Resolution of instances of Unchecked_Deallocation (12.3, 13.11.2).
 
-ghost use Rattle.std.specs.Prelude.{◌≡◌, map, OnOk, IfErr, ◌++◌, ◌∷◌, []};
+ghost use Rattle.std.specs.Prelude.{◌≡◌, OnOk, IfErr, ◌∷◌, []};
 ghost use Rattle.ada_tree.specs.Names.{ident_of, name_of};
-ghost use Rattle.ada_program.specs.Form.{DeclarationForm, collects, declaration_form};
-ghost use Rattle.ada_program.specs.ProgramForm.{type_form};
-ghost use Rattle.ada_resolve.specs.Known.{visible};
-ghost use Rattle.ada_resolve.specs.Remark.{noted};
-ghost use Rattle.ada_resolve.specs.Resolution.{settled};
-ghost use Rattle.ada_resolve.specs.Types.{record_found, designates};
-ghost use Rattle.ada_resolve.specs.Instances.{access_type_in, designates_if_known, freed_found, freed_remark, is_collected, one_instance, complete_wanted, generic_remark, instance_remark, instance_known};
-ghost use Rattle.ada_resolve.specs.View.{known_of, Tells};
+ghost use Rattle.ada_program.specs.Form.{collects};
+ghost use Rattle.ada_resolve.specs.Method.{known, entity_of, IsNoted, Changes, instance_tree, Declares};
+ghost use Rattle.ada_resolve.specs.Types.{designates};
+ghost use Rattle.ada_resolve.specs.Instances.{access_type_in, designates_if_known, freed_found, freed_remark, is_collected, one_instance, own_type, complete_wanted, generic_remark, with_elaborated};
 
 use crate::components::KnownType;
 use crate::fault::{NameFault, NameRule};
@@ -17,7 +13,6 @@ use crate::library::{LibraryName, is_library_root};
 use crate::notes::Notes;
 use crate::resolver::Resolver;
 use crate::scope::Entity;
-use ada_program::program::Declaration;
 use ada_program::{Spot, TypeNo};
 use ada_tree::names::{Identifier, Name};
 
@@ -40,7 +35,13 @@ impl<'i, 't> Instance<'i, 't> {
         object: Identifier<'t>,
         access: Identifier<'t>,
     ) -> Instance<'i, 't>
-        ensures { result ≡ record { spot = spot; name = name.entry; generic = generic.entry; object = object.entry; access = access.entry } }
+        ensures { result ≡ record {
+          spot = spot;
+          name = name.entry;
+          generic = generic.entry;
+          object = object.entry;
+          access = access.entry;
+        } }
     {
         Instance {
             spot,
@@ -53,14 +54,14 @@ impl<'i, 't> Instance<'i, 't> {
 }
 
 impl<'t> Resolver<'t> {
-    /// `procedure Free is new .. (T, A);` (13.11.2): a complete record type and an access type to it, which has no
-    /// other instance. The collection of the access type is created here.
+    /// `procedure Free is new .. (T, A);` (13.11.2): a complete record type and an access type of the same part to it, which
+    /// has no other instance. The collection of the access type is created here.
     pub(crate) fn instance(
         &mut self,
         written: Instance<'_, 't>,
         notes: &mut Notes,
     ) -> Result<(), NameFault>
-        ensures { Tells result (known_of self.new, notes.new) (settled (noted (instance_remark (known_of self.old) written.entry.spot (ident_of written.entry.name) (name_of written.entry.generic.now) (ident_of written.entry.object) (ident_of written.entry.access)) notes.old) (instance_known (known_of self.old) (ident_of written.entry.name) (ident_of written.entry.object) (ident_of written.entry.access))) }
+        ensures { Declares result self notes (instance_tree written.entry) }
     {
         let spot = written.spot;
         let name = written.name;
@@ -70,7 +71,9 @@ impl<'t> Resolver<'t> {
         let record = self.record_name(written.object, notes);
         self.complete(written.object, notes);
         let freed = self.access_name(written.access, record, notes);
-        self.one_instance(self.access_type_of(written.access), spot, notes);
+        let named = self.access_type_of(written.access);
+        self.one_instance(named, spot, notes);
+        self.own_type(named, spot, notes);
         notes.settle()?;
         let Some(number) = freed else {
             return Ok(());
@@ -82,7 +85,7 @@ impl<'t> Resolver<'t> {
     /// The generic that an instance names: Unchecked_Deallocation.
     #[tactic(auto, unfolding(crate::specs::Instances::generic_remark))]
     fn generic_name(&self, name: &Name<'t>, notes: &mut Notes)
-        ensures { notes.new ≡ noted (generic_remark (known_of self.now) (name_of name.now)) notes.old }
+        ensures { IsNoted notes (generic_remark (known self) (name_of name.now)) }
     {
         let spot = name.first.spot;
         if is_library_root(name.first.text) {
@@ -97,7 +100,7 @@ impl<'t> Resolver<'t> {
 
     /// The record type of an instance is complete.
     fn complete(&self, name: Identifier<'t>, notes: &mut Notes)
-        ensures { notes.new ≡ noted (complete_wanted (visible (known_of self.now) name.entry.text.now) name.entry.spot) notes.old }
+        ensures { IsNoted notes (complete_wanted (entity_of self name.entry) name.entry.spot) }
     {
         if let Some(Entity::Incomplete(_)) = self.visible(name.text) {
             notes.note(name.spot, NameRule::WrongType);
@@ -106,7 +109,7 @@ impl<'t> Resolver<'t> {
 
     /// The access type that a name stands for.
     fn access_type_of(&self, name: Identifier<'t>) -> Option<TypeNo>
-        ensures { result ≡ access_type_in (visible (known_of self.now) name.entry.text.now) }
+        ensures { result ≡ access_type_in (entity_of self name.entry) }
     {
         match self.visible(name.text) {
             Some(Entity::Access(number)) => Some(number),
@@ -116,10 +119,20 @@ impl<'t> Resolver<'t> {
 
     /// An access type has one instance at most.
     fn one_instance(&self, access: Option<TypeNo>, spot: Spot, notes: &mut Notes)
-        ensures { notes.new ≡ noted (one_instance access (known_of self.now).elaborated spot) notes.old }
+        ensures { IsNoted notes (one_instance access (known self).here.elaborated spot) }
     {
         if let Some(number) = access {
             notes.note_if(self.is_collected(number), spot, NameRule::Layout);
+        }
+    }
+
+    /// An instance frees objects of an access type of its own part.
+    #[tactic(auto, unfolding(crate::specs::View::known_of, crate::specs::View::part_of))]
+    fn own_type(&self, access: Option<TypeNo>, spot: Spot, notes: &mut Notes)
+        ensures { IsNoted notes (own_type access (known self).here.first_type spot) }
+    {
+        if let Some(number) = access {
+            notes.note_if(number.0 < self.here.first_type, spot, NameRule::Layout);
         }
     }
 
@@ -131,8 +144,8 @@ impl<'t> Resolver<'t> {
         wanted: Option<TypeNo>,
         notes: &mut Notes,
     ) -> Option<TypeNo>
-        ensures found { result ≡ freed_found (known_of self.now) (ident_of name.entry) wanted }
-        ensures remark { notes.new ≡ noted (freed_remark (known_of self.now) (ident_of name.entry) wanted) notes.old }
+        ensures found { result ≡ freed_found (known self) (ident_of name.entry) wanted }
+        ensures remark { IsNoted notes (freed_remark (known self) (ident_of name.entry) wanted) }
     {
         match self.lookup(name, notes) {
             Some(Entity::Access(number)) => {
@@ -153,7 +166,7 @@ impl<'t> Resolver<'t> {
 
     /// Whether an access type designates the record type, where that is known.
     fn designates_if_known(&self, access: TypeNo, wanted: Option<TypeNo>) -> bool
-        ensures { result ≡ designates_if_known (known_of self.now).types access.0 wanted }
+        ensures { result ≡ designates_if_known (known self).types access.0 wanted }
     {
         match wanted {
             Some(number) => self.designates(access, number),
@@ -164,7 +177,7 @@ impl<'t> Resolver<'t> {
     /// Whether an access type designates the record type.
     #[tactic(auto, unfolding(crate::specs::View::known_of, crate::specs::Types::designates), using(crate::proofs::Names::map_get))]
     pub(crate) fn designates(&self, access: TypeNo, wanted: TypeNo) -> bool
-        ensures { result ≡ designates (known_of self.now).types access.0 wanted.0 }
+        ensures { result ≡ designates (known self).types access.0 wanted.0 }
     {
         match self.types.get(access.0) {
             Some(
@@ -177,28 +190,20 @@ impl<'t> Resolver<'t> {
         }
     }
 
-    /// Whether the collection of an access type is created already.
+    /// Whether the innermost part has created the collection of an access type already.
     #[tactic(auto, unfolding(crate::specs::View::known_of))]
     pub(crate) fn is_collected(&self, number: TypeNo) -> bool
-        ensures { result ≡ is_collected number.0 (known_of self.now).elaborated }
+        ensures { result ≡ is_collected number.0 (known self).here.elaborated }
     {
-        for declaration in &self.declarations {
-            if let Declaration::Collection(access) = declaration
-                && access.0 == number.0
-            {
-                return true;
-            }
-        }
-        false
+        self.here.is_collected(number)
     }
 
     /// The collection of an access type is created.
-    #[tactic(auto, unfolding(crate::specs::View::known_of), using(crate::proofs::Names::map_snoc))]
+    #[tactic(auto, unfolding(crate::specs::View::known_of))]
     pub(crate) fn add_collection(&mut self, number: TypeNo) -> Result<(), NameFault>
-        ensures known { OnOk result (known_of self.new ≡ record (known_of self.old) { elaborated = (known_of self.old).elaborated ++ collects number.0 ∷ [] }) }
+        ensures known { OnOk result (Changes self (with_elaborated (collects number.0 ∷ []))) }
         ensures memory { IfErr result (λ e. e ≡ NameFault.NoMemory) }
     {
-        self.declarations.push(Declaration::Collection(number))?;
-        Ok(())
+        self.here.add_collection(number)
     }
 }

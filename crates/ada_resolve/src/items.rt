@@ -1,17 +1,17 @@
 //! Resolution of the items of aggregates (4.3.1).
 
-ghost use Rattle.std.specs.Prelude.{◌≡◌, ◌+◌, ◌<◌, map, length, is_some, option_copied, IfOk, OnOk, IfErr};
-ghost use Rattle.std.specs.List.{list_all, slice_set};
+ghost use Rattle.std.specs.Prelude.{◌≡◌, ◌+◌, ◌<◌, map, length, is_some, option_copied, OnOk, IfErr};
+ghost use Rattle.std.specs.List.{list_all};
 ghost use Rattle.std.proofs.Math.ListN.{replicate};
-ghost use Rattle.ada_tree.specs.ExpressionView.{expression_of, items_of};
+ghost use Rattle.ada_tree.specs.ExpressionView.{items_of};
 ghost use Rattle.ada_tree.specs.Names.{optional_ident_of};
 ghost use Rattle.ada_program.specs.Form.{item_form};
-ghost use Rattle.ada_resolve.specs.Allocators.{filled_components};
-ghost use Rattle.ada_resolve.specs.Items.{after_item, component_for, count_remark, filled_for, filling_of, first_filling, fits_remark, for_remark, is_filled, item_meant, item_or_null, item_remark, item_spot, items_remark, names_component, no_component, null_wanted};
+ghost use Rattle.ada_resolve.specs.Items.{component_for, count_remark, filled_for, fits_remark, is_filled, item_meant, item_or_null, item_spot, names_component, no_component, null_wanted, with_item};
 ghost use Rattle.ada_resolve.specs.Kept.{forms_in};
+ghost use Rattle.ada_resolve.specs.Look.{Looks, items_look};
+ghost use Rattle.ada_resolve.specs.Method.{known, Finds, IsNoted, Remarks, Fills, written_item_remark, written_for_remark, each, label_of, written_value, empty_filling, item_filling};
 ghost use Rattle.ada_resolve.specs.Paths.{components_of};
-ghost use Rattle.ada_resolve.specs.Remark.{noted};
-ghost use Rattle.ada_resolve.specs.View.{filling_in, item_in, known_of, meant_of};
+ghost use Rattle.ada_resolve.specs.View.{filling_in, item_in, meant_of};
 
 use crate::components::Components;
 use crate::fault::{NameFault, NameRule};
@@ -46,9 +46,7 @@ impl<'t> Resolver<'t> {
         found: Option<TypeNo>,
         notes: &mut Notes,
     ) -> Result<Filling, NameFault>
-        ensures filling { IfOk result (λ f. filling_in f ≡ filling_of (known_of self.now) (filled_components (known_of self.now) found) (items_of written.now)) }
-        ensures remark { OnOk result (notes.new ≡ noted (items_remark (known_of self.now) (filled_components (known_of self.now) found) (names_component (items_of written.now)) (first_filling (filled_components (known_of self.now) found)) (items_of written.now)) notes.old) }
-        ensures memory { IfErr result (λ e. e ≡ NameFault.NoMemory) }
+        ensures { Looks filling_in result notes (items_look self found written.now) }
     {
         let is_named = names_component(written);
         let mut filling = self.first_filling(found)?;
@@ -60,7 +58,7 @@ impl<'t> Resolver<'t> {
 
     /// What is known before the first item.
     fn first_filling(&self, found: Option<TypeNo>) -> Result<Filling, NameFault>
-        ensures filling { IfOk result (λ f. filling_in f ≡ first_filling (filled_components (known_of self.now) found)) }
+        ensures filling { Finds filling_in result (empty_filling self found) }
         ensures memory { IfErr result (λ e. e ≡ NameFault.NoMemory) }
     {
         let count = match found {
@@ -76,7 +74,7 @@ impl<'t> Resolver<'t> {
 
     /// How many components a record type has.
     fn component_count(&self, number: TypeNo) -> usize
-        ensures { result ≡ length (components_of (known_of self.now).types number.0) }
+        ensures { result ≡ length (components_of (known self).types number.0) }
     {
         match self.components_of(number) {
             Some(components) => components.count(),
@@ -96,8 +94,8 @@ impl<'t> Resolver<'t> {
     ) -> Result<(), NameFault>
         requires room { filling.old.count < usize.MAX }
         ensures count { OnOk result (filling.new.count ≡ filling.old.count + 1) }
-        ensures filling { OnOk result (filling_in filling.new ≡ after_item (known_of self.now) (filled_components (known_of self.now) found) is_named (filling_in filling.old) (optional_ident_of item.now.label) (expression_of item.now.value)) }
-        ensures remark { OnOk result (notes.new ≡ noted (item_remark (known_of self.now) (filled_components (known_of self.now) found) is_named (filling_in filling.old) (optional_ident_of item.now.label) (expression_of item.now.value)) notes.old) }
+        ensures filling { OnOk result (Fills filling (item_filling self found is_named item.now)) }
+        ensures remark { Remarks result notes (written_item_remark self found is_named filling item.now) }
         ensures memory { IfErr result (λ e. e ≡ NameFault.NoMemory) }
     {
         let alike = item.label.is_some() == is_named;
@@ -129,7 +127,7 @@ impl Filling {
         value: &Meant,
         notes: &mut Notes,
     )
-        ensures { notes.new ≡ noted (for_remark component (filling_in self.now) (optional_ident_of item.now.label) (expression_of item.now.value) (meant_of value.now)) notes.old }
+        ensures { IsNoted notes (written_for_remark component self.now item.now value.now) }
     {
         match component {
             Some((at, kind)) => {
@@ -143,7 +141,7 @@ impl Filling {
     /// What is known after an item for this component.
     fn fill(&mut self, component: Option<(usize, ComponentKind)>, alike: bool, item: program::Item)
         requires room { self.old.count < usize.MAX }
-        ensures filling { filling_in self.new ≡ filled_for component (filling_in self.old) alike (item_form item) }
+        ensures filling { Fills self (λ f. filled_for component f alike (item_form item)) }
         ensures count { self.new.count ≡ self.old.count + 1 }
     {
         self.count += 1;
@@ -159,7 +157,7 @@ impl Filling {
     /// The component of this number has this item now.
     #[tactic(auto, using(crate::proofs::Names::map_set, crate::proofs::Names::set_beyond))]
     fn set(&mut self, at: usize, item: program::Item)
-        ensures { filling_in self.new ≡ record (filling_in self.old) { slots = slice_set (filling_in self.old).slots at (Some (item_form item)) } }
+        ensures { Fills self (with_item at (item_form item)) }
     {
         if let Some(slot) = self.slots.get_mut(at) {
             *slot = Some(item);
@@ -175,7 +173,7 @@ impl Filling {
 
     /// What is wrong with how many items there are: one item names its component, and each component has its item.
     pub(crate) fn all_given(&self, is_named: bool, spot: Spot, notes: &mut Notes)
-        ensures { notes.new ≡ noted (count_remark is_named (filling_in self.now) spot) notes.old }
+        ensures { IsNoted notes (count_remark is_named (filling_in self.now) spot) }
     {
         if !is_named && self.count == 1 {
             notes.note(spot, NameRule::NotInProfile);
@@ -194,7 +192,7 @@ impl Filling {
 
     /// The items in the order of the components; null where one has none.
     pub(crate) fn into_items(self, alloc: Global) -> Result<Vec<program::Item>, NameFault>
-        ensures items { IfOk result (λ v. map item_form v.items ≡ map item_or_null (filling_in self).slots) }
+        ensures items { Finds (each item_form) result (map item_or_null (filling_in self).slots) }
         ensures memory { IfErr result (λ e. e ≡ NameFault.NoMemory) }
     {
         let mut items = Vec::new(alloc);
@@ -207,7 +205,7 @@ impl Filling {
 
 /// As many components, of which none has its item yet.
 fn empty_slots(alloc: Global, count: usize) -> Result<Vec<Option<program::Item>>, NameFault>
-    ensures slots { IfOk result (λ v. map item_in v.items ≡ replicate count None) }
+    ensures slots { Finds (each item_in) result (replicate count None) }
     ensures memory { IfErr result (λ e. e ≡ NameFault.NoMemory) }
 {
     let mut slots = Vec::new(alloc);
@@ -229,7 +227,7 @@ pub(crate) fn names_component(written: &[Item<'_>]) -> bool
 
 /// Where an item begins.
 fn item_spot(item: &Item<'_>) -> Spot
-    ensures { result ≡ item_spot (optional_ident_of item.now.label) (expression_of item.now.value) }
+    ensures { result ≡ item_spot (label_of item.now) (written_value item.now) }
 {
     match item.label {
         Some(label) => label.spot,
@@ -253,7 +251,7 @@ fn component_for<'t>(
 
 /// No component has that name (4.1.3), or there are too many items.
 fn no_component(item: &Item<'_>, notes: &mut Notes)
-    ensures { notes.new ≡ noted (no_component (optional_ident_of item.now.label) (expression_of item.now.value)) notes.old }
+    ensures { IsNoted notes (no_component (label_of item.now) (written_value item.now)) }
 {
     match item.label {
         Some(label) => notes.note(label.spot, no_component_rule(label.text)),
@@ -263,7 +261,7 @@ fn no_component(item: &Item<'_>, notes: &mut Notes)
 
 /// A value is of its component's type.
 fn fits(kind: ComponentKind, value: &Meant, spot: Spot, notes: &mut Notes)
-    ensures { notes.new ≡ noted (fits_remark kind (meant_of value.now) spot) notes.old }
+    ensures { IsNoted notes (fits_remark kind (meant_of value.now) spot) }
 {
     match kind {
         ComponentKind::Integer { .. } => value.integer_wanted(spot, notes),
@@ -274,11 +272,11 @@ fn fits(kind: ComponentKind, value: &Meant, spot: Spot, notes: &mut Notes)
 
 /// An access component is given null; no other value of an access type is in use there.
 fn null_wanted(value: &Meant, spot: Spot, notes: &mut Notes)
-    ensures { notes.new ≡ noted (null_wanted (meant_of value.now) spot) notes.old }
+    ensures { IsNoted notes (null_wanted (meant_of value.now) spot) }
 {
     match value {
         Meant::Unknown | Meant::Null => {}
-        Meant::Variable(..) | Meant::OtherAccess => notes.note(spot, NameRule::NotInProfile),
+        Meant::Variable(..) | Meant::OtherAccess(_) => notes.note(spot, NameRule::NotInProfile),
         Meant::Integer(_) | Meant::Boolean(_) => notes.note(spot, NameRule::WrongType),
     }
 }

@@ -12,7 +12,7 @@ pub fn programs_are_well_formed()
     ensures { (tree : UnitTree) (program : ProgramForm) → Resolves tree program → IsWellFormed program }
 {}
 
-/// The statements of the program that a tree means are those of the tree, name by name.
+/// The declarations and the statements of the program that a tree means are those of the tree, name by name.
 pub fn programs_are_read_as_written()
     ensures { (tree : UnitTree) (program : ProgramForm) → Resolves tree program → IsReadAs tree program }
 {}

@@ -17,6 +17,12 @@ pub(crate) enum LibraryName {
     PutLine,
     /// `Ada.Unchecked_Deallocation` (13.11.2): the unit, and the generic procedure.
     UncheckedDeallocation,
+    /// `Run_Input`, the profile's own unit.
+    RunInput,
+    /// `Run_Input.Get`
+    Get,
+    /// `Run_Input.End_Error`
+    EndError,
     /// A name of the profile's library whose unit is not in use.
     OtherUnit,
     /// No name of the profile's library.
@@ -28,6 +34,7 @@ pub(crate) enum LibraryName {
 pub(crate) struct Withs {
     pub(crate) text_io: bool,
     pub(crate) deallocation: bool,
+    pub(crate) run_input: bool,
 }
 
 impl Withs {
@@ -38,6 +45,7 @@ impl Withs {
         match name {
             LibraryName::TextIo | LibraryName::PutLine => self.text_io,
             LibraryName::UncheckedDeallocation => self.deallocation,
+            LibraryName::RunInput | LibraryName::Get | LibraryName::EndError => self.run_input,
             LibraryName::OtherUnit | LibraryName::Unknown => false,
         }
     }
@@ -126,7 +134,15 @@ fn in_pools(rest: &[Identifier<'_>]) -> LibraryName
 fn in_input(rest: &[Identifier<'_>]) -> LibraryName
     ensures { result ≡ in_input (map ident_of rest.now) }
 {
-    other_if(is_none(rest) || is_one(rest, "GET") || is_one(rest, "END_ERROR"))
+    if is_none(rest) {
+        LibraryName::RunInput
+    } else if is_one(rest, "GET") {
+        LibraryName::Get
+    } else if is_one(rest, "END_ERROR") {
+        LibraryName::EndError
+    } else {
+        LibraryName::Unknown
+    }
 }
 
 /// A name of a unit that is not in use, if the test holds, else no name of the library.

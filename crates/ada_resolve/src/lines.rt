@@ -1,10 +1,7 @@
 //! Resolution of what Put_Line writes (A.10.7).
 
-ghost use Rattle.std.specs.Prelude.{◌≡◌, map, IfOk, OnOk, IfErr};
-ghost use Rattle.ada_tree.specs.ExpressionView.{argument_of};
-ghost use Rattle.ada_resolve.specs.Lines.{line_remark, line_found, put_line_remark, put_line_found};
-ghost use Rattle.ada_resolve.specs.Remark.{noted};
-ghost use Rattle.ada_resolve.specs.View.{known_of, stmt_in};
+ghost use Rattle.ada_resolve.specs.Look.{Looks, line_look, put_line_look};
+ghost use Rattle.ada_resolve.specs.View.{stmt_in};
 
 use crate::arguments::none_wanted;
 use crate::fault::{NameFault, NameRule};
@@ -25,9 +22,7 @@ impl<'t> Resolver<'t> {
         text: TextNo,
         notes: &mut Notes,
     ) -> Result<Option<Stmt>, NameFault>
-        ensures found { IfOk result (λ s. stmt_in s ≡ put_line_found (known_of self.now) text.0 (map argument_of arguments.now)) }
-        ensures remark { OnOk result (notes.new ≡ noted (put_line_remark (known_of self.now) called (map argument_of arguments.now)) notes.old) }
-        ensures memory { IfErr result (λ e. e ≡ NameFault.NoMemory) }
+        ensures { Looks stmt_in result notes (put_line_look self text.0 called arguments.now) }
     {
         let Some((argument, more)) = arguments.split_first() else {
             notes.note(called, NameRule::WrongType);
@@ -40,15 +35,14 @@ impl<'t> Resolver<'t> {
     }
 
     /// What Put_Line writes: a text, or Integer'Image of a value.
+    #[tactic(auto, using(std::proofs::lemmas::Grind::common_steps, ada_program::specs::Form::statement_rules))]
     fn line(
         &self,
         argument: &Argument<'t>,
         text: TextNo,
         notes: &mut Notes,
     ) -> Result<Option<Stmt>, NameFault>
-        ensures found { IfOk result (λ s. stmt_in s ≡ line_found (known_of self.now) text.0 (argument_of argument.now)) }
-        ensures remark { OnOk result (notes.new ≡ noted (line_remark (known_of self.now) (argument_of argument.now)) notes.old) }
-        ensures memory { IfErr result (λ e. e ≡ NameFault.NoMemory) }
+        ensures { Looks stmt_in result notes (line_look self text.0 argument.now) }
     {
         match argument {
             Argument::Expression(value) => {

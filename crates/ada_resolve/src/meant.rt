@@ -2,9 +2,9 @@
 
 ghost use Rattle.std.specs.Prelude.{◌≡◌};
 ghost use Rattle.ada_program.specs.Form.{expression_form};
-ghost use Rattle.ada_resolve.specs.Operators.{integer_in, integer_wanted, boolean_in, boolean_wanted, is_access_value, scalar_in};
-ghost use Rattle.ada_resolve.specs.Remark.{noted};
-ghost use Rattle.ada_resolve.specs.View.{meant_of};
+ghost use Rattle.ada_resolve.specs.Method.{IsNoted};
+ghost use Rattle.ada_resolve.specs.Operators as rules;
+ghost use Rattle.ada_resolve.specs.View.{comparable_of, meant_of};
 
 use crate::fault::NameRule;
 use crate::notes::Notes;
@@ -20,18 +20,31 @@ pub(crate) enum Meant {
     Null,
     /// A declared object of an access type.
     Variable(Path, TypeNo),
-    /// Another value of an access type.
-    OtherAccess,
+    /// Another value of an access type: that of a component.
+    OtherAccess(Path),
     /// A value of type Integer.
     Integer(Expression),
     /// A value of type Boolean.
     Boolean(Expression),
 }
 
+/// What can be compared for equality (4.5.2).
+#[derive(Clone, Copy)]
+pub(crate) enum Comparable {
+    /// Something is wrong with it.
+    AnyValue,
+    Integer,
+    Boolean,
+    /// A value of an access type.
+    Access,
+    /// `null`, which is of all access types.
+    Null,
+}
+
 impl Meant {
     /// An Integer is wanted, where the meaning is known.
     pub(crate) fn integer_wanted(&self, spot: Spot, notes: &mut Notes)
-        ensures { notes.new ≡ noted (integer_wanted (meant_of self.now) spot) notes.old }
+        ensures { IsNoted notes (rules.integer_wanted (meant_of self.now) spot) }
     {
         match self {
             Meant::Unknown | Meant::Integer(_) => {}
@@ -41,7 +54,7 @@ impl Meant {
 
     /// A Boolean is wanted, where the meaning is known.
     pub(crate) fn boolean_wanted(&self, spot: Spot, notes: &mut Notes)
-        ensures { notes.new ≡ noted (boolean_wanted (meant_of self.now) spot) notes.old }
+        ensures { IsNoted notes (rules.boolean_wanted (meant_of self.now) spot) }
     {
         match self {
             Meant::Unknown | Meant::Boolean(_) => {}
@@ -49,20 +62,23 @@ impl Meant {
         }
     }
 
-    /// Whether it is a value of an access type.
-    pub(crate) fn is_access_value(&self) -> bool
-        ensures { result ≡ is_access_value (meant_of self.now) }
+    /// What it can be compared with for equality (4.5.2).
+    pub(crate) fn comparable(&self) -> Comparable
+        ensures { comparable_of result ≡ rules.comparable (meant_of self.now) }
     {
         match self {
-            Meant::Null | Meant::Variable(_, _) | Meant::OtherAccess => true,
-            Meant::Unknown | Meant::Integer(_) | Meant::Boolean(_) => false,
+            Meant::Unknown => Comparable::AnyValue,
+            Meant::Null => Comparable::Null,
+            Meant::Variable(_, _) | Meant::OtherAccess(_) => Comparable::Access,
+            Meant::Integer(_) => Comparable::Integer,
+            Meant::Boolean(_) => Comparable::Boolean,
         }
     }
 
     /// The Integer; 0 where it is none.
     #[tactic(auto, using(std::proofs::lemmas::Grind::common_steps, ada_program::specs::Form::expression_rules))]
     pub(crate) fn into_integer(self) -> Expression
-        ensures { expression_form result ≡ integer_in (meant_of self) }
+        ensures { expression_form result ≡ rules.integer_in (meant_of self) }
     {
         match self {
             Meant::Integer(expression) => expression,
@@ -73,7 +89,7 @@ impl Meant {
     /// The Boolean; False where it is none.
     #[tactic(auto, using(std::proofs::lemmas::Grind::common_steps, ada_program::specs::Form::expression_rules))]
     pub(crate) fn into_boolean(self) -> Expression
-        ensures { expression_form result ≡ boolean_in (meant_of self) }
+        ensures { expression_form result ≡ rules.boolean_in (meant_of self) }
     {
         match self {
             Meant::Boolean(expression) => expression,
@@ -84,7 +100,7 @@ impl Meant {
     /// The Integer or the Boolean; 0 where it is neither.
     #[tactic(auto, using(std::proofs::lemmas::Grind::common_steps, ada_program::specs::Form::expression_rules))]
     pub(crate) fn into_scalar(self) -> Expression
-        ensures { expression_form result ≡ scalar_in (meant_of self) }
+        ensures { expression_form result ≡ rules.scalar_in (meant_of self) }
     {
         match self {
             Meant::Integer(expression) | Meant::Boolean(expression) => expression,

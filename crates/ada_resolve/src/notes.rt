@@ -1,7 +1,8 @@
-//! What is noted while a tree is looked at: the first fault so far, and how many nodes came.
+//! What is noted while a tree is looked at: the first fault, and the number of nodes.
 
 ghost use Rattle.std.specs.Prelude.{◌≡◌};
-ghost use Rattle.ada_resolve.specs.Remark.{fine, wrong, node, both, wrong_if, noted, rule_number, is_before, first_of};
+ghost use Rattle.ada_resolve.specs.Method.{IsNoted};
+ghost use Rattle.ada_resolve.specs.Remark.{wrong, node, wrong_if, rule_number, is_before, first_of};
 ghost use Rattle.ada_resolve.specs.Resolution.{no_notes};
 ghost use Rattle.ada_resolve.specs.View.{Settles};
 
@@ -11,7 +12,7 @@ use ada_program::Spot;
 /// The most declarations, components, statements and expressions of a program.
 const MOST_NODES: usize = 10_000;
 
-/// The first fault so far, the leftmost, and of two at one spot the lower number; and how many nodes came so far.
+/// The first fault so far and the number of nodes so far. Of two faults the leftmost is first, and at one spot the lower number.
 #[derive(Clone, Copy)]
 pub(crate) struct Notes {
     pub(crate) fault: Option<(Spot, NameRule)>,
@@ -31,14 +32,14 @@ impl Notes {
 
     /// A rule is broken at a spot.
     pub(crate) fn note(&mut self, spot: Spot, rule: NameRule)
-        ensures { self.new ≡ noted (wrong spot rule) self.old }
+        ensures { IsNoted self (wrong spot rule) }
     {
         self.fault = Some(first((spot, rule), self.fault));
     }
 
     /// A rule is broken at a spot, if the test holds.
     pub(crate) fn note_if(&mut self, test: bool, spot: Spot, rule: NameRule)
-        ensures { self.new ≡ noted (wrong_if test spot rule) self.old }
+        ensures { IsNoted self (wrong_if test spot rule) }
     {
         if test {
             self.note(spot, rule);
@@ -47,7 +48,7 @@ impl Notes {
 
     /// One more node of the source: the limit may be passed.
     pub(crate) fn node(&mut self, spot: Spot)
-        ensures { self.new ≡ noted (node spot) self.old }
+        ensures { IsNoted self (node spot) }
     {
         if self.nodes < MOST_NODES {
             self.nodes += 1;

@@ -1,14 +1,14 @@
 //! Resolution of object declarations (3.3.1).
 
-ghost use Rattle.std.specs.Prelude.{◌≡◌, ◌++◌, ◌∷◌, [], map, length, not, IfOk, OnOk, IfErr};
+ghost use Rattle.std.specs.Prelude.{◌≡◌, is_some, IfOk, OnOk, IfErr};
 ghost use Rattle.ada_tree.specs.ExpressionView.{optional_right_of};
 ghost use Rattle.ada_tree.specs.Names.{ident_of, name_of};
-ghost use Rattle.ada_program.specs.Form.{declares, declaration_form};
-ghost use Rattle.ada_resolve.specs.Known.{is_empty};
-ghost use Rattle.ada_resolve.specs.Objects.{type_in, object_type_found, object_type_remark, kind_of, initial_found, initial_remark, initial_wanted, object_remark, object_known, object_created, initial_source, after_types, collections_of};
-ghost use Rattle.ada_resolve.specs.Remark.{noted};
-ghost use Rattle.ada_resolve.specs.Resolution.{settled};
-ghost use Rattle.ada_resolve.specs.View.{known_of, right_in, Tells};
+ghost use Rattle.ada_program.specs.Form.{declaration_form};
+ghost use Rattle.ada_resolve.specs.Look.{Looks, initial_look};
+ghost use Rattle.ada_resolve.specs.Method.{known, Finds, IsNoted, Changes, object_tree, Declares, each, new_variable, with_created, with_declarations, with_object};
+ghost use Rattle.ada_resolve.specs.Objects.{type_in, object_type_found, object_type_remark, kind_of, initial_wanted, after_types, with_variable, missing_collections, lacks_collection, next_variable};
+ghost use Rattle.ada_resolve.specs.Paths.{designated_of};
+ghost use Rattle.ada_resolve.specs.View.{known_of, right_in};
 
 use crate::components::KnownType;
 use crate::fault::{NameFault, NameRule};
@@ -30,7 +30,7 @@ impl<'t> Resolver<'t> {
         initial: &Option<expressions::Right<'t>>,
         notes: &mut Notes,
     ) -> Result<(), NameFault>
-        ensures { Tells result (known_of self.new, notes.new) (settled (noted (object_remark (known_of self.old) (ident_of name.entry) (name_of type_name.now) (optional_right_of initial.now)) notes.old) (object_known (known_of self.old) (ident_of name.entry) (name_of type_name.now) (optional_right_of initial.now))) }
+        ensures { Declares result self notes (object_tree name.entry type_name.now initial.now) }
     {
         notes.node(name.spot);
         self.new_name(name, name.spot, notes);
@@ -52,7 +52,7 @@ impl<'t> Resolver<'t> {
         kind: VariableKind,
         value: Option<program::Right>,
     ) -> Result<(), NameFault>
-        ensures known { OnOk result (known_of self.new ≡ object_created (known_of self.old) (ident_of name.entry) (Some kind) (right_in value)) }
+        ensures known { OnOk result (Changes self (with_object name.entry kind value)) }
         ensures memory { IfErr result (λ e. e ≡ NameFault.NoMemory) }
     {
         let variable = self.add_variable(name, kind)?;
@@ -67,8 +67,8 @@ impl<'t> Resolver<'t> {
         name: Identifier<'t>,
         kind: VariableKind,
     ) -> Result<VariableNo, NameFault>
-        ensures known { OnOk result (known_of self.new ≡ record (known_of self.old) { variables = (known_of self.old).variables ++ record { name = name.entry.text.now; kind = kind } ∷ [] }) }
-        ensures variable { IfOk result (λ p. p ≡ record { 0 = length (known_of self.old).variables }) }
+        ensures known { OnOk result (Changes self (with_variable (new_variable name.entry kind))) }
+        ensures variable { IfOk result (λ p. p ≡ next_variable (known_of self.old)) }
         ensures memory { IfErr result (λ e. e ≡ NameFault.NoMemory) }
     {
         let variable = VariableNo(self.variables.len());
@@ -78,18 +78,16 @@ impl<'t> Resolver<'t> {
     }
 
     /// An object is created with its initial value.
-    #[tactic(auto, unfolding(crate::specs::View::known_of), using(crate::proofs::Names::map_snoc, crate::proofs::Names::initial_same))]
+    #[tactic(auto, unfolding(crate::specs::View::known_of))]
     fn add_elaboration(
         &mut self,
         variable: VariableNo,
         initial: Option<program::Right>,
     ) -> Result<(), NameFault>
-        ensures known { OnOk result (known_of self.new ≡ record (known_of self.old) { elaborated = (known_of self.old).elaborated ++ declares variable.0 (initial_source (right_in initial)) ∷ [] }) }
+        ensures known { OnOk result (Changes self (with_created variable initial)) }
         ensures memory { IfErr result (λ e. e ≡ NameFault.NoMemory) }
     {
-        self.declarations
-            .push(Declaration::Variable { variable, initial })?;
-        Ok(())
+        self.here.add_object(variable, initial)
     }
 
     /// The initial value, where one is written.
@@ -99,9 +97,7 @@ impl<'t> Resolver<'t> {
         kind: Option<VariableKind>,
         notes: &mut Notes,
     ) -> Result<Option<program::Right>, NameFault>
-        ensures found { IfOk result (λ v. right_in v ≡ initial_found (known_of self.now) kind (optional_right_of initial.now)) }
-        ensures remark { OnOk result (notes.new ≡ noted (initial_remark (known_of self.now) kind (optional_right_of initial.now)) notes.old) }
-        ensures memory { IfErr result (λ e. e ≡ NameFault.NoMemory) }
+        ensures { Looks right_in result notes (initial_look self kind initial.now) }
     {
         match initial {
             Some(right) => self.right(right, kind, notes),
@@ -112,8 +108,8 @@ impl<'t> Resolver<'t> {
     /// What the type's name of an object stands for.
     #[tactic(auto, unfolding(crate::specs::Objects::object_type_found, crate::specs::Objects::object_type_remark))]
     fn object_type(&self, type_name: &Name<'t>, notes: &mut Notes) -> Option<Entity>
-        ensures found { result ≡ object_type_found (known_of self.now) (name_of type_name.now) }
-        ensures remark { notes.new ≡ noted (object_type_remark (known_of self.now) (name_of type_name.now)) notes.old }
+        ensures found { result ≡ object_type_found (known self) (name_of type_name.now) }
+        ensures remark { IsNoted notes (object_type_remark (known self) (name_of type_name.now)) }
     {
         let spot = type_name.first.spot;
         if is_library_root(type_name.first.text) {
@@ -137,53 +133,56 @@ impl<'t> Resolver<'t> {
         }
     }
 
-    /// The types end: an access type without an instance has its collection created here, in text order.
+    /// The types of the part end: an access type without an instance has its collection created here, in text order.
     #[tactic(auto, unfolding(crate::specs::Objects::after_types))]
     pub(crate) fn end_of_types(&mut self) -> Result<(), NameFault>
-        ensures known { OnOk result (known_of self.new ≡ after_types (known_of self.old)) }
+        ensures known { OnOk result (Changes self after_types) }
         ensures memory { IfErr result (λ e. e ≡ NameFault.NoMemory) }
     {
-        if self.has_objects() {
+        if !self.no_object_yet() {
             return Ok(());
         }
         let collections = self.collections()?;
         self.add_collections(collections)
     }
 
-    /// Whether an object is declared.
-    #[tactic(auto, unfolding(crate::specs::View::known_of))]
-    fn has_objects(&self) -> bool
-        ensures { is_empty (known_of self.now).variables ≡ not result }
-    {
-        !self.variables.is_empty()
-    }
-
-    /// The collections of the access types that have none yet, in text order.
-    #[tactic(auto, unfolding(crate::specs::View::known_of))]
+    /// The collections of the part's access types that have none yet, in text order.
+    #[tactic(auto, unfolding(crate::specs::View::known_of, crate::specs::View::part_of))]
     fn collections(&self) -> Result<Vec<Declaration>, NameFault>
-        ensures made { IfOk result (λ v. map declaration_form v.items ≡ collections_of 0 (known_of self.now).types (known_of self.now).elaborated) }
+        ensures missing { Finds (each declaration_form) result (missing_collections (known self)) }
         ensures memory { IfErr result (λ e. e ≡ NameFault.NoMemory) }
     {
         let mut made = Vec::new(self.alloc);
-        for (i, definition) in self.types.iter().enumerate() {
-            if let KnownType::Access { .. } = definition
-                && !self.is_collected(TypeNo(i))
-            {
+        for i in self.here.first_type..self.types.len() {
+            if self.lacks_collection(TypeNo(i)) {
                 made.push(Declaration::Collection(TypeNo(i)))?;
             }
         }
         Ok(made)
     }
 
+    /// Whether a type is an access type.
+    #[tactic(auto, unfolding(crate::specs::View::known_of, crate::specs::Paths::designated_of), using(crate::proofs::Names::map_get))]
+    fn is_access(&self, number: TypeNo) -> bool
+        ensures { result ≡ is_some (designated_of (known self).types number.0) }
+    {
+        matches!(self.types.get(number.0), Some(KnownType::Access { .. }))
+    }
+
+    /// Whether a type is an access type whose collection isn't created yet.
+    fn lacks_collection(&self, number: TypeNo) -> bool
+        ensures { result ≡ lacks_collection (known self).types (known self).here.elaborated number.0 }
+    {
+        self.is_access(number) && !self.is_collected(number)
+    }
+
     /// These collections are created.
-    #[tactic(auto, unfolding(crate::specs::View::known_of), using(crate::proofs::Names::map_append))]
+    #[tactic(auto, unfolding(crate::specs::View::known_of))]
     fn add_collections(&mut self, collections: Vec<Declaration>) -> Result<(), NameFault>
-        ensures known { OnOk result (known_of self.new ≡ record (known_of self.old) { elaborated = (known_of self.old).elaborated ++ map declaration_form collections.items }) }
+        ensures known { OnOk result (Changes self (with_declarations collections)) }
         ensures memory { IfErr result (λ e. e ≡ NameFault.NoMemory) }
     {
-        let mut collections = collections;
-        self.declarations.append(&mut collections)?;
-        Ok(())
+        self.here.add_collections(collections)
     }
 }
 
@@ -216,7 +215,7 @@ fn initial_wanted(
     initial: &Option<expressions::Right<'_>>,
     notes: &mut Notes,
 )
-    ensures { notes.new ≡ noted (initial_wanted found (ident_of name.entry) (optional_right_of initial.now)) notes.old }
+    ensures { IsNoted notes (initial_wanted found (ident_of name.entry) (optional_right_of initial.now)) }
 {
     match found {
         Some(Entity::Integer | Entity::Boolean) => notes.note_if(

@@ -1,13 +1,13 @@
 //! Operators with their operands: what they mean, and what is wrong with these (4.5).
 
-ghost use Rattle.std.specs.Prelude.{◌≡◌, IfOk, IfErr};
-ghost use Rattle.ada_program.specs.Form.{a_link, chained, expression_form, no_more_links};
-ghost use Rattle.ada_resolve.specs.Operators.{are_apart, binary_meant, equal_wanted, integer_in, is_access_value, joined, operand_remark, operands_remark, unary_meant};
-ghost use Rattle.ada_resolve.specs.Remark.{noted};
-ghost use Rattle.ada_resolve.specs.View.{meant_of};
+ghost use Rattle.std.specs.Prelude.{◌≡◌, IfErr};
+ghost use Rattle.ada_program.specs.Form.{chained, expression_form};
+ghost use Rattle.ada_resolve.specs.Method.{Finds, IsNoted};
+ghost use Rattle.ada_resolve.specs.Operators.{binary_meant, equality_meant, equal_wanted, integer_in, joined, operand_remark, operands_remark, unary_meant};
+ghost use Rattle.ada_resolve.specs.View.{meant_of, single_link};
 
 use crate::fault::{NameFault, NameRule};
-use crate::meant::Meant;
+use crate::meant::{Comparable, Meant};
 use crate::notes::Notes;
 use ada_program::Spot;
 use ada_program::program::{Expression, Link};
@@ -21,7 +21,7 @@ pub(crate) fn unary_meant(
     operator: UnaryOperator,
     operand: Meant,
 ) -> Result<Meant, NameFault>
-    ensures found { IfOk result (λ m. meant_of m ≡ unary_meant operator (meant_of operand)) }
+    ensures found { Finds meant_of result (unary_meant operator (meant_of operand)) }
     ensures memory { IfErr result (λ e. e ≡ NameFault.NoMemory) }
 {
     match operator {
@@ -43,7 +43,7 @@ pub(crate) fn binary_meant(
     left: Meant,
     right: Meant,
 ) -> Result<Meant, NameFault>
-    ensures found { IfOk result (λ m. meant_of m ≡ binary_meant operator (meant_of left) (meant_of right)) }
+    ensures found { Finds meant_of result (binary_meant operator (meant_of left) (meant_of right)) }
     ensures memory { IfErr result (λ e. e ≡ NameFault.NoMemory) }
 {
     match operator {
@@ -61,16 +61,40 @@ pub(crate) fn binary_meant(
         | BinaryOperator::GreaterOrEqual => {
             Ok(Meant::Boolean(of_integers(alloc, left, operator, right)?))
         }
-        BinaryOperator::Equal | BinaryOperator::NotEqual => {
-            let (left, right) = (left.into_scalar(), right.into_scalar());
-            Ok(Meant::Boolean(joined(alloc, left, operator, right)?))
-        }
+        BinaryOperator::Equal => equality_meant(alloc, BinaryOperator::Equal, left, right),
+        BinaryOperator::NotEqual => equality_meant(alloc, BinaryOperator::NotEqual, left, right),
         BinaryOperator::And
         | BinaryOperator::Or
         | BinaryOperator::Xor
         | BinaryOperator::AndThen
         | BinaryOperator::OrElse => {
             let (left, right) = (left.into_boolean(), right.into_boolean());
+            Ok(Meant::Boolean(joined(alloc, left, operator, right)?))
+        }
+    }
+}
+
+/// What an equality means: a value of an access type is compared with null alone (4.5.2).
+#[tactic(auto, using(std::proofs::lemmas::Grind::common_steps, ada_program::specs::Form::expression_rules))]
+fn equality_meant(
+    alloc: Global,
+    operator: BinaryOperator,
+    left: Meant,
+    right: Meant,
+) -> Result<Meant, NameFault>
+    ensures found { Finds meant_of result (equality_meant operator (meant_of left) (meant_of right)) }
+    ensures memory { IfErr result (λ e. e ≡ NameFault.NoMemory) }
+{
+    let equal = matches!(operator, BinaryOperator::Equal);
+    match (left, right) {
+        (Meant::Variable(path, _), Meant::Null)
+        | (Meant::OtherAccess(path), Meant::Null)
+        | (Meant::Null, Meant::Variable(path, _))
+        | (Meant::Null, Meant::OtherAccess(path)) => {
+            Ok(Meant::Boolean(Expression::NullTest { path, equal }))
+        }
+        (left, right) => {
+            let (left, right) = (left.into_scalar(), right.into_scalar());
             Ok(Meant::Boolean(joined(alloc, left, operator, right)?))
         }
     }
@@ -83,7 +107,7 @@ fn of_integers(
     operator: BinaryOperator,
     right: Meant,
 ) -> Result<Expression, NameFault>
-    ensures found { IfOk result (λ e. expression_form e ≡ joined (integer_in (meant_of left)) operator (integer_in (meant_of right))) }
+    ensures found { Finds expression_form result (joined (integer_in (meant_of left)) operator (integer_in (meant_of right))) }
     ensures memory { IfErr result (λ e. e ≡ NameFault.NoMemory) }
 {
     joined(alloc, left.into_integer(), operator, right.into_integer())
@@ -97,7 +121,7 @@ fn joined(
     operator: BinaryOperator,
     operand: Expression,
 ) -> Result<Expression, NameFault>
-    ensures found { IfOk result (λ e. expression_form e ≡ joined (expression_form left) operator (expression_form operand)) }
+    ensures found { Finds expression_form result (joined (expression_form left) operator (expression_form operand)) }
     ensures memory { IfErr result (λ e. e ≡ NameFault.NoMemory) }
 {
     let link = Link { operator, operand };
@@ -109,6 +133,7 @@ fn joined(
         Expression::Integer(_)
         | Expression::Boolean(_)
         | Expression::Path(_)
+        | Expression::NullTest { .. }
         | Expression::Unary { .. } => chain(alloc, left, link),
     }
 }
@@ -116,7 +141,7 @@ fn joined(
 /// A chain of one operator.
 #[tactic(auto, using(std::proofs::lemmas::Grind::common_steps, ada_program::specs::Form::expression_rules))]
 fn chain(alloc: Global, first: Expression, link: Link) -> Result<Expression, NameFault>
-    ensures found { IfOk result (λ e. expression_form e ≡ chained (expression_form first) (a_link link.operator (expression_form link.operand) no_more_links)) }
+    ensures found { Finds expression_form result (chained (expression_form first) (single_link link)) }
     ensures memory { IfErr result (λ e. e ≡ NameFault.NoMemory) }
 {
     let links = vec![in alloc; link]?;
@@ -131,7 +156,7 @@ pub(crate) fn operand_wanted(
     spot: Spot,
     notes: &mut Notes,
 )
-    ensures { notes.new ≡ noted (operand_remark operator (meant_of operand.now) spot) notes.old }
+    ensures { IsNoted notes (operand_remark operator (meant_of operand.now) spot) }
 {
     match operator {
         UnaryOperator::Plus | UnaryOperator::Minus => operand.integer_wanted(spot, notes),
@@ -148,7 +173,7 @@ pub(crate) fn operands_wanted(
     right_spot: Spot,
     notes: &mut Notes,
 )
-    ensures { notes.new ≡ noted (operands_remark operator (meant_of left.now) left_spot (meant_of right.now) right_spot) notes.old }
+    ensures { IsNoted notes (operands_remark operator (meant_of left.now) left_spot (meant_of right.now) right_spot) }
 {
     match operator {
         BinaryOperator::Add
@@ -180,21 +205,16 @@ pub(crate) fn operands_wanted(
 
 /// What is wrong with the operands of an equality.
 fn equal_wanted(left: &Meant, left_spot: Spot, right: &Meant, right_spot: Spot, notes: &mut Notes)
-    ensures { notes.new ≡ noted (equal_wanted (meant_of left.now) left_spot (meant_of right.now) right_spot) notes.old }
+    ensures { IsNoted notes (equal_wanted (meant_of left.now) left_spot (meant_of right.now) right_spot) }
 {
-    if left.is_access_value() || right.is_access_value() {
-        notes.note(left_spot, NameRule::NotInProfile);
-    } else if are_apart(left, right) {
-        notes.note(right_spot, NameRule::WrongType);
-    }
-}
-
-/// Whether the one is an Integer and the other a Boolean.
-fn are_apart(left: &Meant, right: &Meant) -> bool
-    ensures { result ≡ are_apart (meant_of left.now) (meant_of right.now) }
-{
-    match (left, right) {
-        (Meant::Integer(_), Meant::Boolean(_)) | (Meant::Boolean(_), Meant::Integer(_)) => true,
-        _ => false,
+    match (left.comparable(), right.comparable()) {
+        (Comparable::AnyValue, _)
+        | (_, Comparable::AnyValue)
+        | (Comparable::Null, Comparable::Access)
+        | (Comparable::Access, Comparable::Null)
+        | (Comparable::Integer, Comparable::Integer)
+        | (Comparable::Boolean, Comparable::Boolean) => {}
+        (Comparable::Null, _) => notes.note(left_spot, NameRule::WrongType),
+        _ => notes.note(right_spot, NameRule::WrongType),
     }
 }

@@ -1,18 +1,20 @@
 //! Paths, where a value or a name of the library is wanted (4.1, 10.1.1).
 
-ghost use Rattle.std.specs.Prelude.{◌≡◌, map, slice_get, option_map, option_copied, Some, IfOk, OnOk, IfErr};
-ghost use Rattle.ada_tree.specs.Names.{ident_of, optional_ident_of, path_of, selector_of};
+ghost use Rattle.std.specs.Prelude.{◌≡◌, map, slice_get, option_copied, IfErr};
+ghost use Rattle.ada_tree.specs.Names.{ident_of, optional_ident_of, selector_of};
 ghost use Rattle.ada_resolve.specs.Kept.{forms_in};
-ghost use Rattle.ada_resolve.specs.Known.{parts_of, library_path_found, library_path_remark, visible};
-ghost use Rattle.ada_resolve.specs.Paths.{alone_meant, component_found_meant, component_named, component_within, component_within_remark, components_of, complete_behind, designated_of, entity_meant, is_incomplete_entity, is_incomplete_type, name_of_type, path_meant, path_remark, selected, selection_meant, selection_remark, value_wanted, variable_meant, variable_path_remark};
-ghost use Rattle.ada_resolve.specs.Remark.{noted};
-ghost use Rattle.ada_resolve.specs.View.{known_of, meant_of};
+ghost use Rattle.ada_resolve.specs.Known.{parts_of};
+ghost use Rattle.ada_resolve.specs.Look.{Looks, library_path_look, named_look, path_look, selection_look, variable_look, within_look};
+ghost use Rattle.ada_resolve.specs.Method.{known, Finds, IsNoted, each};
+ghost use Rattle.ada_resolve.specs.Paths.{alone_meant, component_found_meant, component_named, components_of, complete_behind, designated_of, is_incomplete_type, name_of_type, selected};
+ghost use Rattle.ada_resolve.specs.View.{meant_of, optional_number, itself};
 
 use crate::components::{Components, KnownType};
 use crate::fault::{NameFault, NameRule};
 use crate::library::{LibraryName, is_library_root, no_component_rule};
 use crate::meant::Meant;
 use crate::notes::Notes;
+use crate::part::{is_incomplete_in, is_this_incomplete};
 use crate::resolver::Resolver;
 use crate::scope::Entity;
 use ada_program::program::{self, ComponentKind, ComponentNo, Expression, VariableKind};
@@ -24,9 +26,7 @@ impl<'t> Resolver<'t> {
     /// What a path means, where a value is wanted, with what is wrong with it noted. It is no node of the source by itself.
     #[tactic(auto, unfolding(crate::specs::Paths::path_meant, crate::specs::Paths::path_remark))]
     pub(crate) fn path(&self, path: &Path<'t>, notes: &mut Notes) -> Result<Meant, NameFault>
-        ensures found { IfOk result (λ m. meant_of m ≡ path_meant (known_of self.now) (path_of path.now)) }
-        ensures remark { OnOk result (notes.new ≡ noted (path_remark (known_of self.now) (path_of path.now)) notes.old) }
-        ensures memory { IfErr result (λ e. e ≡ NameFault.NoMemory) }
+        ensures { Looks meant_of result notes (path_look self path.now) }
     {
         let root = path.root;
         if is_library_root(root.text) {
@@ -47,9 +47,7 @@ impl<'t> Resolver<'t> {
         selectors: &[Selector<'t>],
         notes: &mut Notes,
     ) -> Result<Meant, NameFault>
-        ensures found { IfOk result (λ m. meant_of m ≡ entity_meant (known_of self.now) (visible (known_of self.now) name.entry.text.now) name.entry.spot (map selector_of selectors.now)) }
-        ensures remark { OnOk result (notes.new ≡ noted (value_wanted (known_of self.now) (visible (known_of self.now) name.entry.text.now) (ident_of name.entry) (map selector_of selectors.now)) notes.old) }
-        ensures memory { IfErr result (λ e. e ≡ NameFault.NoMemory) }
+        ensures { Looks meant_of result notes (named_look self name.entry selectors.now) }
     {
         match (self.lookup(name, notes), selectors) {
             (Some(Entity::Variable { variable, kind }), _) => {
@@ -74,12 +72,10 @@ impl<'t> Resolver<'t> {
         selectors: &[Selector<'t>],
         notes: &mut Notes,
     ) -> Result<Meant, NameFault>
-        ensures found { IfOk result (λ m. meant_of m ≡ variable_meant (known_of self.now) variable spot kind (map selector_of selectors.now)) }
-        ensures remark { OnOk result (notes.new ≡ noted (variable_path_remark (known_of self.now) spot kind (map selector_of selectors.now)) notes.old) }
-        ensures memory { IfErr result (λ e. e ≡ NameFault.NoMemory) }
+        ensures { Looks meant_of result notes (variable_look self variable spot kind selectors.now) }
     {
         match (kind, selectors) {
-            (_, []) => Ok(alone(self.alloc, variable, spot, kind)),
+            (_, []) => Ok(alone_meant(self.alloc, variable, spot, kind)),
             (VariableKind::Access(access), _) => {
                 self.selection(variable, spot, access, selected(selectors), notes)
             }
@@ -99,11 +95,9 @@ impl<'t> Resolver<'t> {
         component: Option<Identifier<'t>>,
         notes: &mut Notes,
     ) -> Result<Meant, NameFault>
-        ensures found { IfOk result (λ m. meant_of m ≡ selection_meant (known_of self.now) variable spot access (optional_ident_of component.entry)) }
-        ensures remark { OnOk result (notes.new ≡ noted (selection_remark (known_of self.now) spot access (optional_ident_of component.entry)) notes.old) }
-        ensures memory { IfErr result (λ e. e ≡ NameFault.NoMemory) }
+        ensures { Looks meant_of result notes (selection_look self variable spot access component.entry) }
     {
-        match (component, self.designated(access)) {
+        match (component, self.designated_type(access)) {
             (Some(name), Some(number)) => {
                 self.component_value(variable, spot, number, name, notes)
             }
@@ -125,9 +119,7 @@ impl<'t> Resolver<'t> {
         name: Identifier<'t>,
         notes: &mut Notes,
     ) -> Result<Meant, NameFault>
-        ensures found { IfOk result (λ m. meant_of m ≡ component_within (known_of self.now) variable spot (Some number.0) (ident_of name.entry)) }
-        ensures remark { OnOk result (notes.new ≡ noted (component_within_remark (known_of self.now) spot (Some number.0) (ident_of name.entry)) notes.old) }
-        ensures memory { IfErr result (λ e. e ≡ NameFault.NoMemory) }
+        ensures { Looks meant_of result notes (within_look self variable spot number name.entry) }
     {
         if self.is_incomplete(number) {
             notes.note(spot, NameRule::WrongType);
@@ -144,14 +136,14 @@ impl<'t> Resolver<'t> {
 
     /// The component of a name in a type.
     fn component_of(&self, number: TypeNo, text: &'t str) -> Option<(usize, ComponentKind)>
-        ensures { result ≡ component_named 0 text.now (components_of (known_of self.now).types number.0) }
+        ensures { result ≡ component_named 0 text.now (components_of (known self).types number.0) }
     {
         self.components_of(number)?.named(text)
     }
 
     /// The type behind an access value is complete.
     fn complete_behind(&self, spot: Spot, designated: Option<TypeNo>, notes: &mut Notes)
-        ensures { notes.new ≡ noted (complete_behind (known_of self.now) spot (option_map (λ (t : TypeNo). t.0) designated)) notes.old }
+        ensures { IsNoted notes (complete_behind (known self) spot (optional_number designated)) }
     {
         if let Some(number) = designated {
             notes.note_if(self.is_incomplete(number), spot, NameRule::WrongType);
@@ -160,8 +152,8 @@ impl<'t> Resolver<'t> {
 
     /// The type that an access type designates.
     #[tactic(auto, unfolding(crate::specs::View::known_of, crate::specs::Paths::designated_of), using(crate::proofs::Names::map_get))]
-    fn designated(&self, access: TypeNo) -> Option<TypeNo>
-        ensures { option_map (λ (t : TypeNo). t.0) result ≡ designated_of (known_of self.now).types access.0 }
+    fn designated_type(&self, access: TypeNo) -> Option<TypeNo>
+        ensures { optional_number result ≡ designated_of (known self).types access.0 }
     {
         match self.types.get(access.0) {
             Some(
@@ -177,7 +169,7 @@ impl<'t> Resolver<'t> {
     /// The components of a record type.
     #[tactic(auto, unfolding(crate::specs::View::known_of, crate::specs::Paths::components_of), using(crate::proofs::Names::map_get))]
     pub(crate) fn components_of(&self, number: TypeNo) -> Option<&Components<'t>>
-        ensures { forms_in (option_copied result) ≡ components_of (known_of self.now).types number.0 }
+        ensures { forms_in (option_copied result) ≡ components_of (known self).types number.0 }
     {
         match self.types.get(number.0) {
             Some(
@@ -191,12 +183,15 @@ impl<'t> Resolver<'t> {
     }
 
     /// Whether a type is still incomplete.
-    #[tactic(auto, unfolding(crate::specs::Paths::is_incomplete_type))]
+    #[tactic(auto, unfolding(crate::specs::View::known_of, crate::specs::Paths::is_incomplete_type))]
     fn is_incomplete(&self, number: TypeNo) -> bool
-        ensures { result ≡ is_incomplete_type (known_of self.now) number.0 }
+        ensures { result ≡ is_incomplete_type (known self) number.0 }
     {
         match self.name_of_type(number) {
-            Some(name) => is_this_incomplete(number, self.declared(name)),
+            Some(name) => {
+                is_this_incomplete(number, self.declared(name))
+                    || is_incomplete_in(&self.outer, number, name)
+            }
             None => false,
         }
     }
@@ -204,7 +199,7 @@ impl<'t> Resolver<'t> {
     /// The name of a type.
     #[tactic(auto, unfolding(crate::specs::View::known_of), using(crate::proofs::Names::map_get))]
     fn name_of_type(&self, number: TypeNo) -> Option<&'t str>
-        ensures { option_copied result ≡ name_of_type (slice_get (known_of self.now).types number.0) }
+        ensures { option_copied result ≡ name_of_type (slice_get (known self).types number.0) }
     {
         match self.types.get(number.0) {
             Some(KnownType::Record { name, .. } | KnownType::Access { name, .. }) => Some(*name),
@@ -218,9 +213,7 @@ impl<'t> Resolver<'t> {
         path: &Path<'t>,
         notes: &mut Notes,
     ) -> Result<Option<LibraryName>, NameFault>
-        ensures found { IfOk result (λ n. n ≡ library_path_found (known_of self.now) (path_of path.now)) }
-        ensures remark { OnOk result (notes.new ≡ noted (library_path_remark (known_of self.now) (path_of path.now)) notes.old) }
-        ensures memory { IfErr result (λ e. e ≡ NameFault.NoMemory) }
+        ensures { Looks itself result notes (library_path_look self path.now) }
     {
         if path.is_name() {
             let parts = self.parts(&path.selectors)?;
@@ -233,7 +226,7 @@ impl<'t> Resolver<'t> {
 
     /// The identifiers that a path selects, one by one.
     fn parts(&self, selectors: &[Selector<'t>]) -> Result<Vec<Identifier<'t>>, NameFault>
-        ensures parts { IfOk result (λ v. map ident_of v.items ≡ parts_of (map selector_of selectors.now)) }
+        ensures parts { Finds (each ident_of) result (parts_of (map selector_of selectors.now)) }
         ensures memory { IfErr result (λ e. e ≡ NameFault.NoMemory) }
     {
         let mut parts = Vec::new(self.alloc);
@@ -262,7 +255,7 @@ fn selected<'t>(selectors: &[Selector<'t>]) -> Option<Identifier<'t>>
 
 /// What a variable means alone.
 #[tactic(auto, using(std::proofs::lemmas::Grind::common_steps, ada_program::specs::Form::expression_rules))]
-fn alone(alloc: Global, root: VariableNo, spot: Spot, kind: VariableKind) -> Meant
+fn alone_meant(alloc: Global, root: VariableNo, spot: Spot, kind: VariableKind) -> Meant
     ensures { meant_of result ≡ alone_meant root spot kind }
 {
     let path = program::Path {
@@ -286,7 +279,7 @@ fn component_found(
     at: usize,
     kind: ComponentKind,
 ) -> Result<Meant, NameFault>
-    ensures found { IfOk result (λ m. meant_of m ≡ component_found_meant root spot at kind) }
+    ensures found { Finds meant_of result (component_found_meant root spot at kind) }
     ensures memory { IfErr result (λ e. e ≡ NameFault.NoMemory) }
 {
     let path = program::Path {
@@ -297,16 +290,6 @@ fn component_found(
     match kind {
         ComponentKind::Integer { .. } => Ok(Meant::Integer(Expression::Path(path))),
         ComponentKind::Boolean { .. } => Ok(Meant::Boolean(Expression::Path(path))),
-        ComponentKind::Access(_) => Ok(Meant::OtherAccess),
-    }
-}
-
-/// Whether a name stands for this type, incomplete.
-fn is_this_incomplete(number: TypeNo, entity: Option<Entity>) -> bool
-    ensures { result ≡ is_incomplete_entity number.0 entity }
-{
-    match entity {
-        Some(Entity::Incomplete(other)) => other.0 == number.0,
-        _ => false,
+        ComponentKind::Access(_) => Ok(Meant::OtherAccess(path)),
     }
 }

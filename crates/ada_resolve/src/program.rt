@@ -1,17 +1,14 @@
 //! From the tree to the program: what each name stands for, and whether each form has the types that it wants.
 
-ghost use Rattle.std.specs.Prelude.{◌≡◌, false, [], map, IfOk, IfErr};
-ghost use Rattle.std.specs.String.{string_bytes};
+ghost use Rattle.std.specs.Prelude.{◌≡◌, [], map, IfOk, IfErr};
 ghost use Rattle.ada_tree.specs.Declarations.{clause_of};
 ghost use Rattle.ada_tree.specs.Names.{ident_of, optional_ident_of, name_of};
-ghost use Rattle.ada_tree.specs.StatementView.{handler_of, unit_of};
-ghost use Rattle.ada_tree.specs.Statements.{handlers_from};
+ghost use Rattle.ada_tree.specs.StatementView.{unit_of};
 ghost use Rattle.ada_program.specs.ProgramForm.{program_form};
 ghost use Rattle.ada_program.specs.WellFormed.{IsWellFormed};
-ghost use Rattle.ada_resolve.specs.Library.{library_name};
-ghost use Rattle.ada_resolve.specs.Remark.{noted};
-ghost use Rattle.ada_resolve.specs.Resolution.{with_unit, units_of, clause_told, clauses_told, procedure_from, procedure_remark, unhandled, same_name, program_of, Resolves};
-ghost use Rattle.ada_resolve.specs.View.{known_of, statements_in, same_units, Answers, Tells, Faults};
+ghost use Rattle.ada_resolve.specs.Method.{Finds, IsNoted, end_outcome, program_in, procedure_outcome};
+ghost use Rattle.ada_resolve.specs.Resolution.{units_of, clause_told, clauses_told, procedure_remark, same_name, Resolves, no_units, unit_told};
+ghost use Rattle.ada_resolve.specs.View.{same_units, Answers, Tells, Faults, done};
 
 use crate::components::definitions;
 use crate::fault::{NameFault, NameRule};
@@ -20,10 +17,10 @@ use crate::library::{LibraryName, Withs, is_primitive, library_name};
 use crate::notes::Notes;
 use crate::resolver::Resolver;
 use crate::scope::is_taken;
-use ada_program::program::Stmt;
+use ada_program::program::{Handler, Stmt};
 use ada_program::{Program, Spot};
 use ada_tree::names::{Identifier, Name};
-use ada_tree::statements::Handler;
+use ada_tree::statements::Handler as WrittenHandler;
 use ada_tree::unit::{Clause, Unit};
 use std::alloc::Global;
 
@@ -49,38 +46,71 @@ fn whole_program(alloc: Global, unit: &Unit<'_>) -> Result<Program, NameFault>
     let withs = library_units(&unit.clauses)?;
     let mut resolver = Resolver::new(alloc, withs, unit.name.text);
     let mut texts = Vec::new(alloc);
-    let statements = procedure(&mut resolver, unit, &mut texts)?;
-    assemble(resolver, texts, statements)
+    let body = procedure(&mut resolver, unit, &mut texts)?;
+    assemble(resolver, texts, body)
 }
 
-/// The statements of the procedure, behind its name and its declarations; and its end. The texts that they write are added.
+/// What the procedure does: its statements, and what handles their exceptions (11.2).
+#[derive(Drop)]
+struct Body {
+    statements: Vec<Stmt>,
+    handlers: Vec<Handler>,
+}
+
+/// The body of the procedure, behind its name and its declarations; and its end. The texts that it writes are added.
 #[tactic(auto, using(crate::proofs::Views::body_view, crate::proofs::Views::begin_view))]
 fn procedure<'t>(
     resolver: &mut Resolver<'t>,
     unit: &Unit<'t>,
     texts: &mut Vec<String>,
-) -> Result<Vec<Stmt>, NameFault>
+) -> Result<Body, NameFault>
     requires { texts.old.items ≡ [] }
-    ensures { Answers result (λ ss. program_of (known_of resolver.new) (map string_bytes texts.new.items) (statements_in ss)) (procedure_from (unit_of unit.now) (known_of resolver.old)) }
+    ensures { Answers result (program_in resolver.new texts.new) (procedure_outcome resolver.old unit.now) }
 {
     let mut notes = Notes::new();
     procedure_name(unit.name, unit.spot, &mut notes);
     notes.settle()?;
     resolver.declarations(&unit.declarations, &mut notes)?;
     resolver.begin(unit.body.begin, &mut notes)?;
-    let statements = resolver.statements(&unit.body.statements, texts, &mut notes)?;
-    no_handlers(&unit.body.handlers)?;
+    let statements = resolver.statements(&unit.body.statements, false, texts, &mut notes)?;
+    procedure_end(
+        resolver,
+        unit,
+        statements,
+        &unit.body.handlers,
+        texts,
+        &mut notes,
+    )
+}
+
+/// The end of the procedure, behind its statements: its handlers, and its name. The texts that the handlers write are added.
+#[tactic(auto, using(crate::proofs::Names::mapped_length))]
+fn procedure_end<'t>(
+    resolver: &Resolver<'t>,
+    unit: &Unit<'t>,
+    statements: Vec<Stmt>,
+    handlers: &[WrittenHandler<'t>],
+    texts: &mut Vec<String>,
+    notes: &mut Notes,
+) -> Result<Body, NameFault>
+    ensures { Answers result (program_in resolver.now texts.new) (end_outcome resolver.now unit.now statements handlers.now texts notes) }
+{
+    let handlers = resolver.handlers(handlers, false, texts, notes)?;
     same_name(unit.name, unit.end_name)?;
-    Ok(statements)
+    Ok(Body {
+        statements,
+        handlers,
+    })
 }
 
 /// The library units of the `with` clauses: each is one that is in use.
 fn library_units(clauses: &[Clause<'_>]) -> Result<Withs, NameFault>
-    ensures { Answers result same_units (clauses_told (map clause_of clauses.now) (record { text_io = false; deallocation = false })) }
+    ensures { Answers result same_units (clauses_told (map clause_of clauses.now) no_units) }
 {
     let mut units = Withs {
         text_io: false,
         deallocation: false,
+        run_input: false,
     };
     for clause in clauses {
         units = with_clause(clause, units)?;
@@ -109,16 +139,20 @@ fn with_units(names: &[Name<'_>], units: Withs) -> Result<Withs, NameFault>
 
 /// The library units with that of one more name.
 fn with_unit(name: &Name<'_>, units: Withs) -> Result<Withs, NameFault>
-    ensures { Answers result same_units (with_unit (library_name name.now.first.text.now (map ident_of name.now.rest.items)) name.now.first.spot units) }
+    ensures { Answers result same_units (unit_told (name_of name.now) units) }
 {
     match library_name(name.first.text, &name.rest) {
         LibraryName::TextIo => Ok(Withs {
             text_io: true,
-            deallocation: units.deallocation,
+            ..units
         }),
         LibraryName::UncheckedDeallocation => Ok(Withs {
-            text_io: units.text_io,
             deallocation: true,
+            ..units
+        }),
+        LibraryName::RunInput => Ok(Withs {
+            run_input: true,
+            ..units
         }),
         _ => Err(NameFault::Broken {
             spot: name.first.spot,
@@ -129,28 +163,15 @@ fn with_unit(name: &Name<'_>, units: Withs) -> Result<Withs, NameFault>
 
 /// What is wrong with the procedure's name.
 fn procedure_name(name: Identifier<'_>, spot: Spot, notes: &mut Notes)
-    ensures { notes.new ≡ noted (procedure_remark (ident_of name.entry) spot) notes.old }
+    ensures { IsNoted notes (procedure_remark (ident_of name.entry) spot) }
 {
     notes.note_if(is_taken(name.text), name.spot, NameRule::DeclaredTwice);
     notes.note_if(is_primitive(name.text), spot, NameRule::NotInProfile);
 }
 
-/// No handler is in use (11.2).
-fn no_handlers(handlers: &[Handler<'_>]) -> Result<(), NameFault>
-    ensures { Tells result (tt {0}) (unhandled (handlers_from (map handler_of handlers.now)) (tt {0})) }
-{
-    match handlers.first() {
-        Some(handler) => Err(NameFault::Broken {
-            spot: handler.spot,
-            rule: NameRule::NotInProfile,
-        }),
-        None => Ok(()),
-    }
-}
-
 /// The name after `end` is the procedure's own, where one is written (6.3).
 fn same_name(name: Identifier<'_>, last: Option<Identifier<'_>>) -> Result<(), NameFault>
-    ensures { Tells result (tt {0}) (same_name name.entry.text.now (optional_ident_of last.entry) (tt {0})) }
+    ensures { Tells result done (same_name name.entry.text.now (optional_ident_of last.entry) done) }
 {
     match last {
         Some(end) if end.text != name.text => Err(NameFault::Broken {
@@ -163,12 +184,8 @@ fn same_name(name: Identifier<'_>, last: Option<Identifier<'_>>) -> Result<(), N
 
 /// The program of what is resolved.
 #[tactic(auto, unfolding(crate::specs::View::known_of))]
-fn assemble(
-    resolver: Resolver<'_>,
-    texts: Vec<String>,
-    statements: Vec<Stmt>,
-) -> Result<Program, NameFault>
-    ensures made { IfOk result (λ p. program_form p ≡ program_of (known_of resolver.entry) (map string_bytes texts.items) (statements_in statements)) }
+fn assemble(resolver: Resolver<'_>, texts: Vec<String>, body: Body) -> Result<Program, NameFault>
+    ensures program { Finds program_form result (program_in resolver.entry texts body) }
     ensures memory { IfErr result (λ e. e ≡ NameFault.NoMemory) }
 {
     let types = definitions(resolver.alloc, &resolver.types)?;
@@ -176,16 +193,19 @@ fn assemble(
         alloc: _,
         withs: _,
         procedure: _,
-        names: _,
+        here,
+        outer: _,
         types: _,
         variables,
-        declarations,
+        exceptions,
     } = resolver;
     Ok(Program {
         types,
         variables,
         texts,
-        declarations,
-        statements,
+        exceptions,
+        declarations: here.into_declarations(),
+        statements: body.statements,
+        handlers: body.handlers,
     })
 }

@@ -1,15 +1,11 @@
 //! Resolution of record types (3.8).
 
-ghost use Rattle.std.specs.Prelude.{◌≡◌, ◌==◌, ◌∷◌, map, IfOk, IfErr, OnOk, []};
-ghost use Rattle.ada_tree.specs.Names.{ident_of};
-ghost use Rattle.ada_tree.specs.Records.{component_of, record_of, initial_static_of};
-ghost use Rattle.ada_resolve.specs.Kept.{forms_of, with_component, with_components};
-ghost use Rattle.ada_resolve.specs.Known.{visible};
-ghost use Rattle.ada_resolve.specs.Remark.{noted};
-ghost use Rattle.ada_resolve.specs.Resolution.{settled};
-ghost use Rattle.ada_resolve.specs.Types.{completed, new_unless};
-ghost use Rattle.ada_resolve.specs.Records.{integer_remark, boolean_remark, initial_value, initial_truth, no_value_remark, kind_wanted, kind_in, component_remark, component_meant, components_remark, components_written, is_component, record_type_remark, record_type_known};
-ghost use Rattle.ada_resolve.specs.View.{known_of, Tells};
+ghost use Rattle.std.specs.Prelude.{◌≡◌, IfErr, OnOk};
+ghost use Rattle.ada_tree.specs.Records.{component_of, initial_static_of};
+ghost use Rattle.ada_resolve.specs.Kept.{forms_of};
+ghost use Rattle.ada_resolve.specs.Look.{Looks, components_look, listed_look};
+ghost use Rattle.ada_resolve.specs.Method.{known, IsNoted, Remarks, AddsComponent, record_tree, Declares, meant_component, next_component_remark};
+ghost use Rattle.ada_resolve.specs.Records.{initial_value, initial_truth, no_value_remark, kind_remark, kind_of_component, first_integer_remark, first_truth_remark};
 
 use crate::components::{Components, KnownType};
 use crate::fault::{NameFault, NameRule};
@@ -35,10 +31,10 @@ impl<'t> Resolver<'t> {
         definition: &RecordDefinition<'t>,
         notes: &mut Notes,
     ) -> Result<(), NameFault>
-        ensures { Tells result (known_of self.new, notes.new) (settled (noted (record_type_remark (known_of self.old) spot (ident_of name.entry) (record_of definition.now)) notes.old) (record_type_known (known_of self.old) (ident_of name.entry) (record_of definition.now))) }
+        ensures { Declares result self notes (record_tree spot name.entry definition.now) }
     {
         self.type_begins(spot, notes);
-        let completes = self.completed(name);
+        let completes = self.completed_type(name);
         self.new_unless(completes, name, spot, notes);
         let components = self.components(definition, notes)?;
         notes.settle()?;
@@ -56,27 +52,23 @@ impl<'t> Resolver<'t> {
         definition: &RecordDefinition<'t>,
         notes: &mut Notes,
     ) -> Result<Components<'t>, NameFault>
-        ensures meant { IfOk result (λ v. forms_of v ≡ with_components [] (map (component_meant (known_of self.now)) (components_written (record_of definition.now)))) }
-        ensures remark { OnOk result (notes.new ≡ noted (components_remark (known_of self.now) [] 0 (components_written (record_of definition.now))) notes.old) }
-        ensures memory { IfErr result (λ e. e ≡ NameFault.NoMemory) }
+        ensures { Looks forms_of result notes (components_look self definition.now) }
     {
         match definition {
-            RecordDefinition::Components { first, rest } => self.listed(first, rest, notes),
+            RecordDefinition::Components { first, rest } => self.component_list(first, rest, notes),
             _ => Ok(Components::new(self.alloc)),
         }
     }
 
     /// The components that are listed.
     #[tactic(auto, using(std::proofs::lemmas::Grind::common_steps, crate::proofs::ComponentLists::remark_next))]
-    fn listed(
+    fn component_list(
         &self,
         first: &ComponentDefinition<'t>,
         rest: &[ComponentDefinition<'t>],
         notes: &mut Notes,
     ) -> Result<Components<'t>, NameFault>
-        ensures meant { IfOk result (λ v. forms_of v ≡ with_components [] (map (component_meant (known_of self.now)) (map component_of (first.now ∷ rest.now)))) }
-        ensures remark { OnOk result (notes.new ≡ noted (components_remark (known_of self.now) [] 0 (map component_of (first.now ∷ rest.now))) notes.old) }
-        ensures memory { IfErr result (λ e. e ≡ NameFault.NoMemory) }
+        ensures { Looks forms_of result notes (listed_look self first.now rest.now) }
     {
         let mut components = Components::new(self.alloc);
         self.component(first, 0, &mut components, notes)?;
@@ -86,7 +78,7 @@ impl<'t> Resolver<'t> {
         Ok(components)
     }
 
-    /// `C : T := 0;` (3.8), behind so many: Integer or Boolean with an initial value, or an access type without one.
+    /// `C : T := 0;` (3.8), behind `count` others: Integer or Boolean with an initial value, or an access type without one.
     #[tactic(auto, unfolding(crate::specs::Records::component_remark, crate::specs::Records::component_meant))]
     fn component(
         &self,
@@ -95,8 +87,8 @@ impl<'t> Resolver<'t> {
         components: &mut Components<'t>,
         notes: &mut Notes,
     ) -> Result<(), NameFault>
-        ensures meant { OnOk result (forms_of components.new ≡ with_component (component_meant (known_of self.now) (component_of component.now)) (forms_of components.old)) }
-        ensures remark { OnOk result (notes.new ≡ noted (component_remark (known_of self.now) (is_component component.now.name.text.now (forms_of components.old)) count (component_of component.now)) notes.old) }
+        ensures meant { OnOk result (AddsComponent components (meant_component self component.now)) }
+        ensures remark { Remarks result notes (next_component_remark self components count component.now) }
         ensures memory { IfErr result (λ e. e ≡ NameFault.NoMemory) }
     {
         let name = component.name;
@@ -119,8 +111,8 @@ impl<'t> Resolver<'t> {
         component: &ComponentDefinition<'t>,
         notes: &mut Notes,
     ) -> ComponentKind
-        ensures meant { result ≡ kind_in (visible (known_of self.now) component.now.type_name.text.now) (known_of self.now) (initial_static_of component.now.initial) }
-        ensures remark { notes.new ≡ noted (kind_wanted (visible (known_of self.now) component.now.type_name.text.now) (known_of self.now) (component_of component.now)) notes.old }
+        ensures meant { result ≡ kind_of_component (known self) (component_of component.now) }
+        ensures remark { IsNoted notes (kind_remark (known self) (component_of component.now)) }
     {
         match self.lookup(component.type_name, notes) {
             Some(Entity::Integer) => ComponentKind::Integer {
@@ -147,8 +139,8 @@ impl<'t> Resolver<'t> {
 
     /// The initial value of an Integer component, which has one.
     fn initial_value(&self, component: &ComponentDefinition<'t>, notes: &mut Notes) -> i32
-        ensures value { result ≡ initial_value (known_of self.now) (initial_static_of component.now.initial) }
-        ensures remark { notes.new ≡ noted (integer_remark (known_of self.now) (ident_of component.now.name) (initial_static_of component.now.initial)) notes.old }
+        ensures value { result ≡ initial_value (known self) (component_of component.now).initial }
+        ensures remark { IsNoted notes (first_integer_remark (known self) (component_of component.now)) }
     {
         match &component.initial {
             Some(value) => self.static_value(value, notes),
@@ -161,8 +153,8 @@ impl<'t> Resolver<'t> {
 
     /// The initial value of a Boolean component, which has one too.
     fn initial_truth(&self, component: &ComponentDefinition<'t>, notes: &mut Notes) -> bool
-        ensures value { result ≡ initial_truth (known_of self.now) (initial_static_of component.now.initial) }
-        ensures remark { notes.new ≡ noted (boolean_remark (known_of self.now) (ident_of component.now.name) (initial_static_of component.now.initial)) notes.old }
+        ensures value { result ≡ initial_truth (known self) (component_of component.now).initial }
+        ensures remark { IsNoted notes (first_truth_remark (known self) (component_of component.now)) }
     {
         match &component.initial {
             Some(value) => self.static_truth(value, notes),
@@ -175,7 +167,7 @@ impl<'t> Resolver<'t> {
 
     /// An access component has no initial value.
     fn no_value(&self, initial: &Option<StaticValue<'t>>, notes: &mut Notes)
-        ensures { notes.new ≡ noted (no_value_remark (known_of self.now) (initial_static_of initial.now)) notes.old }
+        ensures { IsNoted notes (no_value_remark (known self) (initial_static_of initial.now)) }
     {
         match initial {
             None => {}

@@ -1,28 +1,26 @@
 //! A resolution in progress: what is declared so far, and what names stand for.
 
-ghost use Rattle.std.specs.Prelude.{◌≡◌, ℕ, map, length, ◌++◌, ◌∷◌, [], slice_get, IfOk, OnOk, IfErr, bytes_eq};
+ghost use Rattle.std.specs.Prelude.{◌≡◌, map, length, IfOk, OnOk, IfErr, bytes_eq};
 ghost use Rattle.ada_tree.specs.Names.{ident_of};
 ghost use Rattle.ada_program.specs.Form.{declaration_form};
-ghost use Rattle.ada_program.specs.ProgramForm.{variable_form};
-ghost use Rattle.ada_resolve.specs.Kept.{known_type_form};
-ghost use Rattle.ada_resolve.specs.Known.{named, declared, visible, name_remark, new_name_remark, library_remark, library_found, is_with, type_begins, is_empty};
-ghost use Rattle.ada_resolve.specs.Remark.{noted};
+ghost use Rattle.ada_resolve.specs.Known.{named, named_in, parts, declared, visible, name_remark, new_name_remark, library_remark, library_found, is_with, no_variable_yet, type_begins, with_part, without_part};
+ghost use Rattle.ada_resolve.specs.Method.{known, each, IsNoted, Changes, with_type};
 ghost use Rattle.ada_resolve.specs.Resolution.{known_first};
-ghost use Rattle.ada_resolve.specs.Types.{completed, defined, number_of, designates};
 ghost use Rattle.ada_resolve.specs.View.{known_of};
 
 use crate::components::KnownType;
 use crate::fault::{NameFault, NameRule};
 use crate::library::{LibraryName, Withs, is_primitive, library_name, missing_rule};
 use crate::notes::Notes;
+use crate::part::{Part, named_in};
 use crate::scope::{Entity, is_taken, predefined};
 use ada_program::program::{Declaration, Variable};
 use ada_program::{Spot, TypeNo};
 use ada_tree::names::Identifier;
-use indexmap::IndexMap;
 use std::alloc::Global;
+use std::mem;
 
-/// The most names that the procedure declares.
+/// The most names that a declarative part declares.
 const MOST_NAMES: usize = 500;
 
 /// A resolution in progress: what is declared so far, and what it has given.
@@ -33,11 +31,14 @@ pub(crate) struct Resolver<'t> {
     pub(crate) withs: Withs,
     /// The procedure's own name.
     pub(crate) procedure: &'t str,
-    /// The names that it declares, in order.
-    pub(crate) names: IndexMap<&'t str, Entity>,
+    /// The innermost declarative part: the one that declares here.
+    pub(crate) here: Part<'t>,
+    /// The declarative parts around it, of which the last is the inner one of the others.
+    pub(crate) outer: Vec<Part<'t>>,
     pub(crate) types: Vec<KnownType<'t>>,
     pub(crate) variables: Vec<Variable>,
-    pub(crate) declarations: Vec<Declaration>,
+    /// The names of the declared exceptions, in upper case.
+    pub(crate) exceptions: Vec<String>,
 }
 
 impl<'t> Resolver<'t> {
@@ -50,33 +51,70 @@ impl<'t> Resolver<'t> {
             alloc,
             withs,
             procedure,
-            names: IndexMap::new(alloc),
+            here: Part::new(alloc, 0, 0),
+            outer: Vec::new(alloc),
             types: Vec::new(alloc),
             variables: Vec::new(alloc),
-            declarations: Vec::new(alloc),
+            exceptions: Vec::new(alloc),
         }
     }
 
-    /// What the procedure itself declares under a name.
-    #[tactic(auto, unfolding(crate::specs::View::known_of), using(crate::proofs::Names::named_map))]
-    pub(crate) fn declared(&self, text: &'t str) -> Option<Entity>
-        ensures { result ≡ named text.now (known_of self.now).names }
+    /// An inner declarative part begins: it declares nothing yet.
+    #[tactic(auto, unfolding(crate::specs::View::known_of), using(crate::proofs::Names::reversed_snoc))]
+    pub(crate) fn enter_part(&mut self) -> Result<(), NameFault>
+        ensures known { OnOk result (Changes self with_part) }
+        ensures memory { IfErr result (λ e. e ≡ NameFault.NoMemory) }
     {
-        self.names.get(text).copied()
+        let inner = Part::new(self.alloc, self.types.len(), self.variables.len());
+        let outer = mem::replace(&mut self.here, inner);
+        self.outer.push(outer)?;
+        Ok(())
     }
 
-    /// How many names the procedure declares.
+    /// The innermost part ends: its names are gone. What it elaborates is given back.
+    #[tactic(auto, unfolding(crate::specs::View::known_of), using(crate::proofs::Names::reversed_snoc))]
+    pub(crate) fn leave_part(&mut self) -> Vec<Declaration>
+        ensures known { Changes self without_part }
+        ensures elaborated { each declaration_form result ≡ (known_of self.old).here.elaborated }
+    {
+        let outer = match self.outer.pop() {
+            Some(outer) => outer,
+            None => Part::new(self.alloc, self.types.len(), self.variables.len()),
+        };
+        mem::replace(&mut self.here, outer).into_declarations()
+    }
+
+    /// What the innermost part declares under a name.
+    #[tactic(auto, unfolding(crate::specs::View::known_of))]
+    pub(crate) fn declared(&self, text: &'t str) -> Option<Entity>
+        ensures { result ≡ named text.now (known self).here.names }
+    {
+        self.here.named(text)
+    }
+
+    /// What a name stands for in the parts: the inner declaration hides the outer ones.
+    #[tactic(auto, unfolding(crate::specs::View::known_of))]
+    fn in_parts(&self, text: &'t str) -> Option<Entity>
+        ensures { result ≡ named_in text.now (parts (known self)) }
+    {
+        match self.here.named(text) {
+            Some(entity) => Some(entity),
+            None => named_in(&self.outer, text),
+        }
+    }
+
+    /// How many names the innermost part declares.
     #[tactic(auto, unfolding(crate::specs::View::known_of))]
     fn count(&self) -> usize
-        ensures { result ≡ length (known_of self.now).names }
+        ensures { result ≡ length (known self).here.names }
     {
-        self.names.len()
+        self.here.count()
     }
 
     /// Whether it is the procedure's own name.
     #[tactic(auto, unfolding(crate::specs::View::known_of))]
     fn is_own(&self, text: &'t str) -> bool
-        ensures { result ≡ bytes_eq text.now (known_of self.now).procedure }
+        ensures { result ≡ bytes_eq text.now (known self).procedure }
     {
         text == self.procedure
     }
@@ -84,9 +122,9 @@ impl<'t> Resolver<'t> {
     /// What a name stands for: the inner declaration hides the outer one.
     #[tactic(auto, unfolding(crate::specs::Known::visible))]
     pub(crate) fn visible(&self, text: &'t str) -> Option<Entity>
-        ensures { result ≡ visible (known_of self.now) text.now }
+        ensures { result ≡ visible (known self) text.now }
     {
-        match self.declared(text) {
+        match self.in_parts(text) {
             Some(entity) => Some(entity),
             None if self.is_own(text) => Some(Entity::Procedure),
             None => predefined(text),
@@ -94,19 +132,18 @@ impl<'t> Resolver<'t> {
     }
 
     /// The name stands for this from now on.
-    #[tactic(auto, unfolding(crate::specs::View::known_of), using(crate::proofs::Names::entered_map))]
+    #[tactic(auto, unfolding(crate::specs::View::known_of))]
     pub(crate) fn declare(&mut self, text: &'t str, entity: Entity) -> Result<(), NameFault>
-        ensures known { OnOk result (known_of self.new ≡ declared (known_of self.old) text.now entity) }
+        ensures known { OnOk result (Changes self (λ k. declared k text.now entity)) }
         ensures memory { IfErr result (λ e. e ≡ NameFault.NoMemory) }
     {
-        self.names.insert(text, entity)?;
-        Ok(())
+        self.here.declare(text, entity)
     }
 
     /// What a lone name stands for, where a type or a value is wanted.
     pub(crate) fn lookup(&self, name: Identifier<'t>, notes: &mut Notes) -> Option<Entity>
-        ensures found { result ≡ visible (known_of self.now) name.entry.text.now }
-        ensures remark { notes.new ≡ noted (name_remark (known_of self.now) (ident_of name.entry)) notes.old }
+        ensures found { result ≡ visible (known self) name.entry.text.now }
+        ensures remark { IsNoted notes (name_remark (known self) (ident_of name.entry)) }
     {
         let found = self.visible(name.text);
         if found.is_none() {
@@ -117,7 +154,7 @@ impl<'t> Resolver<'t> {
 
     /// What is wrong with declaring a name, whose declaration begins at `first`.
     pub(crate) fn new_name(&self, name: Identifier<'t>, first: Spot, notes: &mut Notes)
-        ensures { notes.new ≡ noted (new_name_remark (known_of self.now) (ident_of name.entry) first) notes.old }
+        ensures { IsNoted notes (new_name_remark (known self) (ident_of name.entry) first) }
     {
         notes.note_if(is_taken(name.text), name.spot, NameRule::DeclaredTwice);
         notes.note_if(
@@ -136,8 +173,8 @@ impl<'t> Resolver<'t> {
         rest: &[Identifier<'t>],
         notes: &mut Notes,
     ) -> Option<LibraryName>
-        ensures found { result ≡ library_found (known_of self.now) (ident_of first.entry) (map ident_of rest.now) }
-        ensures remark { notes.new ≡ noted (library_remark (known_of self.now) (ident_of first.entry) (map ident_of rest.now)) notes.old }
+        ensures found { result ≡ library_found (known self) (ident_of first.entry) (map ident_of rest.now) }
+        ensures remark { IsNoted notes (library_remark (known self) (ident_of first.entry) (map ident_of rest.now)) }
     {
         let name = library_name(first.text, rest);
         if let LibraryName::Unknown = name {
@@ -155,24 +192,31 @@ impl<'t> Resolver<'t> {
     /// Whether the unit of a library name is named in a `with` clause.
     #[tactic(auto, unfolding(crate::specs::View::known_of))]
     fn is_with(&self, name: LibraryName) -> bool
-        ensures { result ≡ is_with (known_of self.now).withs name }
+        ensures { result ≡ is_with (known self).withs name }
     {
         self.withs.has(name)
     }
 
-    /// A type or an instance begins: none follows an object.
-    #[tactic(auto, unfolding(crate::specs::View::known_of))]
+    /// Whether the innermost part has declared no object yet.
+    #[tactic(auto, unfolding(crate::specs::View::known_of, crate::specs::View::part_of))]
+    pub(crate) fn no_object_yet(&self) -> bool
+        ensures { result ≡ no_variable_yet (known self) }
+    {
+        self.variables.len() == self.here.first_variable
+    }
+
+    /// A type, a number, an exception or an instance begins: none follows an object of its part.
     pub(crate) fn type_begins(&self, spot: Spot, notes: &mut Notes)
-        ensures { notes.new ≡ noted (type_begins (known_of self.now) spot) notes.old }
+        ensures { IsNoted notes (type_begins (known self) spot) }
     {
         notes.node(spot);
-        notes.note_if(!self.variables.is_empty(), spot, NameRule::Layout);
+        notes.note_if(!self.no_object_yet(), spot, NameRule::Layout);
     }
 
     /// A new type with the next number.
     #[tactic(auto, unfolding(crate::specs::View::known_of), using(crate::proofs::Names::map_snoc))]
     pub(crate) fn add_type(&mut self, definition: KnownType<'t>) -> Result<TypeNo, NameFault>
-        ensures known { OnOk result (known_of self.new ≡ record (known_of self.old) { types = (known_of self.old).types ++ known_type_form definition.entry ∷ [] }) }
+        ensures known { OnOk result (Changes self (with_type None definition.entry)) }
         ensures number { IfOk result (λ t. t ≡ record { 0 = length (known_of self.old).types }) }
         ensures memory { IfErr result (λ e. e ≡ NameFault.NoMemory) }
     {

@@ -1,10 +1,10 @@
 //! Resolution of what is assigned: a value, or a new object (5.2).
 
-ghost use Rattle.std.specs.Prelude.{◌≡◌, IfOk, OnOk, IfErr};
-ghost use Rattle.ada_tree.specs.ExpressionView.{right_of};
-ghost use Rattle.ada_resolve.specs.Remark.{noted};
-ghost use Rattle.ada_resolve.specs.Rights.{access_kind, access_object_wanted, access_wanted, assigned, assigned_wanted, right_found, right_remark};
-ghost use Rattle.ada_resolve.specs.View.{known_of, meant_of, right_in};
+ghost use Rattle.std.specs.Prelude.{◌≡◌};
+ghost use Rattle.ada_resolve.specs.Look.{Looks, right_look};
+ghost use Rattle.ada_resolve.specs.Method.{IsNoted};
+ghost use Rattle.ada_resolve.specs.Rights as rules;
+ghost use Rattle.ada_resolve.specs.View.{meant_of, right_in};
 
 use crate::allocators::is_in_use;
 use crate::fault::{NameFault, NameRule};
@@ -25,9 +25,7 @@ impl<'t> Resolver<'t> {
         kind: Option<VariableKind>,
         notes: &mut Notes,
     ) -> Result<Option<program::Right>, NameFault>
-        ensures found { IfOk result (λ v. right_in v ≡ right_found (known_of self.now) kind (right_of right.now)) }
-        ensures remark { OnOk result (notes.new ≡ noted (right_remark (known_of self.now) kind (right_of right.now)) notes.old) }
-        ensures memory { IfErr result (λ e. e ≡ NameFault.NoMemory) }
+        ensures { Looks right_in result notes (right_look self kind right.now) }
     {
         match right {
             expressions::Right::Expression(expression) => {
@@ -59,7 +57,7 @@ impl<'t> Resolver<'t> {
 
 /// The access type of an object of this kind.
 fn access_kind(kind: Option<VariableKind>) -> Option<TypeNo>
-    ensures { result ≡ access_kind kind }
+    ensures { result ≡ rules.access_kind kind }
 {
     match kind {
         Some(VariableKind::Access(access)) => Some(access),
@@ -69,7 +67,7 @@ fn access_kind(kind: Option<VariableKind>) -> Option<TypeNo>
 
 /// What is assigned is of the object's type, where that is known.
 fn assigned_wanted(kind: Option<VariableKind>, value: &Meant, spot: Spot, notes: &mut Notes)
-    ensures { notes.new ≡ noted (assigned_wanted kind (meant_of value.now) spot) notes.old }
+    ensures { IsNoted notes (rules.assigned_wanted kind (meant_of value.now) spot) }
 {
     match kind {
         Some(VariableKind::Integer) => value.integer_wanted(spot, notes),
@@ -81,30 +79,30 @@ fn assigned_wanted(kind: Option<VariableKind>, value: &Meant, spot: Spot, notes:
 
 /// What is assigned to an access object: null, or the value of an object of that very type.
 fn access_wanted(access: TypeNo, value: &Meant, spot: Spot, notes: &mut Notes)
-    ensures { notes.new ≡ noted (access_wanted access (meant_of value.now) spot) notes.old }
+    ensures { IsNoted notes (rules.access_wanted access (meant_of value.now) spot) }
 {
     match value {
         Meant::Unknown | Meant::Null => {}
         Meant::Variable(_, found) => {
             notes.note_if(access.0 != found.0, spot, NameRule::WrongType);
         }
-        Meant::OtherAccess => notes.note(spot, NameRule::NotInProfile),
+        Meant::OtherAccess(_) => notes.note(spot, NameRule::NotInProfile),
         Meant::Integer(_) | Meant::Boolean(_) => notes.note(spot, NameRule::WrongType),
     }
 }
 
 /// No allocator is an Integer or a Boolean.
 fn access_object_wanted(kind: Option<VariableKind>, spot: Spot, notes: &mut Notes)
-    ensures { notes.new ≡ noted (access_object_wanted kind spot) notes.old }
+    ensures { IsNoted notes (rules.access_object_wanted kind spot) }
 {
     if let Some(VariableKind::Integer | VariableKind::Boolean) = kind {
         notes.note(spot, NameRule::WrongType);
     }
 }
 
-/// What a value assigns; none where something is wrong with it.
+/// What a value assigns, or `None` where something is wrong with it.
 fn assigned(value: Meant) -> Option<program::Right>
-    ensures { right_in result ≡ assigned (meant_of value) }
+    ensures { right_in result ≡ rules.assigned (meant_of value) }
 {
     match value {
         Meant::Null => Some(program::Right::Null),
@@ -112,6 +110,6 @@ fn assigned(value: Meant) -> Option<program::Right>
         Meant::Integer(expression) | Meant::Boolean(expression) => {
             Some(program::Right::Value(expression))
         }
-        Meant::Unknown | Meant::OtherAccess => None,
+        Meant::Unknown | Meant::OtherAccess(_) => None,
     }
 }

@@ -4,7 +4,7 @@ ghost use Rattle.std.specs.Prelude.{◌≡◌};
 ghost use Rattle.ada_resolve.specs.Library.{predefined, is_taken};
 
 use crate::library::is_library_root;
-use ada_program::program::VariableKind;
+use ada_program::program::{Exception, VariableKind};
 use ada_program::{TypeNo, VariableNo};
 
 /// What a name stands for.
@@ -18,8 +18,8 @@ pub(crate) enum Entity {
     Truth(bool),
     /// A named number (3.3.2).
     Number(i32),
-    /// A predefined exception (11.1).
-    Exception,
+    /// An exception (11.1).
+    Exception(Exception),
     /// The main procedure.
     Procedure,
     /// A record type that is not completed yet (3.10.1).
@@ -47,7 +47,9 @@ pub(crate) fn predefined(text: &str) -> Option<Entity>
         "BOOLEAN" => Some(Entity::Boolean),
         "TRUE" => Some(Entity::Truth(true)),
         "FALSE" => Some(Entity::Truth(false)),
-        "CONSTRAINT_ERROR" | "PROGRAM_ERROR" | "STORAGE_ERROR" => Some(Entity::Exception),
+        "CONSTRAINT_ERROR" => Some(Entity::Exception(Exception::ConstraintError)),
+        "PROGRAM_ERROR" => Some(Entity::Exception(Exception::ProgramError)),
+        "STORAGE_ERROR" => Some(Entity::Exception(Exception::StorageError)),
         _ => None,
     }
 }

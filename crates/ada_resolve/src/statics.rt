@@ -3,11 +3,8 @@
 ghost use Rattle.std.specs.Prelude.{◌≡◌};
 ghost use Rattle.ada_tree.specs.Names.{ident_of};
 ghost use Rattle.ada_tree.specs.Records.{static_of};
-ghost use Rattle.ada_resolve.specs.Known.{visible};
-ghost use Rattle.ada_resolve.specs.Remark.{noted};
-ghost use Rattle.ada_resolve.specs.Resolution.{settled};
-ghost use Rattle.ada_resolve.specs.Statics.{at_most_greatest, constant_known, constant_remark, integer_of, number_in, number_wanted, static_remark, static_truth, static_truth_remark, static_value, truth_in, truth_wanted};
-ghost use Rattle.ada_resolve.specs.View.{known_of, Tells};
+ghost use Rattle.ada_resolve.specs.Method.{known, entity_of, IsNoted, constant_tree, Declares};
+ghost use Rattle.ada_resolve.specs.Statics.{at_most_greatest, integer_of, number_in, static_remark, static_truth, static_truth_remark, static_value, truth_in, number_name_remark, truth_name_remark};
 
 use crate::fault::{NameFault, NameRule};
 use crate::notes::Notes;
@@ -24,7 +21,7 @@ impl<'t> Resolver<'t> {
         value: &StaticValue<'t>,
         notes: &mut Notes,
     ) -> Result<(), NameFault>
-        ensures { Tells result (known_of self.new, notes.new) (settled (noted (constant_remark (known_of self.old) (ident_of name.entry) (static_of value.now)) notes.old) (constant_known (known_of self.old) (ident_of name.entry) (static_of value.now))) }
+        ensures { Declares result self notes (constant_tree name.entry value.now) }
     {
         self.type_begins(name.spot, notes);
         self.new_name(name, name.spot, notes);
@@ -35,8 +32,8 @@ impl<'t> Resolver<'t> {
 
     /// A static Integer; 0 where something is wrong.
     pub(crate) fn static_value(&self, value: &StaticValue<'t>, notes: &mut Notes) -> i32
-        ensures value { result ≡ static_value (known_of self.now) (static_of value.now) }
-        ensures remark { notes.new ≡ noted (static_remark (known_of self.now) (static_of value.now)) notes.old }
+        ensures value { result ≡ static_value (known self) (static_of value.now) }
+        ensures remark { IsNoted notes (static_remark (known self) (static_of value.now)) }
     {
         match value {
             StaticValue::Number {
@@ -50,8 +47,8 @@ impl<'t> Resolver<'t> {
 
     /// A named number; 0 where the name stands for none.
     fn named_number(&self, name: Identifier<'t>, notes: &mut Notes) -> i32
-        ensures value { result ≡ number_in (visible (known_of self.now) name.entry.text.now) }
-        ensures remark { notes.new ≡ noted (number_wanted (visible (known_of self.now) name.entry.text.now) (ident_of name.entry)) notes.old }
+        ensures value { result ≡ number_in (entity_of self name.entry) }
+        ensures remark { IsNoted notes (number_name_remark (known self) (ident_of name.entry)) }
     {
         match self.lookup(name, notes) {
             Some(Entity::Number(number)) => number,
@@ -65,8 +62,8 @@ impl<'t> Resolver<'t> {
 
     /// A static Boolean; False where something is wrong.
     pub(crate) fn static_truth(&self, value: &StaticValue<'t>, notes: &mut Notes) -> bool
-        ensures value { result ≡ static_truth (known_of self.now) (static_of value.now) }
-        ensures remark { notes.new ≡ noted (static_truth_remark (known_of self.now) (static_of value.now)) notes.old }
+        ensures value { result ≡ static_truth (known self) (static_of value.now) }
+        ensures remark { IsNoted notes (static_truth_remark (known self) (static_of value.now)) }
     {
         match value {
             StaticValue::Number { spot, .. } => {
@@ -79,8 +76,8 @@ impl<'t> Resolver<'t> {
 
     /// True or False; False where the name stands for neither.
     fn truth_value(&self, name: Identifier<'t>, notes: &mut Notes) -> bool
-        ensures value { result ≡ truth_in (visible (known_of self.now) name.entry.text.now) }
-        ensures remark { notes.new ≡ noted (truth_wanted (visible (known_of self.now) name.entry.text.now) (ident_of name.entry)) notes.old }
+        ensures value { result ≡ truth_in (entity_of self name.entry) }
+        ensures remark { IsNoted notes (truth_name_remark (known self) (ident_of name.entry)) }
     {
         match self.lookup(name, notes) {
             Some(Entity::Truth(truth)) => truth,

@@ -1,14 +1,12 @@
 //! Resolution of incomplete types and access types (3.10).
 
-ghost use Rattle.std.specs.Prelude.{◌≡◌, ◌==◌, slice_set, IfOk, IfErr, OnOk};
+ghost use Rattle.std.specs.Prelude.{◌≡◌, IfOk, IfErr, OnOk};
 ghost use Rattle.ada_tree.specs.Declarations.{optional_aspect_of};
 ghost use Rattle.ada_tree.specs.Names.{ident_of};
-ghost use Rattle.ada_resolve.specs.Kept.{known_type_form};
-ghost use Rattle.ada_resolve.specs.Known.{new_name_remark};
-ghost use Rattle.ada_resolve.specs.Remark.{noted};
-ghost use Rattle.ada_resolve.specs.Resolution.{settled};
-ghost use Rattle.ada_resolve.specs.Types.{completed, defined, number_of, is_designated, record_found, record_remark, completion_remark, new_unless, incomplete_remark, incomplete_known, aspect_remark, access_remark, access_known};
-ghost use Rattle.ada_resolve.specs.View.{known_of, Tells};
+ghost use Rattle.ada_tree.specs.Statements.{incomplete_type};
+ghost use Rattle.ada_resolve.specs.Method.{known, IsNoted, Changes, access_tree, Declares, completing_remark, type_name_remark, with_type};
+ghost use Rattle.ada_resolve.specs.Types.{completed_type, number_of, is_designated, record_found, record_remark, aspect_remark};
+ghost use Rattle.ada_resolve.specs.View.{known_of};
 
 use crate::components::{Components, KnownType};
 use crate::fault::{NameFault, NameRule};
@@ -27,7 +25,7 @@ impl<'t> Resolver<'t> {
         name: Identifier<'t>,
         notes: &mut Notes,
     ) -> Result<(), NameFault>
-        ensures { Tells result (known_of self.new, notes.new) (settled (noted (incomplete_remark (known_of self.old) spot (ident_of name.entry)) notes.old) (incomplete_known (known_of self.old) (ident_of name.entry))) }
+        ensures { Declares result self notes (incomplete_type spot (ident_of name.entry)) }
     {
         self.type_begins(spot, notes);
         self.new_name(name, spot, notes);
@@ -48,10 +46,10 @@ impl<'t> Resolver<'t> {
         aspect: Option<Aspect<'t>>,
         notes: &mut Notes,
     ) -> Result<(), NameFault>
-        ensures { Tells result (known_of self.new, notes.new) (settled (noted (access_remark (known_of self.old) spot (ident_of name.entry) (ident_of designated.entry) (optional_aspect_of aspect.entry)) notes.old) (access_known (known_of self.old) (ident_of name.entry) (ident_of designated.entry))) }
+        ensures { Declares result self notes (access_tree spot name.entry designated.entry aspect.entry) }
     {
         self.type_begins(spot, notes);
-        let completes = self.completed(name);
+        let completes = self.completed_type(name);
         self.completion(completes, name, designated, notes);
         self.new_unless(completes, name, spot, notes);
         let record = self.record_name(designated, notes);
@@ -76,7 +74,7 @@ impl<'t> Resolver<'t> {
         spot: Spot,
         notes: &mut Notes,
     )
-        ensures { notes.new ≡ noted (new_unless completes (new_name_remark (known_of self.now) (ident_of name.entry) spot)) notes.old }
+        ensures { IsNoted notes (type_name_remark self completes name.entry spot) }
     {
         if completes.is_none() {
             self.new_name(name, spot, notes);
@@ -91,7 +89,7 @@ impl<'t> Resolver<'t> {
         designated: Identifier<'t>,
         notes: &mut Notes,
     )
-        ensures { notes.new ≡ noted (completion_remark completes (known_of self.now) (ident_of name.entry) (ident_of designated.entry)) notes.old }
+        ensures { IsNoted notes (completing_remark self completes name.entry designated.entry) }
     {
         if let Some(number) = completes {
             notes.note_if(self.is_designated(number), name.spot, NameRule::WrongType);
@@ -100,9 +98,9 @@ impl<'t> Resolver<'t> {
     }
 
     /// The incomplete type of this name, which a declaration completes.
-    #[tactic(auto, unfolding(crate::specs::Types::completed))]
-    pub(crate) fn completed(&self, name: Identifier<'t>) -> Option<TypeNo>
-        ensures { result ≡ completed (known_of self.now) (ident_of name.entry) }
+    #[tactic(auto, unfolding(crate::specs::Types::completed_type))]
+    pub(crate) fn completed_type(&self, name: Identifier<'t>) -> Option<TypeNo>
+        ensures { result ≡ completed_type (known self) (ident_of name.entry) }
     {
         match self.declared(name.text) {
             Some(Entity::Incomplete(number)) => Some(number),
@@ -116,7 +114,7 @@ impl<'t> Resolver<'t> {
         completes: Option<TypeNo>,
         definition: KnownType<'t>,
     ) -> Result<TypeNo, NameFault>
-        ensures known { OnOk result (known_of self.new ≡ record (known_of self.old) { types = defined completes (known_type_form definition.entry) (known_of self.old).types }) }
+        ensures known { OnOk result (Changes self (with_type completes definition.entry)) }
         ensures number { IfOk result (λ t. t ≡ number_of completes (known_of self.old).types) }
         ensures memory { IfErr result (λ e. e ≡ NameFault.NoMemory) }
     {
@@ -130,7 +128,7 @@ impl<'t> Resolver<'t> {
     /// The definition of a type that was incomplete.
     #[tactic(auto, unfolding(crate::specs::View::known_of), using(crate::proofs::Names::map_set, crate::proofs::Names::set_beyond))]
     fn replace_type(&mut self, number: TypeNo, definition: KnownType<'t>)
-        ensures { known_of self.new ≡ record (known_of self.old) { types = slice_set (known_of self.old).types number.0 (known_type_form definition.entry) } }
+        ensures { Changes self (with_type (Some number) definition.entry) }
     {
         if let Some(slot) = self.types.get_mut(number.0) {
             *slot = definition;
@@ -140,7 +138,7 @@ impl<'t> Resolver<'t> {
     /// Whether an access type designates this type.
     #[tactic(auto, unfolding(crate::specs::View::known_of))]
     fn is_designated(&self, number: TypeNo) -> bool
-        ensures { result ≡ is_designated number.0 (known_of self.now).types }
+        ensures { result ≡ is_designated number.0 (known self).types }
     {
         for definition in &self.types {
             if let KnownType::Access {
@@ -158,8 +156,8 @@ impl<'t> Resolver<'t> {
     /// The record type of a name, complete or not.
     #[tactic(auto, unfolding(crate::specs::Types::record_found, crate::specs::Types::record_remark))]
     pub(crate) fn record_name(&self, name: Identifier<'t>, notes: &mut Notes) -> Option<TypeNo>
-        ensures found { result ≡ record_found (known_of self.now) (ident_of name.entry) }
-        ensures remark { notes.new ≡ noted (record_remark (known_of self.now) (ident_of name.entry)) notes.old }
+        ensures found { result ≡ record_found (known self) (ident_of name.entry) }
+        ensures remark { IsNoted notes (record_remark (known self) (ident_of name.entry)) }
     {
         match self.lookup(name, notes) {
             Some(Entity::Incomplete(number) | Entity::Record(number)) => Some(number),
@@ -174,7 +172,7 @@ impl<'t> Resolver<'t> {
 
 /// No aspect of a type is in use.
 fn no_aspect(aspect: Option<Aspect<'_>>, notes: &mut Notes)
-    ensures { notes.new ≡ noted (aspect_remark (optional_aspect_of aspect.entry)) notes.old }
+    ensures { IsNoted notes (aspect_remark (optional_aspect_of aspect.entry)) }
 {
     if let Some(aspect) = aspect {
         notes.note(aspect.spot, NameRule::NotInProfile);

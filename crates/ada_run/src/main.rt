@@ -1,4 +1,5 @@
-//! `ada_run check|run [--source FILE]`: checks a source, or runs it if it is accepted.
+//! `ada_run check [--source FILE]` and `ada_run run [--source FILE] [--input FILE] [--steps N] [--refuse K]`: checks a
+//! source, or runs it on its input if it is accepted.
 //!
 //! The exit status tells how that ended, even where the standard error cannot be written.
 #![tactic(auto)]
@@ -6,7 +7,7 @@
 use ada_serve::command_line::{UsageFault, options};
 use ada_serve::exit::{NO_MEMORY, USAGE, code_of, fault_code};
 use ada_serve::serve::serve;
-use ada_serve::settings::Options;
+use ada_serve::settings::{Options, Paths};
 use ada_serve::streams::{ByteReader, MemoryReader, SystemReader, SystemWriter};
 use std::fs::File;
 use std::io;
@@ -38,7 +39,7 @@ fn obey(rt: &HostRuntime) -> io::Result<u8> {
         texts.push(word.as_str())?;
     }
     Ok(match options(rt.alloc(), &texts) {
-        Ok((options, paths)) => open(rt, &options, paths.source),
+        Ok((options, paths)) => open_source(rt, &options, paths),
         Err(UsageFault::Usage(error)) => {
             let _ = eprint!(rt; "{error}");
             USAGE
@@ -54,22 +55,45 @@ fn no_memory(rt: &HostRuntime) -> u8 {
 }
 
 /// Answers the source in this file, or the one on the standard input where no file is named.
-fn open(rt: &HostRuntime, options: &Options, source: Option<&str>) -> u8 {
-    match source {
-        Some(path) => answer(
+fn open_source(rt: &HostRuntime, options: &Options, paths: Paths<'_>) -> u8 {
+    match paths.source {
+        Some(path) => open_input(rt, &mut reader_of(rt, path), options, paths.input),
+        None => open_input(
             rt,
-            &mut SystemReader::new(File::open(rt, path).ok()),
+            &mut SystemReader::new(Some(rt.stdin())),
             options,
+            paths.input,
         ),
-        None => answer(rt, &mut SystemReader::new(Some(rt.stdin())), options),
     }
 }
 
+/// Answers a source with the input in this file, or with an empty one where no file is named.
+fn open_input<S: ByteReader>(
+    rt: &HostRuntime,
+    source: &mut S,
+    options: &Options,
+    input: Option<&str>,
+) -> u8 {
+    match input {
+        Some(path) => answer(rt, source, &mut reader_of(rt, path), options),
+        None => answer(rt, source, &mut MemoryReader::new(b""), options),
+    }
+}
+
+/// Reads this file; where it cannot be opened, each read fails.
+fn reader_of(rt: &HostRuntime, path: &str) -> SystemReader<File> {
+    SystemReader::new(File::open(rt, path).ok())
+}
+
 /// Answers a source on the standard output, and reports a fault on the standard error.
-fn answer<S: ByteReader>(rt: &HostRuntime, source: &mut S, options: &Options) -> u8 {
+fn answer<S: ByteReader, I: ByteReader>(
+    rt: &HostRuntime,
+    source: &mut S,
+    input: &mut I,
+    options: &Options,
+) -> u8 {
     let mut out = SystemWriter::new(rt.stdout());
-    let mut input = MemoryReader::new(b"");
-    match serve(rt.alloc(), source, &mut input, options, &mut out) {
+    match serve(rt.alloc(), source, input, options, &mut out) {
         Ok(status) => code_of(status),
         Err(fault) => {
             let _ = eprintln!(rt; "failed {fault}");

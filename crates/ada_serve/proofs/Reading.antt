@@ -1,6 +1,6 @@
 -- What a reader gives in several calls, and what is kept of it.
 
-use Rattle.std.proofs.Common.{◌≡◌, ℕ, zero, suc, ◌-◌, arith, List, [], ◌∷◌, ◌++◌, append_assoc, append-nil, length, take, refl, sym, ◌∙◌, ap, Option, Some, None}
+use Rattle.std.proofs.Common.{◌≡◌, ◌⊎◌, inl, inr, ℕ, zero, suc, ◌-◌, ◌<◌, arith, List, [], ◌∷◌, ◌++◌, append_assoc, append-nil, length, take, refl, sym, ◌∙◌, ap, Option, Some, None}
 use Rattle.std.specs.Io.KnownBytes.{Consumes, IsAtEnd}
 use Rattle.ada_serve.specs.Calls.{IsAll}
 
@@ -32,3 +32,10 @@ front_more (suc m) (x ∷ xs) ys =
 
 pub kept_more : (m : ℕ) (kept bytes more last : List ℕ) → kept ≡ take m bytes → last ≡ kept ++ take (m - length kept) more → last ≡ take m (bytes ++ more)
 kept_more m kept bytes more last e f = f ∙ ap (λ (k : List ℕ). k ++ take (m - length k) more) e ∙ front_more m bytes more
+
+-- all of a text is kept, or it is too long
+pub fits : (m : ℕ) (all : List ℕ) → (take m all ≡ all) ⊎ ((length (take m all) ≡ m) × (m < length all))
+fits zero [] = inl refl
+fits zero (x ∷ xs) = inr (refl, omega arith)
+fits (suc m) [] = inl refl
+fits (suc m) (x ∷ xs) = elim (fits m xs) [ inl e ↦ inl (ap (λ (rest : List ℕ). x ∷ rest) e) | inr h ↦ inr (ap suc h.0, omega (arith, h.1)) ]

@@ -4,7 +4,7 @@ use Rattle.std.proofs.Common.{◌≡◌, ◌≢◌, ℕ, ◌+◌, ◌≤◌, add
 use Rattle.std.proofs.lemmas.List.{length-take-le}
 use Rattle.std.specs.Io.KnownBytes.{Appends}
 use Rattle.ada_serve.specs.declared.serve.ServeFault.{ServeFault}
-use Rattle.ada_serve.specs.declared.serve.ServeFault.TheVariants.{ReadFailed, WriteFailed, NoMemory}
+use Rattle.ada_serve.specs.declared.serve.ServeFault.TheVariants.{BadInput, InputTooLong, ReadFailed, WriteFailed, NoMemory}
 use Rattle.ada_serve.specs.Calls.{InCalls, none, more, Works, FaultWrites, OnlyWrites}
 use Rattle.ada_serve.specs.Written.{AppendsFront}
 
@@ -45,6 +45,8 @@ taken_some k bytes some bound is = some (sym (length-take-le k bytes bound) ∙ 
 
 -- calls, and then calls that end at a fault
 pub writes_fault : {W : Type 0} (writes : W → Option (List ℕ) → W → Type 0) (first mid last : W) (fault : ServeFault) → Works writes first mid → FaultWrites writes mid last fault → FaultWrites writes first last fault
+writes_fault writes first mid last (BadInput place) a b = absurd b
+writes_fault writes first mid last InputTooLong a b = absurd b
 writes_fault writes first mid last ReadFailed a b = absurd b
 writes_fault writes first mid last WriteFailed a b = record {
   calls = a.calls + b.calls;

@@ -2,7 +2,7 @@
 
 use Rattle.std.specs.Prelude.{◌≡◌, ◌≢◌, ◌⊎◌, ℕ, ◌+◌, ◌<◌, ◌≤◌, Bool, true, List, [], ◌++◌, take, Option, Some, None, Result, Ok, Err}
 use Rattle.ada_serve.specs.declared.serve.ServeFault.{ServeFault}
-use Rattle.ada_serve.specs.declared.serve.ServeFault.TheVariants.{ReadFailed, WriteFailed, NoMemory}
+use Rattle.ada_serve.specs.declared.serve.ServeFault.TheVariants.{BadInput, InputTooLong, ReadFailed, WriteFailed, NoMemory}
 use Rattle.ada_serve.specs.declared.serve.TheConstants.{MOST_CALLS, MOST_KEPT}
 
 -- The bytes that a call moved: the first n of these, or none at all where it failed.
@@ -82,6 +82,8 @@ pub record WriteFails {W : Type 0} (writes : W → Option (List ℕ) → W → T
 
 -- A writer after a fault of a call that only writes: it failed exactly where that is the fault.
 abbrev pub FaultWrites : {W : Type 0} → (W → Option (List ℕ) → W → Type 0) → W → W → ServeFault → Type 0
+FaultWrites writes first last (BadInput place) = ⊥
+FaultWrites writes first last InputTooLong = ⊥
 FaultWrites writes first last ReadFailed = ⊥
 FaultWrites writes first last WriteFailed = WriteFails writes first last
 FaultWrites writes first last NoMemory = Works writes first last
@@ -92,8 +94,10 @@ abbrev pub OnlyWrites : {W X : Type 0} → (W → Option (List ℕ) → W → Ty
 OnlyWrites writes first last (Ok x) = Works writes first last
 OnlyWrites writes first last (Err fault) = FaultWrites writes first last fault
 
--- A writer after a fault of a call that also reads: where a read failed it was not called.
+-- A writer after a fault of a call that also reads: where a read failed, or the input has no numbers, it was not called.
 abbrev pub FaultEnds : {W : Type 0} → (W → Option (List ℕ) → W → Type 0) → W → W → ServeFault → Type 0
+FaultEnds writes first last (BadInput place) = last ≡ first
+FaultEnds writes first last InputTooLong = last ≡ first
 FaultEnds writes first last ReadFailed = last ≡ first
 FaultEnds writes first last WriteFailed = WriteFails writes first last
 FaultEnds writes first last NoMemory = Works writes first last
@@ -104,7 +108,7 @@ abbrev pub WriterEnds : {W X : Type 0} → (W → Option (List ℕ) → W → Ty
 WriterEnds writes first last (Ok x) = Works writes first last
 WriterEnds writes first last (Err fault) = FaultEnds writes first last fault
 
--- A reader was read to its end, and these of its bytes are kept: at most one more than a source may have.
+-- A reader was read to its end, and these of its bytes are kept: at most one more than a source or an input may have.
 pub record IsKept {R : Type 0} (remaining : R → Option (List ℕ)) (reads : R → Option (List ℕ) → R → Type 0)
     (first last : R) (kept : List ℕ) : Type 0 where
   pub bytes : List ℕ
@@ -120,6 +124,8 @@ pub record ReadsOn {R : Type 0} (reads : R → Option (List ℕ) → R → Type 
 
 -- A reader after a fault of its reading: it failed exactly where that is the fault.
 abbrev pub FaultReads : {R : Type 0} → (R → Option (List ℕ) → R → Type 0) → R → R → ServeFault → Type 0
+FaultReads reads first last (BadInput place) = ⊥
+FaultReads reads first last InputTooLong = ⊥
 FaultReads reads first last ReadFailed = ReadFails reads first last
 FaultReads reads first last WriteFailed = ⊥
 FaultReads reads first last NoMemory = ReadsOn reads first last

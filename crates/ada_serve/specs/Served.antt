@@ -1,25 +1,28 @@
 -- What a call of `serve` does: what it writes, and what becomes of its two readers.
 
-use Rattle.std.specs.Prelude.{◌≡◌, ◌⊎◌, ℕ, Bool, true, List, [], Option, Result, Ok, Err}
+use Rattle.std.specs.Prelude.{◌≡◌, ◌⊎◌, ℕ, ℤ, Bool, true, List, [], Option, Result, Ok, Err, IfErr}
 use Rattle.std.specs.Io.KnownBytes.{Appends}
+use Rattle.ada_input.specs.declared.fault.InputFault.{InputFault}
+use Rattle.ada_input.specs.declared.fault.InputFault.TheVariants as input
 use Rattle.ada_program.specs.declared.program.Program.{Program}
 use Rattle.ada_meaning.specs.Law.{Safe}
 use Rattle.ada_verdict.specs.First.{IsAccepted}
+use Rattle.ada_serve.specs.declared.settings.Options.{Options}
 use Rattle.ada_serve.specs.declared.serve.ServeFault.{ServeFault}
-use Rattle.ada_serve.specs.declared.serve.ServeFault.TheVariants.{ReadFailed, WriteFailed, NoMemory}
+use Rattle.ada_serve.specs.declared.serve.ServeFault.TheVariants.{BadInput, InputTooLong, ReadFailed, WriteFailed, NoMemory}
 use Rattle.ada_serve.specs.declared.serve.Status.{Status}
-use Rattle.ada_serve.specs.declared.serve.Status.TheVariants.{Accepted, Refused, Finished, Unhandled, Stopped}
+use Rattle.ada_serve.specs.declared.serve.Status.TheVariants.{Accepted, Refused, Finished, Unhandled, Stopped, Erroneous}
 use Rattle.ada_serve.specs.Calls.{ReadsOn, IsRead, ReadFails}
-use Rattle.ada_serve.specs.Answer.{Answer}
+use Rattle.ada_serve.specs.Answer.{Answer, GivesNumbers, HasBadWord, IsTooLong}
 use Rattle.ada_serve.specs.Written.{Says, Begins}
 
--- What was written is exactly the answer to the bytes of the source; after a fault it is nothing, or a front of that answer.
-abbrev pub Serves : (List ℕ → Type 0) → Bool → Option (List ℕ) → Option (List ℕ)
+-- What was written is exactly the answer to the bytes of the source and of the input; after a fault it is nothing, or a front of that answer.
+abbrev pub Serves : (IsSource IsInput : List ℕ → Type 0) → Options → Option (List ℕ) → Option (List ℕ)
     → Result Status ServeFault → Type 0
-Serves IsSource run old new (Ok status) =
-    (bytes : List ℕ) × IsSource bytes × Says (Answer bytes run) old new status
-Serves IsSource run old new (Err fault) =
-    Appends old new [] ⊎ ((bytes : List ℕ) × IsSource bytes × Begins (Answer bytes run) old new)
+Serves IsSource IsInput options old new (Ok status) =
+    (bytes : List ℕ) × IsSource bytes × Says (Answer bytes IsInput options) old new status
+Serves IsSource IsInput options old new (Err fault) =
+    Appends old new [] ⊎ ((bytes : List ℕ) × IsSource bytes × Begins (Answer bytes IsInput options) old new)
 
 -- The source is a program that obeys the rules, and it is safe.
 pub record IsSafeSource (IsSource : List ℕ → Type 0) : Type 0 where
@@ -36,29 +39,61 @@ PromisesSafe IsSource (Ok Refused) = Unit {0}
 PromisesSafe IsSource (Ok Finished) = IsSafeSource IsSource
 PromisesSafe IsSource (Ok Unhandled) = IsSafeSource IsSource
 PromisesSafe IsSource (Ok Stopped) = IsSafeSource IsSource
+PromisesSafe IsSource (Ok Erroneous) = IsSafeSource IsSource
 PromisesSafe IsSource (Err fault) = Unit {0}
 
--- The input was not called, or it was read without a failure: to its end, unless memory ran out.
+-- What is answered for a fault of the input's words.
+abbrev pub fault_of : InputFault → ServeFault
+fault_of (input.BadWord place) = BadInput place
+fault_of input.NoMemory = NoMemory
+
+-- A fault that comes of the input: it has a bad word, is too long, or its reading failed.
+abbrev pub IsOfInput : ServeFault → Type 0
+IsOfInput (BadInput place) = Unit {0}
+IsOfInput InputTooLong = Unit {0}
+IsOfInput ReadFailed = Unit {0}
+IsOfInput WriteFailed = ⊥
+IsOfInput NoMemory = ⊥
+
+-- The input was read to its end, and gives numbers.
+abbrev pub InputGives : {I : Type 0} → (I → Option (List ℕ)) → (I → Option (List ℕ) → I → Type 0)
+    → I → I → Type 0
+InputGives remaining reads first last = (numbers : List ℤ) × GivesNumbers (IsRead remaining reads first last) numbers
+
+-- The input was read without a failure: to its end, unless memory ran out.
 abbrev pub InputWorks : {I : Type 0} → (I → Option (List ℕ)) → (I → Option (List ℕ) → I → Type 0)
     → I → I → Type 0
 InputWorks remaining reads first last =
-    (last ≡ first) ⊎ (ReadsOn reads first last ⊎ ((bytes : List ℕ) × IsRead remaining reads first last bytes))
+    ReadsOn reads first last ⊎ ((bytes : List ℕ) × IsRead remaining reads first last bytes)
 
--- The input is read to its end where a program has been run, and not called otherwise.
+-- The input after a fault of reading its numbers: it was read to its end and has a bad word, or is too long, or its reading failed, exactly
+-- where that is the fault.
+abbrev pub FaultGives : {I : Type 0} → (I → Option (List ℕ)) → (I → Option (List ℕ) → I → Type 0)
+    → I → I → ServeFault → Type 0
+FaultGives remaining reads first last (BadInput place) = HasBadWord (IsRead remaining reads first last) place
+FaultGives remaining reads first last InputTooLong = IsTooLong (IsRead remaining reads first last)
+FaultGives remaining reads first last ReadFailed = ReadFails reads first last
+FaultGives remaining reads first last WriteFailed = ⊥
+FaultGives remaining reads first last NoMemory = InputWorks remaining reads first last
+
+-- The input is read to its end and gives numbers where a program has been run, and is not called otherwise.
 abbrev pub InputEnds : {I : Type 0} → (I → Option (List ℕ)) → (I → Option (List ℕ) → I → Type 0)
     → I → I → Status → Type 0
 InputEnds remaining reads first last Accepted = last ≡ first
 InputEnds remaining reads first last Refused = last ≡ first
-InputEnds remaining reads first last Finished = (bytes : List ℕ) × IsRead remaining reads first last bytes
-InputEnds remaining reads first last Unhandled = (bytes : List ℕ) × IsRead remaining reads first last bytes
-InputEnds remaining reads first last Stopped = (bytes : List ℕ) × IsRead remaining reads first last bytes
+InputEnds remaining reads first last Finished = InputGives remaining reads first last
+InputEnds remaining reads first last Unhandled = InputGives remaining reads first last
+InputEnds remaining reads first last Stopped = InputGives remaining reads first last
+InputEnds remaining reads first last Erroneous = InputGives remaining reads first last
 
--- The input after a fault: it failed exactly where that is the fault.
+-- The input after a fault: that of reading its numbers; or it was not called, or gave numbers, and the fault came later.
 abbrev pub FaultTurns : {I : Type 0} → (I → Option (List ℕ)) → (I → Option (List ℕ) → I → Type 0)
     → I → I → ServeFault → Type 0
-FaultTurns remaining reads first last ReadFailed = ReadFails reads first last
-FaultTurns remaining reads first last WriteFailed = InputWorks remaining reads first last
-FaultTurns remaining reads first last NoMemory = InputWorks remaining reads first last
+FaultTurns remaining reads first last (BadInput place) = FaultGives remaining reads first last (BadInput place)
+FaultTurns remaining reads first last InputTooLong = FaultGives remaining reads first last InputTooLong
+FaultTurns remaining reads first last ReadFailed = FaultGives remaining reads first last ReadFailed
+FaultTurns remaining reads first last WriteFailed = (last ≡ first) ⊎ InputGives remaining reads first last
+FaultTurns remaining reads first last NoMemory = (last ≡ first) ⊎ InputWorks remaining reads first last
 
 -- The input after a call that had read its source, whatever the call answered.
 abbrev pub InputTurns : {I : Type 0} → (I → Option (List ℕ)) → (I → Option (List ℕ) → I → Type 0)
@@ -78,12 +113,14 @@ pub record SourceEnds {I : Type 0} (remaining : I → Option (List ℕ)) (reads 
   pub bytes : List ℕ
   pub source : IsSource bytes
   pub input : InputTurns remaining reads first last result
-  pub asked : result ≡ Err ReadFailed → IsToRun bytes run
+  pub asked : IfErr result (λ fault. IsOfInput fault → IsToRun bytes run)
 
 -- The reading of the source broke off, for its own failure or for want of memory, and the input was not called.
 abbrev pub SourceCut : {S I : Type 0} → (S → Option (List ℕ) → S → Type 0) → S → S → I → I
     → Result Status ServeFault → Type 0
 SourceCut reads first last before after (Ok status) = ⊥
+SourceCut reads first last before after (Err (BadInput place)) = ⊥
+SourceCut reads first last before after (Err InputTooLong) = ⊥
 SourceCut reads first last before after (Err ReadFailed) = ReadFails reads first last × (after ≡ before)
 SourceCut reads first last before after (Err WriteFailed) = ⊥
 SourceCut reads first last before after (Err NoMemory) = ReadsOn reads first last × (after ≡ before)

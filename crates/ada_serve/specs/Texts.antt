@@ -5,11 +5,11 @@ use Rattle.std.specs.List.{slice_index_or}
 use Rattle.std.specs.String.{string_bytes}
 use Rattle.std.specs.Fmt.{signed_decimal}
 use Rattle.std.specs.Prelude.{pos, negsuc}
+use Rattle.ada_program.specs.declared.program.Exception.{Exception}
 use Rattle.ada_program.specs.declared.program.Program.{Program}
+use Rattle.ada_program.specs.Names.{exception_name}
 use Rattle.ada_meaning.specs.declared.event.Line.{Line}
 use Rattle.ada_meaning.specs.declared.event.Line.TheVariants.{Image, Literal}
-use Rattle.ada_meaning.specs.declared.event.Exception.{Exception}
-use Rattle.ada_meaning.specs.Text.{exception_text}
 use Rattle.ada_verdict.specs.Refusal.{Told}
 
 -- The line feed that ends each line.
@@ -25,6 +25,10 @@ image (negsuc n) = signed_decimal (negsuc n)
 abbrev pub texts_of : Program → List (List ℕ)
 texts_of program = map string_bytes program.texts.items
 
+-- The names of the exceptions that a program declares (11.1), in the order of their numbers.
+abbrev pub exceptions_of : Program → List (List ℕ)
+exceptions_of program = map string_bytes program.exceptions.items
+
 -- The string literal of this number, or the empty one if there is none.
 abbrev pub text_at : List (List ℕ) → ℕ → List ℕ
 text_at texts number = slice_index_or texts number []
@@ -39,13 +43,17 @@ abbrev pub refusal_text : Told → List ℕ
 refusal_text told =
     codes "refused " ++ decimal told.line ++ codes ":" ++ decimal told.column ++ codes " " ++ told.name ++ line_feed
 
--- The last line of a run that an exception ended (11.4): the exception's name.
-abbrev pub unhandled_text : Exception → List ℕ
-unhandled_text e = codes "unhandled " ++ exception_text e ++ line_feed
+-- The last line of a run that an exception ended (11.4): the exception's name, in a program that declares exceptions of these names.
+abbrev pub unhandled_text : (exceptions : List (List ℕ)) → Exception → List ℕ
+unhandled_text exceptions e = codes "unhandled " ++ exception_name exceptions e ++ line_feed
 
 -- The last line of a run that finishes.
 abbrev pub finished_text : List ℕ
 finished_text = codes "finished" ++ line_feed
+
+-- The last line of a run that the limit of statements stopped: that limit.
+abbrev pub stopped_text : (limit : ℕ) → List ℕ
+stopped_text limit = codes "stopped after " ++ decimal limit ++ line_feed
 
 -- The last line of a run that comes to an erroneous action; no accepted program's does (13.11.2).
 abbrev pub erroneous_text : List ℕ

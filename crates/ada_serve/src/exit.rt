@@ -18,7 +18,7 @@ pub fn code_of(status: Status) -> u8
         Status::Accepted | Status::Finished => 0,
         Status::Refused => 1,
         Status::Unhandled => 2,
-        Status::Stopped => 3,
+        Status::Stopped | Status::Erroneous => 3,
     }
 }
 
@@ -27,7 +27,10 @@ pub fn fault_code(fault: ServeFault) -> u8
     ensures { result ≡ fault_exit fault }
 {
     match fault {
-        ServeFault::ReadFailed | ServeFault::WriteFailed => 5,
+        ServeFault::BadInput { place: _ }
+        | ServeFault::InputTooLong
+        | ServeFault::ReadFailed
+        | ServeFault::WriteFailed => 5,
         ServeFault::NoMemory => NO_MEMORY,
     }
 }

@@ -1,9 +1,9 @@
 //! The answer to a source, and the words and streams around it.
 //!
 //! To the program above it promises:
-//! - [`serve::serve`] writes exactly the answer to the bytes that its source gives: the line of the first fault,
-//!   `accepted`, or the lines of the run and how it ended. After a failure of reading, writing or memory,
-//!   what it wrote is a front of that answer;
+//! - [`serve::serve`] writes exactly the answer to the bytes that its source and its input give: the line of the first
+//!   fault, `accepted`, or the lines of the run and how it ended. After a failure of reading, writing or memory, what it
+//!   wrote is a front of that answer; where the input has a word that is no number, or is too long, it wrote nothing;
 //! - [`command_line::options`] reads the words after the program's name;
 //! - [`exit::code_of`] and [`exit::fault_code`] give the exit statuses.
 //!

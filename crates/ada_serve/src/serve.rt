@@ -1,22 +1,25 @@
-//! The answer to a source: the source is checked, and run if it is accepted and a run is asked for.
+//! The answer to a source: the source is checked, and run on its input if it is accepted and a run is asked for.
 
-ghost use Rattle.std.specs.Prelude.{◌≡◌, ◌≢◌, ◌++◌, ◌-◌, take, length, [], true, Err, IfOk, IfErr, OnOk};
+ghost use Rattle.std.specs.Prelude.{◌≡◌, ◌≢◌, ◌++◌, ◌-◌, take, length, [], true, None, Err, IfOk, IfErr, OnOk};
+ghost use Rattle.ada_interpreter.specs.Machine.{state_in, program_of, choices_of, halt_of};
 ghost use Rattle.ada_meaning.specs.declared.event.Halt.TheVariants.{Memory};
 ghost use Rattle.ada_meaning.specs.Event.{event_of};
 ghost use Rattle.ada_meaning.specs.Law.{Safe};
-ghost use Rattle.ada_serve.specs.Answer.{IsRefusal, IsProgramAnswer};
+ghost use Rattle.ada_meaning.specs.Run.{first_state};
+ghost use Rattle.ada_serve.specs.Answer.{IsRefusal, IsProgramAnswer, GivesNumbers};
 ghost use Rattle.ada_serve.specs.Calls.{IsRead, IsKept, FaultReads, OnlyWrites, WriterEnds};
-ghost use Rattle.ada_serve.specs.Runner.{end_text, status_of, event_text, HasRun};
-ghost use Rattle.ada_serve.specs.Served.{PromisesSafe, InputTurns, ReadersEnd, Serves};
-ghost use Rattle.ada_serve.specs.Texts.{texts_of};
+ghost use Rattle.ada_serve.specs.Runner.{end_text, status_of, event_text, TakesTurn, HasRun};
+ghost use Rattle.ada_serve.specs.Served.{PromisesSafe, IsOfInput, FaultGives, InputTurns, ReadersEnd, Serves};
+ghost use Rattle.ada_serve.specs.Texts.{texts_of, exceptions_of, stopped_text};
 ghost use Rattle.ada_serve.specs.Written.{Writes, SaysFront};
 ghost use Rattle.ada_typed.specs.Stuck.{NeverStuck};
 
 use crate::output::write_all;
 use crate::settings::Options;
 use crate::streams::{ByteReader, ByteWriter, Failed};
-use crate::texts::{put_line, put_refusal, put_unhandled};
-use ada_interpreter::{GrantAll, Machine};
+use crate::texts::{put_line, put_refusal, put_stopped, put_unhandled};
+use ada_input::{InputFault, numbers};
+use ada_interpreter::{Machine, RefuseOne};
 use ada_meaning::laws::{states_go_on, steps_make_lighter};
 use ada_meaning::{Event, Halt};
 use ada_program::Program;
@@ -32,12 +35,21 @@ pub enum Status {
     Refused,
     Finished,
     Unhandled,
+    /// The limit of statements stopped the run.
     Stopped,
+    /// The next action would be erroneous, or has no meaning; no accepted program comes to one.
+    Erroneous,
 }
 
 /// Why the answer is not whole. It prints its number and name.
 #[derive(Clone, Copy, Debug, PartialEq, Eq, Error)]
 pub enum ServeFault {
+    /// The input has a word that is no number. The place is its first byte's, counted from 1. Nothing was written.
+    #[error("F70 bad-input {place}")]
+    BadInput { place: usize },
+    /// The input has more than 1048576 bytes. Nothing was written.
+    #[error("F71 input-too-long")]
+    InputTooLong,
     /// A read failed, or the last call that a reader is allowed did not reach its end. Nothing was written.
     #[error("F72 read-failed")]
     ReadFailed,
@@ -79,17 +91,36 @@ impl From<Failed> for ServeFault {
     }
 }
 
+impl From<InputFault> for ServeFault {
+    ghost use Rattle.ada_serve.specs.Served.{fault_of};
+
+    ghost from_gives = { λ fault e. e ≡ fault_of fault };
+
+    fn from(fault: InputFault) -> ServeFault {
+        match fault {
+            InputFault::BadWord { place } => ServeFault::BadInput { place },
+            InputFault::NoMemory => ServeFault::NoMemory,
+        }
+    }
+}
+
 /// How often a reader is called at most.
 const MOST_CALLS: usize = 2_097_152;
-/// How many bytes of a source are kept: one more than a source may have, so that a longer one is refused.
+/// How many bytes an input may have.
+const LONGEST_INPUT: usize = 1_048_576;
+/// How many bytes of a source or of an input are kept: one more than either may have, so that a longer one is told.
 const MOST_KEPT: usize = 1_048_577;
 
 /// Writes the answer to a source: the line of its first fault, or `accepted`, or the lines of its run and how it ended.
+/// A run is stopped where it would begin one statement more than `options.steps`; its request for storage whose number
+/// is `options.refuse` is refused.
 ///
-/// The input is read before the run begins, and each line is written as the run comes to it.
+/// The input is read before the run begins, and each line is written as the run comes to it. A check, and a source that
+/// is refused, leave the input unread.
 ///
 /// # Errors
-/// Where reading, writing or memory failed. A read that fails does so before anything is written.
+/// Where reading, writing or memory failed, or the input is too long or has a word that is no number. Where a read
+/// failed, or the input has no numbers, nothing was written.
 pub fn serve<S: ByteReader, I: ByteReader, W: ByteWriter>(
     alloc: Global,
     source: &mut S,
@@ -97,13 +128,15 @@ pub fn serve<S: ByteReader, I: ByteReader, W: ByteWriter>(
     options: &Options,
     out: &mut W,
 ) -> Result<Status, ServeFault>
-    // What was written is the answer to the bytes that the source gave; after a fault it is a front of that answer.
-    ensures answer { Serves (IsRead S.remaining S.reads source.old source.new) options.now.run (W.contents out.old) (W.contents out.new) result }
+    // What was written is the answer to the bytes that the source and the input gave; after a fault it is a front of it.
+    ensures answer { Serves (IsRead S.remaining S.reads source.old source.new) (IsRead I.remaining I.reads input.old input.new)
+        options.now (W.contents out.old) (W.contents out.new) result }
     // A source that is not refused is a program that is safe in every run.
     ensures safe { PromisesSafe (IsRead S.remaining S.reads source.old source.new) result }
     // A run never comes to an erroneous action.
-    ensures status { IfOk result (λ status. status ≢ Status.Stopped) }
-    // A fault of reading is reported exactly where a read failed, and one of writing exactly where a write did.
+    ensures status { IfOk result (λ status. status ≢ Status.Erroneous) }
+    // A fault of reading is reported exactly where a read failed, one of the input's words exactly where it was read to
+    // its end and has it, and one of writing exactly where a write failed.
     ensures readers { ReadersEnd S.remaining S.reads source.old source.new I.remaining I.reads input.old input.new options.now.run result }
     ensures writer { WriterEnds W.writes out.old out.new result }
 {
@@ -123,21 +156,36 @@ fn answer<I: ByteReader, W: ByteWriter>(
     options: &Options,
     out: &mut W,
 ) -> Result<Status, ServeFault>
-    ensures text { SaysFront (IsProgramAnswer accepted.now options.now.run) (W.contents out.old) (W.contents out.new) result }
+    ensures text { SaysFront (IsProgramAnswer (IsRead I.remaining I.reads input.old input.new)
+        accepted.now options.now.run options.now.steps options.now.refuse)
+        (W.contents out.old) (W.contents out.new) result }
     ensures writer { WriterEnds W.writes out.old out.new result }
     ensures input { InputTurns I.remaining I.reads input.old input.new result }
-    ensures asked { result ≡ Err ServeFault.ReadFailed → options.now.run ≡ true }
+    ensures asked { IfErr result (λ fault. IsOfInput fault → options.now.run ≡ true) }
     ensures safe { Safe accepted.now }
     ensures typed { NeverStuck accepted.now }
 {
     well_formed_programs_are_never_stuck();
     let program = accepted.program();
     if options.run {
-        let _numbers = read_all(alloc, input)?;
-        return run(alloc, program, out);
+        let numbers = read_numbers(alloc, input)?;
+        return run(alloc, program, numbers, options, out);
     }
     write_all(out, b"accepted\n")?;
     Ok(Status::Accepted)
+}
+
+/// Reads an input to its end, and returns its numbers.
+fn read_numbers<I: ByteReader>(alloc: Global, input: &mut I) -> Result<Vec<i32>, ServeFault>
+    ensures numbers { IfOk result
+        (λ found. GivesNumbers (IsRead I.remaining I.reads input.old input.new) found.items) }
+    ensures faults { IfErr result (λ fault. FaultGives I.remaining I.reads input.old input.new fault) }
+{
+    let bytes = read_all(alloc, input)?;
+    if bytes.len() > LONGEST_INPUT {
+        return Err(ServeFault::InputTooLong);
+    }
+    Ok(numbers(alloc, &bytes)?)
 }
 
 /// Reads to the reader's end, and returns its bytes, or as many as are kept.
@@ -183,22 +231,97 @@ fn refuse<W: ByteWriter>(
     Ok(Status::Refused)
 }
 
-/// Runs a program and writes its lines and how it ended. Every request for storage is granted.
-fn run<W: ByteWriter>(alloc: Global, program: &Program, out: &mut W) -> Result<Status, ServeFault>
-    ensures text { SaysFront (HasRun program.now) (W.contents out.old) (W.contents out.new) result }
+/// Runs a program on these numbers, and writes its lines and how it ended. One request for storage is refused, or none,
+/// and so many statements may begin.
+fn run<W: ByteWriter>(
+    alloc: Global,
+    program: &Program,
+    numbers: Vec<i32>,
+    options: &Options,
+    out: &mut W,
+) -> Result<Status, ServeFault>
+    ensures text { SaysFront (HasRun program.now numbers.items options.now.steps options.now.refuse)
+        (W.contents out.old) (W.contents out.new) result }
+    ensures writer { OnlyWrites W.writes out.old out.new result }
+{
+    let choices = RefuseOne {
+        left: options.refuse,
+    };
+    let mut machine = Machine::new(alloc, program, numbers, choices)?;
+    let mut page = Vec::new(alloc);
+    take_turns(&mut machine, program, options, &mut page, out)
+}
+
+/// Takes the turns of a run that has just begun, up to its end or to the limit of statements.
+fn take_turns<W: ByteWriter>(
+    machine: &mut Machine<'_, RefuseOne>,
+    program: &Program,
+    options: &Options,
+    page: &mut Vec<u8>,
+    out: &mut W,
+) -> Result<Status, ServeFault>
+    requires first { state_in machine.old ≡ first_state program.now (state_in machine.old).input }
+    requires until { (choices_of machine.old).left ≡ options.now.refuse }
+    requires runs { halt_of machine.old ≡ None }
+    requires same { program_of machine.old ≡ program.now }
+    ensures text { SaysFront (HasRun program.now (state_in machine.old).input options.now.steps options.now.refuse)
+        (W.contents out.old) (W.contents out.new) result }
     ensures writer { OnlyWrites W.writes out.old out.new result }
 {
     steps_make_lighter();
     states_go_on();
-    let mut machine = Machine::new(alloc, program, Vec::new(alloc), GrantAll)?;
-    let mut page = Vec::new(alloc);
-    loop {
-        page.clear();
-        match machine.step() {
-            Ok(event) => write_event(&mut page, program, out, event)?,
-            Err(halt) => return finish(&mut page, out, halt),
+    let mut left = options.steps;
+    'statements: loop {
+        'steps: while !machine.begins() {
+            if let Some(status) = take_turn(machine, program, page, out)? {
+                return Ok(status);
+            }
+        }
+        if left == 0 {
+            return stop(page, out, options.steps);
+        }
+        left -= 1;
+        if let Some(status) = take_turn(machine, program, page, out)? {
+            return Ok(status);
         }
     }
+}
+
+/// Makes one step and writes its line; or writes how the run ended, and returns that status.
+fn take_turn<W: ByteWriter>(
+    machine: &mut Machine<'_, RefuseOne>,
+    program: &Program,
+    page: &mut Vec<u8>,
+    out: &mut W,
+) -> Result<Option<Status>, ServeFault>
+    requires runs { halt_of machine.old ≡ None }
+    requires same { program_of machine.old ≡ program.now }
+    ensures text { TakesTurn program.now (choices_of machine.old).left (choices_of machine.new).left (state_in machine.old) (state_in machine.new)
+        (W.contents out.old) (W.contents out.new) result }
+    ensures writer { OnlyWrites W.writes out.old out.new result }
+    ensures runs { IfOk result (λ ended. ended ≡ None → halt_of machine.new ≡ None) }
+    ensures same { program_of machine.new ≡ program.now }
+{
+    page.clear();
+    match machine.step() {
+        Ok(event) => {
+            write_event(page, program, out, event)?;
+            Ok(None)
+        }
+        Err(halt) => Ok(Some(finish(page, program, out, halt)?)),
+    }
+}
+
+/// Writes that the limit of statements stopped a run.
+fn stop<W: ByteWriter>(page: &mut Vec<u8>, out: &mut W, limit: u32) -> Result<Status, ServeFault>
+    ensures text { Writes (W.contents out.old) (W.contents out.new) (stopped_text limit) result }
+    ensures writer { OnlyWrites W.writes out.old out.new result }
+    ensures status { IfOk result (λ status. status ≡ Status.Stopped) }
+{
+    page.clear();
+    put_stopped(page, limit)?;
+    write_all(out, page)?;
+    Ok(Status::Stopped)
 }
 
 /// Writes the line of an event that has one.
@@ -219,9 +342,14 @@ fn write_event<W: ByteWriter>(
 }
 
 /// Writes how a run ended.
-fn finish<W: ByteWriter>(page: &mut Vec<u8>, out: &mut W, halt: Halt) -> Result<Status, ServeFault>
+fn finish<W: ByteWriter>(
+    page: &mut Vec<u8>,
+    program: &Program,
+    out: &mut W,
+    halt: Halt,
+) -> Result<Status, ServeFault>
     requires { page.old.items ≡ [] }
-    ensures text { Writes (W.contents out.old) (W.contents out.new) (end_text halt) result }
+    ensures text { Writes (W.contents out.old) (W.contents out.new) (end_text (exceptions_of program.now) halt) result }
     ensures writer { OnlyWrites W.writes out.old out.new result }
     ensures status { IfOk result (λ status. status ≡ status_of halt) }
     ensures memory { IfOk result (λ _. halt ≢ Memory) }
@@ -232,13 +360,13 @@ fn finish<W: ByteWriter>(page: &mut Vec<u8>, out: &mut W, halt: Halt) -> Result<
             Ok(Status::Finished)
         }
         Halt::Unhandled(exception) => {
-            put_unhandled(page, exception)?;
+            put_unhandled(page, program, exception)?;
             write_all(out, page)?;
             Ok(Status::Unhandled)
         }
         Halt::Erroneous(_) | Halt::Stuck => {
             write_all(out, b"erroneous\n")?;
-            Ok(Status::Stopped)
+            Ok(Status::Erroneous)
         }
         Halt::Memory => Err(ServeFault::NoMemory),
     }

@@ -6,16 +6,17 @@ ghost use Rattle.ada_serve.specs.Settings.{HasDefaults};
 /// The greatest size of a pool, in words, and that of the standard pool where no other is given.
 pub const MOST_WORDS: u32 = 65_536;
 
-/// What the program is asked to do. A field that no word on the command line sets yet has its default.
+/// What the program is asked to do. `standard` and `trace` have their defaults: no word on the command line sets them
+/// yet.
 #[derive(Debug, Drop)]
 pub struct Options {
     /// Run the source if it is accepted, in place of only checking it.
     pub run: bool,
     /// The size of the standard pool, in words.
     pub standard: u32,
-    /// How many statements the run may begin.
+    /// How many statements a run may begin, at least one.
     pub steps: u32,
-    /// The number of the request for storage that is refused; 0 refuses none.
+    /// The number of the request for storage that is refused, counted from 1 over the run; 0 refuses none.
     pub refuse: u32,
     /// Write a line when a controlled value comes to exist or is finalized, and when storage goes back.
     pub trace: bool,
@@ -25,6 +26,8 @@ impl Options {
     /// The defaults, for a check or for a run.
     pub fn new(run: bool) -> Options
         ensures run { result.run ≡ run }
+        ensures steps { result.steps ≡ 1_000_000 }
+        ensures refuse { result.refuse ≡ 0 }
         ensures defaults { HasDefaults result }
     {
         Options {

@@ -2,11 +2,12 @@
 
 ghost use Rattle.std.specs.Prelude.{◌≡◌, ◌++◌, map, OnOk, decimal};
 ghost use Rattle.std.specs.String.{string_bytes};
-ghost use Rattle.ada_serve.specs.Texts.{image, line_text, refusal_text, text_at, unhandled_text};
+ghost use Rattle.ada_serve.specs.Texts.{exceptions_of, image, line_text, refusal_text, stopped_text, text_at, unhandled_text};
 ghost use Rattle.ada_verdict.specs.Shown.{shown};
 
-use ada_meaning::{Exception, Line};
-use ada_program::program::TextNo;
+use ada_meaning::Line;
+use ada_program::Program;
+use ada_program::program::{Exception, TextNo};
 use ada_verdict::Refusal;
 use itoa::Buffer;
 use std::alloc::AllocError;
@@ -65,10 +66,23 @@ pub fn put_refusal(page: &mut Vec<u8>, refusal: Refusal) -> Result<(), AllocErro
 }
 
 /// Appends the last line of a run that an exception ended.
-pub fn put_unhandled(page: &mut Vec<u8>, exception: Exception) -> Result<(), AllocError>
-    ensures { OnOk result (page.new.items ≡ page.old.items ++ unhandled_text exception) }
+pub fn put_unhandled(
+    page: &mut Vec<u8>,
+    program: &Program,
+    exception: Exception,
+) -> Result<(), AllocError>
+    ensures { OnOk result (page.new.items ≡ page.old.items ++ unhandled_text (exceptions_of program.now) exception) }
 {
     page.extend_from_slice(b"unhandled ")?;
-    page.extend_from_slice(exception.name().as_bytes())?;
+    page.extend_from_slice(exception.name(program).as_bytes())?;
+    page.extend_from_slice(b"\n")
+}
+
+/// Appends the last line of a run that the limit of statements stopped.
+pub fn put_stopped(page: &mut Vec<u8>, limit: u32) -> Result<(), AllocError>
+    ensures { OnOk result (page.new.items ≡ page.old.items ++ stopped_text limit) }
+{
+    page.extend_from_slice(b"stopped after ")?;
+    put_number(page, limit)?;
     page.extend_from_slice(b"\n")
 }

@@ -1,16 +1,15 @@
--- Objects end, their words go back, and the one master is left.
+-- Objects end, their words go back, and masters are left.
 
 use Rattle.std.proofs.lemmas.Bool.{eq-eqb}
-use Rattle.std.proofs.Common.{◌≡◌, ℕ, suc, true, List, [], ◌∷◌, length, refl, sym, ◌∙◌, inl, inr, arith}
+use Rattle.std.proofs.Common.{◌≡◌, ℕ, true, List, [], ◌∷◌, ◌++◌, refl, sym, ◌∙◌, inl, inr}
 use Rattle.std.specs.Prelude.{Some, None}
 use Rattle.std.specs.List.{slice_set, slice_index_or}
-use Rattle.ada_program.specs.Form.{StmtForm}
 use Rattle.ada_flow.specs.Flow.{Holds}
 use Rattle.ada_meaning.specs.declared.state.Id.{Id}
 use Rattle.ada_meaning.specs.declared.state.Value.{Value}
 use Rattle.ada_meaning.specs.declared.state.Value.TheVariants.{Null, Names, Scalar}
 use Rattle.ada_meaning.specs.declared.state.Mode.{Mode}
-use Rattle.ada_meaning.specs.declared.state.Mode.TheVariants.{Running, Raising}
+use Rattle.ada_meaning.specs.declared.state.Mode.TheVariants.{Running}
 use Rattle.ada_meaning.specs.declared.event.Cause.{Cause}
 use Rattle.ada_meaning.specs.declared.event.Cause.TheVariants.{Leaving, Freeing, Assigning, Undoing}
 use Rattle.ada_meaning.specs.Frame.{Leaves, Ends, GivesBack, Clears}
@@ -20,29 +19,43 @@ use Rattle.ada_meaning.specs.Step.{end_next, back_next, members_next, item_leave
 use Rattle.ada_meaning.specs.Named.{Object, State, object_at, look, lent, members, named, parted, finished, returned}
 use Rattle.ada_meaning.specs.Law.{leaving_by, LeavesHome, items_of}
 use Rattle.ada_sound.proofs.Objects.{set_here}
-use Rattle.ada_sound.proofs.Items.{IsCollection}
+use Rattle.ada_sound.proofs.Items.{newest_is}
 use Rattle.ada_sound.proofs.Stored.{Stored, IsTaken, stored_part, stored_finish, stored_back, stored_shorter, stored_older, exists_out, none_is_left, taken_is}
-use Rattle.ada_sound.proofs.Values.{fit_set}
+use Rattle.ada_sound.proofs.Values.{Fit, NoOwner, fit_set, weaker_fit}
 use Rattle.ada_sound.proofs.Alters.{alters_set}
-use Rattle.ada_sound.proofs.Invariant.{Control, IsEnd, ClearsTo, LeavesTo, Behind, ThenBack, Ending, EndingBy, Backing, BackingBy, ReadyIn, LowerBy, Stepped, Fine}
-use Rattle.ada_sound.proofs.Ready.{running, stays}
+use Rattle.ada_sound.proofs.Invariant.{Known, Control, Rooms, Roomed, OwnedAmong, RunsOn, Working, Freed, ClearsTo, LeavesTo, Behind, ThenBack, Ending, EndingBy, Backing, BackingBy, ReadyIn, Stepped, Fine}
+use Rattle.ada_sound.proofs.Ready.{running, stays, goes_ready}
+use Rattle.ada_sound.proofs.Leavings.{none_owns}
 
-module _ (At : List StmtForm → Holds → Type 0) where
+-- A change of an object under way.
+freed_set : {known : Known} {heap : List Object} {places : List Value} {ms : List Master} {more : Rooms → Holds → Type 0} (o : Id) (y : Object) → Freed known o heap places ms more → Freed known o (slice_set heap o.0 y) places ms more
+freed_set o y c = record { rooms = c.rooms; holds = c.holds; roomed = c.roomed; fit = fit_set o y c.apart c.fit; apart = c.apart; rest = c.rest }
+
+-- At work again, with it gone.
+freed_works : {known : Known} {heap : List Object} {places : List Value} {ms : List Master} {more : Rooms → Holds → Type 0} {o : Id} → Stored None heap ms → Freed known o heap places ms more → Working known heap places ms more
+freed_works stored c = record { rooms = c.rooms; holds = c.holds; stored = stored; roomed = c.roomed; fit = c.fit; rest = c.rest }
+
+module _ (known : Known) where
   -- What is behind an object under way does not look at it.
-  clears_set : (o : Id) (y : Object) (heap : List Object) (places : List Value) (k : Control) → ClearsTo At o heap places k → ClearsTo At o (slice_set heap o.0 y) places k
-  clears_set o y heap places [] c = absurd c
-  clears_set o y heap places (Clears x ∷ k) c = record { holds = c.holds; fit = fit_set o y c.apart c.fit; apart = c.apart; rest = c.rest }
-  clears_set o y heap places (f ∷ k) c = absurd c
+  clears_set : (o : Id) (y : Object) (heap : List Object) (places : List Value) (ms : List Master) (k : Control) → ClearsTo known o heap places ms k → ClearsTo known o (slice_set heap o.0 y) places ms k
+  clears_set o y heap places ms [] c = absurd c
+  clears_set o y heap places ms (Clears x ∷ k) c = freed_set o y c
+  clears_set o y heap places ms (f ∷ k) c = absurd c
 
-  behind_set : (cause : Cause) (o : Id) (home : ℕ) (y : Object) (heap : List Object) (places : List Value) (ms : List Master) (k : Control) → Behind At cause o home heap places ms k → Behind At cause o home (slice_set heap o.0 y) places ms k
-  behind_set (Leaving m item) o home y heap places ms k b = b
-  behind_set (Freeing number) o home y heap places ms k b = clears_set o y heap places k b
+  leaves_set : (o : Id) (y : Object) (heap : List Object) (places : List Value) (ms : List Master) (k : Control) → LeavesTo known o heap places ms k → LeavesTo known o (slice_set heap o.0 y) places ms k
+  leaves_set o y heap places ms [] c = absurd c
+  leaves_set o y heap places ms (Leaves mode ∷ k) c = freed_set o y c
+  leaves_set o y heap places ms (f ∷ k) c = absurd c
+
+  behind_set : (cause : Cause) (o : Id) (home : ℕ) (y : Object) (heap : List Object) (places : List Value) (ms : List Master) (k : Control) → Behind known cause o home heap places ms k → Behind known cause o home (slice_set heap o.0 y) places ms k
+  behind_set (Leaving m item) o home y heap places ms k b = (b.0, leaves_set o y heap places ms k b.1)
+  behind_set (Freeing number) o home y heap places ms k b = clears_set o y heap places ms k b
   behind_set (Assigning number) o home y heap places ms k b = absurd b
   behind_set (Undoing number) o home y heap places ms k b = absurd b
 
   module _ (a : Activation Value) (rest : List (Activation Value)) (s : State) where
     -- An object ceases to exist.
-    end_object : (o : Id) (k : Control) (e : Ending At o k s.heap a.places s.masters) → ThenBack At o e.object.cell.home.item s.heap a.places s.masters k → Stepped At s.heap Quiet (record (running k a rest s) { heap = slice_set s.heap o.0 (finished e.object) })
+    end_object : (o : Id) (k : Control) (e : Ending known o k s.heap a.places s.masters) → ThenBack known o e.object.cell.home.item s.heap a.places s.masters k → Stepped known s.heap Quiet (record (running k a rest s) { heap = slice_set s.heap o.0 (finished e.object) })
     end_object o [] e b = absurd b
     end_object o (GivesBack (Names p) cause pool ∷ k) e b = record {
       ready = (
@@ -62,47 +75,36 @@ module _ (At : List StmtForm → Holds → Type 0) where
     }
     end_object o (f ∷ k) e b = absurd b
 
-    pub ends_fine : (v : Value) (k : Control) → EndingBy At v k s.heap a.places s.masters → Fine At s.heap s.masters (end_next named v (look s.heap v) (running k a rest s))
+    pub ends_fine : (v : Value) (k : Control) → EndingBy known v k s.heap a.places s.masters → Fine known s.heap s.masters (end_next named v (look s.heap v) (running k a rest s))
     ends_fine Null k e = absurd e
     ends_fine (Names o) k e = rw (e.found, e.exists) (rw e.found (end_object o k e e.rest))
     ends_fine (Scalar n) k e = absurd e
 
     -- Its words go back.
     module _ (o : Id) (heap : List Object) (stored : Stored None heap s.masters) where
-      cleared_ready : (k : Control) → ClearsTo At o heap a.places k → ReadyIn At Running k heap a.places a.operands s.masters
+      cleared_ready : (k : Control) → ClearsTo known o heap a.places s.masters k → ReadyIn known Running k heap a.places a.operands s.masters
       cleared_ready [] c = absurd c
-      cleared_ready (Clears x ∷ k) c = record { holds = c.holds; stored = stored; fit = c.fit; rest = c.rest }
+      cleared_ready (Clears x ∷ k) c = freed_works stored c
       cleared_ready (f ∷ k) c = absurd c
 
-      left_ready : (item home : ℕ) (k : Control) → LeavesTo item home s.masters k → ReadyIn At Running k heap a.places a.operands s.masters
-      left_ready item home [] l = absurd l
-      left_ready item home (Leaves mode ∷ k) l = (stored, l.0)
-      left_ready item home (f ∷ k) l = absurd l
+      left_ready : (k : Control) → LeavesTo known o heap a.places s.masters k → ReadyIn known Running k heap a.places a.operands s.masters
+      left_ready [] c = absurd c
+      left_ready (Leaves mode ∷ k) c = freed_works stored c
+      left_ready (f ∷ k) c = absurd c
 
-      behind_ready : (cause : Cause) (home : ℕ) (k : Control) → Behind At cause o home heap a.places s.masters k → ReadyIn At Running k heap a.places a.operands s.masters
-      behind_ready (Leaving m item) home k b = left_ready item home k b
+      behind_ready : (cause : Cause) (home : ℕ) (k : Control) → Behind known cause o home heap a.places s.masters k → ReadyIn known Running k heap a.places a.operands s.masters
+      behind_ready (Leaving m item) home k b = left_ready k b.1
       behind_ready (Freeing number) home k b = cleared_ready k b
       behind_ready (Assigning number) home k b = absurd b
       behind_ready (Undoing number) home k b = absurd b
 
-    leaves_home : (cause : Cause) (o : Id) (x : Object) (k : Control) → Behind At cause o x.cell.home.item s.heap a.places s.masters k → LeavesHome x.cell.home (leaving_by (Some cause))
-    leaves_home (Leaving m item) o x [] b = absurd b
-    leaves_home (Leaving m item) o x (Leaves mode ∷ k) b = b.1
-    leaves_home (Leaving m item) o x (f ∷ k) b = absurd b
+    leaves_home : (cause : Cause) (o : Id) (x : Object) (k : Control) → Behind known cause o x.cell.home.item s.heap a.places s.masters k → LeavesHome x.cell.home (leaving_by (Some cause))
+    leaves_home (Leaving m item) o x k b = b.0
     leaves_home (Freeing number) o x k b = tt
     leaves_home (Assigning number) o x k b = tt
     leaves_home (Undoing number) o x k b = tt
 
-    lower_by : (cause : Cause) (o : Id) (home : ℕ) (heap : List Object) (k : Control) → Behind At cause o home s.heap a.places s.masters k → LowerBy (leaving_by (Some cause)) (record (running k a rest s) { heap = heap })
-    lower_by (Leaving m item) o home heap [] b = absurd b
-    lower_by (Leaving m item) o home heap (Leaves mode ∷ []) b = (tt, omega (arith, b.2))
-    lower_by (Leaving m item) o home heap (Leaves mode ∷ f ∷ k) b = absurd (b.0)
-    lower_by (Leaving m item) o home heap (f ∷ k) b = absurd b
-    lower_by (Freeing number) o home heap k b = tt
-    lower_by (Assigning number) o home heap k b = tt
-    lower_by (Undoing number) o home heap k b = tt
-
-    back_object : (o : Id) (cause : Cause) (pool : ℕ) (k : Control) (b : Backing At o cause pool k s.heap a.places s.masters) → Stepped At s.heap (Back (Names o) b.object.cell.access b.object.cell.number b.object.cell.home.pool b.object.cell.home.subpool cause) (record (running k a rest s) { heap = slice_set s.heap o.0 (returned b.object) })
+    back_object : (o : Id) (cause : Cause) (pool : ℕ) (k : Control) (b : Backing known o cause pool k s.heap a.places s.masters) → Stepped known s.heap (Back (Names o) b.object.cell.access b.object.cell.number b.object.cell.home.pool b.object.cell.home.subpool cause) (record (running k a rest s) { heap = slice_set s.heap o.0 (returned b.object) })
     back_object o cause pool k b = record {
       ready = (tt, behind_ready o (slice_set s.heap o.0 (returned b.object)) (stored_back o b.object b.found b.gone b.stored) cause b.object.cell.home.item k (behind_set cause o b.object.cell.home.item (returned b.object) s.heap a.places s.masters k b.rest));
       alters = alters_set s.heap _ o b.object (returned b.object) b.found refl (λ h. refl) (λ h. inr refl);
@@ -112,71 +114,117 @@ module _ (At : List StmtForm → Holds → Type 0) where
         is = refl;
         found = b.found;
         out = b.out;
+        of_type = refl;
         numbered = refl;
         to_pool = refl;
         to_subpool = refl;
         home = leaves_home cause o b.object k b.rest;
         back = (returned b.object, set_here s.heap o.0 b.object (returned b.object) b.found, refl);
-        lower = lower_by cause o b.object.cell.home.item (slice_set s.heap o.0 (returned b.object)) k b.rest;
       };
     }
 
-    pub backs_fine : (v : Value) (cause : Cause) (pool : ℕ) (k : Control) → BackingBy At v cause pool k s.heap a.places s.masters → Fine At s.heap s.masters (back_next named v cause pool (lent s.heap v) (running k a rest s))
+    pub backs_fine : (v : Value) (cause : Cause) (pool : ℕ) (k : Control) → BackingBy known v cause pool k s.heap a.places s.masters → Fine known s.heap s.masters (back_next named v cause pool (lent s.heap v) (running k a rest s))
     backs_fine Null cause pool k b = absurd b
     backs_fine (Names o) cause pool k b = rw (b.found, b.out) (rw (eq-eqb pool b.object.cell.home.pool (b.standard ∙ sym (b.stored.sane o b.object b.found).standard)) (rw b.found (back_object o cause pool k b)))
     backs_fine (Scalar n) cause pool k b = absurd b
 
-  -- The leaving of the one master, in a mode and with nothing behind it.
-  module _ (mode : Mode) (k : Control) (last : IsEnd k) where
+  -- A master is left, newest item first.
+  module _ (mode : Mode) (k : Control) (a : Activation Value) (rest : List (Activation Value)) (s : State) (number : ℕ) (ms : List Master) where
+    -- The state with these items of the master left, and what is known there: nothing that may go with it is owned.
+    left_with : List Item → State
+    left_with items = record (running (Leaves mode ∷ k) a rest s) { masters = record { number = number; items = items } ∷ ms }
+
+    Left_with : List Item → Type 0
+    Left_with items = Working known s.heap a.places (record { number = number; items = items } ∷ ms) (RunsOn known (Leaves mode ∷ k))
+
+    -- An object in the newest collection has no owner.
+    none_owns_it : (item : Item) (items : List Item) (access : ℕ) (o : Id) (x : Object) (rooms : Rooms) (holds : Holds) → item.owned ≡ collection access → object_at s.heap o ≡ Some x → x.listed ≡ true → x.cell.home.item ≡ item.number → Stored None s.heap (record { number = number; items = item ∷ items } ∷ ms) → Fit s.heap known.variables a.places holds → Roomed (record { number = number; items = item ∷ items } ∷ ms) rooms → RunsOn known (Leaves mode ∷ k) rooms holds → NoOwner a.places holds o
+    none_owns_it item items access o x [] holds is found listed home stored fit roomed r = absurd r
+    none_owns_it item items access o x (types ∷ rooms) holds is found listed home stored fit roomed r =
+        let sane = stored.sane o x found in
+        let out = exists_out o x found (sane.listed_exists listed) stored in
+        let type = newest_is x.cell.home.item x.cell.access item (items ++ items_of ms) home stored.counted (sane.housed out) in
+        let among : OwnedAmong (collection x.cell.access) types = rw type at roomed.0.0 in
+        none_owns s.heap known.variables a.places holds types o x fit r.0 found among
+
     -- A member is taken.
-    taken_fine : (a : Activation Value) (rest : List (Activation Value)) (s : State) (m item : ℕ) (v : Value) → length (items_of s.masters) ≡ suc item → Stored None s.heap s.masters → IsTaken item s.heap v → Stepped At s.heap Quiet (record (running (Ends v ∷ GivesBack v (Leaving m item) 0 ∷ Leaves mode ∷ k) a rest s) { heap = named.part s.heap v })
-    taken_fine a rest s m item v newest stored (o, is, member) =
+    taken_fine : (item : Item) (items : List Item) (access : ℕ) (v : Value) → item.owned ≡ collection access → Left_with (item ∷ items) → IsTaken item.number s.heap v → Stepped known s.heap Quiet (record (running (Ends v ∷ GivesBack v (Leaving number item.number) 0 ∷ Leaves mode ∷ k) a rest (left_with (item ∷ items))) { heap = named.part s.heap v })
+    unfolding left_with Left_with
+    taken_fine item items access v owns w (o, is, member) =
+        let none = none_owns_it item items access o member.object w.rooms w.holds owns member.found member.listed member.home w.stored w.fit w.roomed w.rest in
         rw is (rw (member.found) (record {
           ready = (
             tt,
             record {
               object = parted member.object;
               found = set_here s.heap o.0 member.object (parted member.object) member.found;
-              exists = (stored.sane o member.object member.found).listed_exists member.listed;
-              stored = stored_part o member.object member.found stored;
-              rest = (refl, refl, (last, sym member.home, newest));
+              exists = (w.stored.sane o member.object member.found).listed_exists member.listed;
+              stored = stored_part o member.object member.found w.stored;
+              rest = (
+                refl,
+                refl,
+                (
+                  sym member.home,
+                  record {
+                    rooms = w.rooms;
+                    holds = w.holds;
+                    roomed = w.roomed;
+                    fit = fit_set o (parted member.object) none w.fit;
+                    apart = none;
+                    rest = w.rest;
+                  },
+                ),
+              );
             },
           );
           alters = alters_set s.heap Quiet o member.object (parted member.object) member.found refl (λ h. h) (λ h. inl h);
           says = tt;
         }))
 
-    module _ (a : Activation Value) (rest : List (Activation Value)) (s : State) (number : ℕ) (ms : List Master) where
-      -- the state with these items of the master left
-      left_with : List Item → State
-      left_with items = record (running (Leaves mode ∷ k) a rest s) { masters = record { number = number; items = items } ∷ ms }
+    roomed_shorter : (item : Item) (items : List Item) (rooms : Rooms) → Roomed (record { number = number; items = item ∷ items } ∷ ms) rooms → Roomed (record { number = number; items = items } ∷ ms) rooms
+    roomed_shorter item items [] r = r
+    roomed_shorter item items (types ∷ rooms) r = (r.0.1, r.1)
 
-      shorter_fine : (item : Item) (items : List Item) → ((o : Id) (x : Object) → object_at s.heap o ≡ Some x → x.listed ≡ true → IsCollection item.owned → x.cell.home.item ≡ item.number → ⊥) → Stored None s.heap (record { number = number; items = item ∷ items } ∷ ms) → Stepped At s.heap Quiet (left_with items)
-      unfolding left_with
-      shorter_fine item items none stored = stays At Quiet (left_with items) (tt, (stored_shorter (record { number = number; items = [] }) item items ms none stored, last)) tt
+    shorter_fine : (item : Item) (items : List Item) → ((o : Id) (x : Object) → object_at s.heap o ≡ Some x → x.listed ≡ true → item.owned ≡ collection x.cell.access → x.cell.home.item ≡ item.number → ⊥) → Left_with (item ∷ items) → Stepped known s.heap Quiet (left_with items)
+    unfolding left_with Left_with
+    shorter_fine item items none w = stays known Quiet (left_with items) (
+      tt,
+      record {
+        rooms = w.rooms;
+        holds = w.holds;
+        stored = stored_shorter (record { number = number; items = [] }) item items ms none w.stored;
+        roomed = roomed_shorter item items w.rooms w.roomed;
+        fit = w.fit;
+        rest = w.rest;
+      },
+    ) tt
 
-      members_fine : (item : Item) (items : List Item) (access : ℕ) (vs : List Value) → members s.heap item.number ≡ vs → Stored None s.heap (record { number = number; items = item ∷ items } ∷ ms) → Fine At s.heap (record { number = number; items = item ∷ items } ∷ ms) (members_next named (Leaving number item.number) access vs (left_with (item ∷ items)))
-      unfolding left_with
-      members_fine item items access [] e stored = shorter_fine item items (λ o x found listed is home. none_is_left item.number s.heap o x e found listed home) stored
-      members_fine item items access (v ∷ vs) e stored = λ i lt. taken_fine a rest (left_with (item ∷ items)) number item.number (slice_index_or (v ∷ vs) i Null) (omega (arith, stored.counted.0)) stored (rw e at (taken_is item.number s.heap i (rw e lt)))
+    members_fine : (item : Item) (items : List Item) (access : ℕ) (vs : List Value) → item.owned ≡ collection access → members s.heap item.number ≡ vs → Left_with (item ∷ items) → Fine known s.heap (record { number = number; items = item ∷ items } ∷ ms) (members_next named (Leaving number item.number) access vs (left_with (item ∷ items)))
+    unfolding left_with Left_with
+    members_fine item items access [] owns e w = shorter_fine item items (λ o x found listed is home. none_is_left item.number s.heap o x e found listed home) w
+    members_fine item items access (v ∷ vs) owns e w = λ i lt. taken_fine item items access (slice_index_or (v ∷ vs) i Null) owns w (rw e at (taken_is item.number s.heap i (rw e lt)))
 
-      item_fine : (item : Item) (items : List Item) (what : Owned) → item.owned ≡ what → Stored None s.heap (record { number = number; items = item ∷ items } ∷ ms) → Fine At s.heap (record { number = number; items = item ∷ items } ∷ ms) (item_leave_next named number item what (left_with (item ∷ items)))
-      unfolding left_with
-      item_fine item items (declared x) is stored = shorter_fine item items (λ o y found listed c home. rw is at c) stored
-      item_fine item items (collection access) is stored = members_fine item items access (members s.heap item.number) refl stored
+    item_fine : (item : Item) (items : List Item) (what : Owned) → item.owned ≡ what → Left_with (item ∷ items) → Fine known s.heap (record { number = number; items = item ∷ items } ∷ ms) (item_leave_next named number item what (left_with (item ∷ items)))
+    unfolding left_with Left_with
+    item_fine item items (declared x) is w = shorter_fine item items (λ o y found listed c home. cc (is, c)) w
+    item_fine item items (collection access) is w = members_fine item items access (members s.heap item.number) is refl w
 
-      -- the master is left
-      left_fine : (m : Mode) (k' : Control) → IsEnd k' → (ns : List Master) → Stored None s.heap (record { number = number; items = [] } ∷ ns) → Stepped At s.heap (Left number) (record (running k' a rest s) { masters = ns; mode = m })
-      left_fine Running [] e [] stored = stays At (Left number) _ (tt, (stored_older (record { number = number; items = [] }) [] stored, tt)) tt
-      left_fine (Raising x) [] e [] stored = stays At (Left number) _ (tt, (stored_older (record { number = number; items = [] }) [] stored, tt)) tt
-      left_fine m [] e (n ∷ ns) stored = absurd (stored.one)
-      left_fine m (f ∷ k') e ns stored = absurd e
+    -- The master is left.
+    gone_ready : (rooms : Rooms) (holds : Holds) → Stored None s.heap (record { number = number; items = [] } ∷ ms) → Fit s.heap known.variables a.places holds → Roomed (record { number = number; items = [] } ∷ ms) rooms → RunsOn known (Leaves mode ∷ k) rooms holds → ReadyIn known mode k s.heap a.places a.operands ms
+    gone_ready [] holds stored fit roomed r = absurd r
+    gone_ready (types ∷ rooms) holds stored fit roomed r =
+        goes_ready known mode k s.heap a.places a.operands ms
+        (record { rooms = rooms; holds = r.1.0; stored = stored_older (record { number = number; items = [] }) ms stored; roomed = roomed.1; fit = weaker_fit r.1.0 r.1.1 fit; rest = r.1.2 })
 
-      master_fine : (items : List Item) → Stored None s.heap (record { number = number; items = items } ∷ ms) → Fine At s.heap (record { number = number; items = items } ∷ ms) (master_leave_next named mode number items (record (running k a rest s) { masters = record { number = number; items = items } ∷ ms }))
-      unfolding left_with
-      master_fine [] stored = left_fine mode k last ms stored
-      master_fine (item ∷ items) stored = item_fine item items item.owned refl stored
+    master_fine : (items : List Item) → Left_with items → Fine known s.heap (record { number = number; items = items } ∷ ms) (master_leave_next named mode number items (record (running k a rest s) { masters = record { number = number; items = items } ∷ ms }))
+    unfolding left_with Left_with
+    master_fine [] w = stays known (Left number) _ (tt, gone_ready w.rooms w.holds w.stored w.fit w.roomed w.rest) tt
+    master_fine (item ∷ items) w = item_fine item items item.owned refl w
 
-    pub leave_fine : (a : Activation Value) (rest : List (Activation Value)) (s : State) (ms : List Master) → Stored None s.heap ms → Fine At s.heap ms (leave_next named mode ms (record (running k a rest s) { masters = ms }))
-    leave_fine a rest s [] stored = tt
-    leave_fine a rest s (m ∷ ms) stored = master_fine a rest s m.number ms m.items stored
+    pub left_fine : (items : List Item) → Working known s.heap a.places (record { number = number; items = items } ∷ ms) (RunsOn known (Leaves mode ∷ k)) → Fine known s.heap (record { number = number; items = items } ∷ ms) (master_leave_next named mode number items (record (running k a rest s) { masters = record { number = number; items = items } ∷ ms }))
+    unfolding left_with Left_with
+    left_fine items w = master_fine items w
+
+  pub leave_fine : (mode : Mode) (k : Control) (a : Activation Value) (rest : List (Activation Value)) (s : State) (ms : List Master) → Working known s.heap a.places ms (RunsOn known (Leaves mode ∷ k)) → Fine known s.heap ms (leave_next named mode ms (record (running k a rest s) { masters = ms }))
+  leave_fine mode k a rest s [] w = tt
+  leave_fine mode k a rest s (m ∷ ms) w = left_fine mode k a rest s m.number ms m.items w

@@ -1,81 +1,239 @@
 -- What every step keeps: control typed by its flow, places that fit, objects that are stored.
 
-use Rattle.std.proofs.Common.{◌≡◌, ℕ, suc, ◌≤◌, Bool, true, false, List, [], ◌∷◌, length}
-use Rattle.std.specs.Prelude.{Option, Some, None}
+use Rattle.std.proofs.Common.{◌≡◌, ℕ, suc, ◌≤◌, Bool, true, false, ◌&&◌, List, [], ◌∷◌}
+use Rattle.std.specs.Prelude.{ℤ, Option, Some, None}
 use Rattle.std.specs.List.{slice_set}
-use Rattle.ada_program.specs.Form.{PathForm, RightForm, StmtForm, DeclarationForm}
+use Rattle.ada_program.specs.declared.program.Exception.{Exception}
+use Rattle.ada_program.specs.declared.program.Exception.TheVariants.{ConstraintError, StorageError}
+use Rattle.ada_program.specs.Form.{ExpressionForm, RightForm, StmtsForm, BranchesForm, HandlersForm, DeclarationForm}
+use Rattle.ada_program.specs.ProgramForm.{VariableForm}
+use Rattle.ada_program.specs.Handling.{is_same, handler_of}
+use Rattle.ada_effects.specs.Effects.{expression_raises, links_raise, items_raise, condition_raises, unary_raises, binary_raises, right_raises, declaration_raises, stmts_raise, branches_raise, handlers_raise}
 use Rattle.ada_flow.specs.declared.rule.Hold.TheVariants as hold
 use Rattle.ada_flow.specs.declared.rule.Region.TheVariants.{Whole}
-use Rattle.ada_flow.specs.Flow.{Holds, Outcome, faults, goes, paths_in, paths_in_links, paths_in_items, lost_among, gives, stmt_flow, declaration_flow}
+use Rattle.ada_flow.specs.Flow.{Holds, hold_at, variable_access, held_as, Outcome, faults, goes, Use, uses_in, uses_in_links, uses_in_items, lost_among, gives, are_as_good, have_exit, branches_have_exit, handlers_have_exit, is_left, condition_flow, stmts_flow, branches_flow, handlers_flow, declaration_flow, collected, is_among, left, Around, in_loop}
 use Rattle.ada_meaning.specs.declared.state.Id.{Id}
 use Rattle.ada_meaning.specs.declared.state.Value.{Value}
 use Rattle.ada_meaning.specs.declared.state.Value.TheVariants.{Null, Names, Scalar}
 use Rattle.ada_meaning.specs.declared.state.Stage.TheVariants.{Existing, Gone}
 use Rattle.ada_meaning.specs.declared.state.Mode.{Mode}
-use Rattle.ada_meaning.specs.declared.state.Mode.TheVariants.{Running, Raising}
+use Rattle.ada_meaning.specs.declared.state.Mode.TheVariants.{Running, Raising, Exiting, Returning}
 use Rattle.ada_meaning.specs.declared.event.Cause.{Cause}
 use Rattle.ada_meaning.specs.declared.event.Cause.TheVariants.{Leaving, Freeing, Assigning, Undoing}
 use Rattle.ada_meaning.specs.declared.event.Halt.{Halt}
 use Rattle.ada_meaning.specs.declared.event.Halt.TheVariants.{Finished, Unhandled, Erroneous, Stuck, Memory}
-use Rattle.ada_meaning.specs.Frame.{Frame, Elaborates, Does, Closes, Leaves, Evaluates, Computes, Follows, Continues, Applies, AppliesAlone, Fills, Creates, Stores, Declares, Writes, Ends, GivesBack, Clears, is_master}
+use Rattle.ada_meaning.specs.Frame.{Frame, Elaborates, Does, Decides, Repeats, Turns, Ranges, Counts, Exits, Handles, Closes, Leaves, Evaluates, Computes, Follows, TestsNull, Continues, Applies, AppliesAlone, Fills, Creates, Stores, Declares, Writes, Ends, GivesBack, Clears}
 use Rattle.ada_meaning.specs.Event.{Born, Finalized, Back, Followed, Left, Line, Quiet}
-use Rattle.ada_meaning.specs.State.{Activation, Master}
+use Rattle.ada_meaning.specs.State.{Activation, Owned, declared, collection, Item, Master}
 use Rattle.ada_meaning.specs.Step.{halts, moves, tells, asks, picks, first_or, places, operands}
 use Rattle.ada_meaning.specs.Named.{Object, State, Next, object_at}
 use Rattle.ada_meaning.specs.Run.{Event}
-use Rattle.ada_meaning.specs.Law.{AtItem, leaving_by, LeavesHome, items_of}
+use Rattle.ada_meaning.specs.Law.{AtItem, leaving_by, LeavesHome}
+use Rattle.ada_sound.specs.Agreement.{Turning, Comes, ComesBy, ComesTo}
 use Rattle.ada_sound.proofs.Items.{NoMaster}
 use Rattle.ada_sound.proofs.Stored.{Stored}
-use Rattle.ada_sound.proofs.Values.{Fit, NoOwner}
+use Rattle.ada_sound.proofs.Values.{Fit, IsOwn, NoOwner}
+use Rattle.ada_sound.proofs.Orderings.{AsGood}
 use Rattle.ada_sound.proofs.Alters.{BackIn, Alters}
 
 -- What is left to do, over names.
 abbrev pub Control : Type 0
 Control = List (Frame Value)
 
--- Nothing is left to do.
-abbrev pub IsEnd : Control → Type 0
-IsEnd [] = Unit {0}
-IsEnd (f ∷ k) = ⊥
+-- The program's variables, and what is known where flow comes to a place.
+pub record Known : Type 1 where
+  pub variables : List VariableForm
+  pub At : Control → Holds → Type 0
 
--- An exception passes frames up to the master, behind which nothing is left.
-abbrev pub PassesBy : Bool → Control → Type 0 → Type 0
-PassesBy true k passes = IsEnd k
-PassesBy false k passes = passes
+-- The access types of the collections that each master may own, innermost first.
+abbrev pub Rooms : Type 0
+Rooms = List (List ℕ)
 
-abbrev pub Passes : Control → Type 0
-Passes [] = ⊥
-Passes (f ∷ k) = PassesBy (is_master f) k (Passes k)
+abbrev pub OwnedAmong : Owned → List ℕ → Type 0
+OwnedAmong (declared x) types = Unit {0}
+OwnedAmong (collection access) types = is_among types (Some access) ≡ true
 
--- An outcome that comes to its end.
+abbrev pub ItemsAmong : List Item → List ℕ → Type 0
+ItemsAmong [] types = Unit {0}
+ItemsAmong (i ∷ is) types = OwnedAmong i.owned types × ItemsAmong is types
+
+abbrev pub Roomed : List Master → Rooms → Type 0
+Roomed [] [] = Unit {0}
+Roomed [] (types ∷ rooms) = ⊥
+Roomed (m ∷ ms) [] = ⊥
+Roomed (m ∷ ms) (types ∷ rooms) = ItemsAmong m.items types × Roomed ms rooms
+
+abbrev pub AllAmong : List ℕ → List ℕ → Type 0
+AllAmong [] types = Unit {0}
+AllAmong (t ∷ ts) types = (is_among types (Some t) ≡ true) × AllAmong ts types
+
+-- An outcome that breaks no rule, and what is behind it, where it comes to its end, and where it raises an exception.
 abbrev pub GoesBy : Option Holds → (Holds → Type 0) → Type 0
-GoesBy None more = ⊥
+GoesBy None more = Unit {0}
 GoesBy (Some holds) more = more holds
 
-abbrev pub Goes : Outcome → (Holds → Type 0) → Type 0
-Goes (faults spot rule) more = ⊥
-Goes (goes normal raising) more = GoesBy normal more
+abbrev pub Goes : Outcome → (more raised : Holds → Type 0) → Type 0
+Goes (faults spot rule) more raised = ⊥
+Goes (goes normal raising) more raised = GoesBy normal more × GoesBy raising raised
 
--- The statements run from these holds; At says what is known where one begins.
-abbrev pub Doing : (List StmtForm → Holds → Type 0) → List StmtForm → (Holds → Type 0) → Holds → Type 0
-Doing At [] more holds = more holds
-Doing At (f ∷ fs) more holds = At (f ∷ fs) holds × Goes (stmt_flow f holds) (Doing At fs more)
+-- Something runs on with less known.
+abbrev pub To : (Holds → Type 0) → Holds → Type 0
+To more holds = (less : Holds) × AsGood holds less × more less
 
-abbrev pub Elaborating : List DeclarationForm → (Holds → Type 0) → Holds → Type 0
-Elaborating [] more holds = more holds
-Elaborating (d ∷ ds) more holds = Goes (declaration_flow d holds) (Elaborating ds more)
+-- What is known where something ends: normally, by an exception, by an exit, by a return.
+pub record Ways : Type 1 where
+  pub normal : Holds → Type 0
+  pub raised : Exception → Holds → Type 0
+  pub exited : Holds → Type 0
+  pub returned : Holds → Type 0
 
--- Behind the master nothing is left, whatever is held.
-abbrev pub Ended : Control → Holds → Type 0
-Ended k holds = IsEnd k
+-- Each of these exceptions may be raised.
+abbrev pub Raised : (Exception → Bool) → Ways → Holds → Type 0
+Raised among w holds = (e : Exception) → among e ≡ true → To (w.raised e) holds
 
--- What is left of the program runs from these holds.
-abbrev pub RunsOn : (List StmtForm → Holds → Type 0) → Control → Holds → Type 0
-RunsOn At [] holds = ⊥
-RunsOn At (Elaborates ds fs ∷ k) holds = IsEnd k × Elaborating ds (Doing At fs (Ended k)) holds
-RunsOn At (Does fs ∷ k) holds = Passes k × Doing At fs (RunsOn At k) holds
-RunsOn At (Closes ∷ k) holds = IsEnd k
-RunsOn At (f ∷ k) holds = ⊥
+-- Flow comes to places from these statements on, from these branches on, or from these handlers on, before a control.
+abbrev pub From : Known → Around → Control → StmtsForm → Holds → Type 0
+From known around k fs holds =
+    (way : List Turning) (place : Control) (at : Holds) → Comes known.variables around k fs holds way place at → known.At place at
+
+abbrev pub FromBy : Known → Around → Control → BranchesForm → Holds → Type 0
+FromBy known around k branches holds =
+    (way : List Turning) (place : Control) (at : Holds) → ComesBy known.variables around k branches holds way place at → known.At place at
+
+abbrev pub FromTo : Known → Around → Control → HandlersForm → Holds → Type 0
+FromTo known around k hs holds =
+    (way : List Turning) (place : Control) (at : Holds) → ComesTo known.variables around k hs holds way place at → known.At place at
+
+-- What may leave a loop with this start, through blocks with collections of these types, does so with no less known.
+abbrev pub MayExit : List VariableForm → Option Holds → List ℕ → Holds → Type 0
+MayExit variables None inside holds = Unit {0}
+MayExit variables (Some start) inside holds = are_as_good (left variables inside holds) start ≡ true
+
+abbrev pub OnExit : List VariableForm → Bool → Around → (Holds → Type 0) → Type 0
+OnExit variables has_one around exited = has_one ≡ true → (holds : Holds) → MayExit variables around.start around.inside holds → exited holds
+
+-- A return asks for nothing.
+abbrev pub OnReturn : Ways → Type 0
+OnReturn w = (holds : Holds) → w.returned holds
+
+-- Statements before a control run from these holds, and end in these ways.
+abbrev pub Doing : Known → StmtsForm → Control → Ways → Holds → Type 0
+Doing known fs k w holds =
+    (around : Around) × From known around k fs holds
+    × Goes (stmts_flow known.variables around fs holds) (To w.normal) (Raised (λ e. stmts_raise (is_same e) fs) w)
+    × OnExit known.variables (have_exit fs) around w.exited × OnReturn w
+
+-- The same of branches, and of handlers.
+abbrev pub Choosing : Known → BranchesForm → Control → Ways → Holds → Type 0
+Choosing known branches k w holds =
+    (around : Around) × FromBy known around k branches holds
+    × Goes (branches_flow known.variables around branches holds) (To w.normal) (Raised (λ e. branches_raise (is_same e) branches) w)
+    × OnExit known.variables (branches_have_exit branches) around w.exited × OnReturn w
+
+abbrev pub Handling : Known → HandlersForm → Control → Ways → Holds → Type 0
+Handling known hs k w holds =
+    (around : Around) × FromTo known around k hs holds
+    × Goes (handlers_flow known.variables around hs holds) (To w.normal) (Raised (λ e. handlers_raise (is_same e) hs) w)
+    × OnExit known.variables (handlers_have_exit hs) around w.exited × OnReturn w
+
+-- A turn of a loop: it leads back to the start with no less known.
+abbrev pub TurnsTo : Known → StmtsForm → Control → Ways → (start mid : Holds) → Type 0
+TurnsTo known body k w start mid =
+    From known (in_loop (Some start)) k body mid
+    × Goes (stmts_flow known.variables (in_loop (Some start)) body mid) (λ after. AsGood after start) (Raised (λ e. stmts_raise (is_same e) body) w)
+
+-- The condition of a loop may raise an exception.
+abbrev pub condition_among : Option ExpressionForm → Exception → Bool
+condition_among condition e = is_same e ConstraintError && condition_raises condition
+
+-- A loop comes to its next turn.
+abbrev pub Repeating : Known → Option ExpressionForm → StmtsForm → Control → Ways → Holds → Type 0
+Repeating known condition body k w holds =
+    (start : Holds) × AsGood holds start
+    × Goes (condition_flow condition start) (TurnsTo known body (Repeats condition body ∷ k) w start) (Raised (condition_among condition) w)
+    × (is_left condition body ≡ true → To w.normal start) × OnReturn w
+
+-- So does a `for` loop: nothing relies on its parameter.
+abbrev pub Counting : Known → (parameter : ℕ) → StmtsForm → Control → Ways → Holds → Type 0
+Counting known x body k w holds =
+    (start : Holds) × AsGood holds start × (hold_at start x ≡ hold.Lost)
+    × ((next last : ℤ) → TurnsTo known body (Counts x next last body ∷ k) w start start)
+    × To w.normal start × OnReturn w
+
+-- An exception is taken by a handler, or passes them.
+abbrev pub TakenBy : Known → Control → Ways → Exception → Option StmtsForm → Holds → Type 0
+TakenBy known k w e None holds = To (w.raised e) holds
+TakenBy known k w e (Some fs) holds = Doing known fs k w holds
+
+abbrev pub Handled : Known → HandlersForm → Control → Ways → Ways
+Handled known hs k w = record w {
+  normal = λ holds. To w.normal holds;
+  raised = λ e holds. TakenBy known k w e (handler_of e hs) holds;
+}
+
+-- Behind a master that owned collections of these types.
+abbrev pub Outside : List VariableForm → List ℕ → Ways → Ways
+Outside variables types w = record {
+  normal = λ holds. To w.normal (left variables types holds);
+  raised = λ e holds. To (w.raised e) (left variables types holds);
+  exited = λ holds. To w.exited (left variables types holds);
+  returned = λ holds. To w.returned (left variables types holds);
+}
+
+-- Declarations, and what is behind them.
+abbrev pub Elaborating : Known → List DeclarationForm → (more : Holds → Type 0) → Ways → Holds → Type 0
+Elaborating known [] more w holds = more holds
+Elaborating known (d ∷ ds) more w holds =
+    Goes (declaration_flow known.variables d holds) (Elaborating known ds more w) (Raised (λ e. declaration_raises (is_same e) d) w)
+
+-- By the mode.
+abbrev pub By : Mode → Ways → Holds → Type 0
+By Running w holds = w.normal holds
+By (Raising e) w holds = w.raised e holds
+By Exiting w holds = w.exited holds
+By Returning w holds = w.returned holds
+
+-- No variable owns an object of one of these access types.
+abbrev pub OwnsNone : List VariableForm → List ℕ → Holds → Type 0
+OwnsNone variables types holds = (x : ℕ) → IsOwn (hold_at holds x) → is_among types (variable_access variables x) ≡ false
+
+abbrev pub nowhere : Ways
+nowhere = record { normal = λ holds. ⊥; raised = λ e holds. ⊥; exited = λ holds. ⊥; returned = λ holds. ⊥ }
+
+-- Nothing is asked for where nothing is left to do.
+abbrev pub anywhere : Ways
+anywhere = record { normal = λ holds. Unit {0}; raised = λ e holds. Unit {0}; exited = λ holds. Unit {0}; returned = λ holds. Unit {0} }
+
+-- What is left to do, by the mode that it is come to in. A form that waits for a value is passed by a jump alone.
+abbrev pub ways : Known → Control → Rooms → Ways
+ways known [] [] = anywhere
+ways known [] (types ∷ rooms) = nowhere
+ways known (Elaborates ds fs hs ∷ k) [] = nowhere
+ways known (Elaborates ds fs hs ∷ k) (types ∷ rooms) = record (Outside known.variables types (ways known k rooms)) {
+  normal = λ holds. AllAmong (collected ds) types × Elaborating known ds (Doing known fs (Handles hs ∷ Closes ∷ k) (Handled known hs (Closes ∷ k) (Outside known.variables types (ways known k rooms)))) (Outside known.variables types (ways known k rooms)) holds;
+}
+ways known (Does fs ∷ k) rooms = record (ways known k rooms) { normal = λ holds. Doing known fs k (ways known k rooms) holds }
+ways known (Repeats condition body ∷ k) rooms = record (ways known k rooms) {
+  normal = λ holds. Repeating known condition body k (ways known k rooms) holds;
+  exited = λ holds. To (ways known k rooms).normal holds;
+}
+ways known (Counts x next last body ∷ k) rooms = record (ways known k rooms) {
+  normal = λ holds. Counting known x body k (ways known k rooms) holds;
+  exited = λ holds. To (ways known k rooms).normal holds;
+}
+ways known (Handles hs ∷ k) rooms = Handled known hs k (ways known k rooms)
+ways known (Closes ∷ k) [] = nowhere
+ways known (Closes ∷ k) (types ∷ rooms) = Outside known.variables types (ways known k rooms)
+ways known (Leaves mode ∷ k) [] = nowhere
+ways known (Leaves mode ∷ k) (types ∷ rooms) = record nowhere { normal = λ holds. OwnsNone known.variables types holds × To (By mode (ways known k rooms)) holds }
+ways known (f ∷ k) rooms = record (ways known k rooms) { normal = λ holds. ⊥ }
+
+-- What runs on is known in these rooms.
+abbrev pub RunsOn : Known → Control → Rooms → Holds → Type 0
+RunsOn known k rooms holds = (ways known k rooms).normal holds
+
+abbrev pub GoesOn : Known → Mode → Control → Rooms → Holds → Type 0
+GoesOn known mode k rooms holds = By mode (ways known k rooms) holds
 
 -- A value is awaited by a variable.
 abbrev pub StoresTo : Control → (ℕ → Control → Type 0) → Type 0
@@ -84,163 +242,189 @@ StoresTo (Stores x ∷ k) more = more x k
 StoresTo (Declares x ∷ k) more = more x k
 StoresTo (f ∷ k) more = ⊥
 
-abbrev pub Gives : (List StmtForm → Holds → Type 0) → RightForm → Holds → ℕ → Control → Type 0
-Gives At right holds x k = Goes (gives x right holds) (RunsOn At k)
+abbrev pub Gives : Known → RightForm → Rooms → Holds → ℕ → Control → Type 0
+Gives known right rooms holds x k =
+    Goes (gives known.variables x right holds) (RunsOn known k rooms) (Raised (λ e. right_raises (is_same e) right) (ways known k rooms))
 
-abbrev pub Takes : (List StmtForm → Holds → Type 0) → RightForm → Control → Holds → Type 0
-Takes At right k holds = StoresTo k (Gives At right holds)
+abbrev pub Takes : Known → RightForm → Control → Rooms → Holds → Type 0
+Takes known right k rooms holds = StoresTo k (Gives known right rooms holds)
 
--- None of these paths follows a lost value.
-abbrev pub NoneIsLost : Holds → List PathForm → Type 0
-NoneIsLost holds paths = lost_among holds paths ≡ None
+-- None of these paths uses a lost value.
+abbrev pub NoneIsLost : Holds → List Use → Type 0
+NoneIsLost holds uses = lost_among holds uses ≡ None
+
+-- If this may be raised, what passes the frames is known.
+abbrev pub MayRaise : Known → Bool → Exception → Control → Rooms → Holds → Type 0
+MayRaise known may e k rooms holds = may ≡ true → To ((ways known k rooms).raised e) holds
 
 -- A new object is awaited.
-abbrev pub Owns : (List StmtForm → Holds → Type 0) → Holds → ℕ → Control → Type 0
-Owns At holds x k = RunsOn At k (slice_set holds x (hold.Own Whole))
+abbrev pub Owns : Known → (access : ℕ) → Rooms → Holds → ℕ → Control → Type 0
+Owns known access rooms holds x k = RunsOn known k rooms (slice_set holds x (held_as known.variables (Some access) x (hold.Own Whole)))
 
--- What is left of an expression, or of an allocator's items, follows nothing that is lost; and nothing relies on an expression's value.
-abbrev pub Awaits : (List StmtForm → Holds → Type 0) → Control → Holds → Type 0
-Awaits At [] holds = ⊥
-Awaits At (Computes e ∷ k) holds = NoneIsLost holds (paths_in e) × Awaits At k holds
-Awaits At (Continues links ∷ k) holds = NoneIsLost holds (paths_in_links links) × Awaits At k holds
-Awaits At (Applies operator ∷ k) holds = Awaits At k holds
-Awaits At (AppliesAlone operator ∷ k) holds = Awaits At k holds
-Awaits At (Fills items ∷ k) holds = NoneIsLost holds (paths_in_items items) × Awaits At k holds
-Awaits At (Creates access count ∷ k) holds = StoresTo k (Owns At holds)
-Awaits At (Stores x ∷ k) holds = RunsOn At k (slice_set holds x hold.Lost)
-Awaits At (Declares x ∷ k) holds = RunsOn At k (slice_set holds x hold.Lost)
-Awaits At (Writes ∷ k) holds = RunsOn At k holds
-Awaits At (f ∷ k) holds = ⊥
+abbrev pub Creating : Known → (access : ℕ) → Control → Rooms → Holds → Type 0
+Creating known access k rooms holds = MayRaise known true StorageError k rooms holds × StoresTo k (Owns known access rooms holds)
+
+-- A condition is awaited: by branches, by a loop, by an exit.
+abbrev pub Deciding : Known → StmtsForm → BranchesForm → Control → Rooms → Holds → Type 0
+Deciding known fs branches k rooms holds = Doing known fs k (ways known k rooms) holds × Choosing known branches k (ways known k rooms) holds
+
+abbrev pub TurningOn : Known → ExpressionForm → StmtsForm → Control → Rooms → Holds → Type 0
+TurningOn known e body k rooms holds =
+    Doing known body (Repeats (Some e) body ∷ k) (ways known (Repeats (Some e) body ∷ k) rooms) holds × To (RunsOn known k rooms) holds
+
+abbrev pub ExitingTo : Known → Control → Rooms → Holds → Type 0
+ExitingTo known k rooms holds = RunsOn known k rooms holds × (ways known k rooms).exited holds
+
+-- What is left of an expression, or of an allocator's items, uses nothing that is lost; and nothing relies on an expression's value.
+abbrev pub Awaits : Known → Control → Rooms → Holds → Type 0
+Awaits known [] rooms holds = ⊥
+Awaits known (Computes e ∷ k) rooms holds =
+    NoneIsLost holds (uses_in e) × MayRaise known (expression_raises e) ConstraintError k rooms holds × Awaits known k rooms holds
+Awaits known (Continues links ∷ k) rooms holds =
+    NoneIsLost holds (uses_in_links links) × MayRaise known (links_raise links) ConstraintError k rooms holds × Awaits known k rooms holds
+Awaits known (TestsNull equal ∷ k) rooms holds = Awaits known k rooms holds
+Awaits known (Decides fs branches ∷ k) rooms holds = Deciding known fs branches k rooms holds
+Awaits known (Turns e body ∷ k) rooms holds = TurningOn known e body k rooms holds
+Awaits known (Ranges x body ∷ k) rooms holds = Counting known x body k (ways known k rooms) holds
+Awaits known (Exits ∷ k) rooms holds = ExitingTo known k rooms holds
+Awaits known (Applies operator ∷ k) rooms holds =
+    MayRaise known (binary_raises operator) ConstraintError k rooms holds × Awaits known k rooms holds
+Awaits known (AppliesAlone operator ∷ k) rooms holds =
+    MayRaise known (unary_raises operator) ConstraintError k rooms holds × Awaits known k rooms holds
+Awaits known (Fills items ∷ k) rooms holds =
+    NoneIsLost holds (uses_in_items items) × MayRaise known (items_raise items) ConstraintError k rooms holds × Awaits known k rooms holds
+Awaits known (Creates access count ∷ k) rooms holds = Creating known access k rooms holds
+Awaits known (Stores x ∷ k) rooms holds = RunsOn known k rooms (slice_set holds x hold.Lost)
+Awaits known (Declares x ∷ k) rooms holds = RunsOn known k rooms (slice_set holds x hold.Lost)
+Awaits known (Writes ∷ k) rooms holds = RunsOn known k rooms holds
+Awaits known (f ∷ k) rooms holds = ⊥
 
 -- The program is at work, and no object is under way.
-pub record Working (heap : List Object) (places : List Value) (masters : List Master) (more : Holds → Type 0) : Type 0 where
+pub record Working (known : Known) (heap : List Object) (places : List Value) (masters : List Master) (more : Rooms → Holds → Type 0) : Type 0 where
+  pub rooms : Rooms
   pub holds : Holds
   pub stored : Stored None heap masters
-  pub fit : Fit heap places holds
-  pub rest : more holds
+  pub roomed : Roomed masters rooms
+  pub fit : Fit heap known.variables places holds
+  pub rest : more rooms holds
 
 -- The same while an object is under way that no owner names.
-pub record Freed (o : Id) (heap : List Object) (places : List Value) (more : Holds → Type 0) : Type 0 where
+pub record Freed (known : Known) (o : Id) (heap : List Object) (places : List Value) (masters : List Master) (more : Rooms → Holds → Type 0) : Type 0 where
+  pub rooms : Rooms
   pub holds : Holds
-  pub fit : Fit heap places holds
+  pub roomed : Roomed masters rooms
+  pub fit : Fit heap known.variables places holds
   pub apart : NoOwner places holds o
-  pub rest : more holds
+  pub rest : more rooms holds
 
--- What is behind an object under way, by what ends it: a Free, whose variable becomes null; or the leaving of the one master, at its newest item.
-abbrev pub ClearsTo : (List StmtForm → Holds → Type 0) → Id → List Object → List Value → Control → Type 0
-ClearsTo At o heap places [] = ⊥
-ClearsTo At o heap places (Clears x ∷ k) = Freed o heap (slice_set places x Null) (RunsOn At k)
-ClearsTo At o heap places (f ∷ k) = ⊥
+-- What is behind an object under way, by what ends it: a Free, whose variable becomes null; or the leaving of a master, at the object's home.
+abbrev pub ClearsTo : Known → Id → List Object → List Value → List Master → Control → Type 0
+ClearsTo known o heap places masters [] = ⊥
+ClearsTo known o heap places masters (Clears x ∷ k) = Freed known o heap (slice_set places x Null) masters (RunsOn known k)
+ClearsTo known o heap places masters (f ∷ k) = ⊥
 
-abbrev pub LeavesTo : (item home : ℕ) → List Master → Control → Type 0
-LeavesTo item home masters [] = ⊥
-LeavesTo item home masters (Leaves mode ∷ k) = IsEnd k × (item ≡ home) × (length (items_of masters) ≡ suc item)
-LeavesTo item home masters (f ∷ k) = ⊥
+abbrev pub LeavesTo : Known → Id → List Object → List Value → List Master → Control → Type 0
+LeavesTo known o heap places masters [] = ⊥
+LeavesTo known o heap places masters (Leaves mode ∷ k) = Freed known o heap places masters (RunsOn known (Leaves mode ∷ k))
+LeavesTo known o heap places masters (f ∷ k) = ⊥
 
-abbrev pub Behind : (List StmtForm → Holds → Type 0) → Cause → Id → (home : ℕ) → List Object → List Value → List Master → Control → Type 0
-Behind At (Leaving m item) o home heap places masters k = LeavesTo item home masters k
-Behind At (Freeing number) o home heap places masters k = ClearsTo At o heap places k
-Behind At (Assigning number) o home heap places masters k = ⊥
-Behind At (Undoing number) o home heap places masters k = ⊥
+abbrev pub Behind : Known → Cause → Id → (home : ℕ) → List Object → List Value → List Master → Control → Type 0
+Behind known (Leaving m item) o home heap places masters k = (item ≡ home) × LeavesTo known o heap places masters k
+Behind known (Freeing number) o home heap places masters k = ClearsTo known o heap places masters k
+Behind known (Assigning number) o home heap places masters k = ⊥
+Behind known (Undoing number) o home heap places masters k = ⊥
 
 -- Its words go back next to the standard pool.
-abbrev pub ThenBack : (List StmtForm → Holds → Type 0) → Id → (home : ℕ) → List Object → List Value → List Master → Control → Type 0
-ThenBack At o home heap places masters [] = ⊥
-ThenBack At o home heap places masters (GivesBack (Names p) cause pool ∷ k) = (p ≡ o) × (pool ≡ 0) × Behind At cause o home heap places masters k
-ThenBack At o home heap places masters (f ∷ k) = ⊥
+abbrev pub ThenBack : Known → Id → (home : ℕ) → List Object → List Value → List Master → Control → Type 0
+ThenBack known o home heap places masters [] = ⊥
+ThenBack known o home heap places masters (GivesBack (Names p) cause pool ∷ k) = (p ≡ o) × (pool ≡ 0) × Behind known cause o home heap places masters k
+ThenBack known o home heap places masters (f ∷ k) = ⊥
 
 -- An object is to cease to exist.
-pub record Ending (At : List StmtForm → Holds → Type 0) (o : Id) (k : Control) (heap : List Object) (places : List Value) (masters : List Master) : Type 0 where
+pub record Ending (known : Known) (o : Id) (k : Control) (heap : List Object) (places : List Value) (masters : List Master) : Type 0 where
   pub object : Object
   pub found : object_at heap o ≡ Some object
   pub exists : object.stage ≡ Existing
   pub stored : Stored (Some o) heap masters
-  pub rest : ThenBack At o object.cell.home.item heap places masters k
+  pub rest : ThenBack known o object.cell.home.item heap places masters k
 
-abbrev pub EndingBy : (List StmtForm → Holds → Type 0) → Value → Control → List Object → List Value → List Master → Type 0
-EndingBy At Null k heap places masters = ⊥
-EndingBy At (Names o) k heap places masters = Ending At o k heap places masters
-EndingBy At (Scalar v) k heap places masters = ⊥
+abbrev pub EndingBy : Known → Value → Control → List Object → List Value → List Master → Type 0
+EndingBy known Null k heap places masters = ⊥
+EndingBy known (Names o) k heap places masters = Ending known o k heap places masters
+EndingBy known (Scalar v) k heap places masters = ⊥
 
 -- The words of an object are to go back.
-pub record Backing (At : List StmtForm → Holds → Type 0) (o : Id) (cause : Cause) (pool : ℕ) (k : Control) (heap : List Object) (places : List Value) (masters : List Master) : Type 0 where
+pub record Backing (known : Known) (o : Id) (cause : Cause) (pool : ℕ) (k : Control) (heap : List Object) (places : List Value) (masters : List Master) : Type 0 where
   pub object : Object
   pub found : object_at heap o ≡ Some object
   pub gone : object.stage ≡ Gone
   pub out : object.out ≡ true
   pub standard : pool ≡ 0
   pub stored : Stored (Some o) heap masters
-  pub rest : Behind At cause o object.cell.home.item heap places masters k
+  pub rest : Behind known cause o object.cell.home.item heap places masters k
 
-abbrev pub BackingBy : (List StmtForm → Holds → Type 0) → Value → Cause → ℕ → Control → List Object → List Value → List Master → Type 0
-BackingBy At Null cause pool k heap places masters = ⊥
-BackingBy At (Names o) cause pool k heap places masters = Backing At o cause pool k heap places masters
-BackingBy At (Scalar v) cause pool k heap places masters = ⊥
+abbrev pub BackingBy : Known → Value → Cause → ℕ → Control → List Object → List Value → List Master → Type 0
+BackingBy known Null cause pool k heap places masters = ⊥
+BackingBy known (Names o) cause pool k heap places masters = Backing known o cause pool k heap places masters
+BackingBy known (Scalar v) cause pool k heap places masters = ⊥
 
 -- What holds where a frame is next. What is awaited counts as stored already.
-abbrev pub ReadyBy : (List StmtForm → Holds → Type 0) → Frame Value → Control → List Object → (places operands : List Value) → List Master → Type 0
-ReadyBy At (Elaborates ds fs) k heap places operands masters = Working heap places masters (RunsOn At (Elaborates ds fs ∷ k))
-ReadyBy At (Does fs) k heap places operands masters = Working heap places masters (RunsOn At (Does fs ∷ k))
-ReadyBy At Closes k heap places operands masters = Stored None heap masters × IsEnd k
-ReadyBy At (Leaves mode) k heap places operands masters = Stored None heap masters × IsEnd k
-ReadyBy At (Evaluates right) k heap places operands masters = Working heap places masters (Takes At right k)
-ReadyBy At (Computes e) k heap places operands masters = Working heap places masters (Awaits At (Computes e ∷ k))
-ReadyBy At (Follows cs) k heap places operands masters = ⊥
-ReadyBy At (Continues links) k heap places operands masters = Working heap places masters (Awaits At (Continues links ∷ k))
-ReadyBy At (Applies operator) k heap places operands masters = Working heap places masters (Awaits At k)
-ReadyBy At (AppliesAlone operator) k heap places operands masters = Working heap places masters (Awaits At k)
-ReadyBy At (Fills items) k heap places operands masters = Working heap places masters (Awaits At (Fills items ∷ k))
-ReadyBy At (Creates access count) k heap places operands masters = Working heap places masters (λ holds. StoresTo k (Owns At holds))
-ReadyBy At (Stores x) k heap places operands masters = Working heap (slice_set places x (first_or Null operands)) masters (RunsOn At k)
-ReadyBy At (Declares x) k heap places operands masters = Working heap (slice_set places x (first_or Null operands)) masters (RunsOn At k)
-ReadyBy At Writes k heap places operands masters = Working heap places masters (RunsOn At k)
-ReadyBy At (Ends v) k heap places operands masters = EndingBy At v k heap places masters
-ReadyBy At (GivesBack v cause pool) k heap places operands masters = BackingBy At v cause pool k heap places masters
-ReadyBy At (Clears x) k heap places operands masters = Working heap (slice_set places x Null) masters (RunsOn At k)
+abbrev pub ReadyBy : Known → Frame Value → Control → List Object → (places operands : List Value) → List Master → Type 0
+ReadyBy known (Elaborates ds fs hs) k heap places operands masters = Working known heap places masters (RunsOn known (Elaborates ds fs hs ∷ k))
+ReadyBy known (Does fs) k heap places operands masters = Working known heap places masters (RunsOn known (Does fs ∷ k))
+ReadyBy known (Decides fs branches) k heap places operands masters = Working known heap places masters (Deciding known fs branches k)
+ReadyBy known (Repeats condition body) k heap places operands masters = Working known heap places masters (RunsOn known (Repeats condition body ∷ k))
+ReadyBy known (Turns e body) k heap places operands masters = Working known heap places masters (TurningOn known e body k)
+ReadyBy known (Ranges x body) k heap places operands masters = Working known heap places masters (Awaits known (Ranges x body ∷ k))
+ReadyBy known (Counts x next last body) k heap places operands masters = Working known heap places masters (RunsOn known (Counts x next last body ∷ k))
+ReadyBy known Exits k heap places operands masters = Working known heap places masters (ExitingTo known k)
+ReadyBy known (Handles hs) k heap places operands masters = Working known heap places masters (RunsOn known (Handles hs ∷ k))
+ReadyBy known Closes k heap places operands masters = Working known heap places masters (RunsOn known (Closes ∷ k))
+ReadyBy known (Leaves mode) k heap places operands masters = Working known heap places masters (RunsOn known (Leaves mode ∷ k))
+ReadyBy known (Evaluates right) k heap places operands masters = Working known heap places masters (Takes known right k)
+ReadyBy known (Computes e) k heap places operands masters = Working known heap places masters (Awaits known (Computes e ∷ k))
+ReadyBy known (Follows cs) k heap places operands masters = ⊥
+ReadyBy known (TestsNull equal) k heap places operands masters = Working known heap places masters (Awaits known k)
+ReadyBy known (Continues links) k heap places operands masters = Working known heap places masters (Awaits known (Continues links ∷ k))
+ReadyBy known (Applies operator) k heap places operands masters = Working known heap places masters (Awaits known (Applies operator ∷ k))
+ReadyBy known (AppliesAlone operator) k heap places operands masters = Working known heap places masters (Awaits known (AppliesAlone operator ∷ k))
+ReadyBy known (Fills items) k heap places operands masters = Working known heap places masters (Awaits known (Fills items ∷ k))
+ReadyBy known (Creates access count) k heap places operands masters = Working known heap places masters (Creating known access k)
+ReadyBy known (Stores x) k heap places operands masters = Working known heap (slice_set places x (first_or Null operands)) masters (RunsOn known k)
+ReadyBy known (Declares x) k heap places operands masters = Working known heap (slice_set places x (first_or Null operands)) masters (RunsOn known k)
+ReadyBy known Writes k heap places operands masters = Working known heap places masters (RunsOn known k)
+ReadyBy known (Ends v) k heap places operands masters = EndingBy known v k heap places masters
+ReadyBy known (GivesBack v cause pool) k heap places operands masters = BackingBy known v cause pool k heap places masters
+ReadyBy known (Clears x) k heap places operands masters = Working known heap (slice_set places x Null) masters (RunsOn known k)
 
-abbrev pub ReadyIn : (List StmtForm → Holds → Type 0) → Mode → Control → List Object → (places operands : List Value) → List Master → Type 0
-ReadyIn At Running [] heap places operands masters = Stored None heap masters × NoMaster masters
-ReadyIn At Running (f ∷ k) heap places operands masters = ReadyBy At f k heap places operands masters
-ReadyIn At (Raising e) [] heap places operands masters = Stored None heap masters × NoMaster masters
-ReadyIn At (Raising e) (f ∷ k) heap places operands masters = Stored None heap masters × Passes (f ∷ k)
+abbrev pub ReadyIn : Known → Mode → Control → List Object → (places operands : List Value) → List Master → Type 0
+ReadyIn known mode [] heap places operands masters = Stored None heap masters × NoMaster masters
+ReadyIn known Running (f ∷ k) heap places operands masters = ReadyBy known f k heap places operands masters
+ReadyIn known (Raising e) (f ∷ k) heap places operands masters = Working known heap places masters (GoesOn known (Raising e) (f ∷ k))
+ReadyIn known Exiting (f ∷ k) heap places operands masters = Working known heap places masters (GoesOn known Exiting (f ∷ k))
+ReadyIn known Returning (f ∷ k) heap places operands masters = Working known heap places masters (GoesOn known Returning (f ∷ k))
 
 abbrev pub IsActive : List (Activation Value) → Type 0
 IsActive [] = ⊥
 IsActive (a ∷ rest) = Unit {0}
 
 -- What every step keeps.
-abbrev pub Ready : (List StmtForm → Holds → Type 0) → State → Type 0
-Ready At s = IsActive s.activations × ReadyIn At s.mode s.control s.heap (places s) (operands s) s.masters
-
--- At the leaving of a master: no frame is left but of that.
-abbrev pub LeavesOn : Control → Type 0
-LeavesOn [] = Unit {0}
-LeavesOn (Leaves mode ∷ k) = LeavesOn k
-LeavesOn (Ends v ∷ k) = LeavesOn k
-LeavesOn (GivesBack v (Leaving m item) pool ∷ k) = LeavesOn k
-LeavesOn (f ∷ k) = ⊥
-
--- It is past the items above this number.
-abbrev pub Lower : ℕ → State → Type 0
-Lower n s = LeavesOn s.control × (length (items_of s.masters) ≤ suc n)
-
-abbrev pub LowerBy : Option AtItem → State → Type 0
-LowerBy None s = Unit {0}
-LowerBy (Some at_item) s = Lower at_item.item s
+abbrev pub Ready : Known → State → Type 0
+Ready known s = IsActive s.activations × ReadyIn known s.mode s.control s.heap (places s) (operands s) s.masters
 
 -- The words of an object go back.
-pub record GoesBack (v : Value) (number pool : ℕ) (subpool : Option ℕ) (leaving : Option AtItem) (before : List Object) (after : State) : Type 0 where
+pub record GoesBack (v : Value) (access number pool : ℕ) (subpool : Option ℕ) (leaving : Option AtItem) (before : List Object) (after : State) : Type 0 where
   pub id : Id
   pub object : Object
   pub is : v ≡ Names id
   pub found : object_at before id ≡ Some object
   pub out : object.out ≡ true
+  pub of_type : object.cell.access ≡ access
   pub numbered : object.cell.number ≡ number
   pub to_pool : object.cell.home.pool ≡ pool
   pub to_subpool : object.cell.home.subpool ≡ subpool
   pub home : LeavesHome object.cell.home leaving
   pub back : BackIn after.heap id
-  pub lower : LowerBy leaving after
 
 -- An object is followed whose words are out.
 pub record IsFollowed (v : Value) (before : List Object) : Type 0 where
@@ -254,15 +438,15 @@ pub record IsFollowed (v : Value) (before : List Object) : Type 0 where
 abbrev pub Says : Event → List Object → State → Type 0
 Says (Born object part turn type number by) before after = ⊥
 Says (Finalized object part turn type number cause) before after = ⊥
-Says (Back object access number pool subpool cause) before after = GoesBack object number pool subpool (leaving_by (Some cause)) before after
+Says (Back object access number pool subpool cause) before after = GoesBack object access number pool subpool (leaving_by (Some cause)) before after
 Says (Followed object) before after = IsFollowed object before
 Says (Left master) before after = Unit {0}
 Says (Line line) before after = Unit {0}
 Says Quiet before after = Unit {0}
 
 -- One step: what it keeps, and what it does.
-pub record Stepped (At : List StmtForm → Holds → Type 0) (before : List Object) (e : Event) (after : State) : Type 0 where
-  pub ready : Ready At after
+pub record Stepped (known : Known) (before : List Object) (e : Event) (after : State) : Type 0 where
+  pub ready : Ready known after
   pub alters : Alters before e after.heap
   pub says : Says e before after
 
@@ -275,9 +459,9 @@ EndsWell Stuck heap masters = Unit {0}
 EndsWell Memory heap masters = Unit {0}
 
 -- What comes next keeps it.
-abbrev pub Fine : (List StmtForm → Holds → Type 0) → List Object → List Master → Next → Type 0
-Fine At heap masters (halts halt) = EndsWell halt heap masters
-Fine At heap masters (moves e after) = Stepped At heap e after
-Fine At heap masters (tells request e after) = Stepped At heap e after
-Fine At heap masters (asks request answered) = (granted : Bool) → Stepped At heap Quiet (answered granted)
-Fine At heap masters (picks n taken) = (i : ℕ) → suc i ≤ n → Stepped At heap Quiet (taken i)
+abbrev pub Fine : Known → List Object → List Master → Next → Type 0
+Fine known heap masters (halts halt) = EndsWell halt heap masters
+Fine known heap masters (moves e after) = Stepped known heap e after
+Fine known heap masters (tells request e after) = Stepped known heap e after
+Fine known heap masters (asks request answered) = (granted : Bool) → Stepped known heap Quiet (answered granted)
+Fine known heap masters (picks n taken) = (i : ℕ) → suc i ≤ n → Stepped known heap Quiet (taken i)

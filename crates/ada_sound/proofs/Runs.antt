@@ -7,17 +7,15 @@ use Rattle.std.proofs.lemmas.Option.{slice_get-get_or}
 use Rattle.std.proofs.lemmas.List.Elements.{All-nil, All-cons}
 use Rattle.std.proofs.lemmas.List.Kept.{AllPairs-cons}
 use Rattle.ada_program.specs.declared.program.Program.{Program}
-use Rattle.ada_program.specs.Form.{StmtForm}
-use Rattle.ada_flow.specs.Flow.{Holds}
 use Rattle.ada_meaning.specs.declared.state.Id.{Id}
 use Rattle.ada_meaning.specs.declared.state.Value.{Value}
 use Rattle.ada_meaning.specs.declared.state.Value.TheVariants.{Null, Names, Scalar}
 use Rattle.ada_meaning.specs.declared.state.Mode.{Mode}
-use Rattle.ada_meaning.specs.declared.state.Mode.TheVariants.{Running, Raising}
+use Rattle.ada_meaning.specs.declared.state.Mode.TheVariants.{Running, Raising, Exiting, Returning}
 use Rattle.ada_meaning.specs.declared.event.Halt.{Halt}
 use Rattle.ada_meaning.specs.declared.event.Halt.TheVariants.{Finished, Unhandled, Erroneous, Stuck, Memory}
 use Rattle.ada_meaning.specs.declared.event.Why.{Why}
-use Rattle.ada_meaning.specs.Frame.{Frame, Elaborates, Does, Closes, Leaves, Evaluates, Computes, Follows, Continues, Applies, AppliesAlone, Fills, Creates, Stores, Declares, Writes, Ends, GivesBack, Clears}
+use Rattle.ada_meaning.specs.Frame.{Frame, Elaborates, Does, Decides, Repeats, Turns, Ranges, Counts, Exits, Handles, Closes, Leaves, Evaluates, Computes, Follows, TestsNull, Continues, Applies, AppliesAlone, Fills, Creates, Stores, Declares, Writes, Ends, GivesBack, Clears}
 use Rattle.ada_meaning.specs.Event.{Born, Finalized, Back, Followed, Left, Line, Quiet}
 use Rattle.ada_meaning.specs.State.{Master}
 use Rattle.ada_meaning.specs.Step.{halts, moves, tells, asks, picks}
@@ -27,7 +25,7 @@ use Rattle.ada_meaning.specs.Law.{named_by, back_of, followed_of, finalized_of, 
 use Rattle.ada_sound.proofs.Items.{NoMaster}
 use Rattle.ada_sound.proofs.Stored.{Stored}
 use Rattle.ada_sound.proofs.Alters.{BackIn}
-use Rattle.ada_sound.proofs.Invariant.{Control, EndingBy, BackingBy, ReadyBy, ReadyIn, Ready, Says, Stepped, EndsWell, Fine}
+use Rattle.ada_sound.proofs.Invariant.{Known, Control, EndingBy, BackingBy, ReadyBy, ReadyIn, Ready, Says, Stepped, EndsWell, Fine}
 use Rattle.ada_sound.proofs.Steps.{fine}
 
 -- An object whose words are out.
@@ -107,7 +105,7 @@ differ_out heap (Some o) (Some p) back out = λ same.
 goes_home : (e : Event) (heap : List Object) (after : State) → Says e heap after → IsBackHome heap e
 goes_home (Born v part turn type number by) heap after says = absurd says
 goes_home (Finalized v part turn type number cause) heap after says = absurd says
-goes_home (Back v access number pool subpool cause) heap after says = rw says.is (says.object, says.found, says.numbered, says.to_pool, says.to_subpool, says.home)
+goes_home (Back v access number pool subpool cause) heap after says = rw says.is (says.object, says.found, says.of_type, says.numbered, says.to_pool, says.to_subpool, says.home)
 goes_home (Followed v) heap after says = tt
 goes_home (Left master) heap after says = tt
 goes_home (Line line) heap after says = tt
@@ -117,24 +115,24 @@ goes_home Quiet heap after says = tt
 abbrev KeepsCells : List Object → List Object → Type 0
 KeepsCells before after = (o : Id) (x : Object) → object_at before o ≡ Some x → (y : Object) × (object_at after o ≡ Some y) × (y.cell ≡ x.cell) × (x.out ≡ false → y.out ≡ false)
 
-home_kept_by : (before after : List Object) (o : Option Id) (number pool : ℕ) (subpool : Option ℕ) (leaving : Option _) → KeepsCells before after → GoesHome before o number pool subpool leaving → GoesHome after o number pool subpool leaving
-home_kept_by before after None number pool subpool leaving keeps h = h
-home_kept_by before after (Some o) number pool subpool leaving keeps h =
+home_kept_by : (before after : List Object) (o : Option Id) (access number pool : ℕ) (subpool : Option ℕ) (leaving : Option _) → KeepsCells before after → GoesHome before o access number pool subpool leaving → GoesHome after o access number pool subpool leaving
+home_kept_by before after None access number pool subpool leaving keeps h = h
+home_kept_by before after (Some o) access number pool subpool leaving keeps h =
     let y = keeps o h.0 h.1 in
-    (y.0, y.1, rw y.2 h.2, rw y.2 h.3, rw y.2 h.4, rw y.2 h.5)
+    (y.0, y.1, rw y.2 h.2, rw y.2 h.3, rw y.2 h.4, rw y.2 h.5, rw y.2 h.6)
 
 home_kept : (before after : List Object) (e : Event) → KeepsCells before after → IsBackHome before e → IsBackHome after e
 home_kept before after (Born v part turn type number by) keeps h = tt
 home_kept before after (Finalized v part turn type number cause) keeps h = tt
-home_kept before after (Back v access number pool subpool cause) keeps h = home_kept_by before after (named_by v) number pool subpool (leaving_by (Some cause)) keeps h
+home_kept before after (Back v access number pool subpool cause) keeps h = home_kept_by before after (named_by v) access number pool subpool (leaving_by (Some cause)) keeps h
 home_kept before after (Followed v) keeps h = tt
 home_kept before after (Left master) keeps h = tt
 home_kept before after (Line line) keeps h = tt
 home_kept before after Quiet keeps h = tt
 
-module _ (At : List StmtForm → Holds → Type 0) where
+module _ (known : Known) where
   -- Where a choice leads, the invariant holds.
-  leads_fine : (heap : List Object) (ms : List Master) (n : Next) (choice : Choice) (e : Event) (after : State) → Fine At heap ms n → Leads n choice e after → Stepped At heap e after
+  leads_fine : (heap : List Object) (ms : List Master) (n : Next) (choice : Choice) (e : Event) (after : State) → Fine known heap ms n → Leads n choice e after → Stepped known heap e after
   leads_fine heap ms (halts halt) choice e after f l = absurd l
   leads_fine heap ms (moves d s) settled e after f l = rw (l.0, l.1) f
   leads_fine heap ms (moves d s) (grants granted) e after f l = absurd l
@@ -149,32 +147,40 @@ module _ (At : List StmtForm → Holds → Type 0) where
   leads_fine heap ms (picks n taken) (grants granted) e after f l = absurd l
   leads_fine heap ms (picks n taken) (takes i) e after f l = rw (l.1, l.2) (f i l.0)
 
-  pub stepped : (program : Program) (s : State) (choice : Choice) (e : Event) (after : State) → Ready At s → Step program s choice e after → Stepped At s.heap e after
-  stepped program s choice e after r step = leads_fine s.heap s.masters (next program.types.items s) choice e after (fine At program.types.items s r) step
+  pub stepped : (program : Program) (s : State) (choice : Choice) (e : Event) (after : State) → Ready known s → Step program s choice e after → Stepped known s.heap e after
+  stepped program s choice e after r step = leads_fine s.heap s.masters (next program.types.items s) choice e after (fine known program.types.items s r) step
 
-  pub ready_run : {program : Program} {s last : State} {events : List Event} → Run program s events last → Ready At s → Ready At last
+  pub ready_run : {program : Program} {s last : State} {events : List Event} → Run program s events last → Ready known s → Ready known last
   ready_run here r = r
   ready_run {program} {s = s} (there {event = e} choice mid step run) r = ready_run run (stepped program s choice e mid r step).ready
 
   -- Objects are stored in each state.
-  value_stored : (v : Value) (k : Control) (heap : List Object) (places : List Value) (ms : List Master) → EndingBy At v k heap places ms → (under : Option Id) × Stored under heap ms
+  value_stored : (v : Value) (k : Control) (heap : List Object) (places : List Value) (ms : List Master) → EndingBy known v k heap places ms → (under : Option Id) × Stored under heap ms
   value_stored Null k heap places ms r = absurd r
   value_stored (Names o) k heap places ms r = (Some o, r.stored)
   value_stored (Scalar n) k heap places ms r = absurd r
 
-  words_stored : (v : Value) (cause : _) (pool : ℕ) (k : Control) (heap : List Object) (places : List Value) (ms : List Master) → BackingBy At v cause pool k heap places ms → (under : Option Id) × Stored under heap ms
+  words_stored : (v : Value) (cause : _) (pool : ℕ) (k : Control) (heap : List Object) (places : List Value) (ms : List Master) → BackingBy known v cause pool k heap places ms → (under : Option Id) × Stored under heap ms
   words_stored Null cause pool k heap places ms r = absurd r
   words_stored (Names o) cause pool k heap places ms r = (Some o, r.stored)
   words_stored (Scalar n) cause pool k heap places ms r = absurd r
 
-  frame_stored : (f : Frame Value) (k : Control) (heap : List Object) (places operands : List Value) (ms : List Master) → ReadyBy At f k heap places operands ms → (under : Option Id) × Stored under heap ms
-  frame_stored (Elaborates ds fs) k heap places operands ms r = (None, r.stored)
+  frame_stored : (f : Frame Value) (k : Control) (heap : List Object) (places operands : List Value) (ms : List Master) → ReadyBy known f k heap places operands ms → (under : Option Id) × Stored under heap ms
+  frame_stored (Elaborates ds fs hs) k heap places operands ms r = (None, r.stored)
   frame_stored (Does fs) k heap places operands ms r = (None, r.stored)
-  frame_stored Closes k heap places operands ms r = (None, r.0)
-  frame_stored (Leaves mode) k heap places operands ms r = (None, r.0)
+  frame_stored (Decides fs branches) k heap places operands ms r = (None, r.stored)
+  frame_stored (Repeats condition body) k heap places operands ms r = (None, r.stored)
+  frame_stored (Turns e body) k heap places operands ms r = (None, r.stored)
+  frame_stored (Ranges x body) k heap places operands ms r = (None, r.stored)
+  frame_stored (Counts x next last body) k heap places operands ms r = (None, r.stored)
+  frame_stored Exits k heap places operands ms r = (None, r.stored)
+  frame_stored (Handles hs) k heap places operands ms r = (None, r.stored)
+  frame_stored Closes k heap places operands ms r = (None, r.stored)
+  frame_stored (Leaves mode) k heap places operands ms r = (None, r.stored)
   frame_stored (Evaluates right) k heap places operands ms r = (None, r.stored)
   frame_stored (Computes e) k heap places operands ms r = (None, r.stored)
   frame_stored (Follows cs) k heap places operands ms r = absurd r
+  frame_stored (TestsNull equal) k heap places operands ms r = (None, r.stored)
   frame_stored (Continues links) k heap places operands ms r = (None, r.stored)
   frame_stored (Applies operator) k heap places operands ms r = (None, r.stored)
   frame_stored (AppliesAlone operator) k heap places operands ms r = (None, r.stored)
@@ -187,18 +193,22 @@ module _ (At : List StmtForm → Holds → Type 0) where
   frame_stored (GivesBack v cause pool) k heap places operands ms r = words_stored v cause pool k heap places ms r
   frame_stored (Clears x) k heap places operands ms r = (None, r.stored)
 
-  mode_stored : (mode : Mode) (k : Control) (heap : List Object) (places operands : List Value) (ms : List Master) → ReadyIn At mode k heap places operands ms → (under : Option Id) × Stored under heap ms
+  mode_stored : (mode : Mode) (k : Control) (heap : List Object) (places operands : List Value) (ms : List Master) → ReadyIn known mode k heap places operands ms → (under : Option Id) × Stored under heap ms
   mode_stored Running [] heap places operands ms r = (None, r.0)
   mode_stored Running (f ∷ k) heap places operands ms r = frame_stored f k heap places operands ms r
   mode_stored (Raising e) [] heap places operands ms r = (None, r.0)
-  mode_stored (Raising e) (f ∷ k) heap places operands ms r = (None, r.0)
+  mode_stored (Raising e) (f ∷ k) heap places operands ms r = (None, r.stored)
+  mode_stored Exiting [] heap places operands ms r = (None, r.0)
+  mode_stored Exiting (f ∷ k) heap places operands ms r = (None, r.stored)
+  mode_stored Returning [] heap places operands ms r = (None, r.0)
+  mode_stored Returning (f ∷ k) heap places operands ms r = (None, r.stored)
 
-  pub ready_stored : (s : State) → Ready At s → (under : Option Id) × Stored under s.heap s.masters
+  pub ready_stored : (s : State) → Ready known s → (under : Option Id) × Stored under s.heap s.masters
   ready_stored s r = mode_stored s.mode s.control s.heap _ _ s.masters r.1
 
   -- Nothing erroneous is next.
-  pub never_erroneous : (program : Program) (s : State) (why : Why) → Ready At s → Halts program s (Erroneous why) → ⊥
-  never_erroneous program s why r e = rw e at (fine At program.types.items s r)
+  pub never_erroneous : (program : Program) (s : State) (why : Why) → Ready known s → Halts program s (Erroneous why) → ⊥
+  never_erroneous program s why r e = rw e at (fine known program.types.items s r)
 
   -- Where a run has come to its end, no master is left, and so all words are back.
   no_master : (ms : List Master) → NoMaster ms → ms ≡ []
@@ -222,11 +232,11 @@ module _ (At : List StmtForm → Holds → Type 0) where
   ends_by Stuck heap ms w e = absurd e
   ends_by Memory heap ms w e = absurd e
 
-  pub ends_clean : (program : Program) (s : State) (halt : Halt) → Ready At s → Halts program s halt → HasEnded halt → (s.masters ≡ []) × All IsBack s.heap
-  ends_clean program s halt r is e = ends_by halt s.heap s.masters (rw is at (fine At program.types.items s r)) e
+  pub ends_clean : (program : Program) (s : State) (halt : Halt) → Ready known s → Halts program s halt → HasEnded halt → (s.masters ≡ []) × All IsBack s.heap
+  ends_clean program s halt r is e = ends_by halt s.heap s.masters (rw is at (fine known program.types.items s r)) e
 
   -- Objects keep what lies in them, and what is back stays so.
-  pub cells_kept : {program : Program} {s last : State} {events : List Event} → Run program s events last → Ready At s → KeepsCells s.heap last.heap
+  pub cells_kept : {program : Program} {s last : State} {events : List Event} → Run program s events last → Ready known s → KeepsCells s.heap last.heap
   cells_kept here r = λ o x is. (x, is, refl, λ h. h)
   cells_kept {program} {s = s} (there {event = e} choice mid step run) r =
       let st = stepped program s choice e mid r step in
@@ -235,18 +245,18 @@ module _ (At : List StmtForm → Holds → Type 0) where
       let z = cells_kept run st.ready o y.0 y.1 in
       (z.0, z.1, z.2 ∙ y.2, λ back. z.3 (y.3 back))
 
-  back_kept : {program : Program} {s last : State} {events : List Event} (o : Id) → Run program s events last → Ready At s → BackIn s.heap o → BackIn last.heap o
+  back_kept : {program : Program} {s last : State} {events : List Event} (o : Id) → Run program s events last → Ready known s → BackIn s.heap o → BackIn last.heap o
   back_kept o run r b = let y = cells_kept run r o b.0 b.1 in (y.0, y.1, y.3 b.2)
 
   -- Laws of two events: what the first leaves behind lasts, and the second keeps to it.
-  module _ (R : Event → Event → Type 0) (K : Event → State → Type 0) (born : (e : Event) (before : List Object) (after : State) → Stepped At before e after → K e after) (kept : (program : Program) (d : Event) (s : State) (choice : Choice) (e : Event) (after : State) → Ready At s → Step program s choice e after → K d s → R d e × K d after) where
-    all_after : {program : Program} {s last : State} {events : List Event} (d : Event) → Run program s events last → Ready At s → K d s → All (R d) events
+  module _ (R : Event → Event → Type 0) (K : Event → State → Type 0) (born : (e : Event) (before : List Object) (after : State) → Stepped known before e after → K e after) (kept : (program : Program) (d : Event) (s : State) (choice : Choice) (e : Event) (after : State) → Ready known s → Step program s choice e after → K d s → R d e × K d after) where
+    all_after : {program : Program} {s last : State} {events : List Event} (d : Event) → Run program s events last → Ready known s → K d s → All (R d) events
     all_after d here r h = All-nil (R d)
     all_after {program} {s = s} d (there {event = e} {events = es} choice mid step run) r h =
         let g = kept program d s choice e mid r step h in
         All-cons (R d) e es g.0 (all_after d run (stepped program s choice e mid r step).ready g.1)
 
-    pub all_pairs : {program : Program} {s last : State} {events : List Event} → Run program s events last → Ready At s → AllPairs R events
+    pub all_pairs : {program : Program} {s last : State} {events : List Event} → Run program s events last → Ready known s → AllPairs R events
     all_pairs here r = λ i j d lt short. absurd (omega (arith, short))
     all_pairs {program} {s = s} (there {event = e} {events = es} choice mid step run) r =
         let st = stepped program s choice e mid r step in
@@ -256,33 +266,33 @@ module _ (At : List StmtForm → Holds → Type 0) where
   WentBack : Event → State → Type 0
   WentBack e s = (o : Id) → back_of e ≡ Some o → BackIn s.heap o
 
-  went_born : (e : Event) (before : List Object) (after : State) → Stepped At before e after → WentBack e after
+  went_born : (e : Event) (before : List Object) (after : State) → Stepped known before e after → WentBack e after
   unfolding WentBack
   went_born e before after st = λ o is. back_in e before after o st.says is
 
-  went_kept : (d : Event) (s : State) (e : Event) (after : State) → Stepped At s.heap e after → WentBack d s → WentBack d after
+  went_kept : (d : Event) (s : State) (e : Event) (after : State) → Stepped known s.heap e after → WentBack d s → WentBack d after
   unfolding WentBack
   went_kept d s e after st h = λ o is. let b = h o is in let y = st.alters.kept o b.0 b.1 in (y.0, y.1, y.3 b.2)
 
   -- The words of an object go back at most once, and none is followed after.
-  pub back_once : {program : Program} {s last : State} {events : List Event} → Run program s events last → Ready At s → AllPairs BackTwoObjects events
+  pub back_once : {program : Program} {s last : State} {events : List Event} → Run program s events last → Ready known s → AllPairs BackTwoObjects events
   unfolding WentBack
   back_once = all_pairs BackTwoObjects WentBack went_born (λ program d s choice e after r step h. let st = stepped program s choice e after r step in (differ_out s.heap (back_of d) (back_of e) h (λ o is. back_out e s.heap after o st.says is), went_kept d s e after st h))
 
-  pub followed_before_back : {program : Program} {s last : State} {events : List Event} → Run program s events last → Ready At s → AllPairs FollowedBeforeBack events
+  pub followed_before_back : {program : Program} {s last : State} {events : List Event} → Run program s events last → Ready known s → AllPairs FollowedBeforeBack events
   unfolding WentBack
   followed_before_back = all_pairs FollowedBeforeBack WentBack went_born (λ program d s choice e after r step h. let st = stepped program s choice e after r step in (differ_out s.heap (back_of d) (followed_of e) h (λ o is. followed_out e s.heap after o st.says is), went_kept d s e after st h))
 
   -- A controlled value is finalized at most once: none is yet.
-  pub finalized_once : {program : Program} {s last : State} {events : List Event} → Run program s events last → Ready At s → AllPairs FinalizedTwoValues events
+  pub finalized_once : {program : Program} {s last : State} {events : List Event} → Run program s events last → Ready known s → AllPairs FinalizedTwoValues events
   finalized_once = all_pairs FinalizedTwoValues (λ d s. Unit {0}) (λ e before after st. tt) (λ program d s choice e after r step h. (rw (none_final e s.heap after (stepped program s choice e after r step).says) (none_differs (finalized_of d)), tt))
 
   -- Words go back home.
-  pub back_home : {program : Program} {s last : State} {events : List Event} → Run program s events last → Ready At s → All (IsBackHome last.heap) events
+  pub back_home : {program : Program} {s last : State} {events : List Event} → Run program s events last → Ready known s → All (IsBackHome last.heap) events
   back_home {last = last} here r = All-nil (IsBackHome last.heap)
   back_home {program} {s = s} {last = last} run r = go run r
     where
-      go : {t : State} {events : List Event} → Run program t events last → Ready At t → All (IsBackHome last.heap) events
+      go : {t : State} {events : List Event} → Run program t events last → Ready known t → All (IsBackHome last.heap) events
       go here r' = All-nil (IsBackHome last.heap)
       go {t = t} (there {event = e} {events = es} choice mid step rest) r' =
           let st = stepped program t choice e mid r' step in
@@ -291,19 +301,19 @@ module _ (At : List StmtForm → Holds → Type 0) where
           (go rest st.ready)
 
   -- The words of an object are back exactly where an event says so.
-  told_run : {program : Program} {s last : State} {events : List Event} (o : Id) → Run program s events last → Ready At s → BackIn last.heap o → BackIn s.heap o ⊎ Happened (GivesBackOf o) events
+  told_run : {program : Program} {s last : State} {events : List Event} (o : Id) → Run program s events last → Ready known s → BackIn last.heap o → BackIn s.heap o ⊎ Happened (GivesBackOf o) events
   told_run o here r b = inl b
   told_run {program} {s = s} o (there {event = e} choice mid step run) r b =
       let st = stepped program s choice e mid r step in
       elim (told_run o run st.ready b) [ inl h ↦ elim (st.alters.told o h.0 h.1 h.2) [ inl g ↦ inl g | inr g ↦ inr (inl g) ] | inr h ↦ inr (inr h) ]
 
-  happened_back : {program : Program} {s last : State} {events : List Event} (o : Id) → Run program s events last → Ready At s → Happened (GivesBackOf o) events → BackIn last.heap o
+  happened_back : {program : Program} {s last : State} {events : List Event} (o : Id) → Run program s events last → Ready known s → Happened (GivesBackOf o) events → BackIn last.heap o
   happened_back o here r h = absurd h
   happened_back {program} {s = s} o (there {event = e} choice mid step run) r (inl h) =
       let st = stepped program s choice e mid r step in back_kept o run st.ready (back_in e s.heap mid o st.says h)
   happened_back {program} {s = s} o (there {event = e} choice mid step run) r (inr h) = happened_back o run (stepped program s choice e mid r step).ready h
 
-  pub back_is_told : {program : Program} {s last : State} {events : List Event} → s.heap ≡ [] → Run program s events last → Ready At s → (o : Id) (x : Object) → object_at last.heap o ≡ Some x → IsBack x ↔ Happened (GivesBackOf o) events
+  pub back_is_told : {program : Program} {s last : State} {events : List Event} → s.heap ≡ [] → Run program s events last → Ready known s → (o : Id) (x : Object) → object_at last.heap o ≡ Some x → IsBack x ↔ Happened (GivesBackOf o) events
   back_is_told {s = s} {last = last} {events = es} empty run r o x found = (told, back)
     where
       none_back : BackIn s.heap o → ⊥

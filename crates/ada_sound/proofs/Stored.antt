@@ -9,29 +9,28 @@ use Rattle.ada_meaning.specs.declared.state.Value.{Value}
 use Rattle.ada_meaning.specs.declared.state.Value.TheVariants.{Null, Names}
 use Rattle.ada_meaning.specs.declared.state.Stage.TheVariants.{Existing, Gone}
 use Rattle.ada_meaning.specs.Heap.{Cell}
-use Rattle.ada_meaning.specs.State.{Owned, Item, Master, height}
+use Rattle.ada_meaning.specs.State.{Owned, collection, Item, Master, height}
 use Rattle.ada_meaning.specs.Step.{owning}
 use Rattle.ada_meaning.specs.Named.{Object, object_at, new_object, parted, finished, returned, is_member, members_from, members}
 use Rattle.ada_meaning.specs.Law.{items_of}
 use Rattle.ada_sound.proofs.Objects.{more_get, set_get}
-use Rattle.ada_sound.proofs.Items.{Counted, OneMaster, HasItem, IsCollection, counted_owning, one_owning, has_owning}
+use Rattle.ada_sound.proofs.Items.{Counted, HasItem, counted_owning, has_owning}
 
 -- What is so of each object, where this one is under way.
 pub record Sane (under : Option Id) (items : List Item) (o : Id) (x : Object) : Type 0 where
   pub standard : x.cell.home.pool ≡ 0
   pub back_gone : x.out ≡ false → x.stage ≡ Gone
   pub listed_exists : x.listed ≡ true → x.stage ≡ Existing
-  pub housed : x.out ≡ true → HasItem x.cell.home.item items
+  pub housed : x.out ≡ true → HasItem x.cell.home.item x.cell.access items
   pub out_listed : x.out ≡ true → (x.listed ≡ true) ⊎ (under ≡ Some o)
 
 pub record Stored (under : Option Id) (heap : List Object) (masters : List Master) : Type 0 where
   pub counted : Counted (items_of masters)
-  pub one : OneMaster masters
   pub sane : (o : Id) (x : Object) → object_at heap o ≡ Some x → Sane under (items_of masters) o x
 
 -- A new object.
-pub stored_new : {heap : List Object} {masters : List Master} (cell : Cell Value) → cell.home.pool ≡ 0 → HasItem cell.home.item (items_of masters) → Stored None heap masters → Stored None (heap ++ new_object cell ∷ []) masters
-stored_new {heap} {masters} cell standard home s = record { counted = s.counted; one = s.one; sane = λ o x e. go o x (more_get heap (new_object cell) o.0 x e) }
+pub stored_new : {heap : List Object} {masters : List Master} (cell : Cell Value) → cell.home.pool ≡ 0 → HasItem cell.home.item cell.access (items_of masters) → Stored None heap masters → Stored None (heap ++ new_object cell ∷ []) masters
+stored_new {heap} {masters} cell standard home s = record { counted = s.counted; sane = λ o x e. go o x (more_get heap (new_object cell) o.0 x e) }
   where
     go : (o : Id) (x : Object) → (slice_get heap o.0 ≡ Some x) ⊎ ((o.0 ≡ length heap) × (x ≡ new_object cell)) → Sane None (items_of masters) o x
     go o x (inl e) = s.sane o x e
@@ -39,7 +38,7 @@ stored_new {heap} {masters} cell standard home s = record { counted = s.counted;
 
 -- One object changes.
 stored_set : {under after : Option Id} {heap : List Object} {masters : List Master} (o : Id) (y : Object) → Sane after (items_of masters) o y → ((p : Id) (z : Object) → p.0 ≢ o.0 → Sane under (items_of masters) p z → Sane after (items_of masters) p z) → Stored under heap masters → Stored after (slice_set heap o.0 y) masters
-stored_set {under} {after} {heap} {masters} o y here other s = record { counted = s.counted; one = s.one; sane = λ p z e. go p z (set_get heap o.0 p.0 y z e) }
+stored_set {under} {after} {heap} {masters} o y here other s = record { counted = s.counted; sane = λ p z e. go p z (set_get heap o.0 p.0 y z e) }
   where
     go : (p : Id) (z : Object) → ((p.0 ≡ o.0) × (z ≡ y)) ⊎ ((p.0 ≢ o.0) × (slice_get heap p.0 ≡ Some z)) → Sane after (items_of masters) p z
     go p z (inl e) = let same : p ≡ o = ap (λ n. record { 0 = n }) e.0 in rw (same, e.1) here
@@ -79,8 +78,7 @@ stored_back {heap} {masters} o x is gone s =
 pub stored_owning : {under : Option Id} {heap : List Object} {masters : List Master} (owned : Owned) → Stored under heap masters → Stored under heap (owning (record { number = height masters; owned = owned }) masters)
 stored_owning {under} {heap} {masters} owned s = record {
   counted = counted_owning owned masters s.counted;
-  one = one_owning (record { number = height masters; owned = owned }) masters s.one;
-  sane = λ o x e. let h = s.sane o x e in record { standard = h.standard; back_gone = h.back_gone; listed_exists = h.listed_exists; housed = λ out. has_owning x.cell.home.item (record { number = height masters; owned = owned }) masters (h.housed out); out_listed = h.out_listed };
+  sane = λ o x e. let h = s.sane o x e in record { standard = h.standard; back_gone = h.back_gone; listed_exists = h.listed_exists; housed = λ out. has_owning x.cell.home.item x.cell.access (record { number = height masters; owned = owned }) masters (h.housed out); out_listed = h.out_listed };
 }
 
 -- Members: each is in the collection of its home, and each that is in it is one.
@@ -159,10 +157,9 @@ pub none_is_left : (item : ℕ) (heap : List Object) (o : Id) (x : Object) → m
 none_is_left item heap o x none is listed home = none_from item 0 heap o.0 x none is (rw (listed, home) (eq-eqb item item refl))
 
 -- The newest item goes, where it has no member.
-pub stored_shorter : {heap : List Object} (m : Master) (item : Item) (items : List Item) (ms : List Master) → ((o : Id) (x : Object) → object_at heap o ≡ Some x → x.listed ≡ true → IsCollection item.owned → x.cell.home.item ≡ item.number → ⊥) → Stored None heap (record m { items = item ∷ items } ∷ ms) → Stored None heap (record m { items = items } ∷ ms)
+pub stored_shorter : {heap : List Object} (m : Master) (item : Item) (items : List Item) (ms : List Master) → ((o : Id) (x : Object) → object_at heap o ≡ Some x → x.listed ≡ true → item.owned ≡ collection x.cell.access → x.cell.home.item ≡ item.number → ⊥) → Stored None heap (record m { items = item ∷ items } ∷ ms) → Stored None heap (record m { items = items } ∷ ms)
 stored_shorter {heap} m item items ms none s = record {
   counted = s.counted.1;
-  one = one ms s.one;
   sane = λ o x e. let h = s.sane o x e in record {
     standard = h.standard;
     back_gone = h.back_gone;
@@ -172,19 +169,17 @@ stored_shorter {heap} m item items ms none s = record {
   };
 }
   where
-    one : (ns : List Master) → OneMaster (record m { items = item ∷ items } ∷ ns) → OneMaster (record m { items = items } ∷ ns)
-    one [] h = h
-    one (n ∷ ns) h = h
-
-    rest : (o : Id) (x : Object) → object_at heap o ≡ Some x → (x.listed ≡ true) ⊎ (None ≡ Some o) → HasItem x.cell.home.item (item ∷ (items ++ items_of ms)) → HasItem x.cell.home.item (items ++ items_of ms)
+    rest : (o : Id) (x : Object) → object_at heap o ≡ Some x → (x.listed ≡ true) ⊎ (None ≡ Some o) → HasItem x.cell.home.item x.cell.access (item ∷ (items ++ items_of ms)) → HasItem x.cell.home.item x.cell.access (items ++ items_of ms)
     rest o x e (inl l) (inl h) = absurd (none o x e l h.1 (sym h.0))
     rest o x e (inl l) (inr h) = h
     rest o x e (inr n) h = absurd (cc n)
 
--- The master goes, where it has no item.
+-- The innermost master is entered, or goes, where it has no item.
+pub stored_entered : {under : Option Id} {heap : List Object} {ms : List Master} (number : ℕ) → Stored under heap ms → Stored under heap (record { number = number; items = [] } ∷ ms)
+stored_entered number s = record { counted = s.counted; sane = s.sane }
+
 pub stored_older : {heap : List Object} (m : Master) (ms : List Master) → Stored None heap (record m { items = [] } ∷ ms) → Stored None heap ms
-stored_older m [] s = record { counted = s.counted; one = tt; sane = s.sane }
-stored_older m (n ∷ ms) s = absurd s.one
+stored_older m ms s = record { counted = s.counted; sane = s.sane }
 
 -- The words of an object that exists are out.
 pub exists_out : {under : Option Id} {heap : List Object} {masters : List Master} (o : Id) (x : Object) → object_at heap o ≡ Some x → x.stage ≡ Existing → Stored under heap masters → x.out ≡ true

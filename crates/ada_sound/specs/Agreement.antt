@@ -1,37 +1,49 @@
 -- What flow says of a variable, and what the variable then holds.
 
-use Rattle.std.specs.Prelude.{◌≡◌, ◌≢◌, ℕ, List, ◌∷◌, ◌++◌, Option, Some}
+use Rattle.std.specs.Prelude.{◌≡◌, ◌≢◌, ℕ, ℤ, List, [], ◌∷◌, Option, Some, Contains}
+use Rattle.ada_program.specs.declared.program.Choice.{Choice}
 use Rattle.ada_program.specs.declared.program.Program.{Program}
-use Rattle.ada_program.specs.Form.{StmtForm, declaration_forms, stmt_forms}
+use Rattle.ada_text.specs.declared.spot.Spot.{Spot}
+use Rattle.ada_program.specs.Form.{ExpressionForm, DeclarationForm, StmtForm, chooses, repeats, counts, encloses, StmtsForm, a_stmt, BranchesForm, otherwise, a_branch, HandlersForm, a_handler, declaration_forms, stmt_forms, handler_forms}
+use Rattle.ada_program.specs.ProgramForm.{VariableForm}
 use Rattle.ada_flow.specs.declared.rule.Hold.{Hold}
 use Rattle.ada_flow.specs.declared.rule.Hold.TheVariants as hold
 use Rattle.ada_flow.specs.declared.rule.Region.{Region}
-use Rattle.ada_flow.specs.Flow.{Holds, goes, hold_at, then_flow, declarations_flow, stmts_flow, first_holds}
+use Rattle.ada_flow.specs.Flow.{Holds, goes, hold_at, variable_access, declarations_flow, computed, bounds_flow, condition_flow, opened_by_all, counting_start, collected, Around, outermost, in_loop, in_block, stmt_flow, stmts_flow, first_holds, variables_of}
 use Rattle.ada_meaning.specs.declared.state.Id.{Id}
 use Rattle.ada_meaning.specs.declared.state.Value.{Value}
 use Rattle.ada_meaning.specs.declared.state.Value.TheVariants.{Null, Names, Scalar}
 use Rattle.ada_meaning.specs.declared.state.Stage.TheVariants.{Existing}
-use Rattle.ada_meaning.specs.declared.state.Mode.TheVariants.{Running}
-use Rattle.ada_meaning.specs.Frame.{Frame, Does}
+use Rattle.ada_meaning.specs.Frame.{Frame}
+use Rattle.ada_meaning.specs.Frame as frame
+use Rattle.ada_meaning.specs.State.{collection, Item, Master}
 use Rattle.ada_meaning.specs.Step.{held}
 use Rattle.ada_meaning.specs.Named.{Object, State, object_at, named}
+use Rattle.ada_meaning.specs.Law.{items_of}
 
--- An object of this name exists.
-abbrev pub Exists : List Object → Id → Type 0
-Exists objects o = (object : Object) × (object_at objects o ≡ Some object) × (object.stage ≡ Existing)
+-- An open collection of the object's own access type is its home (7.6.1).
+abbrev pub IsAtHome : List Master → Object → Type 0
+IsAtHome masters object =
+    (i : Item) × Contains (items_of masters) i × (i.number ≡ object.cell.home.item) × (i.owned ≡ collection object.cell.access)
 
--- Null, or the name of an object that exists.
-abbrev pub IsValid : List Object → Value → Type 0
-IsValid objects Null = Unit {0}
-IsValid objects (Names o) = Exists objects o
-IsValid objects (Scalar v) = ⊥
+-- An object of this name exists, of this access type, and its collection is open.
+abbrev pub Exists : List Object → List Master → Option ℕ → Id → Type 0
+Exists objects masters access o =
+    (object : Object) × (object_at objects o ≡ Some object) × (object.stage ≡ Existing) × (access ≡ Some object.cell.access)
+    × IsAtHome masters object
 
--- A value is as it is relied on to be.
-abbrev pub IsAs : List Object → Hold → Value → Type 0
-IsAs objects hold.Null v = v ≡ Null
-IsAs objects (hold.Own r) v = IsValid objects v
-IsAs objects (hold.Alias r) v = IsValid objects v
-IsAs objects hold.Lost v = Unit {0}
+-- Null, or the name of an object of this access type that exists.
+abbrev pub IsValid : List Object → List Master → Option ℕ → Value → Type 0
+IsValid objects masters access Null = Unit {0}
+IsValid objects masters access (Names o) = Exists objects masters access o
+IsValid objects masters access (Scalar v) = ⊥
+
+-- A value of a variable of this access type is as it is relied on to be.
+abbrev pub IsAs : List Object → List Master → Option ℕ → Hold → Value → Type 0
+IsAs objects masters access hold.Null v = v ≡ Null
+IsAs objects masters access (hold.Own r) v = IsValid objects masters access v
+IsAs objects masters access (hold.Alias r) v = IsValid objects masters access v
+IsAs objects masters access hold.Lost v = Unit {0}
 
 -- What may be freed or moved: an owner, or null.
 abbrev pub IsOwner : Hold → Type 0
@@ -40,26 +52,94 @@ IsOwner (hold.Own r) = Unit {0}
 IsOwner (hold.Alias r) = ⊥
 IsOwner hold.Lost = ⊥
 
--- The holds that flow gives before the statements that are left: after the declarations, and the statements that came before.
-pub record IsFlowAt (program : Program) (rest : List StmtForm) (holds : Holds) : Type 0 where
-  pub before : List StmtForm
-  pub parts : stmt_forms program ≡ before ++ rest
-  pub raising : Option Holds
-  pub flows : then_flow (declarations_flow (declaration_forms program) (first_holds program)) (stmts_flow before) ≡ goes (Some holds) raising
+-- A place in a run: what is left to do there.
+abbrev pub Place : Type 0
+Place = List (Frame Value)
 
--- Flow says one thing there.
+-- A way through nested statements: past one, past a branch, past a handler, or past all statements that have handlers; into one of these; or
+-- into the body of a `for` loop, where its parameter has one value, and this is the next, up to the last.
+pub data Turning : Type 0 where
+  past : Turning
+  into : Turning
+  counting : (next last : ℤ) → Turning
+
+mutual
+  -- Flow comes from statements, behind which there is another place, and from holds, inside of loops and blocks, on a way through them, to a
+  -- place with these holds.
+  pub data Comes (variables : List VariableForm) : Around → (outer : Place) → StmtsForm → Holds → List Turning → Place → Holds → Type 0 where
+    here : {around : Around} {outer : Place} {fs : StmtsForm} {holds : Holds} → Comes variables around outer fs holds [] (frame.Does fs ∷ outer) holds
+    behind : {around : Around} {raising : Option Holds} {outer place : Place} {f : StmtForm} {fs : StmtsForm} {holds at : Holds} {way : List Turning}
+        (mid : Holds) → stmt_flow variables around f holds ≡ goes (Some mid) raising → Comes variables around outer fs mid way place at
+        → Comes variables around outer (a_stmt f fs) holds (past ∷ way) place at
+    in_branches : {around : Around} {outer place : Place} {branches : BranchesForm} {fs : StmtsForm} {holds at : Holds} {way : List Turning}
+        → ComesBy variables around (frame.Does fs ∷ outer) branches holds way place at
+        → Comes variables around outer (a_stmt (chooses branches) fs) holds (into ∷ way) place at
+    in_body : {around : Around} {raising : Option Holds} {outer place : Place}
+        {condition : Option ExpressionForm} {body fs : StmtsForm} {end_spot : Spot} {holds at : Holds} {way : List Turning}
+        (mid : Holds) → condition_flow condition (opened_by_all body holds) ≡ goes (Some mid) raising
+        → Comes variables (in_loop (Some (opened_by_all body holds))) (frame.Repeats condition body ∷ frame.Does fs ∷ outer) body mid way place at
+        → Comes variables around outer (a_stmt (repeats condition body end_spot) fs) holds (into ∷ way) place at
+    in_count : {around : Around} {raising : Option Holds} {outer place : Place}
+        {x : ℕ} {low high : ExpressionForm} {body fs : StmtsForm} {end_spot : Spot} {holds at : Holds} {next last : ℤ} {way : List Turning}
+        (mid : Holds) → bounds_flow low high holds ≡ goes (Some mid) raising
+        → Comes variables (in_loop (Some (counting_start x body mid))) (frame.Counts x next last body ∷ frame.Does fs ∷ outer) body (counting_start x body mid) way place at
+        → Comes variables around outer (a_stmt (counts x low high body end_spot) fs) holds (counting next last ∷ way) place at
+    in_enclosed : {around : Around} {outer place : Place}
+        {ds : List DeclarationForm} {body fs : StmtsForm} {hs : HandlersForm} {holds at : Holds} {way : List Turning}
+        → ComesInside variables (in_block (collected ds) around) (frame.Does fs ∷ outer) ds body hs holds way place at
+        → Comes variables around outer (a_stmt (encloses ds body hs) fs) holds (into ∷ way) place at
+
+  -- The same from the branches of an `if` on.
+  pub data ComesBy (variables : List VariableForm) : Around → (outer : Place) → BranchesForm → Holds → List Turning → Place → Holds → Type 0 where
+    in_others : {around : Around} {outer place : Place} {fs : StmtsForm} {holds at : Holds} {way : List Turning}
+        → Comes variables around outer fs holds way place at → ComesBy variables around outer (otherwise fs) holds (into ∷ way) place at
+    in_this : {around : Around} {raising : Option Holds} {outer place : Place}
+        {e : ExpressionForm} {fs : StmtsForm} {branches : BranchesForm} {holds at : Holds} {way : List Turning}
+        (mid : Holds) → computed e holds ≡ goes (Some mid) raising → Comes variables around outer fs mid way place at
+        → ComesBy variables around outer (a_branch e fs branches) holds (into ∷ way) place at
+    in_next : {around : Around} {raising : Option Holds} {outer place : Place}
+        {e : ExpressionForm} {fs : StmtsForm} {branches : BranchesForm} {holds at : Holds} {way : List Turning}
+        (mid : Holds) → computed e holds ≡ goes (Some mid) raising → ComesBy variables around outer branches mid way place at
+        → ComesBy variables around outer (a_branch e fs branches) holds (past ∷ way) place at
+
+  -- The same from handlers on, which begin with these holds (11.4).
+  pub data ComesTo (variables : List VariableForm) : Around → (outer : Place) → HandlersForm → Holds → List Turning → Place → Holds → Type 0 where
+    to_this : {around : Around} {outer place : Place} {choices : List Choice} {fs : StmtsForm} {hs : HandlersForm} {holds at : Holds} {way : List Turning}
+        → Comes variables around outer fs holds way place at → ComesTo variables around outer (a_handler choices fs hs) holds (into ∷ way) place at
+    to_next : {around : Around} {outer place : Place} {choices : List Choice} {fs : StmtsForm} {hs : HandlersForm} {holds at : Holds} {way : List Turning}
+        → ComesTo variables around outer hs holds way place at → ComesTo variables around outer (a_handler choices fs hs) holds (past ∷ way) place at
+
+  -- The same from the declarations of a master on: into its statements, or, from where these raise an exception, into their handlers.
+  pub data ComesInside (variables : List VariableForm) : Around → (outer : Place) → List DeclarationForm → StmtsForm → HandlersForm → Holds → List Turning → Place → Holds → Type 0 where
+    in_statements : {around : Around} {raising : Option Holds} {outer place : Place}
+        {ds : List DeclarationForm} {body : StmtsForm} {hs : HandlersForm} {holds at : Holds} {way : List Turning}
+        (mid : Holds) → declarations_flow variables ds holds ≡ goes (Some mid) raising
+        → Comes variables around (frame.Handles hs ∷ frame.Closes ∷ outer) body mid way place at
+        → ComesInside variables around outer ds body hs holds (into ∷ way) place at
+    in_handlers : {around : Around} {raising normal : Option Holds} {outer place : Place}
+        {ds : List DeclarationForm} {body : StmtsForm} {hs : HandlersForm} {holds at : Holds} {way : List Turning}
+        (mid raised : Holds) → declarations_flow variables ds holds ≡ goes (Some mid) raising → stmts_flow variables around body mid ≡ goes normal (Some raised)
+        → ComesTo variables around (frame.Closes ∷ outer) hs raised way place at
+        → ComesInside variables around outer ds body hs holds (past ∷ way) place at
+
+-- The holds that flow gives at a place, on this way from the program's declarations.
+abbrev pub IsFlowAt : (program : Program) (way : List Turning) (place : Place) (holds : Holds) → Type 0
+IsFlowAt program way place holds =
+    ComesInside (variables_of program) outermost [] (declaration_forms program) (stmt_forms program) (handler_forms program) (first_holds program)
+    way place holds
+
+-- A way leads to one place, and flow says one thing there.
 abbrev pub OneFlow : Type 0
-OneFlow = (program : Program) (rest : List StmtForm) (holds other : Holds) → IsFlowAt program rest holds → IsFlowAt program rest other → holds ≡ other
-
--- The next step of a state begins a statement: this one, with these behind it.
-abbrev pub Begins : State → StmtForm → List StmtForm → List (Frame Value) → Type 0
-Begins s f fs k = (s.mode ≡ Running) × (s.control ≡ Does (f ∷ fs) ∷ k)
+OneFlow =
+    (program : Program) (way : List Turning) (place others : Place) (holds other : Holds)
+    → IsFlowAt program way place holds → IsFlowAt program way others other → (place ≡ others) × (holds ≡ other)
 
 -- What a variable holds in the running activation.
 abbrev pub value_in : State → ℕ → Value
 value_in s x = held named s x
 
 -- Each variable holds what it is relied on to hold, and no two that own name one object.
-pub record Agrees (s : State) (holds : Holds) : Type 0 where
-  pub each : (x : ℕ) → IsAs s.heap (hold_at holds x) (value_in s x)
-  pub one_owner : (x y : ℕ) (q r : Region) (o : Id) → x ≢ y → hold_at holds x ≡ hold.Own q → hold_at holds y ≡ hold.Own r → value_in s x ≡ Names o → value_in s y ≡ Names o → ⊥
+pub record Agrees (variables : List VariableForm) (s : State) (holds : Holds) : Type 0 where
+  pub each : (x : ℕ) → IsAs s.heap s.masters (variable_access variables x) (hold_at holds x) (value_in s x)
+  pub one_owner : (x y : ℕ) (q r : Region) (o : Id) → x ≢ y
+      → hold_at holds x ≡ hold.Own q → hold_at holds y ≡ hold.Own r → value_in s x ≡ Names o → value_in s y ≡ Names o → ⊥

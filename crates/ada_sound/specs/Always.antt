@@ -1,24 +1,22 @@
 -- What holds in every run of a program, whatever its input and whatever is granted and picked.
 
-use Rattle.std.specs.Prelude.{◌≡◌, ◌↔◌, ℤ, Bool, true, false, List, [], ◌∷◌, Some, None, All, AllPairs, pos}
+use Rattle.std.specs.Prelude.{◌≡◌, ◌↔◌, ℤ, Bool, true, false, List, [], Option, Some, All, AllPairs}
 use Rattle.std.specs.List.{filter}
 use Rattle.ada_program.specs.declared.program.Program.{Program}
-use Rattle.ada_program.specs.Form.{StmtForm}
-use Rattle.ada_flow.specs.Flow.{Holds, ObeysRules}
+use Rattle.ada_text.specs.declared.spot.Spot.{Spot}
+use Rattle.ada_flow.specs.declared.rule.Rule.{Rule}
+use Rattle.ada_program.specs.Form.{declaration_forms, stmt_forms, handler_forms}
+use Rattle.ada_flow.specs.Flow.{Holds, goes, faults, outermost, declarations_flow, stmts_flow, handlers_flow, first_holds, program_flow, variables_of, ObeysRules}
 use Rattle.ada_meaning.specs.declared.state.Id.{Id}
-use Rattle.ada_meaning.specs.declared.state.Value.{Value}
-use Rattle.ada_meaning.specs.declared.state.Value.TheVariants.{Names}
-use Rattle.ada_meaning.specs.declared.event.Cause.TheVariants.{Leaving, Freeing}
-use Rattle.ada_meaning.specs.declared.event.Line.TheVariants.{Image}
 use Rattle.ada_meaning.specs.declared.event.Halt.{Halt}
 use Rattle.ada_meaning.specs.declared.event.Halt.TheVariants.{Finished, Erroneous}
 use Rattle.ada_meaning.specs.declared.event.Why.{Why}
-use Rattle.ada_meaning.specs.Event.{Back, Followed, Left, Line, Quiet}
-use Rattle.ada_meaning.specs.Frame.{Frame}
+use Rattle.ada_meaning.specs.Event.{Quiet}
+use Rattle.ada_meaning.specs.Beginning.{BeginsStatement}
 use Rattle.ada_meaning.specs.Named.{Object, State, object_at}
 use Rattle.ada_meaning.specs.Run.{Event, Run, Halts, first_state}
 use Rattle.ada_meaning.specs.Law.{IsBackHome, items_of, Falls, MastersFall, GivesBackOf, Happened, IsHoused, IsBack, HasEnded}
-use Rattle.ada_sound.specs.Agreement.{Agrees, Begins, IsFlowAt}
+use Rattle.ada_sound.specs.Agreement.{Agrees, Turning, IsFlowAt}
 
 -- Of the events of each run, and the state that it comes to.
 abbrev pub InEveryRun : Program → (List Event → State → Type 0) → Type 0
@@ -36,9 +34,10 @@ NeverHalts halt program = InEveryRun program (λ events last. Halts program last
 abbrev pub NeverErroneous : Why → Program → Type 0
 NeverErroneous why program = NeverHalts (Erroneous why) program
 
--- Wherever a statement begins, flow goes there, and each variable holds what flow says.
+-- Wherever a statement begins, flow comes to what is left to do there, and each variable holds what flow says.
 abbrev pub AgreesWithFlow : Program → Type 0
-AgreesWithFlow program = InEveryRun program (λ events last. (f : StmtForm) (fs : List StmtForm) (k : List (Frame Value)) → Begins last f fs k → (holds : Holds) × IsFlowAt program (f ∷ fs) holds × Agrees last holds)
+AgreesWithFlow program = InEveryRun program
+    (λ events last. BeginsStatement last → (way : List Turning) × (holds : Holds) × IsFlowAt program way last.control holds × Agrees (variables_of program) last holds)
 
 -- Any two events, the first before the second.
 abbrev pub InPairs : (Event → Event → Type 0) → List Event → State → Type 0
@@ -61,11 +60,14 @@ BacksAreTold events last = (o : Id) (object : Object) → object_at last.heap o 
 
 -- The home of each object whose words are out is an item of a master that is entered.
 abbrev pub OutsAreHoused : List Event → State → Type 0
-OutsAreHoused events last = (o : Id) (object : Object) → object_at last.heap o ≡ Some object → object.out ≡ true → IsHoused last.masters object
+OutsAreHoused events last =
+    (o : Id) (object : Object) → object_at last.heap o ≡ Some object → object.out ≡ true → IsHoused last.masters object
 
 -- Where a run has come to its end, no master is left over, and the words of each object are back.
 abbrev pub EndsClean : Program → Type 0
-EndsClean program = (input : List ℤ) (events : List Event) (last : State) (halt : Halt) → Run program (first_state program input) events last → Halts program last halt → HasEnded halt → (last.masters ≡ []) × All IsBack last.heap
+EndsClean program =
+    (input : List ℤ) (events : List Event) (last : State) (halt : Halt) → Run program (first_state program input) events last
+    → Halts program last halt → HasEnded halt → (last.masters ≡ []) × All IsBack last.heap
 
 -- There is a run with such events, to such a state.
 abbrev pub InSomeRun : Program → (List Event → State → Type 0) → Type 0
@@ -78,21 +80,28 @@ is_seen e = true
 
 -- The program gets as far as a statement.
 abbrev pub ReachesStatement : Program → Type 0
-ReachesStatement program = InSomeRun program (λ events last. (f : StmtForm) × (fs : List StmtForm) × (k : List (Frame Value)) × Begins last f fs k)
+ReachesStatement program = InSomeRun program (λ events last. BeginsStatement last)
+
+-- A run of the program comes to this end, after these events.
+abbrev pub HaltsAfter : List Event → Halt → Program → Type 0
+HaltsAfter seen halt program = InSomeRun program (λ events last. Halts program last halt × (filter is_seen events ≡ seen))
 
 -- The program finishes, after these events.
 abbrev pub FinishesAfter : List Event → Program → Type 0
-FinishesAfter seen program = InSomeRun program (λ events last. Halts program last Finished × (filter is_seen events ≡ seen))
+FinishesAfter seen program = HaltsAfter seen Finished program
 
--- What the first example shows: an object is followed, its 7 is written, it is freed; the second goes with its collection, and the master is left.
-abbrev pub example_events : List Event
-example_events =
-    Followed (Names (record { 0 = 0 }))
-    ∷ Line (Image (pos 7))
-    ∷ Back (Names (record { 0 = 0 })) 1 1 0 None (Freeing 1)
-    ∷ Back (Names (record { 0 = 1 })) 1 2 0 None (Leaving 0 0)
-    ∷ Left 0
-    ∷ []
+-- Flow refuses the program, first by this rule.
+abbrev pub Breaks : Rule → Program → Type 0
+Breaks rule program = (spot : Spot) × (program_flow program ≡ faults spot rule)
+
+-- Flow knows this of the variables where the statements of the main procedure begin, and again where they come to their end; and handlers
+-- that began with it would keep the rules.
+abbrev pub IsFineAtEnds : Holds → Program → Type 0
+IsFineAtEnds holds program =
+    (before within normal raising : Option Holds)
+    × (declarations_flow (variables_of program) (declaration_forms program) (first_holds program) ≡ goes (Some holds) before)
+    × (stmts_flow (variables_of program) outermost (stmt_forms program) holds ≡ goes (Some holds) within)
+    × (handlers_flow (variables_of program) outermost (handler_forms program) holds ≡ goes normal raising)
 
 -- A run of the program comes to this end.
 abbrev pub HaltsSomewhere : Halt → Program → Type 0

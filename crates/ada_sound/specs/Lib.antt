@@ -4,5 +4,7 @@
 pub mod Agreement
 -- what holds in every run
 pub mod Always
+-- programs that meet the premises, and that need the rules
+pub mod Examples
 -- what the rules let through
 pub mod Owners

@@ -3,6 +3,7 @@
 //! - [`tokens`]: the tokens of short texts, and their first faults;
 //! - [`limits`]: sources that are too long to be kept as files;
 //! - [`streams`]: readers and writers that move one byte a call, and fail at each call in turn;
+//! - [`runs`]: runs with a limit of statements, with one request for storage refused, and with an input;
 //! - [`words`]: the words after the program's name, and the exit statuses;
 //! - [`unchecked`]: programs run without the rules, and with requests refused.
 //!
@@ -11,6 +12,8 @@
 
 #[cfg(test)]
 mod limits;
+#[cfg(test)]
+mod runs;
 #[cfg(test)]
 mod streams;
 #[cfg(test)]

@@ -3,6 +3,7 @@
 use ada_interpreter::{Listed, Machine};
 use ada_meaning::Halt;
 use ada_parser::parse;
+use ada_program::Program;
 use ada_resolve::resolve;
 use ada_text::tokens;
 use std::alloc::Global;
@@ -18,10 +19,10 @@ A : Link := new Node'(Value => 5); B : Link := A;
 begin ";
 
 /// How a run has ended, in a word.
-fn text_of(alloc: Global, halt: Halt) -> Result<String, Fail> {
+fn text_of(alloc: Global, program: &Program, halt: Halt) -> Result<String, Fail> {
     let text = match halt {
         Halt::Finished => String::from_str(alloc, "finished")?,
-        Halt::Unhandled(exception) => String::from_str(alloc, exception.name())?,
+        Halt::Unhandled(exception) => String::from_str(alloc, exception.name(program))?,
         Halt::Erroneous(why) => format!(in alloc; "{why}")?,
         Halt::Stuck => String::from_str(alloc, "stuck")?,
         Halt::Memory => String::from_str(alloc, "memory")?,
@@ -44,7 +45,7 @@ fn end_of(alloc: Global, statements: &str, grants: bool) -> Result<String, Fail>
     let mut machine = Machine::new(alloc, &program, Vec::new(alloc), answers)?;
     for _ in 0..1_000 {
         if let Err(halt) = machine.step() {
-            return text_of(alloc, halt);
+            return text_of(alloc, &program, halt);
         }
     }
     Err("no end".into())

@@ -6,30 +6,74 @@ use ada_serve::serve::{ServeFault, Status};
 use std::alloc::Global;
 use std::test::Fail;
 
-/// What these words ask for: a check or a run, and of which source; where they are no command, the usage text is told.
-fn asked<'a>(alloc: Global, words: &'a [&'a str]) -> (&'a str, Option<&'a str>) {
+/// What the words ask for: what to do, the source, the input, how many statements a run may begin, and which request is
+/// refused.
+type Asked<'a> = (&'a str, Option<&'a str>, Option<&'a str>, u32, u32);
+
+/// What the words ask for where they are no command.
+const USAGE: Asked<'static> = ("usage", None, None, 0, 0);
+
+/// What these words ask for; where they are no command, the usage text is told.
+fn asked<'a>(alloc: Global, words: &'a [&'a str]) -> Asked<'a> {
     match options(alloc, words) {
         Ok((found, paths)) => {
             let asked = if found.run { "run" } else { "check" };
-            (asked, paths.source)
+            (asked, paths.source, paths.input, found.steps, found.refuse)
         }
-        Err(_) => ("usage", None),
+        Err(_) => USAGE,
     }
 }
 
 #[test]
 fn words_ask_for_a_check_or_a_run(rt: HostRuntime) -> Result<(), Fail> {
     let rows = [
-        ("run", ("run", None)),
-        ("check", ("check", None)),
-        ("run --source a.adb", ("run", Some("a.adb"))),
-        ("check --source a.adb", ("check", Some("a.adb"))),
-        ("--help", ("usage", None)),
-        ("walk", ("usage", None)),
-        ("", ("usage", None)),
-        ("run --source", ("usage", None)),
-        ("run --steps 1", ("usage", None)),
-        ("run check", ("usage", None)),
+        ("run", ("run", None, None, 1_000_000, 0)),
+        ("check", ("check", None, None, 1_000_000, 0)),
+        (
+            "run --source a.adb",
+            ("run", Some("a.adb"), None, 1_000_000, 0),
+        ),
+        (
+            "check --source a.adb",
+            ("check", Some("a.adb"), None, 1_000_000, 0),
+        ),
+        ("run --steps 1", ("run", None, None, 1, 0)),
+        (
+            "run --steps 4294967295 --source a.adb",
+            ("run", Some("a.adb"), None, 4_294_967_295, 0),
+        ),
+        ("run --steps 0", USAGE),
+        ("run --steps 4294967296", USAGE),
+        ("run --steps ten", USAGE),
+        ("run --steps +1", USAGE),
+        ("run --steps", USAGE),
+        ("check --steps 1", USAGE),
+        (
+            "run --input a.txt",
+            ("run", None, Some("a.txt"), 1_000_000, 0),
+        ),
+        (
+            "run --refuse 2 --input a.txt --source a.adb",
+            ("run", Some("a.adb"), Some("a.txt"), 1_000_000, 2),
+        ),
+        ("run --input", USAGE),
+        ("run --input a.txt --input b.txt", USAGE),
+        ("check --input a.txt", USAGE),
+        ("run --refuse 0", ("run", None, None, 1_000_000, 0)),
+        (
+            "run --refuse 4294967295 --steps 7",
+            ("run", None, None, 7, 4_294_967_295),
+        ),
+        ("run --refuse 4294967296", USAGE),
+        ("run --refuse -1", USAGE),
+        ("run --refuse +1", USAGE),
+        ("run --refuse", USAGE),
+        ("check --refuse 1", USAGE),
+        ("--help", USAGE),
+        ("walk", USAGE),
+        ("", USAGE),
+        ("run --source", USAGE),
+        ("run check", USAGE),
     ];
     for (line, wanted) in rows {
         let mut words = Vec::new(rt.alloc());
@@ -49,6 +93,9 @@ fn answers_have_their_exit_statuses(rt: HostRuntime) {
         (code_of(Status::Refused), 1),
         (code_of(Status::Unhandled), 2),
         (code_of(Status::Stopped), 3),
+        (code_of(Status::Erroneous), 3),
+        (fault_code(ServeFault::BadInput { place: 3 }), 5),
+        (fault_code(ServeFault::InputTooLong), 5),
         (fault_code(ServeFault::ReadFailed), 5),
         (fault_code(ServeFault::WriteFailed), 5),
         (fault_code(ServeFault::NoMemory), 6),

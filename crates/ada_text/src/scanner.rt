@@ -59,9 +59,11 @@ pub fn tokens(alloc: Global, source: &[u8]) -> Result<Vec<Token>, TextFault>
     ensures tokens { IfOk result (λ found. Spells source.now (lexemes_of found.items)) }
     ensures fault { IfErr result (λ fault. IsFirstFault source.now fault) }
     // No other tokens are those of the source.
-    ensures only { IfOk result (λ found. (ts : List Lexeme) → Spells source.now ts → ts ≡ lexemes_of found.items) }
+    ensures only { IfOk result (λ found. (ts : List Lexeme) → Spells source.now ts
+        → ts ≡ lexemes_of found.items) }
     // A source with a fault has none.
-    ensures none { IfErr result (λ fault. (ts : List Lexeme) → Spells source.now ts → fault ≡ TextFault.NoMemory) }
+    ensures none { IfErr result (λ fault. (ts : List Lexeme) → Spells source.now ts
+        → fault ≡ TextFault.NoMemory) }
 {
     if source.len() > LONGEST_SOURCE {
         return Err(TextFault::SourceTooLong);

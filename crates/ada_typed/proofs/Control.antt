@@ -1,20 +1,21 @@
 -- What is left to do fits what is there: each frame finds operands of the kinds that it waits for, and leaves one of the kind that is waited for.
 
 use Rattle.ada_typed.specs.Holding.{Cells, HaveKinds, cells_of}
-use Rattle.std.proofs.Common.{◌≡◌, ℕ, zero, suc, ◌+◌, ◌≤◌, true, List, [], ◌∷◌, ◌++◌, length, take, drop, reverse, Some, arith, refl, sym, ap, ◌∙◌, subst}
+use Rattle.std.proofs.Common.{◌≡◌, ℕ, zero, suc, ◌+◌, ◌≤◌, Bool, true, false, List, [], ◌∷◌, ◌++◌, length, take, drop, reverse, Option, Some, None, arith, refl, sym, ap, ◌∙◌, subst}
 use Rattle.std.proofs.lemmas.List.{reverse-append}
 use Rattle.std.specs.List.{list_all}
 use Rattle.ada_program.specs.declared.program.ScalarType.{ScalarType}
 use Rattle.ada_program.specs.declared.program.TypeNo.{TypeNo}
 use Rattle.ada_program.specs.declared.program.VariableKind.{VariableKind}
 use Rattle.ada_program.specs.declared.program.VariableKind.TheVariants as variable
+use Rattle.ada_program.specs.Form.{HandlersForm}
 use Rattle.ada_program.specs.ProgramForm.{ComponentForm, ProgramForm}
-use Rattle.ada_program.specs.WellFormed.{reached_components, held_kind, variable_kind, selectors_kind, unary_type, binary_type, type_of, chain_type, items_fit, kind_takes, creates_from, initial_fits, statement_fits}
+use Rattle.ada_program.specs.WellFormed.{reached_components, held_kind, variable_kind, selectors_kind, unary_type, binary_type, type_of, chain_type, items_fit, kind_takes, initial_fits, condition_fits, has_statement, stmts_fit, branches_fit, handlers_fit}
 use Rattle.ada_meaning.specs.declared.state.Value.{Value}
 use Rattle.ada_meaning.specs.declared.state.Value.TheVariants.{Null, Names, Scalar}
-use Rattle.ada_meaning.specs.declared.state.Mode.TheVariants.{Running, Raising}
-use Rattle.ada_meaning.specs.declared.event.Exception.{Exception}
-use Rattle.ada_meaning.specs.Frame.{Frame}
+use Rattle.ada_meaning.specs.declared.state.Mode.{Mode}
+use Rattle.ada_meaning.specs.declared.state.Mode.TheVariants.{Running, Raising, Exiting, Returning}
+use Rattle.ada_meaning.specs.Frame.{Frame, is_loop}
 use Rattle.ada_meaning.specs.Frame as frame
 use Rattle.ada_meaning.specs.Named.{State}
 use Rattle.ada_typed.proofs.Values.{AreFilled, AreComputed, IsActive, kind_of}
@@ -29,39 +30,92 @@ IsName Null = ⊥
 IsName (Names o) = Unit {0}
 IsName (Scalar v) = ⊥
 
--- So many variables are declared and operands of these kinds are there; what is left to do fits them.
-abbrev pub Fits : ProgramForm → ℕ → List VariableKind → List (Frame Value) → Type 0
-Fits p n kinds [] = Unit {0}
-Fits p n kinds (frame.Elaborates ds fs ∷ k) = (creates_from (length p.variables) n ds ≡ true) × (list_all (initial_fits p.types p.variables) ds ≡ true) × (list_all (statement_fits p.types p.variables p.texts) fs ≡ true) × Fits p (length p.variables) kinds k
-Fits p n kinds (frame.Does fs ∷ k) = (list_all (statement_fits p.types (take n p.variables) p.texts) fs ≡ true) × Fits p n kinds k
-Fits p n kinds (frame.Closes ∷ k) = Fits p n kinds k
-Fits p n kinds (frame.Leaves Running ∷ k) = Fits p n kinds k
-Fits p n kinds (frame.Leaves (Raising e) ∷ k) = Unit {0}
-Fits p n kinds (frame.Evaluates right ∷ k) = (kind : VariableKind) × (kind_takes p.types (take n p.variables) kind right ≡ true) × Fits p n (kind ∷ kinds) k
-Fits p n kinds (frame.Computes e ∷ k) = (t : ScalarType) × (type_of p.types (take n p.variables) e ≡ Some t) × Fits p n (kind_of t ∷ kinds) k
-Fits p n kinds (frame.Follows cs ∷ k) = (ks : List VariableKind) × (from : VariableKind) × (to : VariableKind) × (kinds ≡ from ∷ ks) × (selectors_kind p.types (Some from) cs ≡ Some to) × Fits p n (to ∷ ks) k
-Fits p n kinds (frame.Continues links ∷ k) = (ks : List VariableKind) × (l : ScalarType) × (t : ScalarType) × (kinds ≡ kind_of l ∷ ks) × (chain_type p.types (take n p.variables) (Some l) links ≡ Some t) × Fits p n (kind_of t ∷ ks) k
-Fits p n kinds (frame.Applies operator ∷ k) = (ks : List VariableKind) × (l : ScalarType) × (r : ScalarType) × (t : ScalarType) × (kinds ≡ kind_of r ∷ kind_of l ∷ ks) × (binary_type operator (Some l) (Some r) ≡ Some t) × Fits p n (kind_of t ∷ ks) k
-Fits p n kinds (frame.AppliesAlone operator ∷ k) = (ks : List VariableKind) × (l : ScalarType) × (t : ScalarType) × (kinds ≡ kind_of l ∷ ks) × (unary_type operator (Some l) ≡ Some t) × Fits p n (kind_of t ∷ ks) k
-Fits p n kinds (frame.Fills items ∷ k) = (cs : List ComponentForm) × (items_fit p.types (take n p.variables) cs items ≡ true) × Fits p n (onto cs kinds) k
-Fits p n kinds (frame.Creates access count ∷ k) = (ks : List VariableKind) × (cs : List ComponentForm) × (kinds ≡ onto cs ks) × (reached_components p.types access ≡ Some cs) × (count ≡ length cs) × Fits p n (variable.Access (record { 0 = access }) ∷ ks) k
-Fits p n kinds (frame.Stores x ∷ k) = (ks : List VariableKind) × (kind : VariableKind) × (kinds ≡ kind ∷ ks) × (variable_kind (take n p.variables) x ≡ Some kind) × Fits p n ks k
-Fits p n kinds (frame.Declares x ∷ k) = (ks : List VariableKind) × (kind : VariableKind) × (kinds ≡ kind ∷ ks) × (x ≡ n) × (variable_kind p.variables n ≡ Some kind) × Fits p (suc n) ks k
-Fits p n kinds (frame.Writes ∷ k) = (ks : List VariableKind) × (kinds ≡ variable.Integer ∷ ks) × Fits p n ks k
-Fits p n kinds (frame.Ends v ∷ k) = IsName v × Fits p n kinds k
-Fits p n kinds (frame.GivesBack v cause pool ∷ k) = IsName v × Fits p n kinds k
-Fits p n kinds (frame.Clears x ∷ k) = (access : TypeNo) × (variable_kind (take n p.variables) x ≡ Some (variable.Access access)) × Fits p n kinds k
+-- What is left to do behind a frame to which an exit comes (5.7): a loop stops it.
+abbrev pub AtLoop : (loop : Bool) → (behind further : Type 0) → Type 0
+AtLoop true behind further = behind
+AtLoop false behind further = further
+
+-- What holds of statements inside a loop.
+abbrev pub WhereInside : (inside : Bool) → Type 0 → Type 0
+WhereInside true lands = lands
+WhereInside false lands = Unit {0}
+
+-- The handlers that an exception comes to at a frame (11.4).
+abbrev pub handlers_in : Frame Value → Option HandlersForm
+handlers_in (frame.Handles hs) = Some hs
+handlers_in f = None
+
+-- What is left to do behind a frame to which an exception comes (11.4): where there are handlers, they fit, and what is behind them does.
+abbrev pub AtHandlers : ProgramForm → Option HandlersForm → (lands behind further : Type 0) → Type 0
+AtHandlers p None lands behind further = further
+AtHandlers p (Some hs) lands behind further = (inside : Bool) × (handlers_fit p.types p.variables p.texts p.exceptions inside hs ≡ true) × WhereInside inside lands × behind
+
+-- How it goes on behind a master that is left: what is behind it fits; or an exception comes to handlers that fit, and an exit to a loop.
+abbrev pub FitsBehind : Mode → (behind lands catches : Type 0) → Type 0
+FitsBehind Running behind lands catches = behind
+FitsBehind (Raising e) behind lands catches = catches
+FitsBehind Exiting behind lands catches = lands × catches
+FitsBehind Returning behind lands catches = catches
+
+abbrev mutual
+  -- Operands of these kinds are there; what is left to do fits them. Where statements begin, no operand is there.
+  pub Fits : ProgramForm → List VariableKind → List (Frame Value) → Type 0
+  Fits p kinds [] = Unit {0}
+  Fits p kinds (frame.Elaborates ds fs hs ∷ k) = (kinds ≡ []) × (inside : Bool) × (list_all (initial_fits p.types p.variables) ds ≡ true) × (stmts_fit p.types p.variables p.texts p.exceptions inside fs ≡ true) × (handlers_fit p.types p.variables p.texts p.exceptions inside hs ≡ true) × WhereInside inside (Lands p k) × Fits p [] k
+  Fits p kinds (frame.Does fs ∷ k) = (kinds ≡ []) × (inside : Bool) × (stmts_fit p.types p.variables p.texts p.exceptions inside fs ≡ true) × WhereInside inside (Lands p k) × Fits p [] k
+  Fits p kinds (frame.Decides fs branches ∷ k) = (kinds ≡ variable.Boolean ∷ []) × (inside : Bool) × (stmts_fit p.types p.variables p.texts p.exceptions inside fs ≡ true) × (branches_fit p.types p.variables p.texts p.exceptions inside branches ≡ true) × WhereInside inside (Lands p k) × Fits p [] k
+  Fits p kinds (frame.Repeats condition fs ∷ k) = (kinds ≡ []) × (condition_fits p.types p.variables condition ≡ true) × (has_statement fs ≡ true) × (stmts_fit p.types p.variables p.texts p.exceptions true fs ≡ true) × Fits p [] k
+  Fits p kinds (frame.Turns e fs ∷ k) = (kinds ≡ variable.Boolean ∷ []) × (condition_fits p.types p.variables (Some e) ≡ true) × (has_statement fs ≡ true) × (stmts_fit p.types p.variables p.texts p.exceptions true fs ≡ true) × Fits p [] k
+  Fits p kinds (frame.Ranges x fs ∷ k) = (kinds ≡ variable.Integer ∷ variable.Integer ∷ []) × (variable_kind p.variables x ≡ Some variable.Integer) × (has_statement fs ≡ true) × (stmts_fit p.types p.variables p.texts p.exceptions true fs ≡ true) × Fits p [] k
+  Fits p kinds (frame.Counts x value last fs ∷ k) = (kinds ≡ []) × (variable_kind p.variables x ≡ Some variable.Integer) × (has_statement fs ≡ true) × (stmts_fit p.types p.variables p.texts p.exceptions true fs ≡ true) × Fits p [] k
+  Fits p kinds (frame.Exits ∷ k) = (kinds ≡ variable.Boolean ∷ []) × Lands p k × Fits p [] k
+  Fits p kinds (frame.Handles hs ∷ k) = (kinds ≡ []) × (inside : Bool) × (handlers_fit p.types p.variables p.texts p.exceptions inside hs ≡ true) × WhereInside inside (Lands p k) × Fits p [] k
+  Fits p kinds (frame.Closes ∷ k) = Fits p kinds k
+  Fits p kinds (frame.Leaves mode ∷ k) = FitsBehind mode (Fits p kinds k) (Lands p k) (Catches p k)
+  Fits p kinds (frame.Evaluates right ∷ k) = (kind : VariableKind) × (kind_takes p.types p.variables kind right ≡ true) × Fits p (kind ∷ kinds) k
+  Fits p kinds (frame.Computes e ∷ k) = (t : ScalarType) × (type_of p.types p.variables e ≡ Some t) × Fits p (kind_of t ∷ kinds) k
+  Fits p kinds (frame.Follows cs ∷ k) = (ks : List VariableKind) × (from : VariableKind) × (to : VariableKind) × (kinds ≡ from ∷ ks) × (selectors_kind p.types (Some from) cs ≡ Some to) × Fits p (to ∷ ks) k
+  Fits p kinds (frame.TestsNull equal ∷ k) = (ks : List VariableKind) × (access : TypeNo) × (kinds ≡ variable.Access access ∷ ks) × Fits p (variable.Boolean ∷ ks) k
+  Fits p kinds (frame.Continues links ∷ k) = (ks : List VariableKind) × (l : ScalarType) × (t : ScalarType) × (kinds ≡ kind_of l ∷ ks) × (chain_type p.types p.variables (Some l) links ≡ Some t) × Fits p (kind_of t ∷ ks) k
+  Fits p kinds (frame.Applies operator ∷ k) = (ks : List VariableKind) × (l : ScalarType) × (r : ScalarType) × (t : ScalarType) × (kinds ≡ kind_of r ∷ kind_of l ∷ ks) × (binary_type operator (Some l) (Some r) ≡ Some t) × Fits p (kind_of t ∷ ks) k
+  Fits p kinds (frame.AppliesAlone operator ∷ k) = (ks : List VariableKind) × (l : ScalarType) × (t : ScalarType) × (kinds ≡ kind_of l ∷ ks) × (unary_type operator (Some l) ≡ Some t) × Fits p (kind_of t ∷ ks) k
+  Fits p kinds (frame.Fills items ∷ k) = (cs : List ComponentForm) × (items_fit p.types p.variables cs items ≡ true) × Fits p (onto cs kinds) k
+  Fits p kinds (frame.Creates access count ∷ k) = (ks : List VariableKind) × (cs : List ComponentForm) × (kinds ≡ onto cs ks) × (reached_components p.types access ≡ Some cs) × (count ≡ length cs) × Fits p (variable.Access (record { 0 = access }) ∷ ks) k
+  Fits p kinds (frame.Stores x ∷ k) = (ks : List VariableKind) × (kind : VariableKind) × (kinds ≡ kind ∷ ks) × (variable_kind p.variables x ≡ Some kind) × Fits p ks k
+  Fits p kinds (frame.Declares x ∷ k) = (ks : List VariableKind) × (kind : VariableKind) × (kinds ≡ kind ∷ ks) × (variable_kind p.variables x ≡ Some kind) × Fits p ks k
+  Fits p kinds (frame.Writes ∷ k) = (ks : List VariableKind) × (kinds ≡ variable.Integer ∷ ks) × Fits p ks k
+  Fits p kinds (frame.Ends v ∷ k) = IsName v × Fits p kinds k
+  Fits p kinds (frame.GivesBack v cause pool ∷ k) = IsName v × Fits p kinds k
+  Fits p kinds (frame.Clears x ∷ k) = (access : TypeNo) × (variable_kind p.variables x ≡ Some (variable.Access access)) × Fits p kinds k
+
+  -- There is a loop; behind it, what is left to do fits where no operand is there (5.7).
+  pub Lands : ProgramForm → List (Frame Value) → Type 0
+  Lands p [] = ⊥
+  Lands p (f ∷ k) = AtLoop (is_loop f) (Fits p [] k) (Lands p k)
+
+  -- Behind the first handlers, if there are some, what is left to do fits where no operand is there (11.4).
+  pub Catches : ProgramForm → List (Frame Value) → Type 0
+  Catches p [] = Unit {0}
+  Catches p (f ∷ k) = AtHandlers p (handlers_in f) (Lands p k) (Fits p [] k) (Catches p k)
 
 -- How many masters what is left to do belongs to.
 abbrev pub depth : List (Frame Value) → ℕ
 depth [] = 0
-depth (frame.Elaborates ds fs ∷ k) = 1 + depth k
+depth (frame.Elaborates ds fs hs ∷ k) = 1 + depth k
 depth (frame.Does fs ∷ k) = depth k
+depth (frame.Decides fs branches ∷ k) = depth k
+depth (frame.Repeats condition fs ∷ k) = depth k
+depth (frame.Turns condition fs ∷ k) = depth k
+depth (frame.Ranges x fs ∷ k) = depth k
+depth (frame.Counts x value last fs ∷ k) = depth k
+depth (frame.Exits ∷ k) = depth k
+depth (frame.Handles hs ∷ k) = depth k
 depth (frame.Closes ∷ k) = 1 + depth k
 depth (frame.Leaves mode ∷ k) = 1 + depth k
 depth (frame.Evaluates right ∷ k) = depth k
 depth (frame.Computes e ∷ k) = depth k
 depth (frame.Follows cs ∷ k) = depth k
+depth (frame.TestsNull equal ∷ k) = depth k
 depth (frame.Continues links ∷ k) = depth k
 depth (frame.Applies operator ∷ k) = depth k
 depth (frame.AppliesAlone operator ∷ k) = depth k
@@ -75,13 +129,21 @@ depth (frame.GivesBack v cause pool ∷ k) = depth k
 depth (frame.Clears x ∷ k) = depth k
 
 pub depth_behind : (f : Frame Value) (k : List (Frame Value)) → depth k ≤ depth (f ∷ k)
-depth_behind (frame.Elaborates ds fs) k = omega arith
+depth_behind (frame.Elaborates ds fs hs) k = omega arith
 depth_behind (frame.Does fs) k = omega arith
+depth_behind (frame.Decides fs branches) k = omega arith
+depth_behind (frame.Repeats condition fs) k = omega arith
+depth_behind (frame.Turns condition fs) k = omega arith
+depth_behind (frame.Ranges x fs) k = omega arith
+depth_behind (frame.Counts x value last fs) k = omega arith
+depth_behind frame.Exits k = omega arith
+depth_behind (frame.Handles hs) k = omega arith
 depth_behind frame.Closes k = omega arith
 depth_behind (frame.Leaves mode) k = omega arith
 depth_behind (frame.Evaluates right) k = omega arith
 depth_behind (frame.Computes e) k = omega arith
 depth_behind (frame.Follows cs) k = omega arith
+depth_behind (frame.TestsNull equal) k = omega arith
 depth_behind (frame.Continues links) k = omega arith
 depth_behind (frame.Applies operator) k = omega arith
 depth_behind (frame.AppliesAlone operator) k = omega arith
@@ -94,17 +156,67 @@ depth_behind (frame.Ends v) k = omega arith
 depth_behind (frame.GivesBack v cause pool) k = omega arith
 depth_behind (frame.Clears x) k = omega arith
 
--- A state whose values have their kinds, and no exception is on its way.
-pub record Ready (p : ProgramForm) (n : ℕ) (kinds : List VariableKind) (s : State) : Type 0 where
+-- A state whose values have their kinds, and no jump is on its way.
+pub record Ready (p : ProgramForm) (kinds : List VariableKind) (s : State) : Type 0 where
   pub filled : AreFilled p.types (cells_of s.heap) (cells_of s.heap)
-  pub active : IsActive (cells_of s.heap) n p.variables kinds s.activations
+  pub active : IsActive (cells_of s.heap) p.variables kinds s.activations
   pub runs : s.mode ≡ Running
   pub deep : depth s.control ≤ length s.masters
 
--- A state of a run of a well-formed program: what is left to do fits it, or an exception is on its way.
+-- The same, while a jump is on its way, which has dropped all operands.
+pub record Jumps (p : ProgramForm) (mode : Mode) (s : State) : Type 0 where
+  pub filled : AreFilled p.types (cells_of s.heap) (cells_of s.heap)
+  pub active : IsActive (cells_of s.heap) p.variables [] s.activations
+  pub jumps : s.mode ≡ mode
+  pub deep : depth s.control ≤ length s.masters
+
+-- What is left to do while a jump is on its way.
+abbrev pub Goes : ProgramForm → Mode → List (Frame Value) → Type 0
+Goes p mode k = FitsBehind mode ⊥ (Lands p k) (Catches p k)
+
+-- A state of a run of a well-formed program: what is left to do fits it, or a jump is on its way.
 pub data Typed (p : ProgramForm) (s : State) : Type 0 where
-  running : (n : ℕ) (kinds : List VariableKind) → Ready p n kinds s → Fits p n kinds s.control → Typed p s
-  raising : (n : ℕ) (kinds : List VariableKind) (e : Exception) → AreFilled p.types (cells_of s.heap) (cells_of s.heap) → IsActive (cells_of s.heap) n p.variables kinds s.activations → s.mode ≡ Raising e → depth s.control ≤ length s.masters → Typed p s
+  running : (kinds : List VariableKind) → Ready p kinds s → Fits p kinds s.control → Typed p s
+  on_jump : (mode : Mode) → Jumps p mode s → Goes p mode s.control → Typed p s
+
+-- Wherever an exception is raised, it finds handlers behind which what is left to do fits, or none.
+module _ (p : ProgramForm) where
+  pub catches : (k : List (Frame Value)) (kinds : List VariableKind) → Fits p kinds k → Catches p k
+  catches [] kinds fits = tt
+  catches (frame.Elaborates ds fs hs ∷ k) kinds fits = catches k [] fits.6
+  catches (frame.Does fs ∷ k) kinds fits = catches k [] fits.4
+  catches (frame.Decides fs branches ∷ k) kinds fits = catches k [] fits.5
+  catches (frame.Repeats condition fs ∷ k) kinds fits = catches k [] fits.4
+  catches (frame.Turns e fs ∷ k) kinds fits = catches k [] fits.4
+  catches (frame.Ranges x fs ∷ k) kinds fits = catches k [] fits.4
+  catches (frame.Counts x value last fs ∷ k) kinds fits = catches k [] fits.4
+  catches (frame.Exits ∷ k) kinds fits = catches k [] fits.2
+  catches (frame.Handles hs ∷ k) kinds fits = (fits.1, fits.2, fits.3, fits.4)
+  catches (frame.Closes ∷ k) kinds fits = catches k kinds fits
+  catches (frame.Leaves Running ∷ k) kinds fits = catches k kinds fits
+  catches (frame.Leaves (Raising e) ∷ k) kinds fits = fits
+  catches (frame.Leaves Exiting ∷ k) kinds fits = fits.1
+  catches (frame.Leaves Returning ∷ k) kinds fits = fits
+  catches (frame.Evaluates right ∷ k) kinds fits = catches k (fits.0 ∷ kinds) fits.2
+  catches (frame.Computes e ∷ k) kinds fits = catches k (kind_of fits.0 ∷ kinds) fits.2
+  catches (frame.Follows cs ∷ k) kinds fits = catches k (fits.2 ∷ fits.0) fits.5
+  catches (frame.TestsNull equal ∷ k) kinds fits = catches k (variable.Boolean ∷ fits.0) fits.3
+  catches (frame.Continues links ∷ k) kinds fits = catches k (kind_of fits.2 ∷ fits.0) fits.5
+  catches (frame.Applies operator ∷ k) kinds fits = catches k (kind_of fits.3 ∷ fits.0) fits.6
+  catches (frame.AppliesAlone operator ∷ k) kinds fits = catches k (kind_of fits.2 ∷ fits.0) fits.5
+  catches (frame.Fills items ∷ k) kinds fits = catches k (onto fits.0 kinds) fits.2
+  catches (frame.Creates access count ∷ k) kinds fits = catches k (variable.Access (record { 0 = access }) ∷ fits.0) fits.5
+  catches (frame.Stores x ∷ k) kinds fits = catches k fits.0 fits.4
+  catches (frame.Declares x ∷ k) kinds fits = catches k fits.0 fits.4
+  catches (frame.Writes ∷ k) kinds fits = catches k fits.0 fits.2
+  catches (frame.Ends v ∷ k) kinds fits = catches k kinds fits.1
+  catches (frame.GivesBack v cause pool ∷ k) kinds fits = catches k kinds fits.1
+  catches (frame.Clears x ∷ k) kinds fits = catches k kinds fits.2
+
+  -- So it is behind each frame that it passes.
+  pub catches_behind : (o : Option HandlersForm) (k : List (Frame Value)) → AtHandlers p o (Lands p k) (Fits p [] k) (Catches p k) → Catches p k
+  catches_behind None k h = h
+  catches_behind (Some hs) k h = catches k [] h.3
 
 -- Of the operands that have been computed for an allocator, the newest are its components, in reverse.
 next_taken : {X : Type 0} (m : ℕ) (ops : List X) (v : X) (rest : List X) → drop m ops ≡ v ∷ rest → (take (suc m) ops ≡ take m ops ++ v ∷ []) × (drop (suc m) ops ≡ rest)

@@ -1,7 +1,9 @@
 -- How typed states change, and that what is evaluated has the type that is waited for.
 
+use Rattle.ada_typed.specs.Stuck.{EndsByTheLanguage}
 use Rattle.ada_typed.specs.Holding.{Cells, Designates, HasKind, HaveKinds, cells_of}
-use Rattle.std.proofs.Common.{◌≡◌, ◌≢◌, ℕ, zero, suc, ◌<◌, ◌≤◌, ◌==◌, if◌then◌else◌, Bool, true, false, List, [], ◌∷◌, ◌++◌, length, take, drop, reverse, Option, Some, None, Result, Ok, Err, arith, refl, sym, ap, ◌∙◌, subst}
+use Rattle.std.proofs.Common.{◌≡◌, ℕ, zero, suc, ◌<◌, ◌≤◌, ◌==◌, if◌then◌else◌, Bool, true, false, ◌&&◌, List, [], ◌∷◌, ◌++◌, length, take, drop, reverse, Option, Some, None, Result, Ok, Err, arith, refl, sym, ap, ◌∙◌, subst}
+use Rattle.std.specs.Prelude.{is_some}
 use Rattle.std.proofs.lemmas.Bool.{eqb-true}
 use Rattle.std.specs.List.{slice_get, slice_set}
 use Rattle.ada_program.specs.declared.program.ComponentKind.{ComponentKind}
@@ -11,7 +13,7 @@ use Rattle.ada_program.specs.declared.program.ScalarType.TheVariants.{Integer, B
 use Rattle.ada_program.specs.declared.program.TypeNo.{TypeNo}
 use Rattle.ada_program.specs.declared.program.VariableKind.{VariableKind}
 use Rattle.ada_program.specs.declared.program.VariableKind.TheVariants as variable
-use Rattle.ada_program.specs.Form.{ExpressionForm, integer, boolean, reads, applied_to, chained, LinksForm, no_more_links, a_link, ItemForm, null_item, item_of_value, RightForm, nothing, value_of, allocates, computes}
+use Rattle.ada_program.specs.Form.{ExpressionForm, integer, boolean, reads, is_null, applied_to, chained, LinksForm, no_more_links, a_link, ItemForm, null_item, item_of_value, RightForm, nothing, value_of, allocates, computes}
 use Rattle.ada_program.specs.ProgramForm.{TypeForm, ComponentForm, VariableForm, ProgramForm}
 use Rattle.ada_program.specs.WellFormed.{reached_components, held_kind, component_kind, kind_among, selected_kind, selectors_kind, variable_kind, path_kind, path_access, access_of, scalar_of, is_this, follows_at_most_one, names_variable, type_of, chain_type, unary_type, binary_type, item_fits, items_fit, is_filled, kind_takes}
 use Rattle.ada_values.specs.declared.value.Value.TheVariants as scalar
@@ -23,23 +25,23 @@ use Rattle.ada_meaning.specs.declared.state.Value.{Value}
 use Rattle.ada_meaning.specs.declared.state.Value.TheVariants.{Null, Names, Scalar}
 use Rattle.ada_meaning.specs.declared.state.Stage.{Stage}
 use Rattle.ada_meaning.specs.declared.state.Stage.TheVariants.{Building, Existing, Gone}
-use Rattle.ada_meaning.specs.declared.event.Exception.{Exception}
-use Rattle.ada_meaning.specs.declared.event.Exception.TheVariants.{ConstraintError, StorageError}
-use Rattle.ada_meaning.specs.declared.event.Halt.TheVariants.{Stuck}
+use Rattle.ada_meaning.specs.declared.state.Mode.{Mode}
+use Rattle.ada_meaning.specs.declared.state.Mode.TheVariants.{Raising}
+use Rattle.ada_program.specs.declared.program.Exception.{Exception}
+use Rattle.ada_program.specs.declared.program.Exception.TheVariants.{ConstraintError, StorageError}
 use Rattle.ada_meaning.specs.Frame.{Frame, is_master}
 use Rattle.ada_meaning.specs.Frame as frame
 use Rattle.ada_meaning.specs.State.{Activation, Owned, Item, Master, height}
 use Rattle.ada_meaning.specs.Heap.{Cell}
-use Rattle.ada_meaning.specs.Step.{halts, moves, tells, asks, picks, at, owning, owned, shorter, computed, popped, raised, put, held, newest, operands, operands_of, with_operands, reading, component_next, follow_next, path_next, expression_next, is_decided, link_next, links_next, outcome_next, item_next, items_next, answered, new_next, new_cell, right_next}
-use Rattle.ada_meaning.specs.Named.{Object, State, Next, named, look, seen, existing, changed, on_object, new_object, reads_boolean}
-use Rattle.ada_typed.proofs.Values.{AreFilled, IsActive, kind_of, filled_new, active_more, newest_name, active_held, active_set, active_next, active_push, active_pop, active_newest, active_cleared, component_held, filled_at}
-use Rattle.ada_typed.proofs.Declared.{and_left, and_right}
-use Rattle.ada_typed.proofs.Operators.{typed, unary_operand, binary_operand, chain_left, decided_same, GivesKind}
-use Rattle.ada_typed.proofs.Control.{onto, Fits, depth, Ready, Typed, running, raising, split}
+use Rattle.ada_meaning.specs.Step.{halts, moves, tells, asks, picks, at, owning, owned, shorter, computed, popped, jumping, raised, put, held, newest, operands, operands_of, with_operands, reading, component_next, follow_next, path_next, expression_next, null_test_next, is_decided, link_next, links_next, outcome_next, item_next, items_next, answered, new_next, new_cell, right_next}
+use Rattle.ada_meaning.specs.Named.{Object, State, Next, named, look, seen, existing, changed, on_object, new_object, reads_boolean, reads_null}
+use Rattle.ada_typed.proofs.Values.{AreFilled, IsActive, kind_of, filled_new, active_more, newest_name, active_held, active_set, active_push, active_pop, active_newest, active_cleared, component_held, filled_at}
+use Rattle.ada_typed.proofs.Operators.{and_left, and_right, typed, unary_operand, binary_operand, chain_left, decided_same, GivesKind}
+use Rattle.ada_typed.proofs.Control.{onto, Fits, depth, Ready, Jumps, Typed, running, on_jump, catches, split}
 
--- What comes next is typed, whatever is answered, and the run is not stuck.
+-- What comes next is typed, whatever is answered, or the run ends in a way that the language knows.
 abbrev pub Fine : ProgramForm → Next → Type 0
-Fine p (halts halt) = halt ≢ Stuck
+Fine p (halts halt) = EndsByTheLanguage halt
 Fine p (moves e s) = Typed p s
 Fine p (tells request e s) = Typed p s
 Fine p (asks request answers) = (granted : Bool) → Typed p (answers granted)
@@ -89,52 +91,44 @@ selectors_none types (c ∷ cs) = selectors_none types cs
 
 module _ (p : ProgramForm) where
   -- How states change.
-  pub ready_kinds : (n : ℕ) (ks ls : List VariableKind) (s : State) → ks ≡ ls → Ready p n ks s → Ready p n ls s
-  ready_kinds n ks ls s same ready = subst (λ (xs : List VariableKind). Ready p n xs s) same ready
+  pub ready_kinds : (ks ls : List VariableKind) (s : State) → ks ≡ ls → Ready p ks s → Ready p ls s
+  ready_kinds ks ls s same ready = subst (λ (xs : List VariableKind). Ready p xs s) same ready
 
-  pub ready_at : (n : ℕ) (kinds : List VariableKind) (s : State) (k : List (Frame Value)) → Ready p n kinds s → depth k ≤ length s.masters → Ready p n kinds (at k s)
-  ready_at n kinds s k ready deep = record { filled = ready.filled; active = ready.active; runs = ready.runs; deep = deep }
+  pub ready_at : (kinds : List VariableKind) (s : State) (k : List (Frame Value)) → Ready p kinds s → depth k ≤ length s.masters → Ready p kinds (at k s)
+  ready_at kinds s k ready deep = record { filled = ready.filled; active = ready.active; runs = ready.runs; deep = deep }
 
-  pub ready_push : (n : ℕ) (kinds : List VariableKind) (s : State) (kind : VariableKind) (v : Value) → Ready p n kinds s → HasKind (cells_of s.heap) kind v → Ready p n (kind ∷ kinds) (computed v s)
-  ready_push n kinds s kind v ready has = record {
+  pub ready_push : (kinds : List VariableKind) (s : State) (kind : VariableKind) (v : Value) → Ready p kinds s → HasKind (cells_of s.heap) kind v → Ready p (kind ∷ kinds) (computed v s)
+  ready_push kinds s kind v ready has = record {
     filled = ready.filled;
-    active = active_push (cells_of s.heap) n p.variables kinds s.activations kind v ready.active has;
+    active = active_push (cells_of s.heap) p.variables kinds s.activations kind v ready.active has;
     runs = ready.runs;
     deep = ready.deep;
   }
 
-  pub ready_pop : (n : ℕ) (kind : VariableKind) (kinds : List VariableKind) (s : State) → Ready p n (kind ∷ kinds) s → Ready p n kinds (popped s)
-  ready_pop n kind kinds s ready = record {
+  pub ready_pop : (kind : VariableKind) (kinds : List VariableKind) (s : State) → Ready p (kind ∷ kinds) s → Ready p kinds (popped s)
+  ready_pop kind kinds s ready = record {
     filled = ready.filled;
-    active = active_pop (cells_of s.heap) n p.variables kind kinds s.activations ready.active;
+    active = active_pop (cells_of s.heap) p.variables kind kinds s.activations ready.active;
     runs = ready.runs;
     deep = ready.deep;
   }
 
-  pub newest_of : (n : ℕ) (kind : VariableKind) (kinds : List VariableKind) (s : State) → Ready p n (kind ∷ kinds) s → HasKind (cells_of s.heap) kind (newest named s)
-  newest_of n kind kinds s ready = active_newest (cells_of s.heap) n p.variables kind kinds s.activations ready.active
+  pub newest_of : (kind : VariableKind) (kinds : List VariableKind) (s : State) → Ready p (kind ∷ kinds) s → HasKind (cells_of s.heap) kind (newest named s)
+  newest_of kind kinds s ready = active_newest (cells_of s.heap) p.variables kind kinds s.activations ready.active
 
-  pub held_of : (n : ℕ) (kinds : List VariableKind) (s : State) (x : ℕ) (kind : VariableKind) → Ready p n kinds s → variable_kind (take n p.variables) x ≡ Some kind → HasKind (cells_of s.heap) kind (held named s x)
-  held_of n kinds s x kind ready is = active_held (cells_of s.heap) n p.variables kinds s.activations x kind ready.active is
+  pub held_of : (kinds : List VariableKind) (s : State) (x : ℕ) (kind : VariableKind) → Ready p kinds s → variable_kind p.variables x ≡ Some kind → HasKind (cells_of s.heap) kind (held named s x)
+  held_of kinds s x kind ready is = active_held (cells_of s.heap) p.variables kinds s.activations x kind ready.active is
 
-  pub put_in : (n : ℕ) (kinds : List VariableKind) (s : State) (x : ℕ) (kind : VariableKind) (v : Value) → Ready p n kinds s → variable_kind (take n p.variables) x ≡ Some kind → HasKind (cells_of s.heap) kind v → Ready p n kinds (put x v s)
-  put_in n kinds s x kind v ready is has = record {
+  pub put_in : (kinds : List VariableKind) (s : State) (x : ℕ) (kind : VariableKind) (v : Value) → Ready p kinds s → variable_kind p.variables x ≡ Some kind → HasKind (cells_of s.heap) kind v → Ready p kinds (put x v s)
+  put_in kinds s x kind v ready is has = record {
     filled = ready.filled;
-    active = active_set (cells_of s.heap) n p.variables kinds s.activations x kind v ready.active is has;
+    active = active_set (cells_of s.heap) p.variables kinds s.activations x kind v ready.active is has;
     runs = ready.runs;
     deep = ready.deep;
   }
 
-  pub put_next : (n : ℕ) (kinds : List VariableKind) (s : State) (kind : VariableKind) (v : Value) → Ready p n kinds s → variable_kind p.variables n ≡ Some kind → HasKind (cells_of s.heap) kind v → Ready p (suc n) kinds (put n v s)
-  put_next n kinds s kind v ready is has = record {
-    filled = ready.filled;
-    active = active_next (cells_of s.heap) n p.variables kinds s.activations kind v ready.active is has;
-    runs = ready.runs;
-    deep = ready.deep;
-  }
-
-  pub ready_owning : (n : ℕ) (kinds : List VariableKind) (s : State) (what : Owned) → Ready p n kinds s → Ready p n kinds (owned what s)
-  ready_owning n kinds s what ready = record {
+  pub ready_owning : (kinds : List VariableKind) (s : State) (what : Owned) → Ready p kinds s → Ready p kinds (owned what s)
+  ready_owning kinds s what ready = record {
     filled = ready.filled;
     active = ready.active;
     runs = ready.runs;
@@ -142,33 +136,42 @@ module _ (p : ProgramForm) where
   }
 
   -- The heap changes, and what lies in objects does not.
-  pub ready_heap : (n : ℕ) (kinds : List VariableKind) (s : State) (heap : List Object) → cells_of heap ≡ cells_of s.heap → Ready p n kinds s → Ready p n kinds (record s { heap = heap })
-  ready_heap n kinds s heap same ready = record {
+  pub ready_heap : (kinds : List VariableKind) (s : State) (heap : List Object) → cells_of heap ≡ cells_of s.heap → Ready p kinds s → Ready p kinds (record s { heap = heap })
+  ready_heap kinds s heap same ready = record {
     filled = subst (λ (cs : Cells). AreFilled p.types cs cs) (sym same) ready.filled;
-    active = subst (λ (cs : Cells). IsActive cs n p.variables kinds s.activations) (sym same) ready.active;
+    active = subst (λ (cs : Cells). IsActive cs p.variables kinds s.activations) (sym same) ready.active;
     runs = ready.runs;
     deep = ready.deep;
   }
 
-  pub raises : (n : ℕ) (kinds : List VariableKind) (e : Exception) (s : State) → Ready p n kinds s → Typed p (raised e s)
-  raises n kinds e s ready = raising n [] e ready.filled (active_cleared (cells_of s.heap) n p.variables kinds s.activations ready.active) refl ready.deep
+  -- A jump begins: operands are dropped.
+  pub jumped : (kinds : List VariableKind) (mode : Mode) (s : State) → Ready p kinds s → Jumps p mode (jumping mode s)
+  jumped kinds mode s ready = record {
+    filled = ready.filled;
+    active = active_cleared (cells_of s.heap) p.variables kinds s.activations ready.active;
+    jumps = refl;
+    deep = ready.deep;
+  }
+
+  pub raises : (kinds ks : List VariableKind) (e : Exception) (s : State) → Ready p kinds s → Fits p ks s.control → Typed p (raised e s)
+  raises kinds ks e s ready fits = on_jump (Raising e) (jumped kinds (Raising e) s ready) (catches p s.control ks fits)
 
   -- Paths.
-  reading_fine : (cs : List ℕ) (v : Value) (kind to : VariableKind) (s : State) (n : ℕ) (kinds : List VariableKind) → Ready p n kinds s → HasKind (cells_of s.heap) kind v → selectors_kind p.types (Some kind) cs ≡ Some to → Fits p n (to ∷ kinds) s.control → Typed p (reading named cs v s)
-  reading_fine [] v kind to s n kinds ready has is fits =
+  reading_fine : (cs : List ℕ) (v : Value) (kind to : VariableKind) (s : State) (kinds : List VariableKind) → Ready p kinds s → HasKind (cells_of s.heap) kind v → selectors_kind p.types (Some kind) cs ≡ Some to → Fits p (to ∷ kinds) s.control → Typed p (reading named cs v s)
+  reading_fine [] v kind to s kinds ready has is fits =
       let same : to ≡ kind = cc in
-      running n (kind ∷ kinds) (ready_push n kinds s kind v ready has) (subst (λ (q : VariableKind). Fits p n (q ∷ kinds) s.control) same fits)
-  reading_fine (c ∷ cs) v kind to s n kinds ready has is fits =
-      running n (kind ∷ kinds) (ready_at n (kind ∷ kinds) (computed v s) (frame.Follows (c ∷ cs) ∷ s.control) (ready_push n kinds s kind v ready has) ready.deep) (kinds, kind, to, refl, is, fits)
+      running (kind ∷ kinds) (ready_push kinds s kind v ready has) (subst (λ (q : VariableKind). Fits p (q ∷ kinds) s.control) same fits)
+  reading_fine (c ∷ cs) v kind to s kinds ready has is fits =
+      running (kind ∷ kinds) (ready_at (kind ∷ kinds) (computed v s) (frame.Follows (c ∷ cs) ∷ s.control) (ready_push kinds s kind v ready has) ready.deep) (kinds, kind, to, refl, is, fits)
 
-  value_fine : (o : Value) (cs : List ℕ) (c : ℕ) (components : List ComponentForm) (values : List Value) (kind : Option VariableKind) (to : VariableKind) (s : State) (n : ℕ) (kinds : List VariableKind) → Ready p n kinds s → HaveKinds (cells_of s.heap) components values → component_kind (slice_get components c) ≡ kind → selectors_kind p.types kind cs ≡ Some to → Fits p n (to ∷ kinds) s.control → Fine p (component_next named o cs (slice_get values c) s)
-  value_fine o cs c components values None to s n kinds ready have is leads fits = let never : None ≡ Some to = sym (selectors_none p.types cs) ∙ leads in absurd (cc)
-  value_fine o cs c components values (Some kind) to s n kinds ready have is leads fits =
+  value_fine : (o : Value) (cs : List ℕ) (c : ℕ) (components : List ComponentForm) (values : List Value) (kind : Option VariableKind) (to : VariableKind) (s : State) (kinds : List VariableKind) → Ready p kinds s → HaveKinds (cells_of s.heap) components values → component_kind (slice_get components c) ≡ kind → selectors_kind p.types kind cs ≡ Some to → Fits p (to ∷ kinds) s.control → Fine p (component_next named o cs (slice_get values c) s)
+  value_fine o cs c components values None to s kinds ready have is leads fits = let never : None ≡ Some to = sym (selectors_none p.types cs) ∙ leads in absurd (cc)
+  value_fine o cs c components values (Some kind) to s kinds ready have is leads fits =
       let u = component_held (cells_of s.heap) components values c kind have is in
-      subst (λ (f : Option Value). Fine p (component_next named o cs f s)) (sym u.1) (reading_fine cs u.0 kind to s n kinds ready u.2 leads fits)
+      subst (λ (f : Option Value). Fine p (component_next named o cs f s)) (sym u.1) (reading_fine cs u.0 kind to s kinds ready u.2 leads fits)
 
-  found_fine : (o : Id) (c : ℕ) (cs : List ℕ) (access : TypeNo) (to : VariableKind) (object : Object) (s : State) (n : ℕ) (kinds : List VariableKind) → Ready p n kinds s → Designates (cells_of s.heap) access.0 o → slice_get s.heap o.0 ≡ Some object → selectors_kind p.types (selected_kind p.types (Some (variable.Access access)) c) cs ≡ Some to → Fits p n (to ∷ kinds) s.control → Fine p (component_next named (Names o) cs (slice_get object.cell.values c) s)
-  found_fine o c cs access to object s n kinds ready has is leads fits =
+  found_fine : (o : Id) (c : ℕ) (cs : List ℕ) (access : TypeNo) (to : VariableKind) (object : Object) (s : State) (kinds : List VariableKind) → Ready p kinds s → Designates (cells_of s.heap) access.0 o → slice_get s.heap o.0 ≡ Some object → selectors_kind p.types (selected_kind p.types (Some (variable.Access access)) c) cs ≡ Some to → Fits p (to ∷ kinds) s.control → Fine p (component_next named (Names o) cs (slice_get object.cell.values c) s)
+  found_fine o c cs access to object s kinds ready has is leads fits =
       let there : slice_get (cells_of s.heap) o.0 ≡ Some object.cell = cell_at s.heap o.0 object is in
       let twice : Some has.0 ≡ Some object.cell = sym has.1 ∙ there in
       let one : has.0 ≡ object.cell = cc in
@@ -176,34 +179,34 @@ module _ (p : ProgramForm) where
       let filled = filled_at p.types (cells_of s.heap) (cells_of s.heap) o.0 object.cell ready.filled there in
       let reached : reached_components p.types access.0 ≡ Some filled.0 = ap (reached_components p.types) (sym own) ∙ filled.1 in
       let behind : selectors_kind p.types (component_kind (slice_get filled.0 c)) cs ≡ Some to = sym (ap (λ (found : Option (List ComponentForm)). selectors_kind p.types (kind_among found c) cs) reached) ∙ leads in
-      value_fine (Names o) cs c filled.0 object.cell.values (component_kind (slice_get filled.0 c)) to s n kinds ready filled.2 refl behind fits
+      value_fine (Names o) cs c filled.0 object.cell.values (component_kind (slice_get filled.0 c)) to s kinds ready filled.2 refl behind fits
 
-  stage_fine : (stage : Stage) (o : Id) (c : ℕ) (cs : List ℕ) (access : TypeNo) (to : VariableKind) (object : Object) (s : State) (n : ℕ) (kinds : List VariableKind) → Ready p n kinds s → Designates (cells_of s.heap) access.0 o → slice_get s.heap o.0 ≡ Some object → selectors_kind p.types (selected_kind p.types (Some (variable.Access access)) c) cs ≡ Some to → Fits p n (to ∷ kinds) s.control → Fine p (follow_next named (Names o) c cs (existing object stage) s)
-  stage_fine Gone o c cs access to object s n kinds ready has is leads fits = λ e. cc
-  stage_fine Building o c cs access to object s n kinds ready has is leads fits = found_fine o c cs access to object s n kinds ready has is leads fits
-  stage_fine Existing o c cs access to object s n kinds ready has is leads fits = found_fine o c cs access to object s n kinds ready has is leads fits
+  stage_fine : (stage : Stage) (o : Id) (c : ℕ) (cs : List ℕ) (access : TypeNo) (to : VariableKind) (object : Object) (s : State) (kinds : List VariableKind) → Ready p kinds s → Designates (cells_of s.heap) access.0 o → slice_get s.heap o.0 ≡ Some object → selectors_kind p.types (selected_kind p.types (Some (variable.Access access)) c) cs ≡ Some to → Fits p (to ∷ kinds) s.control → Fine p (follow_next named (Names o) c cs (existing object stage) s)
+  stage_fine Gone o c cs access to object s kinds ready has is leads fits = tt
+  stage_fine Building o c cs access to object s kinds ready has is leads fits = found_fine o c cs access to object s kinds ready has is leads fits
+  stage_fine Existing o c cs access to object s kinds ready has is leads fits = found_fine o c cs access to object s kinds ready has is leads fits
 
-  seen_fine : (at_o : Option Object) (o : Id) (c : ℕ) (cs : List ℕ) (access : TypeNo) (to : VariableKind) (s : State) (n : ℕ) (kinds : List VariableKind) → Ready p n kinds s → Designates (cells_of s.heap) access.0 o → slice_get s.heap o.0 ≡ at_o → selectors_kind p.types (selected_kind p.types (Some (variable.Access access)) c) cs ≡ Some to → Fits p n (to ∷ kinds) s.control → Fine p (follow_next named (Names o) c cs (seen at_o) s)
-  seen_fine None o c cs access to s n kinds ready has is leads fits = λ e. cc
-  seen_fine (Some object) o c cs access to s n kinds ready has is leads fits = stage_fine object.stage o c cs access to object s n kinds ready has is leads fits
+  seen_fine : (at_o : Option Object) (o : Id) (c : ℕ) (cs : List ℕ) (access : TypeNo) (to : VariableKind) (s : State) (kinds : List VariableKind) → Ready p kinds s → Designates (cells_of s.heap) access.0 o → slice_get s.heap o.0 ≡ at_o → selectors_kind p.types (selected_kind p.types (Some (variable.Access access)) c) cs ≡ Some to → Fits p (to ∷ kinds) s.control → Fine p (follow_next named (Names o) c cs (seen at_o) s)
+  seen_fine None o c cs access to s kinds ready has is leads fits = tt
+  seen_fine (Some object) o c cs access to s kinds ready has is leads fits = stage_fine object.stage o c cs access to object s kinds ready has is leads fits
 
-  access_fine : (v : Value) (c : ℕ) (cs : List ℕ) (access : TypeNo) (to : VariableKind) (s : State) (n : ℕ) (kinds : List VariableKind) → Ready p n kinds s → HasKind (cells_of s.heap) (variable.Access access) v → selectors_kind p.types (selected_kind p.types (Some (variable.Access access)) c) cs ≡ Some to → Fits p n (to ∷ kinds) s.control → Fine p (follow_next named v c cs (look s.heap v) s)
-  access_fine Null c cs access to s n kinds ready has leads fits = raises n kinds ConstraintError s ready
-  access_fine (Names o) c cs access to s n kinds ready has leads fits = seen_fine (slice_get s.heap o.0) o c cs access to s n kinds ready has refl leads fits
-  access_fine (Scalar v) c cs access to s n kinds ready has leads fits = absurd has
+  access_fine : (v : Value) (c : ℕ) (cs : List ℕ) (access : TypeNo) (to : VariableKind) (s : State) (kinds : List VariableKind) → Ready p kinds s → HasKind (cells_of s.heap) (variable.Access access) v → selectors_kind p.types (selected_kind p.types (Some (variable.Access access)) c) cs ≡ Some to → Fits p (to ∷ kinds) s.control → Fine p (follow_next named v c cs (look s.heap v) s)
+  access_fine Null c cs access to s kinds ready has leads fits = raises kinds (to ∷ kinds) ConstraintError s ready fits
+  access_fine (Names o) c cs access to s kinds ready has leads fits = seen_fine (slice_get s.heap o.0) o c cs access to s kinds ready has refl leads fits
+  access_fine (Scalar v) c cs access to s kinds ready has leads fits = absurd has
 
-  follow_fine : (from : VariableKind) (v : Value) (c : ℕ) (cs : List ℕ) (to : VariableKind) (s : State) (n : ℕ) (kinds : List VariableKind) → Ready p n kinds s → HasKind (cells_of s.heap) from v → selectors_kind p.types (selected_kind p.types (Some from) c) cs ≡ Some to → Fits p n (to ∷ kinds) s.control → Fine p (follow_next named v c cs (look s.heap v) s)
-  follow_fine variable.Integer v c cs to s n kinds ready has leads fits = let never : None ≡ Some to = sym (selectors_none p.types cs) ∙ leads in absurd (cc)
-  follow_fine variable.Boolean v c cs to s n kinds ready has leads fits = let never : None ≡ Some to = sym (selectors_none p.types cs) ∙ leads in absurd (cc)
-  follow_fine (variable.Access access) v c cs to s n kinds ready has leads fits = access_fine v c cs access to s n kinds ready has leads fits
+  follow_fine : (from : VariableKind) (v : Value) (c : ℕ) (cs : List ℕ) (to : VariableKind) (s : State) (kinds : List VariableKind) → Ready p kinds s → HasKind (cells_of s.heap) from v → selectors_kind p.types (selected_kind p.types (Some from) c) cs ≡ Some to → Fits p (to ∷ kinds) s.control → Fine p (follow_next named v c cs (look s.heap v) s)
+  follow_fine variable.Integer v c cs to s kinds ready has leads fits = let never : None ≡ Some to = sym (selectors_none p.types cs) ∙ leads in absurd (cc)
+  follow_fine variable.Boolean v c cs to s kinds ready has leads fits = let never : None ≡ Some to = sym (selectors_none p.types cs) ∙ leads in absurd (cc)
+  follow_fine (variable.Access access) v c cs to s kinds ready has leads fits = access_fine v c cs access to s kinds ready has leads fits
 
-  pub path_fine : (cs : List ℕ) (v : Value) (from to : VariableKind) (s : State) (n : ℕ) (kinds : List VariableKind) → Ready p n kinds s → HasKind (cells_of s.heap) from v → selectors_kind p.types (Some from) cs ≡ Some to → Fits p n (to ∷ kinds) s.control → Fine p (path_next named cs v s)
-  path_fine [] v from to s n kinds ready has leads fits = reading_fine [] v from to s n kinds ready has leads fits
-  path_fine (c ∷ cs) v from to s n kinds ready has leads fits = follow_fine from v c cs to s n kinds ready has leads fits
+  pub path_fine : (cs : List ℕ) (v : Value) (from to : VariableKind) (s : State) (kinds : List VariableKind) → Ready p kinds s → HasKind (cells_of s.heap) from v → selectors_kind p.types (Some from) cs ≡ Some to → Fits p (to ∷ kinds) s.control → Fine p (path_next named cs v s)
+  path_fine [] v from to s kinds ready has leads fits = reading_fine [] v from to s kinds ready has leads fits
+  path_fine (c ∷ cs) v from to s kinds ready has leads fits = follow_fine from v c cs to s kinds ready has leads fits
 
-  root_fine : (kind : Option VariableKind) (cs : List ℕ) (x : ℕ) (to : VariableKind) (s : State) (n : ℕ) (kinds : List VariableKind) → Ready p n kinds s → variable_kind (take n p.variables) x ≡ kind → selectors_kind p.types kind cs ≡ Some to → Fits p n (to ∷ kinds) s.control → Fine p (path_next named cs (held named s x) s)
-  root_fine None cs x to s n kinds ready is leads fits = let never : None ≡ Some to = sym (selectors_none p.types cs) ∙ leads in absurd (cc)
-  root_fine (Some from) cs x to s n kinds ready is leads fits = path_fine cs (held named s x) from to s n kinds ready (held_of n kinds s x from ready is) leads fits
+  root_fine : (kind : Option VariableKind) (cs : List ℕ) (x : ℕ) (to : VariableKind) (s : State) (kinds : List VariableKind) → Ready p kinds s → variable_kind p.variables x ≡ kind → selectors_kind p.types kind cs ≡ Some to → Fits p (to ∷ kinds) s.control → Fine p (path_next named cs (held named s x) s)
+  root_fine None cs x to s kinds ready is leads fits = let never : None ≡ Some to = sym (selectors_none p.types cs) ∙ leads in absurd (cc)
+  root_fine (Some from) cs x to s kinds ready is leads fits = path_fine cs (held named s x) from to s kinds ready (held_of kinds s x from ready is) leads fits
 
   -- Expressions.
   scalar_kind : (kind : Option VariableKind) (t : ScalarType) → scalar_of kind ≡ Some t → kind ≡ Some (kind_of t)
@@ -218,95 +221,118 @@ module _ (p : ProgramForm) where
   read_kind true kind t h = scalar_kind kind t h
   read_kind false kind t h = absurd (cc)
 
-  pub expression_fine : (e : ExpressionForm) (t : ScalarType) (s : State) (n : ℕ) (kinds : List VariableKind) → Ready p n kinds s → type_of p.types (take n p.variables) e ≡ Some t → Fits p n (kind_of t ∷ kinds) s.control → Fine p (expression_next named e s)
-  expression_fine (integer i) Integer s n kinds ready is fits = running n (variable.Integer ∷ kinds) (ready_push n kinds s variable.Integer (Scalar (scalar.Integer i)) ready tt) fits
-  expression_fine (integer i) Boolean s n kinds ready is fits = absurd (cc)
-  expression_fine (boolean b) Boolean s n kinds ready is fits = running n (variable.Boolean ∷ kinds) (ready_push n kinds s variable.Boolean (Scalar (scalar.Boolean b)) ready tt) fits
-  expression_fine (boolean b) Integer s n kinds ready is fits = absurd (cc)
-  expression_fine (reads path) t s n kinds ready is fits =
-      root_fine (variable_kind (take n p.variables) path.root) path.selectors path.root (kind_of t) s n kinds ready refl
-      (read_kind (follows_at_most_one path) (path_kind p.types (take n p.variables) path) t is) fits
-  expression_fine (applied_to operator e) t s n kinds ready is fits =
-      let operand = unary_operand operator (type_of p.types (take n p.variables) e) t is in
-      let gives : unary_type operator (Some operand.0) ≡ Some t = ap (unary_type operator) (sym operand.1) ∙ is in
-      running n kinds (ready_at n kinds s (frame.Computes e ∷ frame.AppliesAlone operator ∷ s.control) ready ready.deep) (operand.0, operand.1, (kinds, operand.0, t, refl, gives, fits))
-  expression_fine (chained e links) t s n kinds ready is fits =
-      let left = chain_left p.types (take n p.variables) (type_of p.types (take n p.variables) e) links t is in
-      let chain : chain_type p.types (take n p.variables) (Some left.0) links ≡ Some t = ap (λ (o : Option ScalarType). chain_type p.types (take n p.variables) o links) (sym left.1) ∙ is in
-      running n kinds (ready_at n kinds s (frame.Computes e ∷ frame.Continues links ∷ s.control) ready ready.deep) (left.0, left.1, (kinds, left.0, t, refl, chain, fits))
+  -- What is compared with null is an access value.
+  tested_access : (kind : Option VariableKind) (t : ScalarType) → (if is_some (access_of kind) then Some Boolean else None) ≡ Some t → (access : TypeNo) × (kind ≡ Some (variable.Access access)) × (Boolean ≡ t)
+  tested_access None t h = absurd (cc)
+  tested_access (Some variable.Integer) t h = absurd (cc)
+  tested_access (Some variable.Boolean) t h = absurd (cc)
+  tested_access (Some (variable.Access access)) t h = (access, refl, cc)
 
-  link_fine : (decided : Bool) (truth : Option Bool) (operator : BinaryOperator) (e : ExpressionForm) (links : LinksForm) (l r m t : ScalarType) (s : State) (n : ℕ) (ks : List VariableKind) → is_decided named operator truth ≡ decided → Ready p n (kind_of l ∷ ks) s → type_of p.types (take n p.variables) e ≡ Some r → binary_type operator (Some l) (Some r) ≡ Some m → chain_type p.types (take n p.variables) (Some m) links ≡ Some t → Fits p n (kind_of t ∷ ks) s.control → Fine p (link_next named decided operator e links s)
-  link_fine true truth operator e links l r m t s n ks decides ready right gives chain fits =
+  tested_kind : (short : Bool) (kind : Option VariableKind) (t : ScalarType) → (if short && is_some (access_of kind) then Some Boolean else None) ≡ Some t → (access : TypeNo) × (kind ≡ Some (variable.Access access)) × (Boolean ≡ t)
+  tested_kind true kind t h = tested_access kind t h
+  tested_kind false kind t h = absurd (cc)
+
+  pub null_test_fine : (equal : Bool) (access : TypeNo) (v : Value) (s : State) (kinds : List VariableKind) (cells : Cells) → HasKind cells (variable.Access access) v → Ready p kinds s → Fits p (variable.Boolean ∷ kinds) s.control → Fine p (null_test_next named equal (reads_null v) s)
+  null_test_fine true access Null s kinds cells has ready fits = running (variable.Boolean ∷ kinds) (ready_push kinds s variable.Boolean (Scalar (scalar.Boolean true)) ready tt) fits
+  null_test_fine false access Null s kinds cells has ready fits = running (variable.Boolean ∷ kinds) (ready_push kinds s variable.Boolean (Scalar (scalar.Boolean false)) ready tt) fits
+  null_test_fine true access (Names o) s kinds cells has ready fits = running (variable.Boolean ∷ kinds) (ready_push kinds s variable.Boolean (Scalar (scalar.Boolean false)) ready tt) fits
+  null_test_fine false access (Names o) s kinds cells has ready fits = running (variable.Boolean ∷ kinds) (ready_push kinds s variable.Boolean (Scalar (scalar.Boolean true)) ready tt) fits
+  null_test_fine equal access (Scalar v) s kinds cells has ready fits = absurd has
+
+  pub expression_fine : (e : ExpressionForm) (t : ScalarType) (s : State) (kinds : List VariableKind) → Ready p kinds s → type_of p.types p.variables e ≡ Some t → Fits p (kind_of t ∷ kinds) s.control → Fine p (expression_next named e s)
+  expression_fine (integer i) Integer s kinds ready is fits = running (variable.Integer ∷ kinds) (ready_push kinds s variable.Integer (Scalar (scalar.Integer i)) ready tt) fits
+  expression_fine (integer i) Boolean s kinds ready is fits = absurd (cc)
+  expression_fine (boolean b) Boolean s kinds ready is fits = running (variable.Boolean ∷ kinds) (ready_push kinds s variable.Boolean (Scalar (scalar.Boolean b)) ready tt) fits
+  expression_fine (boolean b) Integer s kinds ready is fits = absurd (cc)
+  expression_fine (reads path) t s kinds ready is fits =
+      root_fine (variable_kind p.variables path.root) path.selectors path.root (kind_of t) s kinds ready refl
+      (read_kind (follows_at_most_one path) (path_kind p.types p.variables path) t is) fits
+  expression_fine (is_null equal path) t s kinds ready is fits =
+      let tested = tested_kind (follows_at_most_one path) (path_kind p.types p.variables path) t is in
+      root_fine (variable_kind p.variables path.root) path.selectors path.root (variable.Access tested.0) (at (frame.TestsNull equal ∷ s.control) s) kinds
+      (ready_at kinds s (frame.TestsNull equal ∷ s.control) ready ready.deep) refl tested.1
+      (kinds, tested.0, refl, subst (λ (q : ScalarType). Fits p (kind_of q ∷ kinds) s.control) (sym tested.2) fits)
+  expression_fine (applied_to operator e) t s kinds ready is fits =
+      let operand = unary_operand operator (type_of p.types p.variables e) t is in
+      let gives : unary_type operator (Some operand.0) ≡ Some t = ap (unary_type operator) (sym operand.1) ∙ is in
+      running kinds (ready_at kinds s (frame.Computes e ∷ frame.AppliesAlone operator ∷ s.control) ready ready.deep) (operand.0, operand.1, (kinds, operand.0, t, refl, gives, fits))
+  expression_fine (chained e links) t s kinds ready is fits =
+      let left = chain_left p.types p.variables (type_of p.types p.variables e) links t is in
+      let chain : chain_type p.types p.variables (Some left.0) links ≡ Some t = ap (λ (o : Option ScalarType). chain_type p.types p.variables o links) (sym left.1) ∙ is in
+      running kinds (ready_at kinds s (frame.Computes e ∷ frame.Continues links ∷ s.control) ready ready.deep) (left.0, left.1, (kinds, left.0, t, refl, chain, fits))
+
+  link_fine : (decided : Bool) (truth : Option Bool) (operator : BinaryOperator) (e : ExpressionForm) (links : LinksForm) (l r m t : ScalarType) (s : State) (ks : List VariableKind) → is_decided named operator truth ≡ decided → Ready p (kind_of l ∷ ks) s → type_of p.types p.variables e ≡ Some r → binary_type operator (Some l) (Some r) ≡ Some m → chain_type p.types p.variables (Some m) links ≡ Some t → Fits p (kind_of t ∷ ks) s.control → Fine p (link_next named decided operator e links s)
+  link_fine true truth operator e links l r m t s ks decides ready right gives chain fits =
       let same : l ≡ m = decided_same operator truth l r m decides gives in
-      running n (kind_of l ∷ ks) (ready_at n (kind_of l ∷ ks) s (frame.Continues links ∷ s.control) ready ready.deep)
-      (ks, l, t, refl, ap (λ (x : ScalarType). chain_type p.types (take n p.variables) (Some x) links) same ∙ chain, fits)
-  link_fine false truth operator e links l r m t s n ks decides ready right gives chain fits =
-      running n (kind_of l ∷ ks) (ready_at n (kind_of l ∷ ks) s (frame.Computes e ∷ frame.Applies operator ∷ frame.Continues links ∷ s.control) ready ready.deep)
+      running (kind_of l ∷ ks) (ready_at (kind_of l ∷ ks) s (frame.Continues links ∷ s.control) ready ready.deep)
+      (ks, l, t, refl, ap (λ (x : ScalarType). chain_type p.types p.variables (Some x) links) same ∙ chain, fits)
+  link_fine false truth operator e links l r m t s ks decides ready right gives chain fits =
+      running (kind_of l ∷ ks) (ready_at (kind_of l ∷ ks) s (frame.Computes e ∷ frame.Applies operator ∷ frame.Continues links ∷ s.control) ready ready.deep)
       (r, right, (ks, l, r, m, refl, gives, (ks, m, t, refl, chain, fits)))
 
-  pub links_fine : (links : LinksForm) (l t : ScalarType) (s : State) (n : ℕ) (ks : List VariableKind) → Ready p n (kind_of l ∷ ks) s → chain_type p.types (take n p.variables) (Some l) links ≡ Some t → Fits p n (kind_of t ∷ ks) s.control → Fine p (links_next named links s)
-  links_fine no_more_links l t s n ks ready chain fits =
+  pub links_fine : (links : LinksForm) (l t : ScalarType) (s : State) (ks : List VariableKind) → Ready p (kind_of l ∷ ks) s → chain_type p.types p.variables (Some l) links ≡ Some t → Fits p (kind_of t ∷ ks) s.control → Fine p (links_next named links s)
+  links_fine no_more_links l t s ks ready chain fits =
       let same : t ≡ l = cc in
-      running n (kind_of l ∷ ks) ready (subst (λ (x : ScalarType). Fits p n (kind_of x ∷ ks) s.control) same fits)
-  links_fine (a_link operator e links) l t s n ks ready chain fits =
-      let given = chain_left p.types (take n p.variables) (binary_type operator (Some l) (type_of p.types (take n p.variables) e)) links t chain in
-      let right = binary_operand operator l (type_of p.types (take n p.variables) e) given.0 given.1 in
+      running (kind_of l ∷ ks) ready (subst (λ (x : ScalarType). Fits p (kind_of x ∷ ks) s.control) same fits)
+  links_fine (a_link operator e links) l t s ks ready chain fits =
+      let given = chain_left p.types p.variables (binary_type operator (Some l) (type_of p.types p.variables e)) links t chain in
+      let right = binary_operand operator l (type_of p.types p.variables e) given.0 given.1 in
       let gives : binary_type operator (Some l) (Some right.0) ≡ Some given.0 = ap (binary_type operator (Some l)) (sym right.1) ∙ given.1 in
-      let later : chain_type p.types (take n p.variables) (Some given.0) links ≡ Some t = ap (λ (o : Option ScalarType). chain_type p.types (take n p.variables) o links) (sym given.1) ∙ chain in
-      link_fine (is_decided named operator (reads_boolean (newest named s))) (reads_boolean (newest named s)) operator e links l right.0 given.0 t s n ks refl ready right.1 gives later fits
+      let later : chain_type p.types p.variables (Some given.0) links ≡ Some t = ap (λ (o : Option ScalarType). chain_type p.types p.variables o links) (sym given.1) ∙ chain in
+      link_fine (is_decided named operator (reads_boolean (newest named s))) (reads_boolean (newest named s)) operator e links l right.0 given.0 t s ks refl ready right.1 gives later fits
 
-  pub outcome_fine : (outcome : Result Value OperatorFault) (t : ScalarType) (s : State) (n : ℕ) (ks : List VariableKind) → Ready p n ks s → GivesKind (cells_of s.heap) t outcome → Fits p n (kind_of t ∷ ks) s.control → Fine p (outcome_next named outcome s)
-  outcome_fine (Ok v) t s n ks ready gives fits = running n (kind_of t ∷ ks) (ready_push n ks s (kind_of t) v ready gives) fits
-  outcome_fine (Err Overflow) t s n ks ready gives fits = raises n ks ConstraintError s ready
-  outcome_fine (Err DivisionByZero) t s n ks ready gives fits = raises n ks ConstraintError s ready
-  outcome_fine (Err WrongType) t s n ks ready gives fits = absurd gives
+  pub outcome_fine : (outcome : Result Value OperatorFault) (t : ScalarType) (s : State) (ks : List VariableKind) → Ready p ks s → GivesKind (cells_of s.heap) t outcome → Fits p (kind_of t ∷ ks) s.control → Fine p (outcome_next named outcome s)
+  outcome_fine (Ok v) t s ks ready gives fits = running (kind_of t ∷ ks) (ready_push ks s (kind_of t) v ready gives) fits
+  outcome_fine (Err Overflow) t s ks ready gives fits = raises ks (kind_of t ∷ ks) ConstraintError s ready fits
+  outcome_fine (Err DivisionByZero) t s ks ready gives fits = raises ks (kind_of t ∷ ks) ConstraintError s ready fits
+  outcome_fine (Err WrongType) t s ks ready gives fits = absurd gives
 
   -- Allocators.
-  item_fine : (kind : ComponentKind) (item : ItemForm) (s : State) (n : ℕ) (kinds : List VariableKind) → Ready p n kinds s → item_fits p.types (take n p.variables) kind item ≡ true → Fits p n (held_kind kind ∷ kinds) s.control → Fine p (item_next named item s)
-  item_fine (component.Integer initial) null_item s n kinds ready is fits = absurd (cc)
-  item_fine (component.Integer initial) (item_of_value e) s n kinds ready is fits =
-      running n kinds (ready_at n kinds s (frame.Computes e ∷ s.control) ready ready.deep) (Integer, typed Integer (type_of p.types (take n p.variables) e) is, fits)
-  item_fine (component.Boolean initial) null_item s n kinds ready is fits = absurd (cc)
-  item_fine (component.Boolean initial) (item_of_value e) s n kinds ready is fits =
-      running n kinds (ready_at n kinds s (frame.Computes e ∷ s.control) ready ready.deep) (Boolean, typed Boolean (type_of p.types (take n p.variables) e) is, fits)
-  item_fine (component.Access access) null_item s n kinds ready is fits = running n (variable.Access access ∷ kinds) (ready_push n kinds s (variable.Access access) Null ready tt) fits
-  item_fine (component.Access access) (item_of_value e) s n kinds ready is fits = absurd (cc)
+  item_fine : (kind : ComponentKind) (item : ItemForm) (s : State) (kinds : List VariableKind) → Ready p kinds s → item_fits p.types p.variables kind item ≡ true → Fits p (held_kind kind ∷ kinds) s.control → Fine p (item_next named item s)
+  item_fine (component.Integer initial) null_item s kinds ready is fits = absurd (cc)
+  item_fine (component.Integer initial) (item_of_value e) s kinds ready is fits =
+      running kinds (ready_at kinds s (frame.Computes e ∷ s.control) ready ready.deep) (Integer, typed Integer (type_of p.types p.variables e) is, fits)
+  item_fine (component.Boolean initial) null_item s kinds ready is fits = absurd (cc)
+  item_fine (component.Boolean initial) (item_of_value e) s kinds ready is fits =
+      running kinds (ready_at kinds s (frame.Computes e ∷ s.control) ready ready.deep) (Boolean, typed Boolean (type_of p.types p.variables e) is, fits)
+  item_fine (component.Access access) null_item s kinds ready is fits = running (variable.Access access ∷ kinds) (ready_push kinds s (variable.Access access) Null ready tt) fits
+  item_fine (component.Access access) (item_of_value e) s kinds ready is fits = absurd (cc)
 
-  pub items_fine : (items : List ItemForm) (cs : List ComponentForm) (s : State) (n : ℕ) (kinds : List VariableKind) → Ready p n kinds s → items_fit p.types (take n p.variables) cs items ≡ true → Fits p n (onto cs kinds) s.control → Fine p (items_next named items s)
-  items_fine [] [] s n kinds ready is fits = running n kinds ready fits
-  items_fine [] (c ∷ cs) s n kinds ready is fits = absurd (cc)
-  items_fine (i ∷ items) [] s n kinds ready is fits = absurd (cc)
-  items_fine (i ∷ items) (c ∷ cs) s n kinds ready is fits =
-      item_fine c.kind i (at (frame.Fills items ∷ s.control) s) n kinds (ready_at n kinds s (frame.Fills items ∷ s.control) ready ready.deep)
-      (and_left (item_fits p.types (take n p.variables) c.kind i) (items_fit p.types (take n p.variables) cs items) is)
-      (cs, and_right (item_fits p.types (take n p.variables) c.kind i) (items_fit p.types (take n p.variables) cs items) is, fits)
+  pub items_fine : (items : List ItemForm) (cs : List ComponentForm) (s : State) (kinds : List VariableKind) → Ready p kinds s → items_fit p.types p.variables cs items ≡ true → Fits p (onto cs kinds) s.control → Fine p (items_next named items s)
+  items_fine [] [] s kinds ready is fits = running kinds ready fits
+  items_fine [] (c ∷ cs) s kinds ready is fits = absurd (cc)
+  items_fine (i ∷ items) [] s kinds ready is fits = absurd (cc)
+  items_fine (i ∷ items) (c ∷ cs) s kinds ready is fits =
+      item_fine c.kind i (at (frame.Fills items ∷ s.control) s) kinds (ready_at kinds s (frame.Fills items ∷ s.control) ready ready.deep)
+      (and_left (item_fits p.types p.variables c.kind i) (items_fit p.types p.variables cs items) is)
+      (cs, and_right (item_fits p.types p.variables c.kind i) (items_fit p.types p.variables cs items) is, fits)
 
-  active_new : (cells : Cells) (cell : Cell Value) (n : ℕ) (cs : List ComponentForm) (ks : List VariableKind) (access : TypeNo) (acts : List (Activation Value)) (o : ℕ) → cell.access ≡ access.0 → o ≡ length cells → IsActive cells n p.variables (onto cs ks) acts → IsActive (cells ++ cell ∷ []) n p.variables (variable.Access access ∷ ks) (with_operands (Names (record { 0 = o }) ∷ drop (length cs) (operands_of acts)) acts)
-  active_new cells cell n cs ks access [] o own is active = active
-  active_new cells cell n cs ks access (a ∷ suspended) o own is active =
-      let more : IsActive (cells ++ cell ∷ []) n p.variables ks (record a { operands = drop (length cs) a.operands } ∷ suspended) = active_more cells cell n p.variables ks (record a { operands = drop (length cs) a.operands } ∷ suspended) (active.0, (split cells cs ks a.operands active.1).1) in
+  active_new : (cells : Cells) (cell : Cell Value) (cs : List ComponentForm) (ks : List VariableKind) (access : TypeNo) (acts : List (Activation Value)) (o : ℕ) → cell.access ≡ access.0 → o ≡ length cells → IsActive cells p.variables (onto cs ks) acts → IsActive (cells ++ cell ∷ []) p.variables (variable.Access access ∷ ks) (with_operands (Names (record { 0 = o }) ∷ drop (length cs) (operands_of acts)) acts)
+  active_new cells cell cs ks access [] o own is active = active
+  active_new cells cell cs ks access (a ∷ suspended) o own is active =
+      let more : IsActive (cells ++ cell ∷ []) p.variables ks (record a { operands = drop (length cs) a.operands } ∷ suspended) = active_more cells cell p.variables ks (record a { operands = drop (length cs) a.operands } ∷ suspended) (active.0, (split cells cs ks a.operands active.1).1) in
       (more.0, ((cell, ap (slice_get (cells ++ cell ∷ [])) is ∙ newest_name cells cell, own), more.1))
 
-  active_values : (cells : Cells) (n : ℕ) (cs : List ComponentForm) (ks : List VariableKind) (acts : List (Activation Value)) → IsActive cells n p.variables (onto cs ks) acts → HaveKinds cells cs (reverse (take (length cs) (operands_of acts)))
-  active_values cells n cs ks [] active = absurd active
-  active_values cells n cs ks (a ∷ suspended) active = (split cells cs ks a.operands active.1).0
+  active_values : (cells : Cells) (cs : List ComponentForm) (ks : List VariableKind) (acts : List (Activation Value)) → IsActive cells p.variables (onto cs ks) acts → HaveKinds cells cs (reverse (take (length cs) (operands_of acts)))
+  active_values cells cs ks [] active = absurd active
+  active_values cells cs ks (a ∷ suspended) active = (split cells cs ks a.operands active.1).0
 
-  answered_fine : (access item words : ℕ) (s : State) (n : ℕ) (ks : List VariableKind) (cs : List ComponentForm) → Ready p n (onto cs ks) s → reached_components p.types access ≡ Some cs → Fits p n (variable.Access (record { 0 = access }) ∷ ks) s.control → (granted : Bool) → Typed p (answered named access (length cs) item words s granted)
-  answered_fine access item words s n ks cs ready reached fits true =
+  answered_fine : (access item words : ℕ) (s : State) (ks : List VariableKind) (cs : List ComponentForm) → Ready p (onto cs ks) s → reached_components p.types access ≡ Some cs → Fits p (variable.Access (record { 0 = access }) ∷ ks) s.control → (granted : Bool) → Typed p (answered named access (length cs) item words s granted)
+  answered_fine access item words s ks cs ready reached fits true =
       let cell = new_cell named access (length cs) item s in
       let same : cells_of (s.heap ++ new_object cell ∷ []) ≡ cells_of s.heap ++ cell ∷ [] = cells_more s.heap (new_object cell) in
-      running n (variable.Access (record { 0 = access }) ∷ ks) (record {
-        filled = subst (λ (xs : Cells). AreFilled p.types xs xs) (sym same) (filled_new p.types (cells_of s.heap) cell cs ready.filled reached (active_values (cells_of s.heap) n cs ks s.activations ready.active));
-        active = subst (λ (xs : Cells). IsActive xs n p.variables (variable.Access (record { 0 = access }) ∷ ks) (with_operands (Names (record { 0 = length s.heap }) ∷ drop (length cs) (operands s)) s.activations)) (sym same)
-            (active_new (cells_of s.heap) cell n cs ks (record { 0 = access }) s.activations (length s.heap) refl (sym (length_cells s.heap)) ready.active);
+      running (variable.Access (record { 0 = access }) ∷ ks) (record {
+        filled = subst (λ (xs : Cells). AreFilled p.types xs xs) (sym same) (filled_new p.types (cells_of s.heap) cell cs ready.filled reached (active_values (cells_of s.heap) cs ks s.activations ready.active));
+        active = subst (λ (xs : Cells). IsActive xs p.variables (variable.Access (record { 0 = access }) ∷ ks) (with_operands (Names (record { 0 = length s.heap }) ∷ drop (length cs) (operands s)) s.activations)) (sym same)
+            (active_new (cells_of s.heap) cell cs ks (record { 0 = access }) s.activations (length s.heap) refl (sym (length_cells s.heap)) ready.active);
         runs = ready.runs;
         deep = ready.deep;
       }) fits
-  answered_fine access item words s n ks cs ready reached fits false = raises n (onto cs ks) StorageError s ready
+  answered_fine access item words s ks cs ready reached fits false = raises (onto cs ks) (variable.Access (record { 0 = access }) ∷ ks) StorageError s ready fits
 
-  pub new_fine : (home : Option ℕ) (access words : ℕ) (s : State) (n : ℕ) (ks : List VariableKind) (cs : List ComponentForm) → Ready p n (onto cs ks) s → reached_components p.types access ≡ Some cs → Fits p n (variable.Access (record { 0 = access }) ∷ ks) s.control → Fine p (new_next named access (length cs) words home s)
-  new_fine None access words s n ks cs ready reached fits = raises n (onto cs ks) StorageError s ready
-  new_fine (Some item) access words s n ks cs ready reached fits = answered_fine access item words s n ks cs ready reached fits
+  pub new_fine : (home : Option ℕ) (access words : ℕ) (s : State) (ks : List VariableKind) (cs : List ComponentForm) → Ready p (onto cs ks) s → reached_components p.types access ≡ Some cs → Fits p (variable.Access (record { 0 = access }) ∷ ks) s.control → Fine p (new_next named access (length cs) words home s)
+  new_fine None access words s ks cs ready reached fits = raises (onto cs ks) (variable.Access (record { 0 = access }) ∷ ks) StorageError s ready fits
+  new_fine (Some item) access words s ks cs ready reached fits = answered_fine access item words s ks cs ready reached fits
 
   -- What is assigned.
   this_kind : (kind : Option VariableKind) (access : TypeNo) → is_this access.0 (access_of kind) ≡ true → kind ≡ Some (variable.Access access)
@@ -325,24 +351,24 @@ module _ (p : ProgramForm) where
   as_many vs (c ∷ cs) [] h = absurd (cc)
   as_many vs (c ∷ cs) (i ∷ items) h = ap suc (as_many vs cs items (and_right (item_fits p.types vs c.kind i) (items_fit p.types vs cs items) h))
 
-  pub right_fine : (right : RightForm) (kind : VariableKind) (s : State) (n : ℕ) (kinds : List VariableKind) → Ready p n kinds s → kind_takes p.types (take n p.variables) kind right ≡ true → Fits p n (kind ∷ kinds) s.control → Fine p (right_next named right s)
-  right_fine nothing variable.Integer s n kinds ready is fits = absurd (cc)
-  right_fine (value_of path) variable.Integer s n kinds ready is fits = absurd (cc)
-  right_fine (allocates access items) variable.Integer s n kinds ready is fits = absurd (cc)
-  right_fine (computes e) variable.Integer s n kinds ready is fits =
-      running n kinds (ready_at n kinds s (frame.Computes e ∷ s.control) ready ready.deep) (Integer, typed Integer (type_of p.types (take n p.variables) e) is, fits)
-  right_fine nothing variable.Boolean s n kinds ready is fits = absurd (cc)
-  right_fine (value_of path) variable.Boolean s n kinds ready is fits = absurd (cc)
-  right_fine (allocates access items) variable.Boolean s n kinds ready is fits = absurd (cc)
-  right_fine (computes e) variable.Boolean s n kinds ready is fits =
-      running n kinds (ready_at n kinds s (frame.Computes e ∷ s.control) ready ready.deep) (Boolean, typed Boolean (type_of p.types (take n p.variables) e) is, fits)
-  right_fine nothing (variable.Access access) s n kinds ready is fits = running n (variable.Access access ∷ kinds) (ready_push n kinds s (variable.Access access) Null ready tt) fits
-  right_fine (value_of path) (variable.Access access) s n kinds ready is fits =
-      root_fine (variable_kind (take n p.variables) path.root) path.selectors path.root (variable.Access access) s n kinds ready refl
-      (this_kind (path_kind p.types (take n p.variables) path) access (and_right (names_variable path) (is_this access.0 (path_access p.types (take n p.variables) path)) is)) fits
-  right_fine (allocates t items) (variable.Access access) s n kinds ready is fits =
-      let same : t ≡ access.0 = eqb-true t access.0 (and_left (t == access.0) (is_filled p.types (take n p.variables) (reached_components p.types access.0) items) is) in
-      let filled = filled_items (reached_components p.types access.0) (take n p.variables) items (and_right (t == access.0) (is_filled p.types (take n p.variables) (reached_components p.types access.0) items) is) in
-      running n kinds (ready_at n kinds s (frame.Fills items ∷ frame.Creates t (length items) ∷ s.control) ready ready.deep)
-      (filled.0, filled.2, (kinds, filled.0, refl, ap (reached_components p.types) same ∙ filled.1, as_many (take n p.variables) filled.0 items filled.2, subst (λ (i : ℕ). Fits p n (variable.Access (record { 0 = i }) ∷ kinds) s.control) (sym same) fits))
-  right_fine (computes e) (variable.Access access) s n kinds ready is fits = absurd (cc)
+  pub right_fine : (right : RightForm) (kind : VariableKind) (s : State) (kinds : List VariableKind) → Ready p kinds s → kind_takes p.types p.variables kind right ≡ true → Fits p (kind ∷ kinds) s.control → Fine p (right_next named right s)
+  right_fine nothing variable.Integer s kinds ready is fits = absurd (cc)
+  right_fine (value_of path) variable.Integer s kinds ready is fits = absurd (cc)
+  right_fine (allocates access items) variable.Integer s kinds ready is fits = absurd (cc)
+  right_fine (computes e) variable.Integer s kinds ready is fits =
+      running kinds (ready_at kinds s (frame.Computes e ∷ s.control) ready ready.deep) (Integer, typed Integer (type_of p.types p.variables e) is, fits)
+  right_fine nothing variable.Boolean s kinds ready is fits = absurd (cc)
+  right_fine (value_of path) variable.Boolean s kinds ready is fits = absurd (cc)
+  right_fine (allocates access items) variable.Boolean s kinds ready is fits = absurd (cc)
+  right_fine (computes e) variable.Boolean s kinds ready is fits =
+      running kinds (ready_at kinds s (frame.Computes e ∷ s.control) ready ready.deep) (Boolean, typed Boolean (type_of p.types p.variables e) is, fits)
+  right_fine nothing (variable.Access access) s kinds ready is fits = running (variable.Access access ∷ kinds) (ready_push kinds s (variable.Access access) Null ready tt) fits
+  right_fine (value_of path) (variable.Access access) s kinds ready is fits =
+      root_fine (variable_kind p.variables path.root) path.selectors path.root (variable.Access access) s kinds ready refl
+      (this_kind (path_kind p.types p.variables path) access (and_right (names_variable path) (is_this access.0 (path_access p.types p.variables path)) is)) fits
+  right_fine (allocates t items) (variable.Access access) s kinds ready is fits =
+      let same : t ≡ access.0 = eqb-true t access.0 (and_left (t == access.0) (is_filled p.types p.variables (reached_components p.types access.0) items) is) in
+      let filled = filled_items (reached_components p.types access.0) p.variables items (and_right (t == access.0) (is_filled p.types p.variables (reached_components p.types access.0) items) is) in
+      running kinds (ready_at kinds s (frame.Fills items ∷ frame.Creates t (length items) ∷ s.control) ready ready.deep)
+      (filled.0, filled.2, (kinds, filled.0, refl, ap (reached_components p.types) same ∙ filled.1, as_many p.variables filled.0 items filled.2, subst (λ (i : ℕ). Fits p (variable.Access (record { 0 = i }) ∷ kinds) s.control) (sym same) fits))
+  right_fine (computes e) (variable.Access access) s kinds ready is fits = absurd (cc)

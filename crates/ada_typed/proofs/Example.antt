@@ -1,15 +1,15 @@
--- A well-formed program and a run of it to its end; and a program that is not well formed, which gets stuck.
+-- A well-formed program and a run of it to its end; and programs that are not well formed, which get stuck.
 
-use Rattle.std.proofs.Common.{◌≤◌, true, List, [], ◌∷◌, length, refl, arith}
-use Rattle.std.specs.Prelude.{Some, pos, String}
+use Rattle.std.proofs.Common.{◌≤◌, ℤ, Bool, true, false, List, [], ◌∷◌, ◌++◌, length, map, refl, sym, ap, subst, ◌≡◌, arith}
+use Rattle.std.specs.Prelude.{Some, None, pos, String}
 use Rattle.std.specs.Global.{Vec, Global}
 use Rattle.ada_text.specs.declared.spot.Spot.{Spot}
-use Rattle.ada_program.specs.declared.program.Expression.{Integer, Boolean, Path as Reads}
+use Rattle.ada_program.specs.declared.program.Expression.{Expression, Integer, Boolean, Path as Reads, NullTest}
 use Rattle.ada_program.specs.declared.program.Path.{Path}
 use Rattle.ada_program.specs.declared.program.Item.TheVariants as item
 use Rattle.ada_program.specs.declared.program.Right.TheVariants as right
+use Rattle.ada_program.specs.declared.program.Stmt as stmt
 use Rattle.ada_program.specs.declared.program.Stmt.{Stmt}
-use Rattle.ada_program.specs.declared.program.Stmt.TheVariants as stmt
 use Rattle.ada_program.specs.declared.program.ComponentKind.TheVariants as kind
 use Rattle.ada_program.specs.declared.program.TypeDefinition.{TypeDefinition}
 use Rattle.ada_program.specs.declared.program.TypeDefinition.TheVariants as definition
@@ -18,12 +18,18 @@ use Rattle.ada_program.specs.declared.program.Declaration.TheVariants as declara
 use Rattle.ada_program.specs.declared.program.Variable.{Variable}
 use Rattle.ada_program.specs.declared.program.VariableKind.TheVariants as variable
 use Rattle.ada_program.specs.declared.program.Program.{Program}
-use Rattle.ada_program.specs.Form.{expression_form}
+use Rattle.ada_program.specs.declared.program.Choice.TheVariants as choice
+use Rattle.ada_program.specs.declared.program.Exception.{Exception}
+use Rattle.ada_program.specs.declared.program.Exception.TheVariants.{ProgramError, Declared}
+use Rattle.ada_program.specs.declared.program.Handler.{Handler}
+use Rattle.ada_program.specs.Form.{expression_form, stmt_form, path_form, integer, reads, is_null, StmtsForm, no_stmts, a_stmt, gets, writes, frees, chooses, repeats, counts, exits, raises, encloses, otherwise, a_branch, HandlersForm, no_handlers, a_handler, declaration_forms, stmt_forms, handler_forms, statement_rules, expression_rules}
 use Rattle.ada_program.specs.ProgramForm.{program_form}
-use Rattle.ada_program.specs.WellFormed.{IsWellFormed}
-use Rattle.ada_meaning.specs.Named.{next}
-use Rattle.ada_meaning.specs.Run.{settled, grants, here, there}
-use Rattle.ada_typed.specs.Stuck.{Finishes, GetsStuck}
+use Rattle.ada_program.specs.WellFormed.{Creation, creation, created_by_all, created_by_handlers, creates_from, has_collections, IsWellFormed, stmts_fit}
+use Rattle.ada_meaning.specs.declared.event.Halt.TheVariants.{Finished}
+use Rattle.ada_meaning.specs.Frame as frame
+use Rattle.ada_meaning.specs.Named.{State, next}
+use Rattle.ada_meaning.specs.Run.{Event, Run, Halts, first_state, settled, grants, here, there}
+use Rattle.ada_typed.specs.Stuck.{Finishes, GetsStuck, HasEmptyHandler}
 use denote.RawPtr.{null_ptr}
 
 abbrev heap : Global
@@ -38,7 +44,7 @@ no_name = record { bytes = vec [] (omega arith); ok = ∣ ([], (refl, refl)) ∣
 abbrev spot : Spot
 spot = record { line = 1; column = 1 }
 
--- X; X.Value; N
+-- X; X.Value; N; I
 abbrev x_path : Path
 x_path = record { root = record { 0 = 0 }; selectors = vec [] (omega arith); spot = spot }
 
@@ -48,13 +54,20 @@ value_path = record { root = record { 0 = 0 }; selectors = vec (record { 0 = 0 }
 abbrev n_path : Path
 n_path = record { root = record { 0 = 1 }; selectors = vec [] (omega arith); spot = spot }
 
+abbrev i_path : Path
+i_path = record { root = record { 0 = 2 }; selectors = vec [] (omega arith); spot = spot }
+
 -- type Cell is record Value : Integer; end record; type Link is access Cell;
 abbrev types : List TypeDefinition
 types = definition.Record no_name (vec (record { name = no_name; kind = kind.Integer (pos 0) } ∷ []) (omega arith)) ∷ definition.Access no_name (record { 0 = 0 }) ∷ []
 
--- X : Link := new Cell'(Value => 7); N : Integer := X.Value;
+-- X : Link := new Cell'(Value => 7); N : Integer := X.Value; and the parameter I
 abbrev variables : List Variable
-variables = record { name = no_name; kind = variable.Access (record { 0 = 1 }) } ∷ record { name = no_name; kind = variable.Integer } ∷ []
+variables =
+    record { name = no_name; kind = variable.Access (record { 0 = 1 }) }
+    ∷ record { name = no_name; kind = variable.Integer }
+    ∷ record { name = no_name; kind = variable.Integer }
+    ∷ []
 
 abbrev declarations : List Declaration
 declarations =
@@ -63,25 +76,122 @@ declarations =
     ∷ declaration.Variable (record { 0 = 1 }) (Some (right.Value (Reads value_path)))
     ∷ []
 
+-- X /= null; X = null
+abbrev x_is : Bool → Expression
+x_is equal = NullTest x_path equal
+
 -- Put_Line (Integer'Image (N)); Free (X);
+abbrev chosen : List Stmt
+chosen = stmt.PutImage (Reads n_path) ∷ stmt.Free (record { 0 = 1 }) x_path ∷ []
+
+-- if X /= null then .. end if; exit when X = null;
+abbrev body : List Stmt
+body = stmt.If (vec (record { condition = x_is false; statements = vec chosen (omega arith) } ∷ []) (omega arith)) (vec [] (omega arith)) ∷ stmt.Exit (Some (x_is true)) spot ∷ []
+
+-- E : exception;
+abbrev failure : Exception
+failure = Declared (record { 0 = 0 })
+
+-- when E => Put_Line (Integer'Image (I));
+abbrev handlers : List Handler
+handlers = record { choices = vec (choice.Exception failure ∷ []) (omega arith); statements = vec (stmt.PutImage (Reads i_path) ∷ []) (omega arith) } ∷ []
+
+-- begin Get (N); raise E; exception .. end;
+abbrev counted : List Stmt
+counted = stmt.Block (vec [] (omega arith)) (vec (stmt.Get n_path ∷ stmt.Raise failure ∷ []) (omega arith)) (vec handlers (omega arith)) ∷ []
+
+-- loop .. end loop; for I in 1 .. 1 loop .. end loop;
 abbrev statements : List Stmt
-statements = stmt.PutImage (Reads n_path) ∷ stmt.Free (record { 0 = 1 }) x_path ∷ []
+statements = stmt.Loop None (vec body (omega arith)) spot ∷ stmt.For (record { 0 = 2 }) (Integer (pos 1)) (Integer (pos 1)) (vec counted (omega arith)) spot ∷ []
 
 abbrev pub program : Program
-program = record { types = vec types (omega arith); variables = vec variables (omega arith); texts = vec [] (omega arith); declarations = vec declarations (omega arith); statements = vec statements (omega arith) }
+program = record {
+  types = vec types (omega arith);
+  variables = vec variables (omega arith);
+  texts = vec [] (omega arith);
+  exceptions = vec (no_name ∷ []) (omega arith);
+  declarations = vec declarations (omega arith);
+  statements = vec statements (omega arith);
+  handlers = vec [] (omega arith);
+}
+
+-- The statements as plain data.
+abbrev chosen_forms : StmtsForm
+chosen_forms = a_stmt (writes (reads (path_form n_path))) (a_stmt (frees 1 (path_form x_path)) no_stmts)
+
+abbrev body_forms : StmtsForm
+body_forms = a_stmt (chooses (a_branch (is_null false (path_form x_path)) chosen_forms (otherwise no_stmts))) (a_stmt (exits (Some (is_null true (path_form x_path))) spot) no_stmts)
+
+abbrev handled_forms : HandlersForm
+handled_forms = a_handler (choice.Exception failure ∷ []) (a_stmt (writes (reads (path_form i_path))) no_stmts) no_handlers
+
+abbrev counted_forms : StmtsForm
+counted_forms = a_stmt (encloses [] (a_stmt (gets (path_form n_path)) (a_stmt (raises failure) no_stmts)) handled_forms) no_stmts
+
+abbrev forms : StmtsForm
+forms = a_stmt (repeats None body_forms spot) (a_stmt (counts 2 (integer (pos 1)) (integer (pos 1)) counted_forms spot) no_stmts)
+
+statements_are : stmt_forms program ≡ forms
+statements_are = simp (statement_rules, expression_rules)
+
+-- What the program creates, with these statements.
+abbrev creations_with : StmtsForm → List Creation
+creations_with fs = map creation (declaration_forms program) ++ created_by_all fs ++ created_by_handlers (handler_forms program)
 
 pub well_formed : IsWellFormed (program_form program)
 unfolding expression_form
-well_formed = record { types_fit = refl; variables_fit = refl; creates_in_order = refl; collections_fit = refl; has_one_each = refl; initials_fit = refl; statements_fit = refl }
+well_formed = record {
+  types_fit = refl;
+  variables_fit = refl;
+  creates_in_order = ap (λ (fs : StmtsForm). creates_from 3 0 (creations_with fs)) statements_are;
+  collections_first = refl;
+  collections_fit = refl;
+  has_one_each = ap (λ (fs : StmtsForm). has_collections (creations_with fs) 0 (program_form program).types) statements_are;
+  initials_fit = refl;
+  statements_fit = ap (λ (fs : StmtsForm). stmts_fit (program_form program).types (program_form program).variables (program_form program).texts (program_form program).exceptions false fs) statements_are;
+  handlers_fit = refl;
+}
+
+-- The input of the run: one number.
+abbrev input : List ℤ
+input = pos 5 ∷ []
+
+-- A run from these statements.
+abbrev FinishesFrom : StmtsForm → Type 0
+FinishesFrom fs = (events : List Event) × (last : State) × Run program (record (first_state program input) { control = frame.Elaborates (declaration_forms program) fs no_handlers ∷ [] }) events last × Halts program last Finished
+
+finishes_from : FinishesFrom forms
+unfolding next expression_form
+finishes_from = (_, _, there settled _ (refl, refl) (there settled _ (refl, refl) (there settled _ (refl, refl) (there settled _ (refl, refl) (there settled _ (refl, refl) (there settled _ (refl, refl) (there (grants true) _ (refl, refl) (there settled _ (refl, refl) (there settled _ (refl, refl) (there settled _ (refl, refl) (there settled _ (refl, refl) (there settled _ (refl, refl) (there settled _ (refl, refl) (there settled _ (refl, refl) (there settled _ (refl, refl) (there settled _ (refl, refl) (there settled _ (refl, refl) (there settled _ (refl, refl) (there settled _ (refl, refl) (there settled _ (refl, refl) (there settled _ (refl, refl) (there settled _ (refl, refl) (there settled _ (refl, refl) (there settled _ (refl, refl) (there settled _ (refl, refl) (there settled _ (refl, refl) (there settled _ (refl, refl) (there settled _ (refl, refl) (there settled _ (refl, refl) (there settled _ (refl, refl) (there settled _ (refl, refl) (there settled _ (refl, refl) (there settled _ (refl, refl) (there settled _ (refl, refl) (there settled _ (refl, refl) (there settled _ (refl, refl) (there settled _ (refl, refl) (there settled _ (refl, refl) (there settled _ (refl, refl) (there settled _ (refl, refl) (there settled _ (refl, refl) (there settled _ (refl, refl) (there settled _ (refl, refl) (there settled _ (refl, refl) (there settled _ (refl, refl) (there settled _ (refl, refl) (there settled _ (refl, refl) (there settled _ (refl, refl) (there settled _ (refl, refl) (there settled _ (refl, refl) (there settled _ (refl, refl) (there settled _ (refl, refl) (there settled _ (refl, refl) (there settled _ (refl, refl) (there settled _ (refl, refl) (there settled _ (refl, refl) (there settled _ (refl, refl) (there settled _ (refl, refl) here))))))))))))))))))))))))))))))))))))))))))))))))))))))))), refl)
 
 pub finishes : Finishes program
-unfolding next expression_form
-finishes = ([], _, _, there settled _ (refl, refl) (there settled _ (refl, refl) (there settled _ (refl, refl) (there settled _ (refl, refl) (there settled _ (refl, refl) (there settled _ (refl, refl) (there (grants true) _ (refl, refl) (there settled _ (refl, refl) (there settled _ (refl, refl) (there settled _ (refl, refl) (there settled _ (refl, refl) (there settled _ (refl, refl) (there settled _ (refl, refl) (there settled _ (refl, refl) (there settled _ (refl, refl) (there settled _ (refl, refl) (there settled _ (refl, refl) (there settled _ (refl, refl) (there settled _ (refl, refl) (there settled _ (refl, refl) (there settled _ (refl, refl) (there settled _ (refl, refl) (there settled _ (refl, refl) (there settled _ (refl, refl) (there settled _ (refl, refl) (there settled _ (refl, refl) here))))))))))))))))))))))))), refl)
+finishes =
+    let run : FinishesFrom (stmt_forms program) = subst FinishesFrom (sym statements_are) finishes_from in
+    (input, run.0, run.1, run.2, run.3)
 
 -- Put_Line (Integer'Image (True));
 abbrev pub ill_typed : Program
-ill_typed = record { types = vec [] (omega arith); variables = vec [] (omega arith); texts = vec [] (omega arith); declarations = vec [] (omega arith); statements = vec (stmt.PutImage (Boolean true) ∷ []) (omega arith) }
+ill_typed = record { types = vec [] (omega arith); variables = vec [] (omega arith); texts = vec [] (omega arith); exceptions = vec [] (omega arith); declarations = vec [] (omega arith); statements = vec (stmt.PutImage (Boolean true) ∷ []) (omega arith); handlers = vec [] (omega arith) }
 
 pub gets_stuck : GetsStuck ill_typed
-unfolding next expression_form
+unfolding next expression_form stmt_form
 gets_stuck = ([], _, _, there settled _ (refl, refl) (there settled _ (refl, refl) (there settled _ (refl, refl) here)), refl)
+
+-- raise Program_Error; exception when others =>
+abbrev pub unhandling : Program
+unhandling = record {
+  types = vec [] (omega arith);
+  variables = vec [] (omega arith);
+  texts = vec [] (omega arith);
+  exceptions = vec [] (omega arith);
+  declarations = vec [] (omega arith);
+  statements = vec (stmt.Raise ProgramError ∷ []) (omega arith);
+  handlers = vec (record { choices = vec (choice.Others ∷ []) (omega arith); statements = vec [] (omega arith) } ∷ []) (omega arith);
+}
+
+pub empty_handler : HasEmptyHandler unhandling
+empty_handler = refl
+
+pub handles_by_nothing : GetsStuck unhandling
+unfolding next expression_form stmt_form
+handles_by_nothing = ([], _, _, there settled _ (refl, refl) (there settled _ (refl, refl) (there settled _ (refl, refl) here)), refl)

@@ -1,7 +1,5 @@
 -- what a value is of which kind
 pub mod Values
--- variables that are declared so far
-pub mod Declared
 -- operators and the types of their operands
 pub mod Operators
 -- what is left to do fits what is there

@@ -1,7 +1,7 @@
 -- Operators: on operands of the types that they take they give a value of their type, or raise an exception.
 
 use Rattle.ada_typed.specs.Holding.{Cells, HasKind}
-use Rattle.std.proofs.Common.{◌≡◌, ℤ, neg_ℤ, ◌+ℤ◌, ◌-ℤ◌, ◌*ℤ◌, int_div, int_rem, not, cond, Bool, true, false, Option, Some, None, Result, Ok, Err, refl, sym, ap, ◌∙◌, subst, List}
+use Rattle.std.proofs.Common.{◌≡◌, ℤ, neg_ℤ, ◌+ℤ◌, ◌-ℤ◌, ◌*ℤ◌, int_div, int_rem, not, cond, ◌&&◌, Bool, true, false, Option, Some, None, Result, Ok, Err, refl, sym, ap, ◌∙◌, subst, List}
 use Rattle.ada_values.specs.declared.operator.UnaryOperator.{UnaryOperator}
 use Rattle.ada_values.specs.declared.operator.UnaryOperator.TheVariants as unary
 use Rattle.ada_values.specs.declared.operator.BinaryOperator.{BinaryOperator}
@@ -22,6 +22,15 @@ use Rattle.ada_meaning.specs.declared.state.Value.TheVariants.{Null, Names, Scal
 use Rattle.ada_meaning.specs.Step.{is_decided}
 use Rattle.ada_meaning.specs.Named.{named, as_value, unary_given, binary_given}
 use Rattle.ada_typed.proofs.Values.{kind_of}
+
+-- Of two conditions that hold, each does.
+pub and_left : (a b : Bool) → (a && b) ≡ true → a ≡ true
+and_left true b h = refl
+and_left false b h = absurd (cc)
+
+pub and_right : (a b : Bool) → (a && b) ≡ true → b ≡ true
+and_right true b h = h
+and_right false b h = absurd (cc)
 
 -- Types that are wanted.
 pub typed : (t : ScalarType) (o : Option ScalarType) → is_type t o ≡ true → o ≡ Some t
@@ -235,7 +244,7 @@ binary_comes operator Boolean Integer t a b h f g = let never : Boolean ≡ Inte
 
 unary_comes : (operator : UnaryOperator) (t0 t : ScalarType) (a : ScalarValue) → unary_type operator (Some t0) ≡ Some t → IsOf t0 a → Comes t (unary_outcome_of operator a)
 unfolding unary_outcome_of
-unary_comes unary.Plus Integer t (scalar.Integer a) h f = come_as Integer t (unless_overflow a) h (overflow_comes a)
+unary_comes unary.Plus Integer t (scalar.Integer a) h f = come_as Integer t (Ok (scalar.Integer a)) h tt
 unary_comes unary.Plus Integer t (scalar.Boolean a) h f = absurd f
 unary_comes unary.Plus Boolean t a h f = absurd (cc)
 unary_comes unary.Minus Integer t (scalar.Integer a) h f = come_as Integer t (unless_overflow (neg_ℤ a)) h (overflow_comes (neg_ℤ a))

@@ -1,20 +1,20 @@
 -- Each step of a state that is typed leads to one that is typed, or ends the run in a way that the language knows.
 
 use Rattle.ada_typed.specs.Holding.{Cells, HasKind, cells_of}
-use Rattle.std.proofs.Common.{◌≡◌, ℕ, zero, suc, ◌+◌, ◌<◌, ◌≤◌, ◌==◌, ◌&&◌, if◌then◌else◌, Bool, true, false, List, [], ◌∷◌, length, map, take, Option, Some, None, arith, refl, sym, ap, ◌∙◌, subst}
-use Rattle.std.proofs.Math.Numerals.{add-one}
+use Rattle.ada_typed.specs.Stuck.{EndsByTheLanguage}
+use Rattle.std.proofs.Common.{◌≡◌, ℕ, zero, suc, ◌+◌, ◌<◌, ◌≤◌, ◌==◌, ◌&&◌, if◌then◌else◌, Bool, true, false, ℤ, ◌+ℤ◌, pos, int_le, List, [], ◌∷◌, length, map, Option, Some, None, arith, refl, sym, ap, ◌∙◌, subst}
 use Rattle.std.proofs.lemmas.Bool.{eqb-true}
-use Rattle.std.proofs.lemmas.List.{take_all}
 use Rattle.std.specs.List.{slice_get, slice_index_or, list_all}
-use Rattle.ada_program.specs.declared.program.ScalarType.TheVariants.{Integer}
+use Rattle.ada_program.specs.declared.program.ScalarType.TheVariants.{Integer, Boolean}
 use Rattle.ada_program.specs.declared.program.TypeDefinition.{TypeDefinition}
 use Rattle.ada_program.specs.declared.program.TypeNo.{TypeNo}
 use Rattle.ada_program.specs.declared.program.VariableKind.{VariableKind}
 use Rattle.ada_program.specs.declared.program.VariableKind.TheVariants as variable
-use Rattle.ada_program.specs.Form.{RightForm, StmtForm, skips, assigns, frees, writes, writes_text, DeclarationForm, collects, declares}
+use Rattle.ada_program.specs.Form.{ExpressionForm, RightForm, StmtForm, skips, assigns, frees, gets, writes, writes_text, chooses, repeats, counts, exits, returns, raises as raises_it, encloses, StmtsForm, no_stmts, a_stmt, BranchesForm, otherwise, a_branch, HandlersForm, no_handlers, a_handler, DeclarationForm, collects, declares}
+use Rattle.ada_program.specs.Handling.{some_takes, handler_of}
 use Rattle.ada_program.specs.ProgramForm.{VariableForm, ProgramForm}
 use Rattle.ada_program.specs.Typed.{words_of}
-use Rattle.ada_program.specs.WellFormed.{selectors_kind, variable_kind, path_kind, path_access, access_of, names_variable, type_of, kind_takes, right_fits, is_freed_by, creates_from, initial_fits, statement_fits, names_before}
+use Rattle.ada_program.specs.WellFormed.{selectors_kind, variable_kind, path_kind, path_access, access_of, scalar_of, names_variable, is_type, type_of, kind_takes, right_fits, is_freed_by, collections_first, collection_fits, initial_fits, declarations_fit, has_type, condition_fits, has_statement, choice_fits, statement_fits, stmts_fit, branches_fit, handlers_fit, names_before}
 use Rattle.ada_values.specs.declared.value.Value.TheVariants as scalar
 use Rattle.ada_meaning.specs.declared.state.Id.{Id}
 use Rattle.ada_meaning.specs.declared.state.Value.{Value}
@@ -22,23 +22,24 @@ use Rattle.ada_meaning.specs.declared.state.Value.TheVariants.{Null, Names, Scal
 use Rattle.ada_meaning.specs.declared.state.Stage.{Stage}
 use Rattle.ada_meaning.specs.declared.state.Stage.TheVariants.{Building, Existing, Gone}
 use Rattle.ada_meaning.specs.declared.state.Mode.{Mode}
-use Rattle.ada_meaning.specs.declared.state.Mode.TheVariants.{Running, Raising}
+use Rattle.ada_meaning.specs.declared.state.Mode.TheVariants.{Running, Raising, Exiting, Returning}
 use Rattle.ada_meaning.specs.declared.event.Cause.{Cause}
 use Rattle.ada_meaning.specs.declared.event.Cause.TheVariants.{Leaving}
-use Rattle.ada_meaning.specs.declared.event.Exception.{Exception}
+use Rattle.ada_program.specs.declared.program.Exception.{Exception}
+use Rattle.ada_program.specs.declared.program.Exception.TheVariants.{EndError}
 use Rattle.ada_meaning.specs.declared.event.Halt.TheVariants.{Erroneous}
+use Rattle.ada_meaning.specs.Event.{Quiet}
 use Rattle.ada_meaning.specs.declared.event.Why.TheVariants.{GivesElsewhere}
-use Rattle.ada_meaning.specs.Frame.{Frame, is_master}
+use Rattle.ada_meaning.specs.Frame.{Frame, is_master, is_loop, Landing, passes_on, goes_behind, handler_landing, exception_landing, landing}
 use Rattle.ada_meaning.specs.Frame as frame
 use Rattle.ada_meaning.specs.State.{Owned, declared, collection, Item, Master, home_of}
 use Rattle.ada_meaning.specs.Heap.{Cell, on_gone, finds}
-use Rattle.ada_meaning.specs.Step.{halts, at, older, owned, shorter, popped, put, held, newest, new_next, free_next, end_next, given_back, back_next, assign_next, frees_next, stmt_next, stmts_next, line_next, declaration_next, declarations_next, members_next, item_leave_next, master_leave_next, leave_next, frame_next, pass_next, running_next, raising_next, mode_next}
-use Rattle.ada_meaning.specs.Named.{Object, State, next, named, look, lent, lent_by, seen, existing, on_object, parted, finished, returned, reads_integer, unary_given, binary_given, members, members_of}
-use Rattle.ada_typed.proofs.Evaluations.{Fine, cells_on, length_shorter, ready_kinds, ready_at, ready_pop, newest_of, held_of, put_in, put_next, ready_owning, ready_heap, raises, path_fine, expression_fine, links_fine, outcome_fine, items_fine, new_fine, right_fine}
-use Rattle.ada_typed.proofs.Values.{AreFilled, IsActive, kind_of}
-use Rattle.ada_typed.proofs.Declared.{and_left, and_right, takes_before}
-use Rattle.ada_typed.proofs.Operators.{typed, unary_gives, binary_gives}
-use Rattle.ada_typed.proofs.Control.{onto, IsName, Fits, depth, depth_behind, Ready, Typed, running, raising}
+use Rattle.ada_meaning.specs.Step.{halts, moves, at, older, shorter, popped, jumping, put, held, newest, new_next, free_next, end_next, given_back, back_next, assign_next, frees_next, branches_next, decided_next, turn_next, repeats_next, turned_next, count_turn_next, ranges_next, gets_next, exit_next, exited_next, stmt_next, stmts_next, line_next, declarations_next, members_next, item_leave_next, master_leave_next, leave_next, frame_next, landed, pass_next, running_next, jump_next, mode_next, end_of}
+use Rattle.ada_meaning.specs.Named.{an_integer, Object, State, next, named, look, lent, lent_by, seen, existing, on_object, parted, finished, returned, reads_integer, reads_boolean, unary_given, binary_given, members, members_of}
+use Rattle.ada_typed.proofs.Evaluations.{Fine, cells_on, length_shorter, ready_kinds, ready_at, ready_pop, newest_of, held_of, put_in, ready_owning, ready_heap, jumped, raises, path_fine, null_test_fine, expression_fine, links_fine, outcome_fine, items_fine, new_fine, right_fine}
+use Rattle.ada_typed.proofs.Values.{kind_of, active_none}
+use Rattle.ada_typed.proofs.Operators.{and_left, and_right, typed, unary_gives, binary_gives}
+use Rattle.ada_typed.proofs.Control.{onto, IsName, AtLoop, WhereInside, handlers_in, AtHandlers, FitsBehind, Fits, Lands, Catches, depth, depth_behind, Ready, Jumps, Goes, Typed, running, on_jump, catches, catches_behind}
 
 -- What is picked of a collection is a name.
 picked_name : (ids : List Id) (i : ℕ) → i < length (map Names ids) → IsName (slice_index_or (map Names ids) i Null)
@@ -51,54 +52,54 @@ picked ids vs i is lt = subst (λ (ws : List Value). IsName (slice_index_or ws i
 
 module _ (p : ProgramForm) where
   -- Free (13.11.2), and what it leads to.
-  free_found : (stage : Stage) (access x : ℕ) (o : Id) (type : TypeNo) (object : Object) (s : State) (n : ℕ) (kinds : List VariableKind) → Ready p n kinds s → variable_kind (take n p.variables) x ≡ Some (variable.Access type) → Fits p n kinds s.control → Fine p (free_next named access x (Names o) (existing object stage) s)
-  free_found Gone access x o type object s n kinds ready is fits = λ e. cc
-  free_found Building access x o type object s n kinds ready is fits =
-      let other = ready_heap p n kinds s (on_object parted s.heap (Names o)) (cells_on parted s.heap (Names o) (λ y. refl)) ready in
-      running n kinds (record { filled = other.filled; active = other.active; runs = other.runs; deep = other.deep }) (tt, (tt, (type, is, fits)))
-  free_found Existing access x o type object s n kinds ready is fits =
-      let other = ready_heap p n kinds s (on_object parted s.heap (Names o)) (cells_on parted s.heap (Names o) (λ y. refl)) ready in
-      running n kinds (record { filled = other.filled; active = other.active; runs = other.runs; deep = other.deep }) (tt, (tt, (type, is, fits)))
+  free_found : (stage : Stage) (access x : ℕ) (o : Id) (type : TypeNo) (object : Object) (s : State) (kinds : List VariableKind) → Ready p kinds s → variable_kind p.variables x ≡ Some (variable.Access type) → Fits p kinds s.control → Fine p (free_next named access x (Names o) (existing object stage) s)
+  free_found Gone access x o type object s kinds ready is fits = tt
+  free_found Building access x o type object s kinds ready is fits =
+      let other = ready_heap p kinds s (on_object parted s.heap (Names o)) (cells_on parted s.heap (Names o) (λ y. refl)) ready in
+      running kinds (record { filled = other.filled; active = other.active; runs = other.runs; deep = other.deep }) (tt, (tt, (type, is, fits)))
+  free_found Existing access x o type object s kinds ready is fits =
+      let other = ready_heap p kinds s (on_object parted s.heap (Names o)) (cells_on parted s.heap (Names o) (λ y. refl)) ready in
+      running kinds (record { filled = other.filled; active = other.active; runs = other.runs; deep = other.deep }) (tt, (tt, (type, is, fits)))
 
-  free_seen : (at_o : Option Object) (access x : ℕ) (o : Id) (type : TypeNo) (s : State) (n : ℕ) (kinds : List VariableKind) → Ready p n kinds s → variable_kind (take n p.variables) x ≡ Some (variable.Access type) → Fits p n kinds s.control → Fine p (free_next named access x (Names o) (seen at_o) s)
-  free_seen None access x o type s n kinds ready is fits = λ e. cc
-  free_seen (Some object) access x o type s n kinds ready is fits = free_found object.stage access x o type object s n kinds ready is fits
+  free_seen : (at_o : Option Object) (access x : ℕ) (o : Id) (type : TypeNo) (s : State) (kinds : List VariableKind) → Ready p kinds s → variable_kind p.variables x ≡ Some (variable.Access type) → Fits p kinds s.control → Fine p (free_next named access x (Names o) (seen at_o) s)
+  free_seen None access x o type s kinds ready is fits = tt
+  free_seen (Some object) access x o type s kinds ready is fits = free_found object.stage access x o type object s kinds ready is fits
 
-  free_fine : (v : Value) (access x : ℕ) (type : TypeNo) (s : State) (n : ℕ) (kinds : List VariableKind) → Ready p n kinds s → HasKind (cells_of s.heap) (variable.Access type) v → variable_kind (take n p.variables) x ≡ Some (variable.Access type) → Fits p n kinds s.control → Fine p (free_next named access x v (look s.heap v) s)
-  free_fine Null access x type s n kinds ready has is fits = running n kinds ready fits
-  free_fine (Names o) access x type s n kinds ready has is fits = free_seen (slice_get s.heap o.0) access x o type s n kinds ready is fits
-  free_fine (Scalar v) access x type s n kinds ready has is fits = absurd has
+  free_fine : (v : Value) (access x : ℕ) (type : TypeNo) (s : State) (kinds : List VariableKind) → Ready p kinds s → HasKind (cells_of s.heap) (variable.Access type) v → variable_kind p.variables x ≡ Some (variable.Access type) → Fits p kinds s.control → Fine p (free_next named access x v (look s.heap v) s)
+  free_fine Null access x type s kinds ready has is fits = running kinds ready fits
+  free_fine (Names o) access x type s kinds ready has is fits = free_seen (slice_get s.heap o.0) access x o type s kinds ready is fits
+  free_fine (Scalar v) access x type s kinds ready has is fits = absurd has
 
-  end_stage : (stage : Stage) (o : Id) (object : Object) (s : State) (n : ℕ) (kinds : List VariableKind) → Ready p n kinds s → Fits p n kinds s.control → Fine p (end_next named (Names o) (existing object stage) s)
-  end_stage Gone o object s n kinds ready fits = λ e. cc
-  end_stage Building o object s n kinds ready fits = running n kinds (ready_heap p n kinds s (on_object finished s.heap (Names o)) (cells_on finished s.heap (Names o) (λ y. refl)) ready) fits
-  end_stage Existing o object s n kinds ready fits = running n kinds (ready_heap p n kinds s (on_object finished s.heap (Names o)) (cells_on finished s.heap (Names o) (λ y. refl)) ready) fits
+  end_stage : (stage : Stage) (o : Id) (object : Object) (s : State) (kinds : List VariableKind) → Ready p kinds s → Fits p kinds s.control → Fine p (end_next named (Names o) (existing object stage) s)
+  end_stage Gone o object s kinds ready fits = tt
+  end_stage Building o object s kinds ready fits = running kinds (ready_heap p kinds s (on_object finished s.heap (Names o)) (cells_on finished s.heap (Names o) (λ y. refl)) ready) fits
+  end_stage Existing o object s kinds ready fits = running kinds (ready_heap p kinds s (on_object finished s.heap (Names o)) (cells_on finished s.heap (Names o) (λ y. refl)) ready) fits
 
-  end_seen : (at_o : Option Object) (o : Id) (s : State) (n : ℕ) (kinds : List VariableKind) → Ready p n kinds s → Fits p n kinds s.control → Fine p (end_next named (Names o) (seen at_o) s)
-  end_seen None o s n kinds ready fits = λ e. cc
-  end_seen (Some object) o s n kinds ready fits = end_stage object.stage o object s n kinds ready fits
+  end_seen : (at_o : Option Object) (o : Id) (s : State) (kinds : List VariableKind) → Ready p kinds s → Fits p kinds s.control → Fine p (end_next named (Names o) (seen at_o) s)
+  end_seen None o s kinds ready fits = tt
+  end_seen (Some object) o s kinds ready fits = end_stage object.stage o object s kinds ready fits
 
-  end_fine : (v : Value) (s : State) (n : ℕ) (kinds : List VariableKind) → IsName v → Ready p n kinds s → Fits p n kinds s.control → Fine p (end_next named v (look s.heap v) s)
-  end_fine Null s n kinds is ready fits = absurd is
-  end_fine (Names o) s n kinds is ready fits = end_seen (slice_get s.heap o.0) o s n kinds ready fits
-  end_fine (Scalar v) s n kinds is ready fits = absurd is
+  end_fine : (v : Value) (s : State) (kinds : List VariableKind) → IsName v → Ready p kinds s → Fits p kinds s.control → Fine p (end_next named v (look s.heap v) s)
+  end_fine Null s kinds is ready fits = absurd is
+  end_fine (Names o) s kinds is ready fits = end_seen (slice_get s.heap o.0) o s kinds ready fits
+  end_fine (Scalar v) s kinds is ready fits = absurd is
 
-  given_fine : (same : Bool) (o : Id) (cause : Cause) (cell : Cell Value) (s : State) (n : ℕ) (kinds : List VariableKind) → Ready p n kinds s → Fits p n kinds s.control → Fine p (if same then given_back named (Names o) cause cell s else halts (Erroneous GivesElsewhere))
-  given_fine true o cause cell s n kinds ready fits = running n kinds (ready_heap p n kinds s (on_object returned s.heap (Names o)) (cells_on returned s.heap (Names o) (λ y. refl)) ready) fits
-  given_fine false o cause cell s n kinds ready fits = λ e. cc
+  given_fine : (same : Bool) (o : Id) (cause : Cause) (cell : Cell Value) (s : State) (kinds : List VariableKind) → Ready p kinds s → Fits p kinds s.control → Fine p (if same then given_back named (Names o) cause cell s else halts (Erroneous GivesElsewhere))
+  given_fine true o cause cell s kinds ready fits = running kinds (ready_heap p kinds s (on_object returned s.heap (Names o)) (cells_on returned s.heap (Names o) (λ y. refl)) ready) fits
+  given_fine false o cause cell s kinds ready fits = tt
 
-  out_fine : (out : Bool) (o : Id) (cause : Cause) (pool : ℕ) (object : Object) (s : State) (n : ℕ) (kinds : List VariableKind) → Ready p n kinds s → Fits p n kinds s.control → Fine p (back_next named (Names o) cause pool (if out then finds object.cell else on_gone) s)
-  out_fine true o cause pool object s n kinds ready fits = given_fine (pool == object.cell.home.pool) o cause object.cell s n kinds ready fits
-  out_fine false o cause pool object s n kinds ready fits = λ e. cc
+  out_fine : (out : Bool) (o : Id) (cause : Cause) (pool : ℕ) (object : Object) (s : State) (kinds : List VariableKind) → Ready p kinds s → Fits p kinds s.control → Fine p (back_next named (Names o) cause pool (if out then finds object.cell else on_gone) s)
+  out_fine true o cause pool object s kinds ready fits = given_fine (pool == object.cell.home.pool) o cause object.cell s kinds ready fits
+  out_fine false o cause pool object s kinds ready fits = tt
 
-  lent_fine : (at_o : Option Object) (o : Id) (cause : Cause) (pool : ℕ) (s : State) (n : ℕ) (kinds : List VariableKind) → Ready p n kinds s → Fits p n kinds s.control → Fine p (back_next named (Names o) cause pool (lent_by at_o) s)
-  lent_fine None o cause pool s n kinds ready fits = λ e. cc
-  lent_fine (Some object) o cause pool s n kinds ready fits = out_fine object.out o cause pool object s n kinds ready fits
+  lent_fine : (at_o : Option Object) (o : Id) (cause : Cause) (pool : ℕ) (s : State) (kinds : List VariableKind) → Ready p kinds s → Fits p kinds s.control → Fine p (back_next named (Names o) cause pool (lent_by at_o) s)
+  lent_fine None o cause pool s kinds ready fits = tt
+  lent_fine (Some object) o cause pool s kinds ready fits = out_fine object.out o cause pool object s kinds ready fits
 
-  back_fine : (v : Value) (cause : Cause) (pool : ℕ) (s : State) (n : ℕ) (kinds : List VariableKind) → IsName v → Ready p n kinds s → Fits p n kinds s.control → Fine p (back_next named v cause pool (lent s.heap v) s)
-  back_fine Null cause pool s n kinds is ready fits = absurd is
-  back_fine (Names o) cause pool s n kinds is ready fits = lent_fine (slice_get s.heap o.0) o cause pool s n kinds ready fits
-  back_fine (Scalar v) cause pool s n kinds is ready fits = absurd is
+  back_fine : (v : Value) (cause : Cause) (pool : ℕ) (s : State) (kinds : List VariableKind) → IsName v → Ready p kinds s → Fits p kinds s.control → Fine p (back_next named v cause pool (lent s.heap v) s)
+  back_fine Null cause pool s kinds is ready fits = absurd is
+  back_fine (Names o) cause pool s kinds is ready fits = lent_fine (slice_get s.heap o.0) o cause pool s kinds ready fits
+  back_fine (Scalar v) cause pool s kinds is ready fits = absurd is
 
   -- Statements (5.1).
   right_kind : (o : Option VariableKind) (vs : List VariableForm) (right : RightForm) → right_fits p.types vs o right ≡ true → (kind : VariableKind) × (o ≡ Some kind) × (kind_takes p.types vs kind right ≡ true)
@@ -111,164 +112,313 @@ module _ (p : ProgramForm) where
   freed_kind (Some variable.Boolean) access h = absurd (cc)
   freed_kind (Some (variable.Access type)) access h = (type, refl)
 
-  assign_fine : (cs : List ℕ) (x : ℕ) (right : RightForm) (s : State) (n : ℕ) (kinds : List VariableKind) → Ready p n kinds s → (length cs == 0) ≡ true → right_fits p.types (take n p.variables) (selectors_kind p.types (variable_kind (take n p.variables) x) cs) right ≡ true → Fits p n kinds s.control → Fine p (assign_next named cs x right s)
-  assign_fine (c ∷ cs) x right s n kinds ready short is fits = let never : length (c ∷ cs) ≡ 0 = eqb-true (length (c ∷ cs)) 0 short in absurd (omega (arith, never))
-  assign_fine [] x right s n kinds ready short is fits =
-      let own = right_kind (variable_kind (take n p.variables) x) (take n p.variables) right is in
-      running n kinds (ready_at p n kinds s (frame.Evaluates right ∷ frame.Stores x ∷ s.control) ready ready.deep) (own.0, own.2, (kinds, own.0, refl, own.1, fits))
+  assign_fine : (cs : List ℕ) (x : ℕ) (right : RightForm) (s : State) (kinds : List VariableKind) → Ready p kinds s → (length cs == 0) ≡ true → right_fits p.types p.variables (selectors_kind p.types (variable_kind p.variables x) cs) right ≡ true → Fits p kinds s.control → Fine p (assign_next named cs x right s)
+  assign_fine (c ∷ cs) x right s kinds ready short is fits = let never : length (c ∷ cs) ≡ 0 = eqb-true (length (c ∷ cs)) 0 short in absurd (omega (arith, never))
+  assign_fine [] x right s kinds ready short is fits =
+      let own = right_kind (variable_kind p.variables x) p.variables right is in
+      running kinds (ready_at p kinds s (frame.Evaluates right ∷ frame.Stores x ∷ s.control) ready ready.deep) (own.0, own.2, (kinds, own.0, refl, own.1, fits))
 
-  frees_fine : (cs : List ℕ) (access x : ℕ) (s : State) (n : ℕ) (kinds : List VariableKind) → Ready p n kinds s → (length cs == 0) ≡ true → is_freed_by p.types access (access_of (selectors_kind p.types (variable_kind (take n p.variables) x) cs)) ≡ true → Fits p n kinds s.control → Fine p (frees_next named cs access x s)
-  frees_fine (c ∷ cs) access x s n kinds ready short is fits = let never : length (c ∷ cs) ≡ 0 = eqb-true (length (c ∷ cs)) 0 short in absurd (omega (arith, never))
-  frees_fine [] access x s n kinds ready short is fits =
-      let own = freed_kind (variable_kind (take n p.variables) x) access is in
-      free_fine (held named s x) access x own.0 s n kinds ready (held_of p n kinds s x (variable.Access own.0) ready own.1) own.1 fits
+  frees_fine : (cs : List ℕ) (access x : ℕ) (s : State) (kinds : List VariableKind) → Ready p kinds s → (length cs == 0) ≡ true → is_freed_by p.types access (access_of (selectors_kind p.types (variable_kind p.variables x) cs)) ≡ true → Fits p kinds s.control → Fine p (frees_next named cs access x s)
+  frees_fine (c ∷ cs) access x s kinds ready short is fits = let never : length (c ∷ cs) ≡ 0 = eqb-true (length (c ∷ cs)) 0 short in absurd (omega (arith, never))
+  frees_fine [] access x s kinds ready short is fits =
+      let own = freed_kind (variable_kind p.variables x) access is in
+      free_fine (held named s x) access x own.0 s kinds ready (held_of p kinds s x (variable.Access own.0) ready own.1) own.1 fits
 
-  stmt_fine : (f : StmtForm) (s : State) (n : ℕ) (kinds : List VariableKind) → Ready p n kinds s → statement_fits p.types (take n p.variables) p.texts f ≡ true → Fits p n kinds s.control → Fine p (stmt_next named f s)
-  stmt_fine skips s n kinds ready is fits = running n kinds ready fits
-  stmt_fine (assigns target right) s n kinds ready is fits =
-      assign_fine target.selectors target.root right s n kinds ready
-      (and_left (names_variable target) (right_fits p.types (take n p.variables) (path_kind p.types (take n p.variables) target) right) is)
-      (and_right (names_variable target) (right_fits p.types (take n p.variables) (path_kind p.types (take n p.variables) target) right) is) fits
-  stmt_fine (frees access path) s n kinds ready is fits =
-      frees_fine path.selectors access path.root s n kinds ready
-      (and_left (names_variable path) (is_freed_by p.types access (path_access p.types (take n p.variables) path)) is)
-      (and_right (names_variable path) (is_freed_by p.types access (path_access p.types (take n p.variables) path)) is) fits
-  stmt_fine (writes e) s n kinds ready is fits =
-      running n kinds (ready_at p n kinds s (frame.Computes e ∷ frame.Writes ∷ s.control) ready ready.deep) (Integer, typed Integer (type_of p.types (take n p.variables) e) is, (kinds, refl, fits))
-  stmt_fine (writes_text text) s n kinds ready is fits = running n kinds ready fits
+  -- Branches (5.3).
+  branches_fine : (branches : BranchesForm) (inside : Bool) (s : State) → Ready p [] s → branches_fit p.types p.variables p.texts p.exceptions inside branches ≡ true → WhereInside inside (Lands p s.control) → Fits p [] s.control → Fine p (branches_next named branches s)
+  branches_fine (otherwise fs) inside s ready is lands fits = running [] (ready_at p [] s (frame.Does fs ∷ s.control) ready ready.deep) (refl, inside, is, lands, fits)
+  branches_fine (a_branch e fs branches) inside s ready is lands fits =
+      let own = has_type p.types p.variables Boolean e in
+      let inner = stmts_fit p.types p.variables p.texts p.exceptions inside fs in
+      let others = branches_fit p.types p.variables p.texts p.exceptions inside branches in
+      let former = and_left (own && inner) others is in
+      running [] (ready_at p [] s (frame.Computes e ∷ frame.Decides fs branches ∷ s.control) ready ready.deep)
+      (Boolean, typed Boolean (type_of p.types p.variables e) (and_left own inner former), (refl, inside, and_right own inner former, and_right (own && inner) others is, lands, fits))
 
-  stmts_fine : (fs : List StmtForm) (s : State) (n : ℕ) (kinds : List VariableKind) → Ready p n kinds s → list_all (statement_fits p.types (take n p.variables) p.texts) fs ≡ true → Fits p n kinds s.control → Fine p (stmts_next named fs s)
-  stmts_fine [] s n kinds ready is fits = running n kinds ready fits
-  stmts_fine (f ∷ fs) s n kinds ready is fits =
-      stmt_fine f (at (frame.Does fs ∷ s.control) s) n kinds (ready_at p n kinds s (frame.Does fs ∷ s.control) ready ready.deep)
-      (and_left (statement_fits p.types (take n p.variables) p.texts f) (list_all (statement_fits p.types (take n p.variables) p.texts) fs) is)
-      (and_right (statement_fits p.types (take n p.variables) p.texts f) (list_all (statement_fits p.types (take n p.variables) p.texts) fs) is, fits)
+  decided_fine : (fs : StmtsForm) (branches : BranchesForm) (v : Value) (inside : Bool) (s : State) (cells : Cells) → HasKind cells variable.Boolean v → Ready p [] s → stmts_fit p.types p.variables p.texts p.exceptions inside fs ≡ true → branches_fit p.types p.variables p.texts p.exceptions inside branches ≡ true → WhereInside inside (Lands p s.control) → Fits p [] s.control → Fine p (decided_next named fs branches (reads_boolean v) s)
+  decided_fine fs branches Null inside s cells has ready is others lands fits = absurd has
+  decided_fine fs branches (Names o) inside s cells has ready is others lands fits = absurd has
+  decided_fine fs branches (Scalar (scalar.Integer i)) inside s cells has ready is others lands fits = absurd has
+  decided_fine fs branches (Scalar (scalar.Boolean true)) inside s cells has ready is others lands fits = running [] (ready_at p [] s (frame.Does fs ∷ s.control) ready ready.deep) (refl, inside, is, lands, fits)
+  decided_fine fs branches (Scalar (scalar.Boolean false)) inside s cells has ready is others lands fits = branches_fine branches inside s ready others lands fits
 
-  line_fine : (v : Value) (s : State) (n : ℕ) (kinds : List VariableKind) (cells : Cells) → HasKind cells variable.Integer v → Ready p n kinds s → Fits p n kinds s.control → Fine p (line_next named (reads_integer v) s)
-  line_fine Null s n kinds cells has ready fits = absurd has
-  line_fine (Names o) s n kinds cells has ready fits = absurd has
-  line_fine (Scalar (scalar.Integer i)) s n kinds cells has ready fits = running n kinds ready fits
-  line_fine (Scalar (scalar.Boolean b)) s n kinds cells has ready fits = absurd has
+  -- Loops (5.5).
+  turn_fine : (condition : Option ExpressionForm) (fs : StmtsForm) (s : State) → Ready p [] s → condition_fits p.types p.variables condition ≡ true → has_statement fs ≡ true → stmts_fit p.types p.variables p.texts p.exceptions true fs ≡ true → Fits p [] s.control → Fine p (turn_next named condition fs s)
+  turn_fine condition no_stmts s ready is some own fits = absurd (cc)
+  turn_fine condition (a_stmt f fs) s ready is some own fits =
+      running [] (ready_at p [] s (frame.Does (a_stmt f fs) ∷ frame.Repeats condition (a_stmt f fs) ∷ s.control) ready ready.deep) (refl, true, own, fits, (refl, is, refl, own, fits))
+
+  repeats_fine : (condition : Option ExpressionForm) (fs : StmtsForm) (s : State) → Ready p [] s → condition_fits p.types p.variables condition ≡ true → has_statement fs ≡ true → stmts_fit p.types p.variables p.texts p.exceptions true fs ≡ true → Fits p [] s.control → Fine p (repeats_next named condition fs s)
+  repeats_fine None fs s ready is some own fits = turn_fine None fs s ready is some own fits
+  repeats_fine (Some e) fs s ready is some own fits =
+      running [] (ready_at p [] s (frame.Computes e ∷ frame.Turns e fs ∷ s.control) ready ready.deep) (Boolean, typed Boolean (type_of p.types p.variables e) is, (refl, is, some, own, fits))
+
+  turned_fine : (e : ExpressionForm) (fs : StmtsForm) (v : Value) (s : State) (cells : Cells) → HasKind cells variable.Boolean v → Ready p [] s → condition_fits p.types p.variables (Some e) ≡ true → has_statement fs ≡ true → stmts_fit p.types p.variables p.texts p.exceptions true fs ≡ true → Fits p [] s.control → Fine p (turned_next named e fs (reads_boolean v) s)
+  turned_fine e fs Null s cells has ready is some own fits = absurd has
+  turned_fine e fs (Names o) s cells has ready is some own fits = absurd has
+  turned_fine e fs (Scalar (scalar.Integer i)) s cells has ready is some own fits = absurd has
+  turned_fine e fs (Scalar (scalar.Boolean true)) s cells has ready is some own fits = turn_fine (Some e) fs s ready is some own fits
+  turned_fine e fs (Scalar (scalar.Boolean false)) s cells has ready is some own fits = running [] ready fits
+
+  -- Exits (5.7): each has a loop.
+  exit_jump : (s : State) → Ready p [] s → Lands p s.control → Fits p [] s.control → Typed p (jumping Exiting s)
+  exit_jump s ready lands fits = on_jump Exiting (jumped p [] Exiting s ready) (lands, catches p s.control [] fits)
+
+  exit_fine : (inside : Bool) (condition : Option ExpressionForm) (s : State) → Ready p [] s → (inside && condition_fits p.types p.variables condition) ≡ true → WhereInside inside (Lands p s.control) → Fits p [] s.control → Fine p (exit_next named condition s)
+  exit_fine false condition s ready is lands fits = absurd (cc)
+  exit_fine true None s ready is lands fits = exit_jump s ready lands fits
+  exit_fine true (Some e) s ready is lands fits =
+      running [] (ready_at p [] s (frame.Computes e ∷ frame.Exits ∷ s.control) ready ready.deep) (Boolean, typed Boolean (type_of p.types p.variables e) is, (refl, lands, fits))
+
+  exited_fine : (v : Value) (s : State) (cells : Cells) → HasKind cells variable.Boolean v → Ready p [] s → Lands p s.control → Fits p [] s.control → Fine p (exited_next named (reads_boolean v) s)
+  exited_fine Null s cells has ready lands fits = absurd has
+  exited_fine (Names o) s cells has ready lands fits = absurd has
+  exited_fine (Scalar (scalar.Integer i)) s cells has ready lands fits = absurd has
+  exited_fine (Scalar (scalar.Boolean true)) s cells has ready lands fits = exit_jump s ready lands fits
+  exited_fine (Scalar (scalar.Boolean false)) s cells has ready lands fits = running [] ready fits
+
+  -- Counting loops (5.5): the parameter is an Integer variable.
+  integer_kind : (kind : Option VariableKind) → is_type Integer (scalar_of kind) ≡ true → kind ≡ Some variable.Integer
+  integer_kind None h = absurd (cc)
+  integer_kind (Some variable.Integer) h = refl
+  integer_kind (Some variable.Boolean) h = absurd (cc)
+  integer_kind (Some (variable.Access access)) h = absurd (cc)
+
+  count_turn_fine : (x : ℕ) (value last : ℤ) (fs : StmtsForm) (s : State) → Ready p [] s → variable_kind p.variables x ≡ Some variable.Integer → has_statement fs ≡ true → stmts_fit p.types p.variables p.texts p.exceptions true fs ≡ true → Fits p [] s.control → Fine p (count_turn_next named x value last fs s)
+  count_turn_fine x value last no_stmts s ready is some own fits = absurd (cc)
+  count_turn_fine x value last (a_stmt f fs) s ready is some own fits =
+      running [] (ready_at p [] (put x (an_integer value) s) (frame.Does (a_stmt f fs) ∷ frame.Counts x (value +ℤ pos 1) last (a_stmt f fs) ∷ s.control) (put_in p [] s x variable.Integer (an_integer value) ready is tt) ready.deep)
+      (refl, true, own, fits, (refl, is, refl, own, fits))
+
+  counts_fine : (again : Bool) (x : ℕ) (value last : ℤ) (fs : StmtsForm) (s : State) → Ready p [] s → variable_kind p.variables x ≡ Some variable.Integer → has_statement fs ≡ true → stmts_fit p.types p.variables p.texts p.exceptions true fs ≡ true → Fits p [] s.control → Fine p (if again then count_turn_next named x value last fs s else moves Quiet s)
+  counts_fine true x value last fs s ready is some own fits = count_turn_fine x value last fs s ready is some own fits
+  counts_fine false x value last fs s ready is some own fits = running [] ready fits
+
+  high_fine : (x : ℕ) (fs : StmtsForm) (low : ℤ) (high : Value) (s : State) (cells : Cells) → HasKind cells variable.Integer high → Ready p [] s → variable_kind p.variables x ≡ Some variable.Integer → has_statement fs ≡ true → stmts_fit p.types p.variables p.texts p.exceptions true fs ≡ true → Fits p [] s.control → Fine p (ranges_next named x fs (Some low) (reads_integer high) s)
+  high_fine x fs low Null s cells has ready is some own fits = absurd has
+  high_fine x fs low (Names o) s cells has ready is some own fits = absurd has
+  high_fine x fs low (Scalar (scalar.Integer high)) s cells has ready is some own fits = counts_fine (int_le low high) x low high fs s ready is some own fits
+  high_fine x fs low (Scalar (scalar.Boolean b)) s cells has ready is some own fits = absurd has
+
+  ranges_fine : (x : ℕ) (fs : StmtsForm) (low high : Value) (s : State) (cells : Cells) → HasKind cells variable.Integer low → HasKind cells variable.Integer high → Ready p [] s → variable_kind p.variables x ≡ Some variable.Integer → has_statement fs ≡ true → stmts_fit p.types p.variables p.texts p.exceptions true fs ≡ true → Fits p [] s.control → Fine p (ranges_next named x fs (reads_integer low) (reads_integer high) s)
+  ranges_fine x fs Null high s cells has too ready is some own fits = absurd has
+  ranges_fine x fs (Names o) high s cells has too ready is some own fits = absurd has
+  ranges_fine x fs (Scalar (scalar.Integer low)) high s cells has too ready is some own fits = high_fine x fs low high s cells too ready is some own fits
+  ranges_fine x fs (Scalar (scalar.Boolean b)) high s cells has too ready is some own fits = absurd has
+
+  -- The next number of the input goes to an Integer variable.
+  gets_fine : (cs : List ℕ) (x : ℕ) (input : List ℤ) (s : State) → Ready p [] s → (length cs == 0) ≡ true → is_type Integer (scalar_of (selectors_kind p.types (variable_kind p.variables x) cs)) ≡ true → Fits p [] s.control → Fine p (gets_next named cs x input s)
+  gets_fine (c ∷ cs) x input s ready short is fits = let never : length (c ∷ cs) ≡ 0 = eqb-true (length (c ∷ cs)) 0 short in absurd (omega (arith, never))
+  gets_fine [] x [] s ready short is fits = raises p [] [] EndError s ready fits
+  gets_fine [] x (i ∷ input) s ready short is fits =
+      let stored = put_in p [] s x variable.Integer (an_integer i) ready (integer_kind (variable_kind p.variables x) is) tt in
+      running [] (record { filled = stored.filled; active = stored.active; runs = stored.runs; deep = stored.deep }) fits
+
+  stmt_fine : (f : StmtForm) (inside : Bool) (s : State) → Ready p [] s → statement_fits p.types p.variables p.texts p.exceptions inside f ≡ true → WhereInside inside (Lands p s.control) → Fits p [] s.control → Fine p (stmt_next named f s)
+  stmt_fine skips inside s ready is lands fits = running [] ready fits
+  stmt_fine (assigns target right) inside s ready is lands fits =
+      assign_fine target.selectors target.root right s [] ready
+      (and_left (names_variable target) (right_fits p.types p.variables (path_kind p.types p.variables target) right) is)
+      (and_right (names_variable target) (right_fits p.types p.variables (path_kind p.types p.variables target) right) is) fits
+  stmt_fine (frees access path) inside s ready is lands fits =
+      frees_fine path.selectors access path.root s [] ready
+      (and_left (names_variable path) (is_freed_by p.types access (path_access p.types p.variables path)) is)
+      (and_right (names_variable path) (is_freed_by p.types access (path_access p.types p.variables path)) is) fits
+  stmt_fine (gets target) inside s ready is lands fits =
+      gets_fine target.selectors target.root s.input s ready
+      (and_left (names_variable target) (is_type Integer (scalar_of (path_kind p.types p.variables target))) is)
+      (and_right (names_variable target) (is_type Integer (scalar_of (path_kind p.types p.variables target))) is) fits
+  stmt_fine (writes e) inside s ready is lands fits =
+      running [] (ready_at p [] s (frame.Computes e ∷ frame.Writes ∷ s.control) ready ready.deep) (Integer, typed Integer (type_of p.types p.variables e) is, ([], refl, fits))
+  stmt_fine (writes_text text) inside s ready is lands fits = running [] ready fits
+  stmt_fine (chooses branches) inside s ready is lands fits = branches_fine branches inside s ready is lands fits
+  stmt_fine (repeats condition fs end_spot) inside s ready is lands fits =
+      let own = condition_fits p.types p.variables condition in
+      let inner = stmts_fit p.types p.variables p.texts p.exceptions true fs in
+      let former = and_left (own && has_statement fs) inner is in
+      running [] (ready_at p [] s (frame.Repeats condition fs ∷ s.control) ready ready.deep)
+      (refl, and_left own (has_statement fs) former, and_right own (has_statement fs) former, and_right (own && has_statement fs) inner is, fits)
+  stmt_fine (exits condition spot) inside s ready is lands fits = exit_fine inside condition s ready is lands fits
+  stmt_fine (counts x low high fs end_spot) inside s ready is lands fits =
+      let kind = is_type Integer (scalar_of (variable_kind p.variables x)) in
+      let first = has_type p.types p.variables Integer low in
+      let last = has_type p.types p.variables Integer high in
+      let some = has_statement fs in
+      let inner = stmts_fit p.types p.variables p.texts p.exceptions true fs in
+      let four = and_left (kind && first && last && some) inner is in
+      let three = and_left (kind && first && last) some four in
+      let two = and_left (kind && first) last three in
+      running [] (ready_at p [] s (frame.Computes low ∷ frame.Computes high ∷ frame.Ranges x fs ∷ s.control) ready ready.deep) (
+        Integer,
+        typed Integer (type_of p.types p.variables low) (and_right kind first two),
+        (
+          Integer,
+          typed Integer (type_of p.types p.variables high) (and_right (kind && first) last three),
+          (refl, integer_kind (variable_kind p.variables x) (and_left kind first two), and_right (kind && first && last) some four, and_right (kind && first && last && some) inner is, fits),
+        ),
+      )
+  stmt_fine (returns spot) inside s ready is lands fits = on_jump Returning (jumped p [] Returning s ready) (catches p s.control [] fits)
+  stmt_fine (raises_it e) inside s ready is lands fits = raises p [] [] e s ready fits
+  stmt_fine (encloses ds fs hs) inside s ready is lands fits =
+      let own = declarations_fit p.types p.variables ds in
+      let inner = stmts_fit p.types p.variables p.texts p.exceptions inside fs in
+      let handled = handlers_fit p.types p.variables p.texts p.exceptions inside hs in
+      let former = and_left (own && inner) handled is in
+      let initials = and_right (collections_first ds && list_all (collection_fits p.types) ds) (list_all (initial_fits p.types p.variables) ds) (and_left own inner former) in
+      running [] (record { filled = ready.filled; active = ready.active; runs = ready.runs; deep = omega (arith, ready.deep) })
+      (refl, inside, initials, and_right own inner former, and_right (own && inner) handled is, lands, fits)
+
+  stmts_fine : (fs : StmtsForm) (inside : Bool) (s : State) → Ready p [] s → stmts_fit p.types p.variables p.texts p.exceptions inside fs ≡ true → WhereInside inside (Lands p s.control) → Fits p [] s.control → Fine p (stmts_next named fs s)
+  stmts_fine no_stmts inside s ready is lands fits = running [] ready fits
+  stmts_fine (a_stmt f fs) inside s ready is lands fits =
+      let own = statement_fits p.types p.variables p.texts p.exceptions inside f in
+      let others = stmts_fit p.types p.variables p.texts p.exceptions inside fs in
+      stmt_fine f inside (at (frame.Does fs ∷ s.control) s) (ready_at p [] s (frame.Does fs ∷ s.control) ready ready.deep)
+      (and_left own others is) lands (refl, inside, and_right own others is, lands, fits)
+
+  line_fine : (v : Value) (s : State) (kinds : List VariableKind) (cells : Cells) → HasKind cells variable.Integer v → Ready p kinds s → Fits p kinds s.control → Fine p (line_next named (reads_integer v) s)
+  line_fine Null s kinds cells has ready fits = absurd has
+  line_fine (Names o) s kinds cells has ready fits = absurd has
+  line_fine (Scalar (scalar.Integer i)) s kinds cells has ready fits = running kinds ready fits
+  line_fine (Scalar (scalar.Boolean b)) s kinds cells has ready fits = absurd has
 
   -- Declarations (3.11).
-  declares_fine : (x : ℕ) (right : RightForm) (ds : List DeclarationForm) (fs : List StmtForm) (s : State) (n : ℕ) (kinds : List VariableKind) (k : List (Frame Value)) → s.control ≡ frame.Elaborates ds fs ∷ k → Ready p n kinds s → x ≡ n → creates_from (length p.variables) (n + 1) ds ≡ true → names_before x right ≡ true → right_fits p.types p.variables (variable_kind p.variables x) right ≡ true → list_all (initial_fits p.types p.variables) ds ≡ true → list_all (statement_fits p.types p.variables p.texts) fs ≡ true → Fits p (length p.variables) kinds k → Fine p (declaration_next named (declares x right) s)
-  declares_fine x right ds fs s n kinds k top ready is creates before right_is initials statements fits =
-      let own = right_kind (variable_kind p.variables x) p.variables right right_is in
-      let before_n : names_before n right ≡ true = ap (λ (m : ℕ). names_before m right) (sym is) ∙ before in
-      let takes : kind_takes p.types (take n p.variables) own.0 right ≡ true = takes_before p.types n p.variables own.0 right before_n ∙ own.2 in
-      let kind_n : variable_kind p.variables n ≡ Some own.0 = ap (variable_kind p.variables) (sym is) ∙ own.1 in
-      let later : creates_from (length p.variables) (suc n) ds ≡ true = ap (λ (m : ℕ). creates_from (length p.variables) m ds) (sym (add-one n)) ∙ creates in
-      let rest : Fits p (suc n) kinds s.control = subst (λ (c : List (Frame Value)). Fits p (suc n) kinds c) (sym top) (later, initials, statements, fits) in
-      running n kinds (ready_at p n kinds s (frame.Evaluates right ∷ frame.Declares x ∷ s.control) ready ready.deep) (own.0, takes, (kinds, own.0, refl, is, kind_n, rest))
-
-  declarations_fine : (ds : List DeclarationForm) (fs : List StmtForm) (s : State) (n : ℕ) (kinds : List VariableKind) → Ready p n kinds s → 1 + depth s.control ≤ length s.masters → Fits p n kinds (frame.Elaborates ds fs ∷ s.control) → Fine p (declarations_next named ds fs s)
-  declarations_fine [] fs s n kinds ready deep fits =
-      let all : n ≡ length p.variables = eqb-true n (length p.variables) fits.0 in
-      let whole : take n p.variables ≡ p.variables = take_all n p.variables (omega (arith, all)) in
-      running n kinds (ready_at p n kinds s (frame.Does fs ∷ frame.Closes ∷ s.control) ready deep)
-      (subst (λ (vs : List VariableForm). list_all (statement_fits p.types vs p.texts) fs ≡ true) (sym whole) fits.2, subst (λ (m : ℕ). Fits p m kinds s.control) (sym all) fits.3)
-  declarations_fine (collects access ∷ ds) fs s n kinds ready deep fits =
-      let creates : creates_from (length p.variables) n ds ≡ true = and_right (n == 0) (creates_from (length p.variables) n ds) fits.0 in
-      running n kinds (ready_owning p n kinds (at (frame.Elaborates ds fs ∷ s.control) s) (collection access) (ready_at p n kinds s (frame.Elaborates ds fs ∷ s.control) ready deep))
-      (creates, and_right (initial_fits p.types p.variables (collects access)) (list_all (initial_fits p.types p.variables) ds) fits.1, fits.2, fits.3)
-  declarations_fine (declares x right ∷ ds) fs s n kinds ready deep fits =
-      let own = and_left (names_before x right && right_fits p.types p.variables (variable_kind p.variables x) right) (list_all (initial_fits p.types p.variables) ds) fits.1 in
-      declares_fine x right ds fs (at (frame.Elaborates ds fs ∷ s.control) s) n kinds s.control refl (ready_at p n kinds s (frame.Elaborates ds fs ∷ s.control) ready deep)
-      (eqb-true x n (and_left (x == n) (creates_from (length p.variables) (n + 1) ds) fits.0))
-      (and_right (x == n) (creates_from (length p.variables) (n + 1) ds) fits.0)
-      (and_left (names_before x right) (right_fits p.types p.variables (variable_kind p.variables x) right) own)
-      (and_right (names_before x right) (right_fits p.types p.variables (variable_kind p.variables x) right) own)
-      (and_right (names_before x right && right_fits p.types p.variables (variable_kind p.variables x) right) (list_all (initial_fits p.types p.variables) ds) fits.1)
-      fits.2 fits.3
+  declarations_fine : (ds : List DeclarationForm) (fs : StmtsForm) (hs : HandlersForm) (s : State) → Ready p [] s → 1 + depth s.control ≤ length s.masters → Fits p [] (frame.Elaborates ds fs hs ∷ s.control) → Fine p (declarations_next named ds fs hs s)
+  declarations_fine [] fs hs s ready deep fits =
+      running [] (ready_at p [] s (frame.Does fs ∷ frame.Handles hs ∷ frame.Closes ∷ s.control) ready deep)
+      (refl, fits.1, fits.3, fits.5, (refl, fits.1, fits.4, fits.5, fits.6))
+  declarations_fine (collects access ∷ ds) fs hs s ready deep fits =
+      running [] (ready_owning p [] (at (frame.Elaborates ds fs hs ∷ s.control) s) (collection access) (ready_at p [] s (frame.Elaborates ds fs hs ∷ s.control) ready deep))
+      (refl, fits.1, and_right (initial_fits p.types p.variables (collects access)) (list_all (initial_fits p.types p.variables) ds) fits.2, fits.3, fits.4, fits.5, fits.6)
+  declarations_fine (declares x right ∷ ds) fs hs s ready deep fits =
+      let early = names_before x right in
+      let fitting = right_fits p.types p.variables (variable_kind p.variables x) right in
+      let later = list_all (initial_fits p.types p.variables) ds in
+      let own = right_kind (variable_kind p.variables x) p.variables right (and_right early fitting (and_left (early && fitting) later fits.2)) in
+      running [] (ready_at p [] s (frame.Evaluates right ∷ frame.Declares x ∷ frame.Elaborates ds fs hs ∷ s.control) ready deep)
+      (own.0, own.2, ([], own.0, refl, own.1, (refl, fits.1, and_right (early && fitting) later fits.2, fits.3, fits.4, fits.5, fits.6)))
 
   -- The leaving of a master (7.6.1).
-  ready_shorter : (n : ℕ) (kinds : List VariableKind) (s : State) → Ready p n kinds s → Ready p n kinds (record s { masters = shorter s.masters })
-  ready_shorter n kinds s ready = record { filled = ready.filled; active = ready.active; runs = ready.runs; deep = omega (arith, ready.deep, length_shorter s.masters) }
+  ready_shorter : (kinds : List VariableKind) (s : State) → Ready p kinds s → Ready p kinds (record s { masters = shorter s.masters })
+  ready_shorter kinds s ready = record { filled = ready.filled; active = ready.active; runs = ready.runs; deep = omega (arith, ready.deep, length_shorter s.masters) }
 
-  members_fine : (cause : Cause) (access : ℕ) (ids : List Id) (vs : List Value) (s : State) (n : ℕ) (kinds : List VariableKind) → map Names ids ≡ vs → Ready p n kinds s → Fits p n kinds s.control → Fine p (members_next named cause access vs s)
-  members_fine cause access ids [] s n kinds are ready fits = running n kinds (ready_shorter n kinds s ready) fits
-  members_fine cause access ids (v ∷ vs) s n kinds are ready fits = λ i lt.
+  members_fine : (cause : Cause) (access : ℕ) (ids : List Id) (vs : List Value) (s : State) (kinds : List VariableKind) → map Names ids ≡ vs → Ready p kinds s → Fits p kinds s.control → Fine p (members_next named cause access vs s)
+  members_fine cause access ids [] s kinds are ready fits = running kinds (ready_shorter kinds s ready) fits
+  members_fine cause access ids (v ∷ vs) s kinds are ready fits = λ i lt.
       let name : IsName (slice_index_or (v ∷ vs) i Null) = picked ids (v ∷ vs) i are lt in
-      let other = ready_heap p n kinds s (on_object parted s.heap (slice_index_or (v ∷ vs) i Null)) (cells_on parted s.heap (slice_index_or (v ∷ vs) i Null) (λ y. refl)) ready in
-      running n kinds (record { filled = other.filled; active = other.active; runs = other.runs; deep = other.deep }) (name, (name, fits))
+      let other = ready_heap p kinds s (on_object parted s.heap (slice_index_or (v ∷ vs) i Null)) (cells_on parted s.heap (slice_index_or (v ∷ vs) i Null) (λ y. refl)) ready in
+      running kinds (record { filled = other.filled; active = other.active; runs = other.runs; deep = other.deep }) (name, (name, fits))
 
-  item_leave_fine : (m : ℕ) (item : Item) (what : Owned) (s : State) (n : ℕ) (kinds : List VariableKind) → Ready p n kinds s → Fits p n kinds s.control → Fine p (item_leave_next named m item what s)
-  item_leave_fine m item (declared x) s n kinds ready fits = running n kinds (ready_shorter n kinds s ready) fits
-  item_leave_fine m item (collection access) s n kinds ready fits = members_fine (Leaving m item.number) access (members_of s.heap item.number) (members s.heap item.number) s n kinds refl ready fits
+  item_leave_fine : (m : ℕ) (item : Item) (what : Owned) (s : State) (kinds : List VariableKind) → Ready p kinds s → Fits p kinds s.control → Fine p (item_leave_next named m item what s)
+  item_leave_fine m item (declared x) s kinds ready fits = running kinds (ready_shorter kinds s ready) fits
+  item_leave_fine m item (collection access) s kinds ready fits = members_fine (Leaving m item.number) access (members_of s.heap item.number) (members s.heap item.number) s kinds refl ready fits
 
-  left_fine : (mode : Mode) (s : State) (n : ℕ) (kinds : List VariableKind) (ms : List Master) → Ready p n kinds s → depth s.control ≤ length ms → Fits p n kinds (frame.Leaves mode ∷ s.control) → Typed p (record s { masters = ms; mode = mode })
-  left_fine Running s n kinds ms ready deep fits = running n kinds (record { filled = ready.filled; active = ready.active; runs = refl; deep = deep }) fits
-  left_fine (Raising e) s n kinds ms ready deep fits = raising n kinds e ready.filled ready.active refl deep
+  left_jumps : (mode : Mode) (s : State) (kinds : List VariableKind) (ms : List Master) → Ready p kinds s → depth s.control ≤ length ms → Jumps p mode (record s { masters = ms; mode = mode })
+  left_jumps mode s kinds ms ready deep = record { filled = ready.filled; active = active_none (cells_of s.heap) p.variables kinds s.activations ready.active; jumps = refl; deep = deep }
 
-  master_leave_fine : (mode : Mode) (m : ℕ) (items : List Item) (s : State) (n : ℕ) (kinds : List VariableKind) → Ready p n kinds s → 1 + depth s.control ≤ length s.masters → depth s.control ≤ length (older s.masters) → Fits p n kinds (frame.Leaves mode ∷ s.control) → Fine p (master_leave_next named mode m items s)
-  master_leave_fine mode m [] s n kinds ready deep below fits = left_fine mode s n kinds (older s.masters) ready below fits
-  master_leave_fine mode m (item ∷ items) s n kinds ready deep below fits =
-      item_leave_fine m item item.owned (at (frame.Leaves mode ∷ s.control) s) n kinds (ready_at p n kinds s (frame.Leaves mode ∷ s.control) ready deep) fits
+  left_fine : (mode : Mode) (s : State) (kinds : List VariableKind) (ms : List Master) → Ready p kinds s → depth s.control ≤ length ms → Fits p kinds (frame.Leaves mode ∷ s.control) → Typed p (record s { masters = ms; mode = mode })
+  left_fine Running s kinds ms ready deep fits = running kinds (record { filled = ready.filled; active = ready.active; runs = refl; deep = deep }) fits
+  left_fine (Raising e) s kinds ms ready deep fits = on_jump (Raising e) (left_jumps (Raising e) s kinds ms ready deep) fits
+  left_fine Exiting s kinds ms ready deep fits = on_jump Exiting (left_jumps Exiting s kinds ms ready deep) fits
+  left_fine Returning s kinds ms ready deep fits = on_jump Returning (left_jumps Returning s kinds ms ready deep) fits
 
-  leave_fine : (mode : Mode) (ms : List Master) (s : State) (n : ℕ) (kinds : List VariableKind) → s.masters ≡ ms → Ready p n kinds s → 1 + depth s.control ≤ length s.masters → Fits p n kinds (frame.Leaves mode ∷ s.control) → Fine p (leave_next named mode ms s)
-  leave_fine mode [] s n kinds is ready deep fits = let none : length s.masters ≡ 0 = ap length is in absurd (omega (arith, deep, none))
-  leave_fine mode (m ∷ ms) s n kinds is ready deep fits =
+  master_leave_fine : (mode : Mode) (m : ℕ) (items : List Item) (s : State) (kinds : List VariableKind) → Ready p kinds s → 1 + depth s.control ≤ length s.masters → depth s.control ≤ length (older s.masters) → Fits p kinds (frame.Leaves mode ∷ s.control) → Fine p (master_leave_next named mode m items s)
+  master_leave_fine mode m [] s kinds ready deep below fits = left_fine mode s kinds (older s.masters) ready below fits
+  master_leave_fine mode m (item ∷ items) s kinds ready deep below fits =
+      item_leave_fine m item item.owned (at (frame.Leaves mode ∷ s.control) s) kinds (ready_at p kinds s (frame.Leaves mode ∷ s.control) ready deep) fits
+
+  leave_fine : (mode : Mode) (ms : List Master) (s : State) (kinds : List VariableKind) → s.masters ≡ ms → Ready p kinds s → 1 + depth s.control ≤ length s.masters → Fits p kinds (frame.Leaves mode ∷ s.control) → Fine p (leave_next named mode ms s)
+  leave_fine mode [] s kinds is ready deep fits = let none : length s.masters ≡ 0 = ap length is in absurd (omega (arith, deep, none))
+  leave_fine mode (m ∷ ms) s kinds is ready deep fits =
       let same : length (older s.masters) ≡ length ms = ap (λ (xs : List Master). length (older xs)) is in
       let all : length s.masters ≡ 1 + length ms = ap length is ∙ omega arith in
-      master_leave_fine mode m.number m.items s n kinds ready deep (omega (arith, deep, same, all)) fits
+      master_leave_fine mode m.number m.items s kinds ready deep (omega (arith, deep, same, all)) fits
 
   -- Each frame that is taken off.
-  frame_fine : (types : List TypeDefinition) (f : Frame Value) (s : State) (n : ℕ) (kinds : List VariableKind) → Ready p n kinds s → depth (f ∷ s.control) ≤ length s.masters → Fits p n kinds (f ∷ s.control) → Fine p (frame_next named types f s)
-  frame_fine types (frame.Elaborates ds fs) s n kinds ready deep fits = declarations_fine ds fs s n kinds ready deep fits
-  frame_fine types (frame.Does fs) s n kinds ready deep fits = stmts_fine fs s n kinds ready fits.0 fits.1
-  frame_fine types frame.Closes s n kinds ready deep fits = running n kinds (ready_at p n kinds s (frame.Leaves Running ∷ s.control) ready deep) fits
-  frame_fine types (frame.Leaves mode) s n kinds ready deep fits = leave_fine mode s.masters s n kinds refl ready deep fits
-  frame_fine types (frame.Evaluates right) s n kinds ready deep fits = right_fine p right fits.0 s n kinds ready fits.1 fits.2
-  frame_fine types (frame.Computes e) s n kinds ready deep fits = expression_fine p e fits.0 s n kinds ready fits.1 fits.2
-  frame_fine types (frame.Follows cs) s n kinds ready deep fits =
-      let taken = ready_kinds p n kinds (fits.1 ∷ fits.0) s fits.3 ready in
-      path_fine p cs (newest named s) fits.1 fits.2 (popped s) n fits.0 (ready_pop p n fits.1 fits.0 s taken) (newest_of p n fits.1 fits.0 s taken) fits.4 fits.5
-  frame_fine types (frame.Continues links) s n kinds ready deep fits =
-      links_fine p links fits.1 fits.2 s n fits.0 (ready_kinds p n kinds (kind_of fits.1 ∷ fits.0) s fits.3 ready) fits.4 fits.5
-  frame_fine types (frame.Applies operator) s n kinds ready deep fits =
-      let right = ready_kinds p n kinds (kind_of fits.2 ∷ kind_of fits.1 ∷ fits.0) s fits.4 ready in
-      let left = ready_pop p n (kind_of fits.2) (kind_of fits.1 ∷ fits.0) s right in
-      outcome_fine p (binary_given operator (newest named (popped s)) (newest named s)) fits.3 (popped (popped s)) n fits.0 (ready_pop p n (kind_of fits.1) fits.0 (popped s) left)
-      (binary_gives (cells_of s.heap) operator fits.1 fits.2 fits.3 (newest named (popped s)) (newest named s) fits.5 (newest_of p n (kind_of fits.1) fits.0 (popped s) left) (newest_of p n (kind_of fits.2) (kind_of fits.1 ∷ fits.0) s right)) fits.6
-  frame_fine types (frame.AppliesAlone operator) s n kinds ready deep fits =
-      let taken = ready_kinds p n kinds (kind_of fits.1 ∷ fits.0) s fits.3 ready in
-      outcome_fine p (unary_given operator (newest named s)) fits.2 (popped s) n fits.0 (ready_pop p n (kind_of fits.1) fits.0 s taken)
-      (unary_gives (cells_of s.heap) operator fits.1 fits.2 (newest named s) fits.4 (newest_of p n (kind_of fits.1) fits.0 s taken)) fits.5
-  frame_fine types (frame.Fills items) s n kinds ready deep fits = items_fine p items fits.0 s n kinds ready fits.1 fits.2
-  frame_fine types (frame.Creates access count) s n kinds ready deep fits =
-      let taken = ready_kinds p n kinds (onto fits.1 fits.0) s fits.2 ready in
+  frame_fine : (types : List TypeDefinition) (f : Frame Value) (s : State) (kinds : List VariableKind) → Ready p kinds s → depth (f ∷ s.control) ≤ length s.masters → Fits p kinds (f ∷ s.control) → Fine p (frame_next named types f s)
+  frame_fine types (frame.Elaborates ds fs hs) s kinds ready deep fits =
+      declarations_fine ds fs hs s (ready_kinds p kinds [] s fits.0 ready) deep (refl, fits.1, fits.2, fits.3, fits.4, fits.5, fits.6)
+  frame_fine types (frame.Does fs) s kinds ready deep fits = stmts_fine fs fits.1 s (ready_kinds p kinds [] s fits.0 ready) fits.2 fits.3 fits.4
+  frame_fine types (frame.Decides fs branches) s kinds ready deep fits =
+      let taken = ready_kinds p kinds (variable.Boolean ∷ []) s fits.0 ready in
+      decided_fine fs branches (newest named s) fits.1 (popped s) (cells_of s.heap) (newest_of p variable.Boolean [] s taken) (ready_pop p variable.Boolean [] s taken) fits.2 fits.3 fits.4 fits.5
+  frame_fine types (frame.Repeats condition fs) s kinds ready deep fits = repeats_fine condition fs s (ready_kinds p kinds [] s fits.0 ready) fits.1 fits.2 fits.3 fits.4
+  frame_fine types (frame.Turns e fs) s kinds ready deep fits =
+      let taken = ready_kinds p kinds (variable.Boolean ∷ []) s fits.0 ready in
+      turned_fine e fs (newest named s) (popped s) (cells_of s.heap) (newest_of p variable.Boolean [] s taken) (ready_pop p variable.Boolean [] s taken) fits.1 fits.2 fits.3 fits.4
+  frame_fine types (frame.Ranges x fs) s kinds ready deep fits =
+      let high = ready_kinds p kinds (variable.Integer ∷ variable.Integer ∷ []) s fits.0 ready in
+      let low = ready_pop p variable.Integer (variable.Integer ∷ []) s high in
+      ranges_fine x fs (newest named (popped s)) (newest named s) (popped (popped s)) (cells_of s.heap) (newest_of p variable.Integer [] (popped s) low) (newest_of p variable.Integer (variable.Integer ∷ []) s high)
+      (ready_pop p variable.Integer [] (popped s) low) fits.1 fits.2 fits.3 fits.4
+  frame_fine types (frame.Counts x value last fs) s kinds ready deep fits =
+      counts_fine (int_le value last) x value last fs s (ready_kinds p kinds [] s fits.0 ready) fits.1 fits.2 fits.3 fits.4
+  frame_fine types (frame.Handles hs) s kinds ready deep fits = running [] (ready_kinds p kinds [] s fits.0 ready) fits.4
+  frame_fine types frame.Exits s kinds ready deep fits =
+      let taken = ready_kinds p kinds (variable.Boolean ∷ []) s fits.0 ready in
+      exited_fine (newest named s) (popped s) (cells_of s.heap) (newest_of p variable.Boolean [] s taken) (ready_pop p variable.Boolean [] s taken) fits.1 fits.2
+  frame_fine types frame.Closes s kinds ready deep fits = running kinds (ready_at p kinds s (frame.Leaves Running ∷ s.control) ready deep) fits
+  frame_fine types (frame.Leaves mode) s kinds ready deep fits = leave_fine mode s.masters s kinds refl ready deep fits
+  frame_fine types (frame.Evaluates right) s kinds ready deep fits = right_fine p right fits.0 s kinds ready fits.1 fits.2
+  frame_fine types (frame.Computes e) s kinds ready deep fits = expression_fine p e fits.0 s kinds ready fits.1 fits.2
+  frame_fine types (frame.Follows cs) s kinds ready deep fits =
+      let taken = ready_kinds p kinds (fits.1 ∷ fits.0) s fits.3 ready in
+      path_fine p cs (newest named s) fits.1 fits.2 (popped s) fits.0 (ready_pop p fits.1 fits.0 s taken) (newest_of p fits.1 fits.0 s taken) fits.4 fits.5
+  frame_fine types (frame.TestsNull equal) s kinds ready deep fits =
+      let taken = ready_kinds p kinds (variable.Access fits.1 ∷ fits.0) s fits.2 ready in
+      null_test_fine p equal fits.1 (newest named s) (popped s) fits.0 (cells_of s.heap) (newest_of p (variable.Access fits.1) fits.0 s taken) (ready_pop p (variable.Access fits.1) fits.0 s taken) fits.3
+  frame_fine types (frame.Continues links) s kinds ready deep fits =
+      links_fine p links fits.1 fits.2 s fits.0 (ready_kinds p kinds (kind_of fits.1 ∷ fits.0) s fits.3 ready) fits.4 fits.5
+  frame_fine types (frame.Applies operator) s kinds ready deep fits =
+      let right = ready_kinds p kinds (kind_of fits.2 ∷ kind_of fits.1 ∷ fits.0) s fits.4 ready in
+      let left = ready_pop p (kind_of fits.2) (kind_of fits.1 ∷ fits.0) s right in
+      outcome_fine p (binary_given operator (newest named (popped s)) (newest named s)) fits.3 (popped (popped s)) fits.0 (ready_pop p (kind_of fits.1) fits.0 (popped s) left)
+      (binary_gives (cells_of s.heap) operator fits.1 fits.2 fits.3 (newest named (popped s)) (newest named s) fits.5 (newest_of p (kind_of fits.1) fits.0 (popped s) left) (newest_of p (kind_of fits.2) (kind_of fits.1 ∷ fits.0) s right)) fits.6
+  frame_fine types (frame.AppliesAlone operator) s kinds ready deep fits =
+      let taken = ready_kinds p kinds (kind_of fits.1 ∷ fits.0) s fits.3 ready in
+      outcome_fine p (unary_given operator (newest named s)) fits.2 (popped s) fits.0 (ready_pop p (kind_of fits.1) fits.0 s taken)
+      (unary_gives (cells_of s.heap) operator fits.1 fits.2 (newest named s) fits.4 (newest_of p (kind_of fits.1) fits.0 s taken)) fits.5
+  frame_fine types (frame.Fills items) s kinds ready deep fits = items_fine p items fits.0 s kinds ready fits.1 fits.2
+  frame_fine types (frame.Creates access count) s kinds ready deep fits =
+      let taken = ready_kinds p kinds (onto fits.1 fits.0) s fits.2 ready in
       subst (λ (m : ℕ). Fine p (new_next named access m (words_of types access) (home_of access s.masters) s)) (sym fits.4)
-      (new_fine p (home_of access s.masters) access (words_of types access) s n fits.0 fits.1 taken fits.3 fits.5)
-  frame_fine types (frame.Stores x) s n kinds ready deep fits =
-      let taken = ready_kinds p n kinds (fits.1 ∷ fits.0) s fits.2 ready in
-      running n fits.0 (put_in p n fits.0 (popped s) x fits.1 (newest named s) (ready_pop p n fits.1 fits.0 s taken) fits.3 (newest_of p n fits.1 fits.0 s taken)) fits.4
-  frame_fine types (frame.Declares x) s n kinds ready deep fits =
-      let taken = ready_kinds p n kinds (fits.1 ∷ fits.0) s fits.2 ready in
-      let here : Ready p (suc n) fits.0 (put n (newest named s) (popped s)) = put_next p n fits.0 (popped s) fits.1 (newest named s) (ready_pop p n fits.1 fits.0 s taken) fits.4 (newest_of p n fits.1 fits.0 s taken) in
-      let next : Typed p (owned (declared x) (put n (newest named s) (popped s))) = running (suc n) fits.0 (ready_owning p (suc n) fits.0 (put n (newest named s) (popped s)) (declared x) here) fits.5 in
-      subst (λ (m : ℕ). Typed p (owned (declared x) (put m (newest named s) (popped s)))) (sym fits.3) next
-  frame_fine types frame.Writes s n kinds ready deep fits =
-      let taken = ready_kinds p n kinds (variable.Integer ∷ fits.0) s fits.1 ready in
-      line_fine (newest named s) (popped s) n fits.0 (cells_of s.heap) (newest_of p n variable.Integer fits.0 s taken) (ready_pop p n variable.Integer fits.0 s taken) fits.2
-  frame_fine types (frame.Ends v) s n kinds ready deep fits = end_fine v s n kinds fits.0 ready fits.1
-  frame_fine types (frame.GivesBack v cause pool) s n kinds ready deep fits = back_fine v cause pool s n kinds fits.0 ready fits.1
-  frame_fine types (frame.Clears x) s n kinds ready deep fits = running n kinds (put_in p n kinds s x (variable.Access fits.0) Null ready fits.1 tt) fits.2
+      (new_fine p (home_of access s.masters) access (words_of types access) s fits.0 fits.1 taken fits.3 fits.5)
+  frame_fine types (frame.Stores x) s kinds ready deep fits =
+      let taken = ready_kinds p kinds (fits.1 ∷ fits.0) s fits.2 ready in
+      running fits.0 (put_in p fits.0 (popped s) x fits.1 (newest named s) (ready_pop p fits.1 fits.0 s taken) fits.3 (newest_of p fits.1 fits.0 s taken)) fits.4
+  frame_fine types (frame.Declares x) s kinds ready deep fits =
+      let taken = ready_kinds p kinds (fits.1 ∷ fits.0) s fits.2 ready in
+      running fits.0 (ready_owning p fits.0 (put x (newest named s) (popped s)) (declared x) (put_in p fits.0 (popped s) x fits.1 (newest named s) (ready_pop p fits.1 fits.0 s taken) fits.3 (newest_of p fits.1 fits.0 s taken))) fits.4
+  frame_fine types frame.Writes s kinds ready deep fits =
+      let taken = ready_kinds p kinds (variable.Integer ∷ fits.0) s fits.1 ready in
+      line_fine (newest named s) (popped s) fits.0 (cells_of s.heap) (newest_of p variable.Integer fits.0 s taken) (ready_pop p variable.Integer fits.0 s taken) fits.2
+  frame_fine types (frame.Ends v) s kinds ready deep fits = end_fine v s kinds fits.0 ready fits.1
+  frame_fine types (frame.GivesBack v cause pool) s kinds ready deep fits = back_fine v cause pool s kinds fits.0 ready fits.1
+  frame_fine types (frame.Clears x) s kinds ready deep fits = running kinds (put_in p kinds s x (variable.Access fits.0) Null ready fits.1 tt) fits.2
 
-  running_fine : (types : List TypeDefinition) (k : List (Frame Value)) (s : State) (n : ℕ) (kinds : List VariableKind) → s.control ≡ k → Ready p n kinds s → Fits p n kinds k → Fine p (running_next named types k s)
-  running_fine types [] s n kinds is ready fits = λ e. cc
-  running_fine types (f ∷ k) s n kinds is ready fits =
+  running_fine : (types : List TypeDefinition) (k : List (Frame Value)) (s : State) (kinds : List VariableKind) → s.control ≡ k → Ready p kinds s → Fits p kinds k → Fine p (running_next named types k s)
+  running_fine types [] s kinds is ready fits = tt
+  running_fine types (f ∷ k) s kinds is ready fits =
       let same : depth s.control ≡ depth (f ∷ k) = ap depth is in
-      frame_fine types f (at k s) n kinds (ready_at p n kinds s k ready (omega (arith, ready.deep, same, depth_behind f k))) (omega (arith, ready.deep, same)) fits
+      frame_fine types f (at k s) kinds (ready_at p kinds s k ready (omega (arith, ready.deep, same, depth_behind f k))) (omega (arith, ready.deep, same)) fits
 
-  -- An exception passes what is left to do (11.4).
-  master_deep : (f : Frame Value) (k : List (Frame Value)) → is_master f ≡ true → 1 + depth k ≤ depth (f ∷ k)
-  master_deep (frame.Elaborates ds fs) k is = omega arith
-  master_deep frame.Closes k is = omega arith
+  -- Jumps pass what is left to do (5.7, 6.5, 11.4).
+  master_deep : (f : Frame Value) (k : List (Frame Value)) → is_master f ≡ true → (1 + depth k ≤ depth (f ∷ k)) × (is_loop f ≡ false)
+  master_deep (frame.Elaborates ds fs hs) k is = (omega arith, refl)
+  master_deep frame.Closes k is = (omega arith, refl)
   master_deep (frame.Does fs) k is = absurd (cc)
-  master_deep (frame.Leaves mode) k is = omega arith
+  master_deep (frame.Decides fs branches) k is = absurd (cc)
+  master_deep (frame.Repeats condition fs) k is = absurd (cc)
+  master_deep (frame.Turns condition fs) k is = absurd (cc)
+  master_deep (frame.Ranges x fs) k is = absurd (cc)
+  master_deep (frame.Counts x value last fs) k is = absurd (cc)
+  master_deep frame.Exits k is = absurd (cc)
+  master_deep (frame.Handles hs) k is = absurd (cc)
+  master_deep (frame.Leaves mode) k is = absurd (cc)
   master_deep (frame.Evaluates right) k is = absurd (cc)
   master_deep (frame.Computes e) k is = absurd (cc)
   master_deep (frame.Follows cs) k is = absurd (cc)
+  master_deep (frame.TestsNull equal) k is = absurd (cc)
   master_deep (frame.Continues links) k is = absurd (cc)
   master_deep (frame.Applies operator) k is = absurd (cc)
   master_deep (frame.AppliesAlone operator) k is = absurd (cc)
@@ -281,20 +431,117 @@ module _ (p : ProgramForm) where
   master_deep (frame.GivesBack v cause pool) k is = absurd (cc)
   master_deep (frame.Clears x) k is = absurd (cc)
 
-  pass_fine : (master : Bool) (e : Exception) (f : Frame Value) (s : State) (n : ℕ) (kinds : List VariableKind) → is_master f ≡ master → AreFilled p.types (cells_of s.heap) (cells_of s.heap) → IsActive (cells_of s.heap) n p.variables kinds s.activations → s.mode ≡ Raising e → depth (f ∷ s.control) ≤ length s.masters → Fine p (pass_next named master e s)
-  pass_fine true e f s n kinds is filled active raises deep = running n kinds (record { filled = filled; active = active; runs = refl; deep = omega (arith, deep, master_deep f s.control is) }) tt
-  pass_fine false e f s n kinds is filled active raises deep = raising n kinds e filled active raises (omega (arith, deep, depth_behind f s.control))
+  -- Where an exception lands at a frame, by the handlers that are there.
+  abbrev lands_by : Exception → Option HandlersForm → Landing
+  lands_by e None = passes_on
+  lands_by e (Some hs) = handler_landing (handler_of e hs)
 
-  raising_fine : (e : Exception) (k : List (Frame Value)) (s : State) (n : ℕ) (kinds : List VariableKind) → s.control ≡ k → AreFilled p.types (cells_of s.heap) (cells_of s.heap) → IsActive (cells_of s.heap) n p.variables kinds s.activations → s.mode ≡ Raising e → depth s.control ≤ length s.masters → Fine p (raising_next named e k s)
-  raising_fine e [] s n kinds is filled active raises deep = λ h. cc
-  raising_fine e (f ∷ k) s n kinds is filled active raises deep =
+  landing_comes : (e : Exception) (f : Frame Value) → exception_landing e f ≡ lands_by e (handlers_in f)
+  landing_comes e (frame.Elaborates ds fs hs) = refl
+  landing_comes e frame.Closes = refl
+  landing_comes e (frame.Does fs) = refl
+  landing_comes e (frame.Decides fs branches) = refl
+  landing_comes e (frame.Repeats condition fs) = refl
+  landing_comes e (frame.Turns condition fs) = refl
+  landing_comes e (frame.Ranges x fs) = refl
+  landing_comes e (frame.Counts x value last fs) = refl
+  landing_comes e frame.Exits = refl
+  landing_comes e (frame.Handles hs) = refl
+  landing_comes e (frame.Leaves mode) = refl
+  landing_comes e (frame.Evaluates right) = refl
+  landing_comes e (frame.Computes x) = refl
+  landing_comes e (frame.Follows cs) = refl
+  landing_comes e (frame.TestsNull equal) = refl
+  landing_comes e (frame.Continues links) = refl
+  landing_comes e (frame.Applies operator) = refl
+  landing_comes e (frame.AppliesAlone operator) = refl
+  landing_comes e (frame.Fills items) = refl
+  landing_comes e (frame.Creates access count) = refl
+  landing_comes e (frame.Stores x) = refl
+  landing_comes e (frame.Declares x) = refl
+  landing_comes e frame.Writes = refl
+  landing_comes e (frame.Ends v) = refl
+  landing_comes e (frame.GivesBack v cause pool) = refl
+  landing_comes e (frame.Clears x) = refl
+
+  -- A jump that is left waiting while a master is left.
+  waits : (mode : Mode) (f : Frame Value) (k : List (Frame Value)) → is_loop f ≡ false → Goes p mode (f ∷ k) → FitsBehind mode (Fits p [] k) (Lands p k) (Catches p k)
+  waits Running f k no_loop goes = absurd goes
+  waits (Raising e) f k no_loop goes = catches_behind p (handlers_in f) k goes
+  waits Exiting f k no_loop goes = (subst (λ (loop : Bool). AtLoop loop (Fits p [] k) (Lands p k)) no_loop goes.0, catches_behind p (handlers_in f) k goes.1)
+  waits Returning f k no_loop goes = catches_behind p (handlers_in f) k goes
+
+  -- The first handler that takes an exception has a statement, and fits (11.2, 11.4).
+  abbrev IsAble : Bool → StmtsForm → Type 0
+  IsAble inside fs = (has_statement fs ≡ true) × (stmts_fit p.types p.variables p.texts p.exceptions inside fs ≡ true)
+
+  able_here : (here inside : Bool) (gs : StmtsForm) (later : Option StmtsForm) (fs : StmtsForm) → IsAble inside gs → (later ≡ Some fs → IsAble inside fs) → (if here then Some gs else later) ≡ Some fs → IsAble inside fs
+  able_here true inside gs later fs able others is = let same : gs ≡ fs = cc in subst (λ (ss : StmtsForm). IsAble inside ss) same able
+  able_here false inside gs later fs able others is = others is
+
+  handler_able : (inside : Bool) (hs : HandlersForm) (e : Exception) (fs : StmtsForm) → handlers_fit p.types p.variables p.texts p.exceptions inside hs ≡ true → handler_of e hs ≡ Some fs → IsAble inside fs
+  handler_able inside no_handlers e fs own is = absurd (cc)
+  handler_able inside (a_handler choices gs hs) e fs own is =
+      let chosen = list_all (choice_fits p.exceptions) choices in
+      let some = has_statement gs in
+      let inner = stmts_fit p.types p.variables p.texts p.exceptions inside gs in
+      let others = handlers_fit p.types p.variables p.texts p.exceptions inside hs in
+      let former = and_left (chosen && some && inner) others own in
+      able_here (some_takes e choices) inside gs (handler_of e hs) fs (and_right chosen some (and_left (chosen && some) inner former), and_right (chosen && some) inner former)
+      (λ later. handler_able inside hs e fs (and_right (chosen && some && inner) others own) later) is
+
+  -- An exception comes to handlers.
+  handler_fine : (o : Option StmtsForm) (e : Exception) (hs : HandlersForm) (s : State) → handler_of e hs ≡ o → AtHandlers p (Some hs) (Lands p s.control) (Fits p [] s.control) (Catches p s.control) → Jumps p (Raising e) s → Fine p (landed named (handler_landing o) s)
+  handler_fine None e hs s is caught jumps = on_jump (Raising e) jumps (catches p s.control [] caught.3)
+  handler_fine (Some no_stmts) e hs s is caught jumps = let own = handler_able caught.0 hs e no_stmts caught.1 is in absurd (cc)
+  handler_fine (Some (a_stmt f fs)) e hs s is caught jumps =
+      let own = handler_able caught.0 hs e (a_stmt f fs) caught.1 is in
+      running [] (record { filled = jumps.filled; active = jumps.active; runs = refl; deep = jumps.deep }) (refl, caught.0, own.1, caught.2, caught.3)
+
+  handlers_fine : (o : Option HandlersForm) (e : Exception) (s : State) → AtHandlers p o (Lands p s.control) (Fits p [] s.control) (Catches p s.control) → Jumps p (Raising e) s → Fine p (landed named (lands_by e o) s)
+  handlers_fine None e s caught jumps = on_jump (Raising e) jumps caught
+  handlers_fine (Some hs) e s caught jumps = handler_fine (handler_of e hs) e hs s refl caught jumps
+
+  -- An exit comes to a loop.
+  loop_fine : (loop : Bool) (s : State) → AtLoop loop (Fits p [] s.control) (Lands p s.control) → Catches p s.control → Jumps p Exiting s → Fine p (landed named (if loop then goes_behind else passes_on) s)
+  loop_fine true s lands caught jumps = running [] (record { filled = jumps.filled; active = jumps.active; runs = refl; deep = jumps.deep }) lands
+  loop_fine false s lands caught jumps = on_jump Exiting jumps (lands, caught)
+
+  landed_fine : (mode : Mode) (f : Frame Value) (s : State) → Goes p mode (f ∷ s.control) → Jumps p mode s → Fine p (landed named (landing mode f) s)
+  landed_fine Running f s goes jumps = absurd goes
+  landed_fine (Raising e) f s goes jumps = subst (λ (where_to : Landing). Fine p (landed named where_to s)) (sym (landing_comes e f)) (handlers_fine (handlers_in f) e s goes jumps)
+  landed_fine Exiting f s goes jumps = loop_fine (is_loop f) s goes.0 (catches_behind p (handlers_in f) s.control goes.1) jumps
+  landed_fine Returning f s goes jumps = on_jump Returning jumps (catches_behind p (handlers_in f) s.control goes)
+
+  pass_fine : (master : Bool) (mode : Mode) (f : Frame Value) (s : State) → is_master f ≡ master → Goes p mode (f ∷ s.control) → Jumps p mode s → depth (f ∷ s.control) ≤ length s.masters → Fine p (pass_next named master (landing mode f) mode s)
+  pass_fine true mode f s is goes jumps deep =
+      let own = master_deep f s.control is in
+      running [] (record { filled = jumps.filled; active = jumps.active; runs = refl; deep = omega (arith, deep, own.0) }) (waits mode f s.control own.1 goes)
+  pass_fine false mode f s is goes jumps deep = landed_fine mode f s goes jumps
+
+  ends_fine : (mode : Mode) → Goes p mode [] → EndsByTheLanguage (end_of mode)
+  ends_fine Running goes = absurd goes
+  ends_fine (Raising e) goes = tt
+  ends_fine Exiting goes = absurd goes.0
+  ends_fine Returning goes = tt
+
+  jump_fine : (mode : Mode) (k : List (Frame Value)) (s : State) → s.control ≡ k → Goes p mode k → Jumps p mode s → Fine p (jump_next named mode k s)
+  jump_fine mode [] s is goes jumps = ends_fine mode goes
+  jump_fine mode (f ∷ k) s is goes jumps =
       let same : depth s.control ≡ depth (f ∷ k) = ap depth is in
-      pass_fine (is_master f) e f (at k s) n kinds refl filled active raises (omega (arith, deep, same))
+      pass_fine (is_master f) mode f (at k s) refl goes (record { filled = jumps.filled; active = jumps.active; jumps = jumps.jumps; deep = omega (arith, jumps.deep, same, depth_behind f k) }) (omega (arith, jumps.deep, same))
+
+  -- What comes next in a mode.
+  mode_fine : (types : List TypeDefinition) (mode : Mode) (s : State) → Goes p mode s.control → Jumps p mode s → Fine p (mode_next named types mode s)
+  mode_fine types Running s goes jumps = absurd goes
+  mode_fine types (Raising e) s goes jumps = jump_fine (Raising e) s.control s refl goes jumps
+  mode_fine types Exiting s goes jumps = jump_fine Exiting s.control s refl goes jumps
+  mode_fine types Returning s goes jumps = jump_fine Returning s.control s refl goes jumps
 
   -- A typed state's next step is fine.
   pub next_fine : (types : List TypeDefinition) (s : State) → Typed p s → Fine p (next types s)
   unfolding next
-  next_fine types s (running n kinds ready fits) =
-      subst (λ (mode : Mode). Fine p (mode_next named types mode s)) (sym ready.runs) (running_fine types s.control s n kinds refl ready fits)
-  next_fine types s (raising n kinds e filled active raises deep) =
-      subst (λ (mode : Mode). Fine p (mode_next named types mode s)) (sym raises) (raising_fine e s.control s n kinds refl filled active raises deep)
+  next_fine types s (running kinds ready fits) =
+      subst (λ (mode : Mode). Fine p (mode_next named types mode s)) (sym ready.runs) (running_fine types s.control s kinds refl ready fits)
+  next_fine types s (on_jump mode jumps goes) =
+      subst (λ (now : Mode). Fine p (mode_next named types now s)) (sym jumps.jumps) (mode_fine types mode s goes jumps)

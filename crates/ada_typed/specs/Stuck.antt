@@ -1,7 +1,9 @@
 -- A well-formed program is never stuck: each action that a run comes to has a meaning.
 
-use Rattle.std.specs.Prelude.{ℤ, List}
+use Rattle.std.specs.Prelude.{◌≡◌, ℤ, List, [], ◌∷◌}
+use Rattle.ada_program.specs.declared.program.Choice.TheVariants as choice
 use Rattle.ada_program.specs.declared.program.Program.{Program}
+use Rattle.ada_program.specs.Form.{no_stmts, no_handlers, a_handler, handler_forms}
 use Rattle.ada_program.specs.ProgramForm.{program_form}
 use Rattle.ada_program.specs.WellFormed.{IsWellFormed}
 use Rattle.ada_meaning.specs.declared.event.Halt.{Halt}
@@ -38,10 +40,19 @@ Finishes program = (input : List ℤ) × (events : List Event) × (last : State)
 abbrev pub GetsStuck : Program → Type 0
 GetsStuck program = (input : List ℤ) × (events : List Event) × (last : State) × Run program (first_state program input) events last × Halts program last Stuck
 
--- The premise is met: a well-formed program declares, allocates, follows, writes and frees, and comes to its end.
+-- The premise is met: a well-formed program declares, allocates, follows, repeats, counts, compares with null, chooses, reads, writes,
+-- frees, exits, raises an exception in a block and handles it, and comes to its end.
 abbrev pub AWellFormedProgramFinishes : Type 0
 AWellFormedProgramFinishes = (program : Program) × IsWellFormed (program_form program) × Finishes program
 
 -- The premise is needed: a program that writes the image of a Boolean as that of an Integer gets stuck.
 abbrev pub AnIllTypedProgramGetsStuck : Type 0
 AnIllTypedProgramGetsStuck = (program : Program) × GetsStuck program
+
+-- The one handler of a program takes each exception, and has no statement (11.2).
+abbrev pub HasEmptyHandler : Program → Type 0
+HasEmptyHandler program = handler_forms program ≡ a_handler (choice.Others ∷ []) no_stmts no_handlers
+
+-- A handler needs a statement: a program gets stuck that comes to one without.
+abbrev pub AnEmptyHandlerGetsStuck : Type 0
+AnEmptyHandlerGetsStuck = (program : Program) × HasEmptyHandler program × GetsStuck program

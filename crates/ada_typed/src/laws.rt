@@ -1,9 +1,7 @@
 //! What types promise about runs, by the definitions alone.
 
 ghost use Rattle.ada_typed.specs.Holding.{ObjectsHaveTheirKinds};
-ghost use Rattle.ada_typed.specs.Stuck.{WellFormedProgramsAreNeverStuck, WellFormedProgramsEndByTheLanguage, AWellFormedProgramFinishes, AnIllTypedProgramGetsStuck};
-
-use ada_meaning::laws::states_go_on;
+ghost use Rattle.ada_typed.specs.Stuck.{WellFormedProgramsAreNeverStuck, WellFormedProgramsEndByTheLanguage, AWellFormedProgramFinishes, AnIllTypedProgramGetsStuck, AnEmptyHandlerGetsStuck};
 
 /// A well-formed program is never stuck: in each of its runs the next action has a meaning.
 pub fn well_formed_programs_are_never_stuck()
@@ -14,9 +12,7 @@ pub fn well_formed_programs_are_never_stuck()
 /// action would be erroneous.
 pub fn well_formed_programs_end_by_the_language()
     ensures { WellFormedProgramsEndByTheLanguage }
-{
-    states_go_on();
-}
+{}
 
 /// In every run of a well-formed program, what lies in an object is what the record type has that its access type
 /// designates: a value of its kind for each component, in order.
@@ -24,7 +20,8 @@ pub fn objects_have_their_kinds()
     ensures { ObjectsHaveTheirKinds }
 {}
 
-/// The premise is met: a well-formed program declares, allocates, follows, writes and frees, and comes to its end.
+/// The premise is met: a well-formed program declares, allocates, follows, repeats, counts, compares with null, chooses,
+/// reads, writes, frees, exits, raises an exception in a block and handles it, and comes to its end.
 pub fn a_well_formed_program_finishes()
     ensures { AWellFormedProgramFinishes }
 {}
@@ -32,4 +29,9 @@ pub fn a_well_formed_program_finishes()
 /// The premise is needed: a program that writes the image of a Boolean as that of an Integer gets stuck.
 pub fn an_ill_typed_program_gets_stuck()
     ensures { AnIllTypedProgramGetsStuck }
+{}
+
+/// A handler needs a statement: a program gets stuck that comes to one without.
+pub fn an_empty_handler_gets_stuck()
+    ensures { AnEmptyHandlerGetsStuck }
 {}

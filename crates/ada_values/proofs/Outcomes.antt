@@ -10,7 +10,7 @@ use Rattle.ada_values.specs.declared.value.Value.{Value}
 use Rattle.ada_values.specs.declared.value.Value.TheVariants.{Integer, Boolean}
 use Rattle.ada_values.specs.declared.fault.OperatorFault.{OperatorFault}
 use Rattle.ada_values.specs.declared.fault.OperatorFault.TheVariants.{Overflow, DivisionByZero, WrongType}
-use Rattle.ada_values.specs.Operators.{first_integer, last_integer, IsInRange, IsExact, IsComparison, IsCombination, Gives, Overflows, DividesByZero, divides, IsFor, is_for_integers, is_for_booleans, IsOutcome, IsSigned, UnaryGives, UnaryOverflows, UnaryIsFor, UnaryIsOutcome}
+use Rattle.ada_values.specs.Operators.{first_integer, last_integer, IsInRange, StaysInRange, IsExact, IsComparison, IsCombination, Gives, Overflows, DividesByZero, divides, IsFor, is_for_integers, is_for_booleans, IsOutcome, IsSigned, UnaryGives, UnaryOverflows, UnaryIsFor, UnaryIsOutcome}
 use Rattle.ada_values.proofs.Division.{divided, some_modulus, split_nonzero, one_quotient, one_remainder, one_modulus, fits_in_range, in_range_fits}
 
 -- ---- at most one
@@ -313,7 +313,7 @@ one_unary_value unary.Not (Boolean a) (Boolean t) (Integer u) h k = absurd k
 one_unary_value _ _ _ _ h k = absurd h
 
 unary_value_or_overflow : (operator : UnaryOperator) (operand v : Value) → UnaryGives operator operand v → UnaryOverflows operator operand → ⊥
-unary_value_or_overflow operator (Integer a) (Integer z) h k = k.2 (subst IsInRange (one_signed operator a z k.0 h.0 k.1) h.1)
+unary_value_or_overflow operator (Integer a) (Integer z) h k = k.2 (subst (StaysInRange operator) (one_signed operator a z k.0 h.0 k.1) h.1)
 unary_value_or_overflow operator (Integer a) (Boolean t) h k = h
 unary_value_or_overflow operator (Boolean a) _ h k = k
 
@@ -333,17 +333,17 @@ one_unary_outcome o l (Ok v) (Err DivisionByZero) h k = absurd k
 one_unary_outcome o l (Err Overflow) (Err DivisionByZero) h k = absurd k
 one_unary_outcome o l (Err WrongType) (Err DivisionByZero) h k = absurd k
 
-signed_outcome : (operator : UnaryOperator) (a z : ℤ) → IsSigned operator a z → (x : Result Value OperatorFault) × UnaryIsOutcome operator (Integer a) x
-signed_outcome operator a z h = by (both _ _ (is_at_most first_integer z) (is_at_most z last_integer))
+signed_outcome : (a z : ℤ) → IsSigned unary.Minus a z → (x : Result Value OperatorFault) × UnaryIsOutcome unary.Minus (Integer a) x
+signed_outcome a z h = by (both _ _ (is_at_most first_integer z) (is_at_most z last_integer))
   where
-    by : IsInRange z ⊎ (¬ IsInRange z) → (x : Result Value OperatorFault) × UnaryIsOutcome operator (Integer a) x
+    by : IsInRange z ⊎ (¬ IsInRange z) → (x : Result Value OperatorFault) × UnaryIsOutcome unary.Minus (Integer a) x
     by (inl p) = (Ok (Integer z), (h, p))
     by (inr n) = (Err Overflow, (z, h, n))
 
 -- A unary operator has some outcome.
 pub some_unary_outcome : (operator : UnaryOperator) (operand : Value) → (x : Result Value OperatorFault) × UnaryIsOutcome operator operand x
-some_unary_outcome unary.Plus (Integer a) = signed_outcome unary.Plus a a refl
-some_unary_outcome unary.Minus (Integer a) = signed_outcome unary.Minus a (neg_ℤ a) refl
+some_unary_outcome unary.Plus (Integer a) = (Ok (Integer a), (refl, tt))
+some_unary_outcome unary.Minus (Integer a) = signed_outcome a (neg_ℤ a) refl
 some_unary_outcome unary.Not (Integer a) = (Err WrongType, λ h. h)
 some_unary_outcome unary.Not (Boolean true) = (Ok (Boolean false), λ e. cc)
 some_unary_outcome unary.Not (Boolean false) = (Ok (Boolean true), λ e. cc)

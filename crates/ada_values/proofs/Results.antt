@@ -113,18 +113,18 @@ outcome_is operator (Boolean a) (Integer b) = λ h. h
 pub is_the_outcome : (operator : BinaryOperator) (left right : Value) (x : Result Value OperatorFault) → IsOutcome operator left right x → x ≡ outcome_of operator left right
 is_the_outcome operator left right x h = one_outcome operator left right x (outcome_of operator left right) h (outcome_is operator left right)
 
-signed_is : (operator : UnaryOperator) (a z : ℤ) → IsSigned operator a z → UnaryIsOutcome operator (Integer a) (unless_overflow z)
-signed_is operator a z h = by (int_le first_integer z && int_le z last_integer) (within z)
+signed_is : (a z : ℤ) → IsSigned unary.Minus a z → UnaryIsOutcome unary.Minus (Integer a) (unless_overflow z)
+signed_is a z h = by (int_le first_integer z && int_le z last_integer) (within z)
   where
-    by : (t : Bool) → IsTrue t ↔ IsInRange z → UnaryIsOutcome operator (Integer a) (cond t (Ok (Integer z)) (Err Overflow))
+    by : (t : Bool) → IsTrue t ↔ IsInRange z → UnaryIsOutcome unary.Minus (Integer a) (cond t (Ok (Integer z)) (Err Overflow))
     by true d = (h, d.0 refl)
     by false d = (z, h, λ r. no_truth (d.1 r))
 
 -- A unary operator's outcome.
 pub unary_outcome_is : (operator : UnaryOperator) (operand : Value) → UnaryIsOutcome operator operand (unary_outcome_of operator operand)
 unfolding unary_outcome_of
-unary_outcome_is unary.Plus (Integer a) = signed_is unary.Plus a a refl
-unary_outcome_is unary.Minus (Integer a) = signed_is unary.Minus a (neg_ℤ a) refl
+unary_outcome_is unary.Plus (Integer a) = (refl, tt)
+unary_outcome_is unary.Minus (Integer a) = signed_is a (neg_ℤ a) refl
 unary_outcome_is unary.Not (Integer a) = λ h. h
 unary_outcome_is unary.Plus (Boolean a) = λ h. h
 unary_outcome_is unary.Minus (Boolean a) = λ h. h

@@ -152,15 +152,20 @@ IsSigned unary.Plus a z = z ≡ a
 IsSigned unary.Minus a z = z ≡ neg_ℤ a
 IsSigned unary.Not a z = ⊥
 
+-- A result is in Integer's range where it may leave it: that of + is the operand itself.
+abbrev pub StaysInRange : UnaryOperator → ℤ → Type 0
+StaysInRange unary.Plus z = Unit {0}
+StaysInRange _ z = IsInRange z
+
 -- The value that a unary operator gives of a value (4.5.4, 4.5.6).
 abbrev pub UnaryGives : UnaryOperator → Value → Value → Type 0
-UnaryGives operator (Integer a) (Integer z) = IsSigned operator a z × IsInRange z
+UnaryGives operator (Integer a) (Integer z) = IsSigned operator a z × StaysInRange operator z
 UnaryGives unary.Not (Boolean a) (Boolean t) = a ≢ t
 UnaryGives operator _ _ = ⊥
 
 -- The exact result of a unary operator is outside Integer's range (4.5).
 abbrev pub UnaryOverflows : UnaryOperator → Value → Type 0
-UnaryOverflows operator (Integer a) = (z : ℤ) × IsSigned operator a z × ¬ IsInRange z
+UnaryOverflows operator (Integer a) = (z : ℤ) × IsSigned operator a z × ¬ StaysInRange operator z
 UnaryOverflows operator (Boolean a) = ⊥
 
 -- A unary operator is for operands of this one's type: `not` for Booleans, the others for Integers.

@@ -69,7 +69,7 @@ outcome_of operator (Boolean a) (Integer b) = Err WrongType
 
 -- What comes of a unary operator (4.5.4, 4.5.6): a value, or why there is none.
 unfoldable pub unary_outcome_of : UnaryOperator → Value → Result Value OperatorFault
-unary_outcome_of unary.Plus (Integer a) = unless_overflow a
+unary_outcome_of unary.Plus (Integer a) = Ok (Integer a)
 unary_outcome_of unary.Minus (Integer a) = unless_overflow (neg_ℤ a)
 unary_outcome_of unary.Not (Integer a) = Err WrongType
 unary_outcome_of unary.Plus (Boolean a) = Err WrongType

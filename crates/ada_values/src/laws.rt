@@ -11,14 +11,18 @@ use crate::value::Value;
 
 /// An operator gives one value or has one fault, whatever its operands are, and never two.
 pub fn each_operator_has_one_outcome()
-    ensures unary { (operator : UnaryOperator) (operand : Value) → HasOneOutcome (UnaryIsOutcome operator operand) }
-    ensures binary { (operator : BinaryOperator) (left right : Value) → HasOneOutcome (IsOutcome operator left right) }
+    ensures unary { (operator : UnaryOperator) (operand : Value)
+        → HasOneOutcome (UnaryIsOutcome operator operand) }
+    ensures binary { (operator : BinaryOperator) (left right : Value)
+        → HasOneOutcome (IsOutcome operator left right) }
 {}
 
 /// The outcome as a function is the outcome, whatever the operands are.
 pub fn the_outcome_is_that_of_the_operator()
-    ensures unary { (operator : UnaryOperator) (operand : Value) → UnaryIsOutcome operator operand (unary_outcome_of operator operand) }
-    ensures binary { (operator : BinaryOperator) (left right : Value) → IsOutcome operator left right (outcome_of operator left right) }
+    ensures unary { (operator : UnaryOperator) (operand : Value)
+        → UnaryIsOutcome operator operand (unary_outcome_of operator operand) }
+    ensures binary { (operator : BinaryOperator) (left right : Value)
+        → IsOutcome operator left right (outcome_of operator left right) }
 {}
 
 /// A division by a number other than 0 has one quotient, one remainder and one modulus (4.5.5).
@@ -42,7 +46,8 @@ pub fn quotient_and_remainder_make_the_whole()
 
 /// A quotient is rounded toward zero, and `(-A)/B = -(A/B) = A/(-B)` (4.5.5).
 pub fn quotients_are_rounded_toward_zero()
-    ensures size { (a b q : ℤ) → IsQuotient a b q → unsigned_abs q ≡ unsigned_abs a / unsigned_abs b }
+    ensures size { (a b q : ℤ) → IsQuotient a b q
+        → unsigned_abs q ≡ unsigned_abs a / unsigned_abs b }
     ensures left { (a b q : ℤ) → IsQuotient a b q → IsQuotient (neg_ℤ a) b (neg_ℤ q) }
     ensures right { (a b q : ℤ) → IsQuotient a b q → IsQuotient a (neg_ℤ b) (neg_ℤ q) }
 {}
@@ -72,13 +77,19 @@ pub fn the_range_is_that_of_i32()
 
 /// The opposite of the first Integer is the only one that overflows (4.5.4).
 pub fn one_opposite_overflows()
-    ensures minus { (a : ℤ) → IsInRange a → UnaryOverflows UnaryOperator.Minus (Value.Integer a) ↔ (a ≡ first_integer) }
-    ensures plus { (a : ℤ) → IsInRange a → ¬ UnaryOverflows UnaryOperator.Plus (Value.Integer a) }
+    ensures minus { (a : ℤ) → IsInRange a
+        → UnaryOverflows UnaryOperator.Minus (Value.Integer a) ↔ (a ≡ first_integer) }
+    ensures plus { (a : ℤ) → IsInRange a
+        → ¬ UnaryOverflows UnaryOperator.Plus (Value.Integer a) }
 {}
 
 /// The first Integer divided by -1 is the only division of Integers that overflows (4.5.5).
 pub fn one_division_overflows()
-    ensures divide { (a b : ℤ) → IsInRange a → IsInRange b → Overflows BinaryOperator.Divide (Value.Integer a) (Value.Integer b) ↔ ((a ≡ first_integer) × (b ≡ neg_ℤ (pos 1))) }
-    ensures remainder { (a b : ℤ) → IsInRange a → IsInRange b → ¬ Overflows BinaryOperator.Remainder (Value.Integer a) (Value.Integer b) }
-    ensures modulo { (a b : ℤ) → IsInRange a → IsInRange b → ¬ Overflows BinaryOperator.Modulo (Value.Integer a) (Value.Integer b) }
+    ensures divide { (a b : ℤ) → IsInRange a → IsInRange b
+        → Overflows BinaryOperator.Divide (Value.Integer a) (Value.Integer b)
+        ↔ ((a ≡ first_integer) × (b ≡ neg_ℤ (pos 1))) }
+    ensures remainder { (a b : ℤ) → IsInRange a → IsInRange b
+        → ¬ Overflows BinaryOperator.Remainder (Value.Integer a) (Value.Integer b) }
+    ensures modulo { (a b : ℤ) → IsInRange a → IsInRange b
+        → ¬ Overflows BinaryOperator.Modulo (Value.Integer a) (Value.Integer b) }
 {}

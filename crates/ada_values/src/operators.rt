@@ -39,7 +39,8 @@ pub fn unary(operator: UnaryOperator, operand: Value) -> Result<Value, OperatorF
 pub fn binary(operator: BinaryOperator, left: Value, right: Value) -> Result<Value, OperatorFault>
     ensures value { (value : Value) → (result ≡ Ok value) ↔ Gives operator left right value }
     ensures overflow { IsErrOf result OperatorFault.Overflow ↔ Overflows operator left right }
-    ensures division { IsErrOf result OperatorFault.DivisionByZero ↔ DividesByZero operator left right }
+    ensures division { IsErrOf result OperatorFault.DivisionByZero
+        ↔ DividesByZero operator left right }
     ensures types { IsErrOf result OperatorFault.WrongType ↔ (¬ IsFor operator left right) }
     ensures outcome { result ≡ outcome_of operator left right }
 {
@@ -72,7 +73,8 @@ fn of_booleans(operator: BinaryOperator, left: bool, right: bool) -> Result<Valu
 
 /// An exact result, if it is in Integer's range.
 fn in_range(exact: Option<i32>) -> Result<Value, OperatorFault>
-    ensures { MatchOption exact (result ≡ Err OperatorFault.Overflow) (λ number. result ≡ Ok (Value.Integer number)) }
+    ensures { MatchOption exact (result ≡ Err OperatorFault.Overflow)
+        (λ number. result ≡ Ok (Value.Integer number)) }
 {
     match exact {
         Some(number) => Ok(Value::Integer(number)),
@@ -82,7 +84,8 @@ fn in_range(exact: Option<i32>) -> Result<Value, OperatorFault>
 
 /// What an operator tells, if it is for such operands.
 fn told(truth: Option<bool>) -> Result<Value, OperatorFault>
-    ensures { MatchOption truth (result ≡ Err OperatorFault.WrongType) (λ t. result ≡ Ok (Value.Boolean t)) }
+    ensures { MatchOption truth (result ≡ Err OperatorFault.WrongType)
+        (λ t. result ≡ Ok (Value.Boolean t)) }
 {
     match truth {
         Some(truth) => Ok(Value::Boolean(truth)),
@@ -144,7 +147,8 @@ fn have_opposite_signs(a: i32, b: i32) -> bool
 
 /// The relational operators on Integers (4.5.2).
 fn relational(operator: BinaryOperator, left: i32, right: i32) -> Option<bool>
-    ensures { MatchOption result (¬ IsTrue (is_relational operator)) (IsComparison operator left right) }
+    ensures { MatchOption result (¬ IsTrue (is_relational operator))
+        (IsComparison operator left right) }
 {
     match operator {
         BinaryOperator::Equal => Some(left == right),
@@ -159,7 +163,8 @@ fn relational(operator: BinaryOperator, left: i32, right: i32) -> Option<bool>
 
 /// The logical operators (4.5.1) and equality (4.5.2) on Booleans.
 fn logical(operator: BinaryOperator, left: bool, right: bool) -> Option<bool>
-    ensures { MatchOption result (¬ IsTrue (is_for_booleans operator)) (IsCombination operator left right) }
+    ensures { MatchOption result (¬ IsTrue (is_for_booleans operator))
+        (IsCombination operator left right) }
 {
     match operator {
         BinaryOperator::And | BinaryOperator::AndThen => Some(left && right),

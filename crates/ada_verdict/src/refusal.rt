@@ -93,5 +93,6 @@ fn rule_text(rule: Rule) -> &'static str
     match rule {
         Rule::LostValue => rules::LOST_VALUE,
         Rule::AliasMoved => rules::ALIAS_MOVED,
+        Rule::LoopState => rules::LOOP_STATE,
     }
 }

@@ -1,8 +1,9 @@
 //! Chains and lists.
 ghost use Rattle.std.specs.Prelude.{◌≡◌, ℕ};
+ghost use Rattle.ada_final.specs.Lists.{IsEntered};
 
 use crate::Answer;
-use ada_final::{Chain, Item, Lists};
+use ada_final::{Chain, Item, ListNo, Lists};
 use pool_kinds::{FirstFit, Owner, Place, Pool};
 use std::alloc::{AllocError, Global};
 
@@ -40,14 +41,21 @@ pub(crate) fn chains(alloc: Global) -> Result<[Answer; 5], AllocError> {
     Ok(answers)
 }
 
-/// A list gives its newest item first, and an item by its word once.
+/// Three items are attached to a new list.
 pub(crate) fn lists(alloc: Global) -> Result<[Answer; 7], AllocError> {
     let mut lists = Lists::new(alloc);
     let list = lists.enter()?;
     lists.attach(list, Item { word: 5 })?;
     lists.attach(list, Item { word: 6 })?;
     lists.attach(list, Item { word: 7 })?;
-    Ok([
+    Ok(items(&mut lists, list))
+}
+
+/// A list gives its newest item first, and an item by its word once.
+fn items(lists: &mut Lists, list: ListNo) -> [Answer; 7]
+    requires { IsEntered lists.old list }
+{
+    [
         item(lists.take_next(list, 0)),
         Answer::Number(u64::from(lists.detach(list, Item { word: 5 }))),
         Answer::Number(u64::from(lists.detach(list, Item { word: 5 }))),
@@ -55,7 +63,7 @@ pub(crate) fn lists(alloc: Global) -> Result<[Answer; 7], AllocError> {
         item(lists.take_next(list, 1)),
         item(lists.take_next(list, 0)),
         Answer::Number(lists.left(list) as u64),
-    ])
+    ]
 }
 
 /// The word of the item that was taken, if there was one.

@@ -2,6 +2,7 @@
 #![tactic(auto)]
 
 mod chains;
+mod mixed;
 mod pools;
 mod words;
 
@@ -21,60 +22,89 @@ pub enum Answer {
 }
 
 fn main(rt: HostRuntime) -> io::Result<()> {
-    let rows: [(&str, &[Answer]); 11] = [
-        (
-            "first fit reuses and merges",
-            &pools::first_fit(rt.alloc())?,
-        ),
-        (
-            "a pool smaller than a header has no room",
-            &pools::small_pools(rt.alloc())?,
-        ),
-        (
-            "a new object is zero and keeps what is written",
-            &pools::objects(rt.alloc())?,
-        ),
-        (
-            "a subpool closes all its blocks",
-            &pools::subpools(rt.alloc())?,
-        ),
-        (
-            "a closed subpool leaves one hole",
-            &pools::subpools_merge(rt.alloc())?,
-        ),
-        (
-            "a closed mark sets the cursor back",
-            &pools::marks(rt.alloc())?,
-        ),
-        ("an older mark stays", &pools::older_mark(rt.alloc())?),
-        (
-            "ten marks and a thousand subpools are open at most",
-            &pools::limits(rt.alloc())?,
-        ),
-        (
-            "a chain gives its newest block first",
-            &chains::chains(rt.alloc())?,
-        ),
-        (
-            "a list gives its newest item first",
-            &chains::lists(rt.alloc())?,
-        ),
-        (
-            "words are zero, then what was written",
-            &words::region(rt.alloc())?,
-        ),
-    ];
-    for (name, answers) in rows {
-        print!(rt; "{name}:")?;
-        for answer in answers {
-            match answer {
-                Answer::Number(number) => print!(rt; " {number}")?,
-                Answer::Full => print!(rt; " full")?,
-                Answer::NotNewest => print!(rt; " not-newest")?,
-                Answer::Nothing => print!(rt; " none")?,
-            }
+    first_fit_rows(&rt)?;
+    owner_rows(&rt)?;
+    list_rows(&rt)
+}
+
+/// Blocks of pools without owners.
+fn first_fit_rows(rt: &HostRuntime) -> io::Result<()> {
+    row(
+        rt,
+        "first fit reuses and merges",
+        &pools::first_fit(rt.alloc())?,
+    )?;
+    row(
+        rt,
+        "a pool smaller than a header has no room",
+        &pools::small_pools(rt.alloc())?,
+    )?;
+    row(
+        rt,
+        "a new object is zero and keeps what is written",
+        &pools::objects(rt.alloc())?,
+    )?;
+    row(
+        rt,
+        "20,000 mixed takes and returns",
+        &mixed::takes_and_returns(rt.alloc())?,
+    )
+}
+
+/// Blocks of subpools and marks.
+fn owner_rows(rt: &HostRuntime) -> io::Result<()> {
+    row(
+        rt,
+        "a subpool closes all its blocks",
+        &pools::subpools(rt.alloc())?,
+    )?;
+    row(
+        rt,
+        "a closed subpool leaves one hole",
+        &pools::subpools_merge(rt.alloc())?,
+    )?;
+    row(
+        rt,
+        "a closed mark sets the cursor back",
+        &pools::marks(rt.alloc())?,
+    )?;
+    row(rt, "an older mark stays", &pools::older_mark(rt.alloc())?)?;
+    row(
+        rt,
+        "ten marks and a thousand subpools are open at most",
+        &pools::limits(rt.alloc())?,
+    )
+}
+
+/// Chains, lists and words.
+fn list_rows(rt: &HostRuntime) -> io::Result<()> {
+    row(
+        rt,
+        "a chain gives its newest block first",
+        &chains::chains(rt.alloc())?,
+    )?;
+    row(
+        rt,
+        "a list gives its newest item first",
+        &chains::lists(rt.alloc())?,
+    )?;
+    row(
+        rt,
+        "words are zero, then what was written",
+        &words::region(rt.alloc())?,
+    )
+}
+
+/// Prints a row: its name and its answers.
+fn row(rt: &HostRuntime, name: &str, answers: &[Answer]) -> io::Result<()> {
+    print!(rt; "{name}:")?;
+    for answer in answers {
+        match answer {
+            Answer::Number(number) => print!(rt; " {number}")?,
+            Answer::Full => print!(rt; " full")?,
+            Answer::NotNewest => print!(rt; " not-newest")?,
+            Answer::Nothing => print!(rt; " none")?,
         }
-        println!(rt;)?;
     }
-    Ok(())
+    println!(rt;)
 }

@@ -146,13 +146,26 @@ pub(crate) fn marks(alloc: Global) -> Result<[Answer; 6], AllocError> {
     Ok(answers)
 }
 
-/// A mark that is not the newest is not closed.
-pub(crate) fn older_mark(alloc: Global) -> Result<[Answer; 1], AllocError> {
+/// An older mark is not closed before the newest. Then it has the rest of the pool, of 14 words, at the cursor.
+pub(crate) fn older_mark(alloc: Global) -> Result<[Answer; 7], AllocError> {
     let mut pool = MarkRelease::new(alloc, 20)?;
-    let mut answers = [Answer::Nothing; 1];
+    let mut answers = [Answer::Nothing; 7];
     if let Some(one) = pool.open() {
-        let _two = pool.open();
-        answers[0] = closing(pool.close(one));
+        answers[0] = Answer::Number(u64::from(one.0));
+        answers[1] = block(pool.allocate(one, 2));
+        if let Some(two) = pool.open() {
+            answers[2] = Answer::Number(u64::from(two.0));
+            if let Err(NotNewest) = pool.close(one) {
+                answers[3] = Answer::NotNewest;
+                answers[4] = closing(pool.close(two));
+                if one != two {
+                    if let Err(why) = pool.allocate(one, 12) {
+                        answers[5] = block(Err(why));
+                        answers[6] = block(pool.allocate(one, 10));
+                    }
+                }
+            }
+        }
     }
     Ok(answers)
 }

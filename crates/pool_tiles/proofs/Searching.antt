@@ -1,10 +1,10 @@
--- The search through the holes, and the way back from a block to the last hole before it.
+-- The search through the holes, and the two ways to the last hole before a block: on from the front, and back from the block.
 use Rattle.std.proofs.Common.{◌≡◌, ℕ, ◌+◌, ◌≤◌, ◌<◌, true, false, List, [], ◌∷◌, ◌++◌, length, append_assoc, append-nil, refl, sym, ap, ◌∙◌, subst, arith, inl, inr}
 use Rattle.pool_tiles.specs.Tiling.{Tile, hole, block}
-use Rattle.pool_tiles.specs.Headers.{first_or, last_or, tile_before, total, hole_mark, Spelled, word_at, Spells}
+use Rattle.pool_tiles.specs.Headers.{first_or, last_or, tile_before, total, hole_mark, word_at, Spells}
 use Rattle.pool_tiles.specs.Tiled.{AllShorter}
-use Rattle.pool_tiles.proofs.Spelling.{front_part, total-append, tile_before-append, last_or-append}
-use Rattle.pool_tiles.proofs.Linking.{zero_or_more, holes, holes-append, last_or-blocks}
+use Rattle.pool_tiles.proofs.Spelling.{front_part, first_or-append, total-append, tile_before-append, last_or-append}
+use Rattle.pool_tiles.proofs.Linking.{zero_or_more, holes, holes-append, first_or-blocks, last_or-blocks, first_within}
 use Rattle.pool_tiles.proofs.Fitting.{shorter-append, shorter-blocks}
 use Rattle.pool_tiles.proofs.Merging.{last_tile}
 use Rattle.pool_tiles.proofs.Told.{hole_told, block_told}
@@ -156,20 +156,81 @@ module _ (words : List ℕ) (first : ℕ) (a : List Tile) (p m w : ℕ) (b : Lis
   pub one_back : OneBack words a at
   one_back = elim (last_tile x.left) [ inl e ↦ let none = ap total e in let here = x.at_is in absurd (omega arith) | inr y ↦ by_last y.0 y.1 y.2 ]
 
-no_tiles : (r o : ℕ → ℕ) (at back prev : ℕ) (ts : List Tile) (next : ℕ) → Spelled r o at back prev ts next → total ts ≡ 0 → holes ts ≡ 0
-no_tiles r o at back prev [] next s none = refl
-no_tiles r o at back prev (hole q k ∷ ts) next s none = let long = s.1.long in absurd (omega arith)
-no_tiles r o at back prev (block q k v ∷ ts) next s none = let long = s.1.long in absurd (omega arith)
+-- on from the front, before a block, whose earlier tiles are a: the last hole that was passed, and the next one
+pub record WalkedOn (words : List ℕ) (a b : List Tile) (last next : ℕ) : Type 0 where
+  pub passed : List Tile
+  pub ahead : List Tile
+  pub is : a ≡ passed ++ ahead
+  pub last_is : last ≡ last_or (length words) passed
+  pub next_is : next ≡ first_or ahead (first_or b (length words))
 
--- at the front no hole was met
-pub all_back : (words : List ℕ) (first : ℕ) (a : List Tile) (p m w : ℕ) (b : List Tile) → Spells words first (a ++ block p m w ∷ b) → (at : ℕ) → WalkedBack a at → at ≡ 0
-    → last_or (length words) a ≡ length words
-all_back words first a p m w b s at x front =
+pub at_front : (words : List ℕ) (first : ℕ) (a : List Tile) (p m w : ℕ) (b : List Tile) → Spells words first (a ++ block p m w ∷ b)
+    → WalkedOn words a b (length words) first
+at_front words first a p m w b s =
+    record { passed = []; ahead = a; is = refl; last_is = refl; next_is = s.starts ∙ first_or-append a (block p m w ∷ b) (length words) }
+
+-- one hole further on
+pub record OneOn (words : List ℕ) (a b : List Tile) (next : ℕ) : Type 0 where
+  pub inside : next + 2 < length words
+  pub some : 0 < holes a
+  pub on : WalkedOn words a b next (word_at words (next + 2))
+
+module _ (words : List ℕ) (first : ℕ) (a : List Tile) (p m w : ℕ) (b : List Tile) (s : Spells words first (a ++ block p m w ∷ b)) (last next : ℕ) (x : WalkedOn words a b last next) where
+  hole_on : 0 < holes x.ahead → (next < p) × OneOn words a b next
+  hole_on some =
+      let n = length words in
+      let h = hole_ahead x.ahead (first_or b n) some in
+      let c = x.passed ++ h.0 in let q = h.1 in let k = h.2 in let d = h.3 in
+      let split : a ≡ c ++ hole q k ∷ d = x.is ∙ ap (λ ts. x.passed ++ ts) h.4 ∙ sym (append_assoc x.passed h.0 (hole q k ∷ d)) in
+      let told = hole_told words first c q k (d ++ block p m w ∷ b)
+      (subst (λ ts. Spells words first ts) (ap (λ ts. ts ++ block p m w ∷ b) split ∙ append_assoc c (hole q k ∷ d) (block p m w ∷ b)) s) in
+      let here : next ≡ q = x.next_is ∙ h.5 in
+      let inside = told.inside in let long = told.long in let placed = told.place_is in
+      let block_placed = (block_told words first a p m w b s).place_is in
+      let sum = ap total split in let sums = total-append c (hole q k ∷ d) in
+      let counted = ap holes split in let counts = holes-append c (hole q k ∷ d) in (
+        omega arith,
+        record {
+          inside = omega arith;
+          some = omega arith;
+          on = record {
+            passed = c ++ hole q k ∷ [];
+            ahead = d;
+            is = split ∙ sym (append_assoc c (hole q k ∷ []) d);
+            last_is = here ∙ sym (last_or-append c (hole q k ∷ []) n);
+            next_is = ap (λ (i : ℕ). word_at words (i + 2)) here ∙ told.next ∙ first_or-append d (block p m w ∷ b) n;
+          };
+        },
+      )
+
+  pub one_on : next < p → OneOn words a b next
+  one_on before =
+      elim (zero_or_more (holes x.ahead)) [
+        | inl none ↦
+            let later = (block_told words first a p m w b s).next_later in
+            let same = first_or-blocks x.ahead (first_or b (length words)) none in let is = x.next_is in absurd (omega arith)
+        | inr some ↦ (hole_on some).1
+      ]
+
+  -- no hole is between the last one and the block
+  pub met : p ≤ next → last ≡ last_or (length words) a
+  met past =
+      let n = length words in
+      elim (zero_or_more (holes x.ahead)) [
+        | inl none ↦ x.last_is ∙ sym (ap (last_or n) x.is ∙ last_or-append x.passed x.ahead n ∙ last_or-blocks x.ahead (last_or n x.passed) none)
+        | inr some ↦ let before = (hole_on some).0 in absurd (omega arith)
+      ]
+
+-- back from the block, the first tile of the pool is not reached while a hole is before it
+pub not_front : (words : List ℕ) (first : ℕ) (a : List Tile) (p m w : ℕ) (b : List Tile) → Spells words first (a ++ block p m w ∷ b)
+    → (at : ℕ) → WalkedBack a at → 0 < holes a → 0 < at
+not_front words first a p m w b s at x some =
     let n = length words in let r = word_at words in
     let split = ap (λ ts. ts ++ block p m w ∷ b) x.is ∙ append_assoc x.left x.passed (block p m w ∷ b) in
+    let counted = ap holes x.is in let parts = holes-append x.left x.passed in let blocks = x.blocks in let at_is = x.at_is in
     let spelled = front_part r r 0 0 n x.left (x.passed ++ block p m w ∷ b) n (subst (λ ts. Spells words first ts) split s).spelled in
-    let none = no_tiles r r 0 0 n x.left (first_or (x.passed ++ block p m w ∷ b) n) spelled (sym x.at_is ∙ front) in
-    last_or-blocks a n (ap holes x.is ∙ holes-append x.left x.passed ∙ omega (arith, none, x.blocks))
+    let within = first_within r r 0 0 n x.left (first_or (x.passed ++ block p m w ∷ b) n) spelled (omega arith) in
+    omega arith
 
 -- a hole that follows the block names the one before it
 pub named_by_next : (words : List ℕ) (first : ℕ) (a : List Tile) (p m w : ℕ) (b : List Tile) → Spells words first (a ++ block p m w ∷ b) → p + m < length words

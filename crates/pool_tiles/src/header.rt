@@ -60,7 +60,8 @@ pub(crate) fn tile_owner(words: &Region, place: usize) -> u64
 /// Is it a block of this owner?
 pub(crate) fn is_block_of(words: &Region, place: usize, owner: u32) -> bool
     requires { place < length words.now }
-    ensures { IsTrue result ↔ (slice_index words.now place < hole_mark) × (owner_of (tile_at words.now place) ≡ owner) }
+    ensures { IsTrue result ↔ (slice_index words.now place < hole_mark)
+        × (owner_of (tile_at words.now place) ≡ owner) }
 {
     !is_hole(words, place) && tile_owner(words, place) == u64::from(owner)
 }
@@ -96,7 +97,8 @@ pub(crate) fn clear(words: &mut Region, from: usize, n: usize)
     requires { from + n ≤ length words.old }
     ensures length { length words.new ≡ length words.old }
     ensures zero { (k : ℕ) → from ≤ k → k < from + n → slice_index words.new k ≡ 0 }
-    ensures others { (k : ℕ) → (k < from) ⊎ (from + n ≤ k) → slice_index words.new k ≡ slice_index words.old k }
+    ensures others { (k : ℕ) → (k < from) ⊎ (from + n ≤ k)
+        → slice_index words.new k ≡ slice_index words.old k }
 {
     words.view_mut(from, n).fill(0);
 }

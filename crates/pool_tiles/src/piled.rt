@@ -47,14 +47,21 @@ impl PiledWords {
     pub fn take(&mut self, length: usize, owner: u32) -> Option<usize>
         requires long { 4 ≤ length }
         requires number { owner < owner_limit }
-        ensures taken { IfSome result (λ place. pile owner length (pile_tiles self.old) ≡ Some (place, pile_tiles self.new)) }
-        ensures blocks { IfSome result (λ place. self.new.blocks ≡ self.old.blocks ++ block place length owner ∷ []) }
+        ensures taken { IfSome result (λ place. pile owner length (pile_tiles self.old)
+            ≡ Some (place, pile_tiles self.new)) }
+        ensures blocks { IfSome result (λ place. self.new.blocks
+            ≡ self.old.blocks ++ block place length owner ∷ []) }
         ensures room { IfSome result (λ place. length ≤ block_length (pile_tiles self.new) place) }
         ensures fresh { IfSome result (λ place. block_length (pile_tiles self.old) place ≡ 0) }
-        ensures stay { OnSome result (KeepsBlocks (λ _. Unit {0}) (pile_tiles self.old) (pile_tiles self.new)) }
-        ensures zero { IfSome result (λ place. ZeroWords (pile_tiles self.new) (user_word self.new.words) place) }
-        ensures kept { IfSome result (λ place. KeepsWords (λ other _. other ≢ place) (pile_tiles self.new) (user_word self.old.words) (user_word self.new.words)) }
-        ensures none { IfNone result ((pile owner length (pile_tiles self.old) ≡ None) × (self.new ≡ self.old)) }
+        ensures stay { OnSome result (KeepsBlocks (λ _. Unit {0})
+            (pile_tiles self.old) (pile_tiles self.new)) }
+        ensures zero { IfSome result (λ place.
+            ZeroWords (pile_tiles self.new) (user_word self.new.words) place) }
+        ensures kept { IfSome result (λ place.
+            KeepsWords (λ other _. other ≢ place) (pile_tiles self.new)
+            (user_word self.old.words) (user_word self.new.words)) }
+        ensures none { IfNone result ((pile owner length (pile_tiles self.old) ≡ None)
+            × (self.new ≡ self.old)) }
     {
         if length > self.words.len() - self.cursor {
             return None;
@@ -77,8 +84,10 @@ impl PiledWords {
     pub fn release(&mut self, place: usize, owner: u32)
         requires { OwnsFrom owner place self.old.blocks }
         ensures tiles { pile_tiles self.new ≡ closed owner (pile_tiles self.old) }
-        ensures blocks { (a b : List Tile) → self.old.blocks ≡ a ++ b → total a ≡ place → self.new.blocks ≡ a }
-        ensures stay { KeepsBlocks (λ other. block_owner (pile_tiles self.old) other ≢ owner) (pile_tiles self.old) (pile_tiles self.new) }
+        ensures blocks { (a b : List Tile) → self.old.blocks ≡ a ++ b → total a ≡ place
+            → self.new.blocks ≡ a }
+        ensures stay { KeepsBlocks (λ other. block_owner (pile_tiles self.old) other ≢ owner)
+            (pile_tiles self.old) (pile_tiles self.new) }
         ensures words { self.new.words ≡ self.old.words }
     {
         let _released = owner;
@@ -99,7 +108,8 @@ impl PiledWords {
         ensures blocks { self.new.blocks ≡ self.old.blocks }
         ensures tiles { pile_tiles self.new ≡ pile_tiles self.old }
         ensures written { user_word self.new.words place (of_object index) ≡ word }
-        ensures kept { KeepsWords (λ other i. (other ≡ place) × (i ≡ of_object index) → ⊥) (pile_tiles self.new) (user_word self.old.words) (user_word self.new.words) }
+        ensures kept { KeepsWords (λ other i. (other ≡ place) × (i ≡ of_object index) → ⊥)
+            (pile_tiles self.new) (user_word self.old.words) (user_word self.new.words) }
     {
         self.words.set(place + HEADER + index, word);
     }
@@ -119,7 +129,8 @@ impl PiledWords {
         ensures tiles { pile_tiles self.new ≡ pile_tiles self.old }
         ensures inside { (place < 2 ^ 32) × (4 ≤ block_length (pile_tiles self.old) place) }
         ensures written { user_word self.new.words place which ≡ word }
-        ensures kept { KeepsWords (λ other i. (other ≡ place) × (i ≡ which) → ⊥) (pile_tiles self.new) (user_word self.old.words) (user_word self.new.words) }
+        ensures kept { KeepsWords (λ other i. (other ≡ place) × (i ≡ which) → ⊥)
+            (pile_tiles self.new) (user_word self.old.words) (user_word self.new.words) }
     {
         self.words.set(place + OWN + which, word);
     }

@@ -39,16 +39,23 @@ impl TiledWords {
     }
 
     /// A block of `length` words from the first hole that has them; its user's words are 0.
+    ///
+    /// Passes the holes up to that one.
     pub fn take(&mut self, length: usize, owner: u32) -> Option<usize>
         requires long { 4 ≤ length }
         requires number { owner < owner_limit }
-        ensures taken { IfSome result (λ place. fit owner length self.old.tiles ≡ Some (place, self.new.tiles)) }
+        ensures taken { IfSome result (λ place. fit owner length self.old.tiles
+            ≡ Some (place, self.new.tiles)) }
         ensures room { IfSome result (λ place. length ≤ block_length self.new.tiles place) }
         ensures fresh { IfSome result (λ place. block_length self.old.tiles place ≡ 0) }
         ensures stay { OnSome result (KeepsBlocks (λ _. Unit {0}) self.old.tiles self.new.tiles) }
-        ensures zero { IfSome result (λ place. ZeroWords self.new.tiles (user_word self.new.words) place) }
-        ensures kept { IfSome result (λ place. KeepsWords (λ other _. other ≢ place) self.new.tiles (user_word self.old.words) (user_word self.new.words)) }
-        ensures none { IfNone result ((fit owner length self.old.tiles ≡ None) × (self.new ≡ self.old)) }
+        ensures zero { IfSome result (λ place.
+            ZeroWords self.new.tiles (user_word self.new.words) place) }
+        ensures kept { IfSome result (λ place.
+            KeepsWords (λ other _. other ≢ place) self.new.tiles
+            (user_word self.old.words) (user_word self.new.words)) }
+        ensures none { IfNone result ((fit owner length self.old.tiles ≡ None)
+            × (self.new ≡ self.old)) }
     {
         let place = self.tiles.find(length)?;
         self.tiles.cut(place, length, owner);
@@ -56,11 +63,15 @@ impl TiledWords {
     }
 
     /// The block becomes a hole, merged with the holes beside it.
+    ///
+    /// Where no hole follows the block, passes the holes from the front, and in step with them the tiles back from the
+    /// block, until the shorter of the two ways to the last hole before it ends.
     pub fn put_back(&mut self, place: usize)
         requires { IsTaken self.old.tiles place }
         ensures tiles { self.new.tiles ≡ put_back place self.old.tiles }
         ensures stay { KeepsBlocks (λ other. other ≢ place) self.old.tiles self.new.tiles }
-        ensures kept { KeepsWords (λ _ _. Unit {0}) self.new.tiles (user_word self.old.words) (user_word self.new.words) }
+        ensures kept { KeepsWords (λ _ _. Unit {0})
+            self.new.tiles (user_word self.old.words) (user_word self.new.words) }
     {
         self.tiles.put_back(place);
     }
@@ -70,8 +81,10 @@ impl TiledWords {
     /// Passes all tiles once, from the front.
     pub fn close(&mut self, owner: u32)
         ensures tiles { self.new.tiles ≡ closed owner self.old.tiles }
-        ensures stay { KeepsBlocks (λ other. block_owner self.old.tiles other ≢ owner) self.old.tiles self.new.tiles }
-        ensures kept { KeepsWords (λ _ _. Unit {0}) self.new.tiles (user_word self.old.words) (user_word self.new.words) }
+        ensures stay { KeepsBlocks (λ other. block_owner self.old.tiles other ≢ owner)
+            self.old.tiles self.new.tiles }
+        ensures kept { KeepsWords (λ _ _. Unit {0})
+            self.new.tiles (user_word self.old.words) (user_word self.new.words) }
     {
         self.tiles.close(owner);
     }
@@ -89,7 +102,8 @@ impl TiledWords {
         requires { HasWord self.old.tiles place (of_object index) }
         ensures tiles { self.new.tiles ≡ self.old.tiles }
         ensures written { user_word self.new.words place (of_object index) ≡ word }
-        ensures kept { KeepsWords (λ other i. (other ≡ place) × (i ≡ of_object index) → ⊥) self.new.tiles (user_word self.old.words) (user_word self.new.words) }
+        ensures kept { KeepsWords (λ other i. (other ≡ place) × (i ≡ of_object index) → ⊥)
+            self.new.tiles (user_word self.old.words) (user_word self.new.words) }
     {
         self.tiles.write(place, index, word);
     }
@@ -108,7 +122,8 @@ impl TiledWords {
         ensures tiles { self.new.tiles ≡ self.old.tiles }
         ensures inside { (place < 2 ^ 32) × (4 ≤ block_length self.old.tiles place) }
         ensures written { user_word self.new.words place which ≡ word }
-        ensures kept { KeepsWords (λ other i. (other ≡ place) × (i ≡ which) → ⊥) self.new.tiles (user_word self.old.words) (user_word self.new.words) }
+        ensures kept { KeepsWords (λ other i. (other ≡ place) × (i ≡ which) → ⊥)
+            self.new.tiles (user_word self.old.words) (user_word self.new.words) }
     {
         self.tiles.set_link(place, which, word);
     }

@@ -68,30 +68,38 @@ impl Tiles {
 
     /// The last hole before the block, or else the number of words.
     ///
-    /// Where a hole follows the block, it names that hole; else the blocks before this one are passed, one by one.
+    /// A hole that follows the block names that hole. Else the holes are passed from the front, and in step with them the
+    /// tiles back from the block, until the shorter of the two ways ends.
     pub(crate) fn hole_before(&self, place: usize) -> usize
         requires { BlockIn self.now.tiles place }
-        ensures { (a b : List Tile) (n owner : ℕ) → self.now.tiles ≡ a ++ block place n owner ∷ b → result ≡ last_or (length self.now.words) a }
+        ensures { (a b : List Tile) (n owner : ℕ) → self.now.tiles ≡ a ++ block place n owner ∷ b
+            → result ≡ last_or (length self.now.words) a }
     {
         let none = self.words.len();
         let right = place + tile_length(&self.words, place);
         if right < none && is_hole(&self.words, right) {
             return part(&self.words, right, PREVIOUS);
         }
+        let mut hole = none;
+        let mut next = self.first;
         let mut at = place;
-        while at > 0 {
+        while next < place {
             at = part(&self.words, at, BEFORE);
             if is_hole(&self.words, at) {
                 return at;
             }
+            hole = next;
+            next = part(&self.words, next, NEXT);
         }
-        none
+        hole
     }
 
     /// The block becomes a hole of its own.
     pub(crate) fn free(&mut self, place: usize)
         requires { BlockIn self.old.tiles place }
-        ensures tiles { (a b : List Tile) (n owner : ℕ) → self.old.tiles ≡ a ++ block place n owner ∷ b → self.new.tiles ≡ a ++ hole place n ∷ b }
+        ensures tiles { (a b : List Tile) (n owner : ℕ)
+            → self.old.tiles ≡ a ++ block place n owner ∷ b
+            → self.new.tiles ≡ a ++ hole place n ∷ b }
         ensures objects { SameWords self.new.tiles self.old.words self.new.words }
     {
         let none = self.words.len();
@@ -114,7 +122,8 @@ impl Tiles {
     pub(crate) fn take(&mut self, place: usize, owner: u32)
         requires hole { HoleIn self.old.tiles place }
         requires number { owner < owner_limit }
-        ensures tiles { (a b : List Tile) (n : ℕ) → self.old.tiles ≡ a ++ hole place n ∷ b → self.new.tiles ≡ a ++ block place n owner ∷ b }
+        ensures tiles { (a b : List Tile) (n : ℕ) → self.old.tiles ≡ a ++ hole place n ∷ b
+            → self.new.tiles ≡ a ++ block place n owner ∷ b }
         ensures objects { SameWords self.new.tiles self.old.words self.new.words }
     {
         let none = self.words.len();
@@ -131,8 +140,10 @@ impl Tiles {
     pub(crate) fn split(&mut self, place: usize, length: usize)
         requires hole { HoleIn self.old.tiles place }
         requires long { 4 ≤ length }
-        requires room { (a b : List Tile) (n : ℕ) → self.old.tiles ≡ a ++ hole place n ∷ b → length + 4 ≤ n }
-        ensures tiles { (a b : List Tile) (n : ℕ) → self.old.tiles ≡ a ++ hole place n ∷ b → self.new.tiles ≡ a ++ hole place length ∷ hole (place + length) (n - length) ∷ b }
+        requires room { (a b : List Tile) (n : ℕ) → self.old.tiles ≡ a ++ hole place n ∷ b
+            → length + 4 ≤ n }
+        ensures tiles { (a b : List Tile) (n : ℕ) → self.old.tiles ≡ a ++ hole place n ∷ b
+            → self.new.tiles ≡ a ++ hole place length ∷ hole (place + length) (n - length) ∷ b }
         ensures objects { SameWords self.new.tiles self.old.words self.new.words }
     {
         let next = part(&self.words, place, NEXT);
@@ -150,8 +161,11 @@ impl Tiles {
 
     /// The hole and the hole after it become one.
     pub(crate) fn join(&mut self, place: usize)
-        requires { (a : List Tile) × (b : List Tile) × (n : ℕ) × (right : ℕ) × (m : ℕ) × (self.old.tiles ≡ a ++ hole place n ∷ hole right m ∷ b) }
-        ensures tiles { (a b : List Tile) (n right m : ℕ) → self.old.tiles ≡ a ++ hole place n ∷ hole right m ∷ b → self.new.tiles ≡ a ++ hole place (n + m) ∷ b }
+        requires { (a : List Tile) × (b : List Tile) × (n : ℕ) × (right : ℕ) × (m : ℕ)
+            × (self.old.tiles ≡ a ++ hole place n ∷ hole right m ∷ b) }
+        ensures tiles { (a b : List Tile) (n right m : ℕ)
+            → self.old.tiles ≡ a ++ hole place n ∷ hole right m ∷ b
+            → self.new.tiles ≡ a ++ hole place (n + m) ∷ b }
         ensures objects { SameWords self.new.tiles self.old.words self.new.words }
     {
         let length = tile_length(&self.words, place);
@@ -171,12 +185,14 @@ impl Tiles {
         requires long { 4 ≤ length }
         requires room { RoomIn length self.old.tiles place }
         requires number { owner < owner_limit }
-        ensures tiles { (a b : List Tile) (n : ℕ) → self.old.tiles ≡ a ++ hole place n ∷ b → self.new.tiles ≡ a ++ (cut owner length place n ++ b) }
+        ensures tiles { (a b : List Tile) (n : ℕ) → self.old.tiles ≡ a ++ hole place n ∷ b
+            → self.new.tiles ≡ a ++ (cut owner length place n ++ b) }
         ensures room { length ≤ block_length self.new.tiles place }
         ensures fresh { block_length self.old.tiles place ≡ 0 }
         ensures stay { KeepsBlocks (λ _. Unit {0}) self.old.tiles self.new.tiles }
         ensures zero { ZeroWords self.new.tiles (user_word self.new.words) place }
-        ensures kept { KeepsWords (λ other _. other ≢ place) self.new.tiles (user_word self.old.words) (user_word self.new.words) }
+        ensures kept { KeepsWords (λ other _. other ≢ place)
+            self.new.tiles (user_word self.old.words) (user_word self.new.words) }
     {
         if tile_length(&self.words, place) >= length + HEADER {
             self.split(place, length);
@@ -190,7 +206,8 @@ impl Tiles {
         requires { BlockIn self.old.tiles place }
         ensures tiles { self.new.tiles ≡ self.old.tiles }
         ensures zero { ZeroWords self.new.tiles (user_word self.new.words) place }
-        ensures kept { KeepsWords (λ other _. other ≢ place) self.new.tiles (user_word self.old.words) (user_word self.new.words) }
+        ensures kept { KeepsWords (λ other _. other ≢ place)
+            self.new.tiles (user_word self.old.words) (user_word self.new.words) }
     {
         let length = tile_length(&self.words, place);
         clear(&mut self.words, place + OWN, length - OWN);
@@ -199,7 +216,8 @@ impl Tiles {
     /// The hole and the tile after it become one, if that is a hole too.
     pub(crate) fn join_next(&mut self, place: usize)
         requires { HoleIn self.old.tiles place }
-        ensures tiles { (a b : List Tile) (n : ℕ) → self.old.tiles ≡ a ++ hole place n ∷ b → self.new.tiles ≡ a ++ joined (hole place n) b }
+        ensures tiles { (a b : List Tile) (n : ℕ) → self.old.tiles ≡ a ++ hole place n ∷ b
+            → self.new.tiles ≡ a ++ joined (hole place n) b }
         ensures objects { SameWords self.new.tiles self.old.words self.new.words }
     {
         let right = place + tile_length(&self.words, place);
@@ -226,7 +244,8 @@ impl Tiles {
     /// The place behind the tile, or else behind the hole that follows it.
     pub(crate) fn place_behind(&self, place: usize) -> usize
         requires { TileIn self.now.tiles place }
-        ensures { (a b : List Tile) (t : Tile) → self.now.tiles ≡ a ++ t ∷ b → place_of t ≡ place → result ≡ place + length_of t + leading_hole b }
+        ensures { (a b : List Tile) (t : Tile) → self.now.tiles ≡ a ++ t ∷ b → place_of t ≡ place
+            → result ≡ place + length_of t + leading_hole b }
     {
         let next = place + tile_length(&self.words, place);
         if next < self.words.len() && is_hole(&self.words, next) {
@@ -268,7 +287,8 @@ impl Tiles {
         requires { HasWord self.old.tiles place (of_object index) }
         ensures tiles { self.new.tiles ≡ self.old.tiles }
         ensures written { user_word self.new.words place (of_object index) ≡ word }
-        ensures kept { KeepsWords (λ other i. (other ≡ place) × (i ≡ of_object index) → ⊥) self.new.tiles (user_word self.old.words) (user_word self.new.words) }
+        ensures kept { KeepsWords (λ other i. (other ≡ place) × (i ≡ of_object index) → ⊥)
+            self.new.tiles (user_word self.old.words) (user_word self.new.words) }
     {
         self.words.set(place + HEADER + index, word);
     }
@@ -287,7 +307,8 @@ impl Tiles {
         ensures tiles { self.new.tiles ≡ self.old.tiles }
         ensures inside { (place < 2 ^ 32) × (4 ≤ block_length self.old.tiles place) }
         ensures written { user_word self.new.words place which ≡ word }
-        ensures kept { KeepsWords (λ other i. (other ≡ place) × (i ≡ which) → ⊥) self.new.tiles (user_word self.old.words) (user_word self.new.words) }
+        ensures kept { KeepsWords (λ other i. (other ≡ place) × (i ≡ which) → ⊥)
+            self.new.tiles (user_word self.old.words) (user_word self.new.words) }
     {
         self.words.set(place + OWN + which, word);
     }

@@ -1,7 +1,7 @@
 -- How many collections of an access type are created.
 
-use Rattle.std.proofs.Common.{◌≡◌, ℕ, ◌+◌, ◌≤◌, ◌<◌, Bool, true, false, ◌||◌, List, [], ◌∷◌, ◌++◌, refl, zero, suc, sym, subst, ◌∙◌, arith, cond, eqb, eqb-true, eq-eqb}
-use Rattle.std.specs.Prelude.{count_by}
+use Rattle.std.proofs.Common.{◌≡◌, ℕ, ◌+◌, ◌≤◌, ◌<◌, Bool, true, false, ◌||◌, List, [], ◌∷◌, ◌++◌, refl, zero, suc, sym, subst, ap, ◌∙◌, arith, cond, eqb, eqb-true, eq-eqb}
+use Rattle.std.specs.Prelude.{count_by, map}
 use Rattle.std.proofs.lemmas.Bool.{ne_eqb}
 use Rattle.std.proofs.lemmas.List.Sums.{sum_by-cons, sum_by-append}
 use Rattle.ada_program.specs.Form.{DeclarationForm, collects, declares}
@@ -9,17 +9,20 @@ use Rattle.ada_program.specs.ProgramForm.{TypeForm, record_of, access_to}
 use Rattle.ada_program.specs.WellFormed as fits
 use Rattle.ada_resolve.specs.Instances.{is_collected}
 use Rattle.ada_resolve.specs.Objects.{collections_of}
+use Rattle.ada_resolve.proofs.Names.{map_append}
 use Rattle.ada_resolve.proofs.WellFormed.Tables.{left_fails, right_fails, both_parts, first_part, second_part}
 
 -- how many collections of an access type these create
 abbrev pub count : ℕ → List DeclarationForm → ℕ
-count a es = count_by (fits.is_collection a) es
+count a es = count_by (fits.is_collection a) (map fits.creation es)
 
-count_next : (a : ℕ) (e : DeclarationForm) (es : List DeclarationForm) → count a (e ∷ es) ≡ cond (fits.is_collection a e) 1 0 + count a es
-count_next a e es = sum_by-cons (λ x. cond (fits.is_collection a x) 1 0) e es
+count_next : (a : ℕ) (e : DeclarationForm) (es : List DeclarationForm) → count a (e ∷ es) ≡ cond (fits.is_collection a (fits.creation e)) 1 0 + count a es
+count_next a e es = sum_by-cons (λ x. cond (fits.is_collection a x) 1 0) (fits.creation e) (map fits.creation es)
 
 pub count_more : (a : ℕ) (es fs : List DeclarationForm) → count a (es ++ fs) ≡ count a es + count a fs
-count_more a es fs = sum_by-append (λ x. cond (fits.is_collection a x) 1 0) es fs
+count_more a es fs =
+    ap (λ cs. count_by (fits.is_collection a) cs) (map_append fits.creation es fs) ∙
+    sum_by-append (λ x. cond (fits.is_collection a x) 1 0) (map fits.creation es) (map fits.creation fs)
 
 pub not_collected : (a : ℕ) (es : List DeclarationForm) → is_collected a es ≡ false → count a es ≡ 0
 not_collected a [] e = refl
@@ -98,19 +101,19 @@ at_most_made (access_to name d ∷ ts) k a es = rw (made_first (is_collected k e
     made_at more false off = rw (either_zero (is_collected k es)) (omega arith)
 
 -- one collection each, from a number on
-pub has_from_counts : (es : List DeclarationForm) (ts : List TypeForm) (k : ℕ) → ((i : ℕ) → fits.is_access ts i ≡ true → count (k + i) es ≡ 1) → fits.has_collections es k ts ≡ true
+pub has_from_counts : (es : List DeclarationForm) (ts : List TypeForm) (k : ℕ) → ((i : ℕ) → fits.is_access ts i ≡ true → count (k + i) es ≡ 1) → fits.has_collections (map fits.creation es) k ts ≡ true
 has_from_counts es [] k w = refl
 has_from_counts es (record_of name cs ∷ ts) k w = has_from_counts es ts (k + 1) (λ i e. let next : (k + 1) + i ≡ k + suc i = omega arith in rw next (w (suc i) e))
 has_from_counts es (access_to name d ∷ ts) k w =
     let here : count k es ≡ 1 = let at : k ≡ k + 0 = omega arith in rw at (w 0 refl) in
-    both_parts (eqb (count k es) 1) (fits.has_collections es (k + 1) ts) (eq-eqb (count k es) 1 here)
+    both_parts (eqb (count k es) 1) (fits.has_collections (map fits.creation es) (k + 1) ts) (eq-eqb (count k es) 1 here)
     (has_from_counts es ts (k + 1) (λ i e. let next : (k + 1) + i ≡ k + suc i = omega arith in rw next (w (suc i) e)))
 
 -- what counts alike has one collection each alike
-pub has_alike : (es fs : List DeclarationForm) (ts : List TypeForm) (k : ℕ) → ((a : ℕ) → count a es ≡ count a fs) → fits.has_collections es k ts ≡ true → fits.has_collections fs k ts ≡ true
+pub has_alike : (es fs : List DeclarationForm) (ts : List TypeForm) (k : ℕ) → ((a : ℕ) → count a es ≡ count a fs) → fits.has_collections (map fits.creation es) k ts ≡ true → fits.has_collections (map fits.creation fs) k ts ≡ true
 has_alike es fs [] k w e = refl
 has_alike es fs (record_of name cs ∷ ts) k w e = has_alike es fs ts (k + 1) w e
 has_alike es fs (access_to name d ∷ ts) k w e =
-    both_parts (eqb (count k fs) 1) (fits.has_collections fs (k + 1) ts)
-    (let own : eqb (count k es) 1 ≡ true = first_part (eqb (count k es) 1) (fits.has_collections es (k + 1) ts) e in rw (sym (w k)) own)
-    (has_alike es fs ts (k + 1) w (second_part (eqb (count k es) 1) (fits.has_collections es (k + 1) ts) e))
+    both_parts (eqb (count k fs) 1) (fits.has_collections (map fits.creation fs) (k + 1) ts)
+    (let own : eqb (count k es) 1 ≡ true = first_part (eqb (count k es) 1) (fits.has_collections (map fits.creation es) (k + 1) ts) e in rw (sym (w k)) own)
+    (has_alike es fs ts (k + 1) w (second_part (eqb (count k es) 1) (fits.has_collections (map fits.creation es) (k + 1) ts) e))

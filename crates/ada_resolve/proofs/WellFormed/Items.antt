@@ -14,7 +14,7 @@ use Rattle.ada_program.specs.Form.{ItemForm}
 use Rattle.ada_program.specs.ProgramForm.{ComponentForm, TypeForm, VariableForm}
 use Rattle.ada_program.specs.WellFormed as fits
 use Rattle.ada_resolve.specs.declared.fault.NameRule.TheVariants.{WrongType, NotInProfile}
-use Rattle.ada_resolve.specs.Known.{Known}
+use Rattle.ada_resolve.specs.Known.{Known, parts}
 use Rattle.ada_resolve.specs.Paths.{component_at, Meant, unknown, null_value, integer_value, boolean_value}
 use Rattle.ada_resolve.specs.Expressions.{expression_meant}
 use Rattle.ada_resolve.specs.Items.{Filling, component_for, item_spot, item_meant, fits_remark, is_filled, for_remark, is_alike, item_remark, filled_for, after_item, items_remark, after_items, first_filling, names_component, count_remark, item_or_null, filling_of}
@@ -22,7 +22,7 @@ use Rattle.ada_resolve.specs.Remark.{Remark, wrong, wrong_if, ◌also◌}
 use Rattle.ada_resolve.specs.Spots.{expression_spot}
 use Rattle.ada_resolve.proofs.WellFormed.Remarks.{Quiet, quiet_if, quiet_unless}
 use Rattle.ada_resolve.proofs.WellFormed.Tables.{both_parts}
-use Rattle.ada_resolve.proofs.WellFormed.Names.{NamesFit}
+use Rattle.ada_resolve.proofs.WellFormed.Names.{PartsFit}
 use Rattle.ada_resolve.proofs.WellFormed.Typing.{is_of_type}
 use Rattle.ada_resolve.proofs.WellFormed.Meanings.{MeantFits, IsComponentOf, named_at, expression_fits}
 
@@ -93,7 +93,7 @@ filled_fits types variables cs filling (Some found) label value m alike w i f a 
       is_whole = rw (w.is_whole, a, fresh) refl;
     }
 
-items_fill : (k : Known) (cs : List ComponentForm) (is_named : Bool) (filling : Filling) (items : ItemsTree) → NamesFit k.types k.variables k.names → Fills k.types k.variables cs filling → Quiet (items_remark k (Some cs) is_named filling items) → Fills k.types k.variables cs (after_items k (Some cs) is_named filling items)
+items_fill : (k : Known) (cs : List ComponentForm) (is_named : Bool) (filling : Filling) (items : ItemsTree) → PartsFit k.types k.variables (parts k) → Fills k.types k.variables cs filling → Quiet (items_remark k (Some cs) is_named filling items) → Fills k.types k.variables cs (after_items k (Some cs) is_named filling items)
 unfolding item_remark after_item
 items_fill k cs is_named filling no_more_items w f q = f
 items_fill k cs is_named filling (an_item label value rest) w f q =
@@ -113,7 +113,7 @@ count_is false filling one spot q e = whole_is filling.whole (list_all is_some f
     whole_is false b q e = absurd (cc e)
 
 -- each component has its item
-pub items_there : (k : Known) (cs : List ComponentForm) (items : ItemsTree) (spot : Spot) → NamesFit k.types k.variables k.names → Quiet (items_remark k (Some cs) (names_component items) (first_filling (Some cs)) items) → Quiet (count_remark (names_component items) (filling_of k (Some cs) items) spot) → list_all is_some (filling_of k (Some cs) items).slots ≡ true
+pub items_there : (k : Known) (cs : List ComponentForm) (items : ItemsTree) (spot : Spot) → PartsFit k.types k.variables (parts k) → Quiet (items_remark k (Some cs) (names_component items) (first_filling (Some cs)) items) → Quiet (count_remark (names_component items) (filling_of k (Some cs) items) spot) → list_all is_some (filling_of k (Some cs) items).slots ≡ true
 unfolding filling_of
 items_there k cs items spot w q c =
     let start : Fills k.types k.variables cs (first_filling (Some cs)) = record { slots_fit = none_filled k.types k.variables cs; is_whole = refl } in
@@ -121,7 +121,7 @@ items_there k cs items spot w q c =
     count_is _ (after_items k (Some cs) (names_component items) (first_filling (Some cs)) items) _ spot c done.is_whole
 
 -- the items of an aggregate
-pub items_fit : (k : Known) (cs : List ComponentForm) (items : ItemsTree) (spot : Spot) → NamesFit k.types k.variables k.names → Quiet (items_remark k (Some cs) (names_component items) (first_filling (Some cs)) items) → Quiet (count_remark (names_component items) (filling_of k (Some cs) items) spot) → fits.items_fit k.types k.variables cs (map item_or_null (filling_of k (Some cs) items).slots) ≡ true
+pub items_fit : (k : Known) (cs : List ComponentForm) (items : ItemsTree) (spot : Spot) → PartsFit k.types k.variables (parts k) → Quiet (items_remark k (Some cs) (names_component items) (first_filling (Some cs)) items) → Quiet (count_remark (names_component items) (filling_of k (Some cs) items) spot) → fits.items_fit k.types k.variables cs (map item_or_null (filling_of k (Some cs) items).slots) ≡ true
 unfolding filling_of
 items_fit k cs items spot w q c =
     let start : Fills k.types k.variables cs (first_filling (Some cs)) = record { slots_fit = none_filled k.types k.variables cs; is_whole = refl } in

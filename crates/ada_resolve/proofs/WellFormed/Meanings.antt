@@ -1,7 +1,7 @@
 -- An expression with which nothing is wrong means a value, and that has its type.
 
-use Rattle.std.proofs.Common.{◌≡◌, ◌∙◌, ℕ, ◌+◌, Bool, true, false, List, [], ◌∷◌, refl, sym, suc, arith, cond, ap}
-use Rattle.std.specs.Prelude.{Option, Some, None, bytes_eq, is_some, not}
+use Rattle.std.proofs.Common.{◌≡◌, ◌∙◌, ℕ, ◌+◌, Bool, true, false, List, [], ◌∷◌, refl, sym, suc, arith, cond, ap, eqb-true}
+use Rattle.std.specs.Prelude.{Option, Some, None, bytes_eq, is_some, not, nat_le, ◌&&◌, ◌==◌, length}
 use Rattle.std.specs.List.{slice_get}
 use Rattle.ada_text.specs.declared.spot.Spot.{Spot}
 use Rattle.ada_values.specs.declared.operator.UnaryOperator.{UnaryOperator}
@@ -16,24 +16,25 @@ use Rattle.ada_program.specs.declared.program.VariableKind.TheVariants as variab
 use Rattle.ada_program.specs.declared.program.VariableNo.{VariableNo}
 use Rattle.ada_program.specs.declared.program.ScalarType.TheVariants.{Integer, Boolean}
 use Rattle.ada_program.specs.declared.program.TypeNo.{TypeNo}
+use Rattle.ada_program.specs.Form.{PathForm}
 use Rattle.ada_program.specs.ProgramForm.{ComponentForm, TypeForm, record_of, access_to, VariableForm}
 use Rattle.ada_program.specs.WellFormed as fits
 use Rattle.ada_resolve.specs.declared.fault.NameRule.TheVariants.{UnknownName, WrongType, NotInProfile}
 use Rattle.ada_resolve.specs.declared.library.LibraryName.{LibraryName}
-use Rattle.ada_resolve.specs.declared.library.LibraryName.TheVariants.{TextIo, PutLine, UncheckedDeallocation, OtherUnit, Unknown}
+use Rattle.ada_resolve.specs.declared.library.LibraryName.TheVariants.{TextIo, PutLine, UncheckedDeallocation, RunInput, Get, EndError, OtherUnit, Unknown}
 use Rattle.ada_resolve.specs.declared.library.Withs.{Withs}
 use Rattle.ada_resolve.specs.declared.scope.Entity.{Entity}
 use Rattle.ada_resolve.specs.declared.scope.Entity.TheVariants as entity
-use Rattle.ada_resolve.specs.Known.{Known, visible, is_with, if_with, library_wrong, library_remark, library_found, library_path_remark, library_path_found, parts_of}
+use Rattle.ada_resolve.specs.Known.{Known, visible, is_with, if_with, library_wrong, library_remark, library_found, library_path_remark, library_path_found, parts_of, parts}
 use Rattle.ada_resolve.specs.Library.{is_library_root, library_name}
 use Rattle.ada_resolve.specs.Paths as path
 use Rattle.ada_resolve.specs.Paths.{Meant, unknown, null_value, access_variable, other_access, integer_value, boolean_value, variable_path, component_path, components_of, designated_of, component_named, is_incomplete_type, selected, component_found_meant, component_if, component_within, selection_meant, alone_meant, variable_meant, entity_meant, path_meant, component_wanted, component_within_remark, selection_remark, variable_path_remark, value_wanted, library_is_no_value, path_remark}
-use Rattle.ada_resolve.specs.Operators.{Signature, arithmetic, ordering, equality, logical, signature_of, integer_in, boolean_in, scalar_in, binary_by, unary_meant, integer_wanted, boolean_wanted, equal_wanted, operands_by, operand_remark}
+use Rattle.ada_resolve.specs.Operators.{Signature, arithmetic, ordering, equality, logical, signature_of, integer_in, boolean_in, equality_meant, binary_by, unary_meant, integer_wanted, boolean_wanted, equal_wanted, operands_by, operand_remark}
 use Rattle.ada_resolve.specs.Expressions.{expression_meant, expression_remark}
 use Rattle.ada_resolve.specs.Remark.{wrong, wrong_if, ◌also◌}
 use Rattle.ada_resolve.specs.Spots.{expression_spot}
 use Rattle.ada_resolve.proofs.WellFormed.Remarks.{Quiet}
-use Rattle.ada_resolve.proofs.WellFormed.Names.{EntityFits, NamesFit, visible_fits, kind_there}
+use Rattle.ada_resolve.proofs.WellFormed.Names.{EntityFits, PartsFit, visible_fits, kind_there}
 use Rattle.ada_resolve.proofs.WellFormed.Typing.{typed_by, joined_type}
 
 -- what is meant is known, and has its type
@@ -41,11 +42,11 @@ abbrev pub MeantFits : List TypeForm → List VariableForm → Meant → Type 0
 MeantFits types variables unknown = ⊥
 MeantFits types variables null_value = Unit {0}
 MeantFits types variables (access_variable path t) = (fits.names_variable path ≡ true) × (fits.path_kind types variables path ≡ Some (variable.Access t))
-MeantFits types variables other_access = Unit {0}
+MeantFits types variables (other_access path) = (fits.follows_at_most_one path ≡ true) × (is_some (fits.path_access types variables path) ≡ true)
 MeantFits types variables (integer_value e) = fits.type_of types variables e ≡ Some Integer
 MeantFits types variables (boolean_value e) = fits.type_of types variables e ≡ Some Boolean
 
--- a component that is found is one of these, behind so many
+-- a component that is found is one of these, by its number
 abbrev pub IsComponentOf : List ComponentForm → ℕ → Option (ℕ × ComponentKind) → Type 0
 IsComponentOf cs at None = Unit {0}
 IsComponentOf cs at (Some found) = (j : ℕ) × (c : ComponentForm) × (found.0 ≡ at + j) × (slice_get cs j ≡ Some c) × (c.kind ≡ found.1)
@@ -90,7 +91,7 @@ component_is types variables x spot t d j c h designates e =
 component_typed : (types : List TypeForm) (variables : List VariableForm) (x : VariableNo) (spot : Spot) (c : ℕ) (k : ComponentKind) → fits.path_kind types variables (component_path x spot c) ≡ Some (fits.held_kind k) → MeantFits types variables (component_found_meant x spot c k)
 component_typed types variables x spot c (kind.Integer initial) e = rw e refl
 component_typed types variables x spot c (kind.Boolean initial) e = rw e refl
-component_typed types variables x spot c (kind.Access t) e = tt
+component_typed types variables x spot c (kind.Access t) e = (refl, rw e refl)
 
 found_fits : (types : List TypeForm) (variables : List VariableForm) (x : VariableNo) (spot : Spot) (t : TypeNo) (d : ℕ) (name : Ident) (o : Option (ℕ × ComponentKind)) → fits.variable_kind variables x.0 ≡ Some (variable.Access t) → designated_of types t.0 ≡ Some d → IsComponentOf (components_of types d) 0 o → Quiet (component_wanted o name) → MeantFits types variables (component_if x spot o)
 found_fits types variables x spot t d name None h designates i q = absurd q
@@ -151,6 +152,9 @@ no_library_name : (withs : Withs) (n : LibraryName) (spot : Spot) → Quiet (lib
 no_library_name withs TextIo spot p q = no_library_value withs.text_io TextIo spot spot p q
 no_library_name withs PutLine spot p q = no_library_value withs.text_io PutLine spot spot p q
 no_library_name withs UncheckedDeallocation spot p q = no_library_value withs.deallocation UncheckedDeallocation spot spot p q
+no_library_name withs RunInput spot p q = no_library_value withs.run_input RunInput spot spot p q
+no_library_name withs Get spot p q = no_library_value withs.run_input Get spot spot p q
+no_library_name withs EndError spot p q = no_library_value withs.run_input EndError spot spot p q
 no_library_name withs OtherUnit spot p q = p
 no_library_name withs Unknown spot p q = p
 
@@ -159,7 +163,7 @@ no_library_path k path true p q = no_library_name k.withs (library_name path.roo
 no_library_path k path false p q = p
 
 -- a path
-pub path_fits : (k : Known) (path : PathTree) → NamesFit k.types k.variables k.names → Quiet (path_remark k path) → MeantFits k.types k.variables (path_meant k path)
+pub path_fits : (k : Known) (path : PathTree) → PartsFit k.types k.variables (parts k) → Quiet (path_remark k path) → MeantFits k.types k.variables (path_meant k path)
 unfolding path_remark path_meant
 path_fits k path w q = path_by (is_library_root path.root.text) q
   where
@@ -178,13 +182,31 @@ boolean_is types variables (boolean_value e) spot f q = f
 boolean_is types variables unknown spot f q = absurd f
 boolean_is types variables m spot f q = absurd q
 
+-- an access value is compared with null
+null_test_is : (b c : Bool) → b ≡ true → c ≡ true → cond (b && c) (Some Boolean) None ≡ Some Boolean
+null_test_is b c e f = rw (e, f) refl
+
+alone_follows : (n : ℕ) → (n == 0) ≡ true → nat_le n 1 ≡ true
+alone_follows n e = rw (eqb-true n 0 e) refl
+
+variable_tested : (types : List TypeForm) (variables : List VariableForm) (path : PathForm) (t : TypeNo) → MeantFits types variables (access_variable path t) → fits.null_test_type types variables path ≡ Some Boolean
+variable_tested types variables path t f =
+    null_test_is (fits.follows_at_most_one path) (is_some (fits.path_access types variables path)) (alone_follows (length path.selectors) f.0) (rw f.1 refl)
+
+other_tested : (types : List TypeForm) (variables : List VariableForm) (path : PathForm) → MeantFits types variables (other_access path) → fits.null_test_type types variables path ≡ Some Boolean
+other_tested types variables path f = null_test_is (fits.follows_at_most_one path) (is_some (fits.path_access types variables path)) f.0 f.1
+
 -- operands of an equality
-alike : (types : List TypeForm) (variables : List VariableForm) (left right : Meant) (at to : Spot) → MeantFits types variables left → MeantFits types variables right → Quiet (equal_wanted left at right to) → fits.given_alike (fits.type_of types variables (scalar_in left)) (fits.type_of types variables (scalar_in right)) ≡ Some Boolean
-alike types variables (integer_value e) (integer_value f) at to l r q = rw (l, r) refl
-alike types variables (boolean_value e) (boolean_value f) at to l r q = rw (l, r) refl
-alike types variables unknown right at to l r q = absurd l
-alike types variables left unknown at to l r q = absurd r
-alike types variables left right at to l r q = absurd q
+equality_fits : (types : List TypeForm) (variables : List VariableForm) (o : BinaryOperator) (left right : Meant) (at to : Spot) → signature_of o ≡ equality → MeantFits types variables left → MeantFits types variables right → Quiet (equal_wanted left at right to) → MeantFits types variables (equality_meant o left right)
+equality_fits types variables o (integer_value e) (integer_value f) at to is l r q = joined_type types variables e o f ∙ (typed_by o _ _ ∙ rw (is, l, r) refl)
+equality_fits types variables o (boolean_value e) (boolean_value f) at to is l r q = joined_type types variables e o f ∙ (typed_by o _ _ ∙ rw (is, l, r) refl)
+equality_fits types variables o (access_variable path t) null_value at to is l r q = variable_tested types variables path t l
+equality_fits types variables o (other_access path) null_value at to is l r q = other_tested types variables path l
+equality_fits types variables o null_value (access_variable path t) at to is l r q = variable_tested types variables path t r
+equality_fits types variables o null_value (other_access path) at to is l r q = other_tested types variables path r
+equality_fits types variables o unknown right at to is l r q = absurd l
+equality_fits types variables o left unknown at to is l r q = absurd r
+equality_fits types variables o left right at to is l r q = absurd q
 
 -- an operator with its operands
 unary_fits : (types : List TypeForm) (variables : List VariableForm) (o : UnaryOperator) (m : Meant) (spot : Spot) → MeantFits types variables m → Quiet (operand_remark o m spot) → MeantFits types variables (unary_meant o m)
@@ -197,13 +219,12 @@ binary_fits types variables o arithmetic left right at to is l r q =
     joined_type types variables (integer_in left) o (integer_in right) ∙ (typed_by o _ _ ∙ (rw (is, integer_is types variables left at l q.0, integer_is types variables right to r q.1) refl))
 binary_fits types variables o ordering left right at to is l r q =
     joined_type types variables (integer_in left) o (integer_in right) ∙ (typed_by o _ _ ∙ (rw (is, integer_is types variables left at l q.0, integer_is types variables right to r q.1) refl))
-binary_fits types variables o equality left right at to is l r q =
-    joined_type types variables (scalar_in left) o (scalar_in right) ∙ (typed_by o _ _ ∙ (rw is (alike types variables left right at to l r q)))
+binary_fits types variables o equality left right at to is l r q = equality_fits types variables o left right at to is l r q
 binary_fits types variables o logical left right at to is l r q =
     joined_type types variables (boolean_in left) o (boolean_in right) ∙ (typed_by o _ _ ∙ (rw (is, boolean_is types variables left at l q.0, boolean_is types variables right to r q.1) refl))
 
 -- an expression
-pub expression_fits : (k : Known) (e : ExpressionTree) → NamesFit k.types k.variables k.names → Quiet (expression_remark k e) → MeantFits k.types k.variables (expression_meant k e)
+pub expression_fits : (k : Known) (e : ExpressionTree) → PartsFit k.types k.variables (parts k) → Quiet (expression_remark k e) → MeantFits k.types k.variables (expression_meant k e)
 unfolding expression_meant expression_remark
 expression_fits k (number_expression spot n) w q = refl
 expression_fits k (null_expression spot) w q = tt

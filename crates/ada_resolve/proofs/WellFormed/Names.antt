@@ -1,22 +1,19 @@
 -- What names stand for is there.
 
 use Rattle.std.proofs.Common.{◌≡◌, ℕ, Bool, true, false, List, [], ◌∷◌, refl, sym, ◌∙◌, cond}
-use Rattle.std.specs.Prelude.{Option, Some, None, bytes_eq, codes, ◌||◌}
+use Rattle.std.specs.Prelude.{Option, Some, None, bytes_eq, codes}
 use Rattle.std.specs.List.{slice_get}
 use Rattle.std.proofs.lemmas.Bool.{false_from_ne_true}
 use Rattle.std.proofs.lemmas.Slice.Eq.{bytes_eq-Decides}
 use Rattle.ada_program.specs.ProgramForm.{ComponentForm, TypeForm, record_of, access_to, VariableForm}
 use Rattle.ada_program.specs.WellFormed as fits
+use Rattle.ada_program.specs.declared.program.Exception.TheVariants.{ConstraintError, ProgramError, StorageError}
 use Rattle.ada_program.specs.declared.program.VariableKind.{VariableKind}
 use Rattle.ada_resolve.specs.declared.scope.Entity.{Entity}
 use Rattle.ada_resolve.specs.declared.scope.Entity.TheVariants as entity
-use Rattle.ada_resolve.specs.Known.{Known, Named, named, entered, inner_first, visible}
+use Rattle.ada_resolve.specs.Naming.{truth_name}
+use Rattle.ada_resolve.specs.Known.{Known, Named, Part, named, entered, first_named, named_in, inner_first, visible, parts}
 use Rattle.ada_resolve.specs.Library.{predefined}
-
--- how the two truth values are called
-abbrev pub truth_name : Bool → List ℕ
-truth_name true = codes "TRUE"
-truth_name false = codes "FALSE"
 
 -- what a name stands for is there, and has the name
 abbrev pub EntityFits : List TypeForm → List VariableForm → List ℕ → Entity → Type 0
@@ -24,7 +21,7 @@ EntityFits types variables text entity.Integer = Unit {0}
 EntityFits types variables text entity.Boolean = Unit {0}
 EntityFits types variables text (entity.Truth b) = text ≡ truth_name b
 EntityFits types variables text (entity.Number n) = Unit {0}
-EntityFits types variables text entity.Exception = Unit {0}
+EntityFits types variables text (entity.Exception e) = Unit {0}
 EntityFits types variables text entity.Procedure = Unit {0}
 EntityFits types variables text (entity.Incomplete t) = slice_get types t.0 ≡ Some (record_of text [])
 EntityFits types variables text (entity.Record t) = (cs : List ComponentForm) × (slice_get types t.0 ≡ Some (record_of text cs))
@@ -34,6 +31,18 @@ EntityFits types variables text (entity.Variable x kind) = (slice_get variables 
 
 abbrev pub NamesFit : List TypeForm → List VariableForm → List Named → Type 0
 NamesFit types variables names = (text : List ℕ) (e : Entity) → named text names ≡ Some e → EntityFits types variables text e
+
+-- what the names of each part stand for is there
+abbrev pub PartsFit : List TypeForm → List VariableForm → List Part → Type 0
+PartsFit types variables [] = Unit {0}
+PartsFit types variables (part ∷ outer) = NamesFit types variables part.names × PartsFit types variables outer
+
+-- no part is around this one, which has the first type and the first variable
+abbrev pub IsOnly : Known → Type 0
+IsOnly k = (k.outer ≡ []) × (k.here.first_type ≡ 0) × (k.here.first_variable ≡ 0)
+
+pub no_outer : (types : List TypeForm) (variables : List VariableForm) (k : Known) → IsOnly k → PartsFit types variables k.outer
+no_outer types variables k only = rw only.0 tt
 
 -- two texts are the same, or are not
 pub text_same : (a b : List ℕ) → bytes_eq a b ≡ true → a ≡ b
@@ -63,28 +72,34 @@ pub named_entered : (ns : List Named) (text t : List ℕ) (e : Entity) → named
 named_entered [] text t e = refl
 named_entered (n ∷ ns) text t e = entered_first n ns text t e (bytes_eq text n.text) (bytes_eq t n.text) (bytes_eq t text) refl refl refl (named_entered ns text t e)
 
+-- what is entered is so, and what was there, where it has another name
+pub all_entered : (P : List ℕ → Entity → Type 0) (ns : List Named) (text : List ℕ) (e : Entity) → P text e → ((t : List ℕ) (x : Entity) → (t ≡ text → ⊥) → named t ns ≡ Some x → P t x) → (t : List ℕ) (x : Entity) → named t (entered text e ns) ≡ Some x → P t x
+all_entered P ns text e own old t x h = entered_so (bytes_eq t text) refl (sym (named_entered ns text t e) ∙ h)
+  where
+    entered_so : (b : Bool) → bytes_eq t text ≡ b → cond b (Some e) (named t ns) ≡ Some x → P t x
+    entered_so true on is = let same_entity : e ≡ x = cc is in rw (text_same t text on, sym same_entity) own
+    entered_so false off is = old t x (no_text t text off) is
+
 -- what is entered fits, and what was there, where it has another name
 pub names_entered : (types : List TypeForm) (variables : List VariableForm) (ns : List Named) (text : List ℕ) (e : Entity) → EntityFits types variables text e → ((t : List ℕ) (x : Entity) → (t ≡ text → ⊥) → named t ns ≡ Some x → EntityFits types variables t x) → NamesFit types variables (entered text e ns)
-names_entered types variables ns text e own old t x h = entered_fits (bytes_eq t text) refl (sym (named_entered ns text t e) ∙ h)
-  where
-    entered_fits : (b : Bool) → bytes_eq t text ≡ b → cond b (Some e) (named t ns) ≡ Some x → EntityFits types variables t x
-    entered_fits true on is = let same_entity : e ≡ x = cc is in rw (text_same t text on, sym same_entity) own
-    entered_fits false off is = old t x (no_text t text off) is
+names_entered types variables ns text e own old = all_entered (EntityFits types variables) ns text e own old
 
 -- what is predefined has no number
-standard_fits : (types : List TypeForm) (variables : List VariableForm) (text : List ℕ) (x : Entity) (a b c d f : Bool) → (c ≡ true → text ≡ codes "TRUE") → (d ≡ true → text ≡ codes "FALSE") → cond a (Some entity.Integer) (cond b (Some entity.Boolean) (cond c (Some (entity.Truth true)) (cond d (Some (entity.Truth false)) (cond f (Some entity.Exception) None)))) ≡ Some x → EntityFits types variables text x
-standard_fits types variables text x true b c d f on off e = let is : entity.Integer ≡ x = cc e in rw (sym is) tt
-standard_fits types variables text x false true c d f on off e = let is : entity.Boolean ≡ x = cc e in rw (sym is) tt
-standard_fits types variables text x false false true d f on off e = let is : entity.Truth true ≡ x = cc e in rw (sym is) (on refl)
-standard_fits types variables text x false false false true f on off e = let is : entity.Truth false ≡ x = cc e in rw (sym is) (off refl)
-standard_fits types variables text x false false false false true on off e = let is : entity.Exception ≡ x = cc e in rw (sym is) tt
-standard_fits types variables text x false false false false false on off e = absurd (cc e)
+standard_fits : (types : List TypeForm) (variables : List VariableForm) (text : List ℕ) (x : Entity) (a b c d f g h : Bool) → (c ≡ true → text ≡ codes "TRUE") → (d ≡ true → text ≡ codes "FALSE") → cond a (Some entity.Integer) (cond b (Some entity.Boolean) (cond c (Some (entity.Truth true)) (cond d (Some (entity.Truth false)) (cond f (Some (entity.Exception ConstraintError)) (cond g (Some (entity.Exception ProgramError)) (cond h (Some (entity.Exception StorageError)) None)))))) ≡ Some x → EntityFits types variables text x
+standard_fits types variables text x true b c d f g h on off e = let is : entity.Integer ≡ x = cc e in rw (sym is) tt
+standard_fits types variables text x false true c d f g h on off e = let is : entity.Boolean ≡ x = cc e in rw (sym is) tt
+standard_fits types variables text x false false true d f g h on off e = let is : entity.Truth true ≡ x = cc e in rw (sym is) (on refl)
+standard_fits types variables text x false false false true f g h on off e = let is : entity.Truth false ≡ x = cc e in rw (sym is) (off refl)
+standard_fits types variables text x false false false false true g h on off e = let is : entity.Exception ConstraintError ≡ x = cc e in rw (sym is) tt
+standard_fits types variables text x false false false false false true h on off e = let is : entity.Exception ProgramError ≡ x = cc e in rw (sym is) tt
+standard_fits types variables text x false false false false false false true on off e = let is : entity.Exception StorageError ≡ x = cc e in rw (sym is) tt
+standard_fits types variables text x false false false false false false false on off e = absurd (cc e)
 
 predefined_fits : (types : List TypeForm) (variables : List VariableForm) (text : List ℕ) (x : Entity) → predefined text ≡ Some x → EntityFits types variables text x
 unfolding predefined
 predefined_fits types variables text x e =
     standard_fits types variables text x (bytes_eq text (codes "INTEGER")) (bytes_eq text (codes "BOOLEAN")) (bytes_eq text (codes "TRUE")) (bytes_eq text (codes "FALSE"))
-    (bytes_eq text (codes "CONSTRAINT_ERROR") || (bytes_eq text (codes "PROGRAM_ERROR") || bytes_eq text (codes "STORAGE_ERROR")))
+    (bytes_eq text (codes "CONSTRAINT_ERROR")) (bytes_eq text (codes "PROGRAM_ERROR")) (bytes_eq text (codes "STORAGE_ERROR"))
     (text_same text (codes "TRUE")) (text_same text (codes "FALSE")) e
 
 -- a variable of that name holds what it is declared to hold
@@ -96,7 +111,16 @@ inner_fits types variables text x (Some y) b w e = let is : y ≡ x = cc e in rw
 inner_fits types variables text x None true w e = let is : entity.Procedure ≡ x = cc e in rw (sym is) tt
 inner_fits types variables text x None false w e = predefined_fits types variables text x e
 
+-- what the first of two stands for is what one of them does
+pub first_of_two : (P : Entity → Type 0) (own outer : Option Entity) (x : Entity) → ((y : Entity) → own ≡ Some y → P y) → ((y : Entity) → outer ≡ Some y → P y) → first_named own outer ≡ Some x → P x
+first_of_two P (Some y) outer x w v e = w x e
+first_of_two P None outer x w v e = v x e
+
+parts_fit : (types : List TypeForm) (variables : List VariableForm) (ps : List Part) → PartsFit types variables ps → (text : List ℕ) (x : Entity) → named_in text ps ≡ Some x → EntityFits types variables text x
+parts_fit types variables [] w text x e = absurd (cc e)
+parts_fit types variables (p ∷ ps) w text x e = first_of_two (EntityFits types variables text) (named text p.names) (named_in text ps) x (w.0 text) (parts_fit types variables ps w.1 text) e
+
 -- what is visible fits
-pub visible_fits : (k : Known) → NamesFit k.types k.variables k.names → (text : List ℕ) (x : Entity) → visible k text ≡ Some x → EntityFits k.types k.variables text x
+pub visible_fits : (k : Known) → PartsFit k.types k.variables (parts k) → (text : List ℕ) (x : Entity) → visible k text ≡ Some x → EntityFits k.types k.variables text x
 unfolding visible
-visible_fits k w text x e = inner_fits k.types k.variables text x (named text k.names) (bytes_eq text k.procedure) (w text) e
+visible_fits k w text x e = inner_fits k.types k.variables text x (named_in text (parts k)) (bytes_eq text k.procedure) (parts_fit k.types k.variables (parts k) w text) e

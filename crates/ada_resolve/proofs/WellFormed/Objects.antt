@@ -1,7 +1,7 @@
 -- An object's declaration leaves what is known in order.
 
 use Rattle.std.proofs.Common.{◌≡◌, ℕ, ◌+◌, true, false, List, [], ◌∷◌, ◌++◌, length, refl, sym, ◌∙◌, arith, eqb, eq-eqb, eqb-true}
-use Rattle.std.specs.Prelude.{Option, Some, None, nat_lt}
+use Rattle.std.specs.Prelude.{Option, Some, None, nat_lt, ◌==◌, map}
 use Rattle.std.specs.List.{list_all}
 use Rattle.std.proofs.lemmas.Bool.{ne_eqb}
 use Rattle.ada_program.specs.declared.program.ComponentKind.{ComponentKind}
@@ -18,11 +18,12 @@ use Rattle.ada_program.specs.ProgramForm.{ComponentForm, TypeForm, VariableForm}
 use Rattle.ada_program.specs.WellFormed as fits
 use Rattle.ada_resolve.specs.declared.scope.Entity.{Entity}
 use Rattle.ada_resolve.specs.declared.scope.Entity.TheVariants as entity
-use Rattle.ada_resolve.specs.Known.{Known, is_empty}
+use Rattle.ada_resolve.specs.Known.{Known, parts}
 use Rattle.ada_resolve.specs.Objects.{initial_remark, initial_found, initial_wanted, object_type_found, kind_of, object_remark, initial_source, object_created, object_known}
 use Rattle.ada_resolve.proofs.WellFormed.Remarks.{Quiet}
 use Rattle.ada_resolve.proofs.WellFormed.Tables.{all_more, all_weaker, both_parts, first_part, second_part, get_last, get_more}
-use Rattle.ada_resolve.proofs.WellFormed.Names.{EntityFits, NamesFit, names_entered}
+use Rattle.ada_resolve.proofs.WellFormed.Exceptions.{raised_entered}
+use Rattle.ada_resolve.proofs.WellFormed.Names.{EntityFits, PartsFit, no_outer, names_entered}
 use Rattle.ada_resolve.proofs.WellFormed.Counts.{count_more, has_alike}
 use Rattle.ada_resolve.proofs.WellFormed.Ending.{Late, Sound, late}
 use Rattle.ada_resolve.proofs.WellFormed.Typing.{kind_stays, path_stays, path_before, type_stays, typed_before, of_type, is_of_type}
@@ -145,19 +146,24 @@ source_before types variables variable.Boolean s h = scalar_before types variabl
 source_before types variables (variable.Access access) s h = access_before types variables access.0 s h
 
 -- one more object, the next in order
-next_in_order : (es : List DeclarationForm) (n k : ℕ) (s : RightForm) → fits.creates_from n k es ≡ true → fits.creates_from (n + 1) k (es ++ declares n s ∷ []) ≡ true
+next_in_order : (es : List DeclarationForm) (n k : ℕ) (s : RightForm) → fits.creates_from n k (map fits.creation es) ≡ true → fits.creates_from (n + 1) k (map fits.creation (es ++ declares n s ∷ [])) ≡ true
 next_in_order [] n k s e = let same : k ≡ n = eqb-true k n e in both_parts (eqb n k) (eqb (k + 1) (n + 1)) (eq-eqb n k (sym same)) (eq-eqb (k + 1) (n + 1) (omega arith))
-next_in_order (collects t ∷ es) n k s e =
-    both_parts (eqb k 0) (fits.creates_from (n + 1) k (es ++ declares n s ∷ [])) (first_part (eqb k 0) (fits.creates_from n k es) e) (next_in_order es n k s (second_part (eqb k 0) (fits.creates_from n k es) e))
+next_in_order (collects t ∷ es) n k s e = next_in_order es n k s e
 next_in_order (declares x t ∷ es) n k s e =
-    both_parts (eqb x k) (fits.creates_from (n + 1) (k + 1) (es ++ declares n s ∷ [])) (first_part (eqb x k) (fits.creates_from n (k + 1) es) e) (next_in_order es n (k + 1) s (second_part (eqb x k) (fits.creates_from n (k + 1) es) e))
+    both_parts (eqb x k) (fits.creates_from (n + 1) (k + 1) (map fits.creation (es ++ declares n s ∷ []))) (first_part (eqb x k) (fits.creates_from n (k + 1) (map fits.creation es)) e)
+    (next_in_order es n (k + 1) s (second_part (eqb x k) (fits.creates_from n (k + 1) (map fits.creation es)) e))
+
+next_first : (es : List DeclarationForm) (n : ℕ) (s : RightForm) → fits.collections_first es ≡ true → fits.collections_first (es ++ declares n s ∷ []) ≡ true
+next_first [] n s e = refl
+next_first (collects t ∷ es) n s e = next_first es n s e
+next_first (declares x t ∷ es) n s e = all_more fits.is_object es (declares n s ∷ []) e refl
 
 one_longer : (variables : List VariableForm) (o : VariableForm) → length (variables ++ o ∷ []) ≡ length variables + 1
 one_longer [] o = refl
 one_longer (x ∷ variables) o = let h = one_longer variables o in omega arith
 
-not_empty : (variables : List VariableForm) (o : VariableForm) → is_empty (variables ++ o ∷ []) ≡ false
-not_empty variables o = ne_eqb (length (variables ++ o ∷ [])) 0 (omega (arith, one_longer variables o))
+not_none : (variables : List VariableForm) (o : VariableForm) (n : ℕ) → n ≡ 0 → (length (variables ++ o ∷ []) == n) ≡ false
+not_none variables o n first = ne_eqb (length (variables ++ o ∷ [])) n (omega (arith, one_longer variables o, first))
 
 entity_stays : (types : List TypeForm) (variables : List VariableForm) (o : VariableForm) (text : List ℕ) (e : Entity) → EntityFits types variables text e → EntityFits types (variables ++ o ∷ []) text e
 entity_stays types variables o text (entity.Variable x kind) f = (get_more variables o x.0 _ f.0, f.1)
@@ -170,18 +176,24 @@ created_late k name kind value w a f =
     record {
       types_fit = w.types_fit;
       variables_fit = all_more (fits.variable_fits k.types) k.variables (o ∷ []) w.variables_fit (both_parts (fits.variable_kind_fits k.types kind) true a refl);
-      creates_in_order = rw (one_longer k.variables o) (next_in_order k.elaborated (length k.variables) 0 s w.creates_in_order);
-      collections_fit = all_more (fits.collection_fits k.types) k.elaborated (declares (length k.variables) s ∷ []) w.collections_fit refl;
-      has_one_each = has_alike k.elaborated (k.elaborated ++ declares (length k.variables) s ∷ []) k.types 0 (λ c. sym (count_more c k.elaborated (declares (length k.variables) s ∷ []) ∙ omega arith)) w.has_one_each;
-      initials_fit = all_more (fits.initial_fits k.types (k.variables ++ o ∷ [])) k.elaborated (declares (length k.variables) s ∷ [])
-          (all_weaker (fits.initial_fits k.types k.variables) (fits.initial_fits k.types (k.variables ++ o ∷ [])) (initial_stays k.types k.variables o) k.elaborated w.initials_fit)
+      creates_in_order = rw (one_longer k.variables o) (next_in_order k.here.elaborated (length k.variables) 0 s w.creates_in_order);
+      collections_first = next_first k.here.elaborated (length k.variables) s w.collections_first;
+      collections_fit = all_more (fits.collection_fits k.types) k.here.elaborated (declares (length k.variables) s ∷ []) w.collections_fit refl;
+      has_one_each = has_alike k.here.elaborated (k.here.elaborated ++ declares (length k.variables) s ∷ []) k.types 0 (λ c. sym (count_more c k.here.elaborated (declares (length k.variables) s ∷ []) ∙ omega arith)) w.has_one_each;
+      initials_fit = all_more (fits.initial_fits k.types (k.variables ++ o ∷ [])) k.here.elaborated (declares (length k.variables) s ∷ [])
+          (all_weaker (fits.initial_fits k.types k.variables) (fits.initial_fits k.types (k.variables ++ o ∷ [])) (initial_stays k.types k.variables o) k.here.elaborated w.initials_fit)
           (both_parts (fits.initial_fits k.types (k.variables ++ o ∷ []) (declares (length k.variables) s)) true
           (both_parts (fits.names_before (length k.variables) s) (fits.right_fits k.types (k.variables ++ o ∷ []) (fits.variable_kind (k.variables ++ o ∷ []) (length k.variables)) s)
           (source_before k.types k.variables kind s f)
           (rw (kind_last k.variables o) (source_stays k.types k.variables o kind s f)))
           refl);
-      names = names_entered k.types (k.variables ++ o ∷ []) k.names name.text (entity.Variable (record { 0 = length k.variables }) kind) (get_last k.variables o, a)
-          (λ t x ne is. entity_stays k.types k.variables o t x (w.names t x is));
+      names = (
+        names_entered k.types (k.variables ++ o ∷ []) k.here.names name.text (entity.Variable (record { 0 = length k.variables }) kind) (get_last k.variables o, a)
+            (λ t x ne is. entity_stays k.types k.variables o t x (w.names.0 t x is)),
+        no_outer k.types (k.variables ++ o ∷ []) k w.only,
+      );
+      exceptions = raised_entered k.exceptions k.here.names k.outer name.text (entity.Variable (record { 0 = length k.variables }) kind) tt w.exceptions;
+      only = w.only;
     }
 
 -- the initial value, null where none is written
@@ -189,13 +201,13 @@ initial_value : (types : List TypeForm) (variables : List VariableForm) (kind : 
 initial_value types variables kind None h = absurd h
 initial_value types variables kind (Some s) h = h
 
-access_initial : (k : Known) (access : TypeNo) (initial : Option RightTree) → NamesFit k.types k.variables k.names → Quiet (initial_remark k (Some (variable.Access access)) initial) → fits.kind_takes k.types k.variables (variable.Access access) (initial_source (initial_found k (Some (variable.Access access)) initial)) ≡ true
+access_initial : (k : Known) (access : TypeNo) (initial : Option RightTree) → PartsFit k.types k.variables (parts k) → Quiet (initial_remark k (Some (variable.Access access)) initial) → fits.kind_takes k.types k.variables (variable.Access access) (initial_source (initial_found k (Some (variable.Access access)) initial)) ≡ true
 access_initial k access None w q = refl
 access_initial k access (Some right) w q = initial_value k.types k.variables (variable.Access access) _ (right_fits k (variable.Access access) right w q)
 
 made_sound : (k : Known) (name : Ident) (kind : VariableKind) (initial : Option RightTree) → Late k → fits.variable_kind_fits k.types kind ≡ true → fits.kind_takes k.types k.variables kind (initial_source (initial_found k (Some kind) initial)) ≡ true → Sound (object_created k name (Some kind) (initial_found k (Some kind) initial))
 made_sound k name kind initial w a f =
-    late (created_late k name kind (initial_found k (Some kind) initial) w a f) (not_empty k.variables (record { name = name.text; kind = kind }))
+    late (created_late k name kind (initial_found k (Some kind) initial) w a f) (not_none k.variables (record { name = name.text; kind = kind }) k.here.first_variable w.only.2)
 
 created_sound : (k : Known) (name : Ident) (o : Option Entity) (initial : Option RightTree) → Sound k → Late k → IsKindIn k.types (kind_of o) → Quiet (initial_remark k (kind_of o) initial) → Quiet (initial_wanted o name initial) → Sound (object_created k name (kind_of o) (initial_found k (kind_of o) initial))
 created_sound k name None initial s w a q g = s

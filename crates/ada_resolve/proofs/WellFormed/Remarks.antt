@@ -55,5 +55,11 @@ unless_gives notes None x y e = (refl, let same : (x, notes) ≡ y = cc e in ap_
     ap_first e = cc e
 unless_gives notes (Some fault) x y e = absurd (cc e)
 
+pub settled_all : {X : Type 0} (r : Remark) (n : Notes) (x : X) (y : X × Notes) → settled (noted r n) x ≡ gives y → Quiet r × (n.fault ≡ None) × (y.0 ≡ x)
+settled_all r n x y e =
+    let found = unless_gives (noted r n) (noted r n).fault x y e in
+    let before = noted_quiet r n found.0 in
+    (before.0, before.1, found.1)
+
 pub settled_quiet : {X : Type 0} (r : Remark) (n : Notes) (x : X) (y : X × Notes) → settled (noted r n) x ≡ gives y → Quiet r × (y.0 ≡ x)
 settled_quiet r n x y e = let found = unless_gives (noted r n) (noted r n).fault x y e in ((noted_quiet r n found.0).0, found.1)

@@ -1,10 +1,11 @@
 -- While no object is declared: each type declaration and each instance leaves what is known in order.
 
 use Rattle.std.proofs.Common.{◌≡◌, ℕ, ◌≤◌, Bool, true, false, List, [], ◌∷◌, ◌++◌, length, refl, sym, ◌∙◌, ap}
-use Rattle.std.specs.Prelude.{Option, Some, None, count_by, bytes_eq, map}
+use Rattle.std.specs.Prelude.{Option, Some, None, bytes_eq, map}
 use Rattle.std.specs.List.{list_all, slice_get, slice_set}
 use Rattle.ada_text.specs.declared.spot.Spot.{Spot}
 use Rattle.ada_program.specs.declared.program.TypeNo.{TypeNo}
+use Rattle.ada_program.specs.declared.program.Exception.TheVariants as exception
 use Rattle.ada_program.specs.Form.{DeclarationForm, collects, declares}
 use Rattle.ada_tree.specs.Names.{Ident, NameTree}
 use Rattle.ada_tree.specs.Records.{StaticTree, ComponentTree, RecordTree}
@@ -14,15 +15,17 @@ use Rattle.ada_program.specs.WellFormed as fits
 use Rattle.ada_resolve.specs.declared.fault.NameRule.TheVariants.{WrongType, Layout}
 use Rattle.ada_resolve.specs.declared.scope.Entity.{Entity}
 use Rattle.ada_resolve.specs.declared.scope.Entity.TheVariants as entity
-use Rattle.ada_resolve.specs.Known.{Known, named, declared, visible}
-use Rattle.ada_resolve.specs.Types.{incomplete_of, completed, record_in, record_found, is_designated, number_of, defined, incomplete_known, completion_remark, access_remark, access_defined, access_known}
+use Rattle.ada_resolve.specs.Known.{Known, named, declared, visible, parts}
+use Rattle.ada_resolve.specs.Types.{incomplete_of, completed_type, record_in, record_found, is_designated, number_of, defined, incomplete_known, completion_remark, access_remark, access_defined, access_known}
 use Rattle.ada_resolve.specs.Records.{kind_in, component_meant, components_written, record_type_known}
 use Rattle.ada_resolve.specs.Statics.{constant_known, static_value}
+use Rattle.ada_resolve.specs.Exceptions.{next_exception, exception_known}
 use Rattle.ada_resolve.specs.Instances.{access_type_in, access_if, access_in, freed_found, designates_if_known, is_collected, one_instance, instance_remark, instance_of, instance_known}
 use Rattle.ada_resolve.proofs.WellFormed.Remarks.{Quiet, quiet_if}
 use Rattle.ada_resolve.proofs.WellFormed.Tables.{Keeps, all_more, all_set, get_more, get_last, get_set, get_other, access_more, record_more, access_set, record_set, record_other, types_kept, types_without, components_kept, object_kind_kept, all_weaker, both_parts}
-use Rattle.ada_resolve.proofs.WellFormed.Counts.{one_more}
-use Rattle.ada_resolve.proofs.WellFormed.Names.{EntityFits, NamesFit, names_entered, visible_fits, no_text}
+use Rattle.ada_resolve.proofs.WellFormed.Counts.{count, one_more}
+use Rattle.ada_resolve.proofs.WellFormed.Exceptions.{RaisedFits, PartsRaised, raised_entered, raised_declared}
+use Rattle.ada_resolve.proofs.WellFormed.Names.{EntityFits, PartsFit, IsOnly, no_outer, names_entered, visible_fits, no_text}
 
 -- a collection is created, and no object
 abbrev pub is_first : DeclarationForm → Bool
@@ -33,10 +36,12 @@ is_first (declares x source) = false
 pub record Early (k : Known) : Type 0 where
   pub no_objects : k.variables ≡ []
   pub types_fit : list_all (fits.type_fits k.types) k.types ≡ true
-  pub collections_fit : list_all (fits.collection_fits k.types) k.elaborated ≡ true
-  pub only_collections : list_all is_first k.elaborated ≡ true
-  pub at_most_one : (a : ℕ) → count_by (fits.is_collection a) k.elaborated ≤ 1
-  pub names : NamesFit k.types k.variables k.names
+  pub collections_fit : list_all (fits.collection_fits k.types) k.here.elaborated ≡ true
+  pub only_collections : list_all is_first k.here.elaborated ≡ true
+  pub at_most_one : (a : ℕ) → count a k.here.elaborated ≤ 1
+  pub names : PartsFit k.types k.variables (parts k)
+  pub exceptions : PartsRaised k.exceptions (parts k)
+  pub only : IsOnly k
 
 -- the name of a type
 abbrev form_name : TypeForm → List ℕ
@@ -61,14 +66,19 @@ collection_kept : (types more : List TypeForm) → Keeps types more → (e : Dec
 collection_kept types more w (collects t) e = w t e
 collection_kept types more w (declares x source) e = refl
 
-early_type : (k : Known) (text : List ℕ) (e : Entity) (more : List TypeForm) → Early k → Grown text k.types more → EntityFits more k.variables text e → Early (declared (record k { types = more }) text e)
-early_type k text e more w g f = record {
+early_type : (k : Known) (text : List ℕ) (e : Entity) (more : List TypeForm) → Early k → Grown text k.types more → EntityFits more k.variables text e → RaisedFits k.exceptions text e → Early (declared (record k { types = more }) text e)
+early_type k text e more w g f r = record {
   no_objects = w.no_objects;
   types_fit = g.types_fit;
-  collections_fit = all_weaker (fits.collection_fits k.types) (fits.collection_fits more) (collection_kept k.types more g.accesses) k.elaborated w.collections_fit;
+  collections_fit = all_weaker (fits.collection_fits k.types) (fits.collection_fits more) (collection_kept k.types more g.accesses) k.here.elaborated w.collections_fit;
   only_collections = w.only_collections;
   at_most_one = w.at_most_one;
-  names = names_entered more k.variables k.names text e f (λ t x ne is. entity_kept k.types more k.variables text t g ne x (w.names t x is));
+  names = (
+    names_entered more k.variables k.here.names text e f (λ t x ne is. entity_kept k.types more k.variables text t g ne x (w.names.0 t x is)),
+    no_outer more k.variables k w.only,
+  );
+  exceptions = raised_entered k.exceptions k.here.names k.outer text e r w.exceptions;
+  only = w.only;
 }
 
 -- one more type of any name
@@ -113,15 +123,15 @@ incomplete_fits : (types : List TypeForm) (variables : List VariableForm) (text 
 incomplete_fits types variables text (Some e) w = incomplete_one types variables text e (w e refl)
 incomplete_fits types variables text None w = tt
 
-completes : (k : Known) (name : Ident) → Early k → Completes k.types name.text (completed k name)
-unfolding completed
-completes k name w = incomplete_fits k.types k.variables name.text (named name.text k.names) (w.names name.text)
+completes : (k : Known) (name : Ident) → Early k → Completes k.types name.text (completed_type k name)
+unfolding completed_type
+completes k name w = incomplete_fits k.types k.variables name.text (named name.text k.here.names) (w.names.0 name.text)
 
 -- `type T;`
 pub incomplete_early : (k : Known) (name : Ident) → Early k → Early (incomplete_known k name)
 incomplete_early k name w =
     early_type k name.text (entity.Incomplete (record { 0 = length k.types })) (k.types ++ record_of name.text [] ∷ []) w
-    (grown_more name.text k.types (record_of name.text []) w.types_fit refl) (get_last k.types (record_of name.text []))
+    (grown_more name.text k.types (record_of name.text []) w.types_fit refl) (get_last k.types (record_of name.text [])) tt
 
 -- `type T is record .. end record;`
 record_defined : (types : List TypeForm) (variables : List VariableForm) (text : List ℕ) (cs : List ComponentForm) (c : Option TypeNo) → Completes types text c → list_all (fits.type_fits types) types ≡ true → list_all (fits.component_fits types) cs ≡ true → Grown text types (defined c (record_of text cs) types) × EntityFits (defined c (record_of text cs) types) variables text (entity.Record (number_of c types))
@@ -155,8 +165,8 @@ components_fit k w (c ∷ cs) =
 pub record_early : (k : Known) (name : Ident) (definition : RecordTree) → Early k → Early (record_type_known k name definition)
 record_early k name definition w =
     let cs = map (component_meant k) (components_written definition) in
-    let done = record_defined k.types k.variables name.text cs (completed k name) (completes k name w) w.types_fit (components_fit k w (components_written definition)) in
-    early_type k name.text (entity.Record (number_of (completed k name) k.types)) (defined (completed k name) (record_of name.text cs) k.types) w done.0 done.1
+    let done = record_defined k.types k.variables name.text cs (completed_type k name) (completes k name w) w.types_fit (components_fit k w (components_written definition)) in
+    early_type k name.text (entity.Record (number_of (completed_type k name) k.types)) (defined (completed_type k name) (record_of name.text cs) k.types) w done.0 done.1 tt
 
 -- a record type that a name stands for is there, and has the name
 abbrev IsRecordNamed : List TypeForm → List ℕ → Option TypeNo → Type 0
@@ -205,13 +215,13 @@ access_type_defined types variables text d (Some t) h m r all =
       (d, get_set types t.0 (record_of text []) (access_to text d) h),
     )
 
-access_early_at : (k : Known) (name designated : Ident) (o : Option TypeNo) → Early k → IsRecordNamed k.types designated.text o → Quiet (completion_remark (completed k name) k name designated) → Early (access_defined k name (completed k name) o)
+access_early_at : (k : Known) (name designated : Ident) (o : Option TypeNo) → Early k → IsRecordNamed k.types designated.text o → Quiet (completion_remark (completed_type k name) k name designated) → Early (access_defined k name (completed_type k name) o)
 access_early_at k name designated None w r q = w
 access_early_at k name designated (Some d) w r q =
-    let c = completed k name in
+    let c = completed_type k name in
     let h : Completes k.types name.text c = completes k name w in
     let done = access_type_defined k.types k.variables name.text d.0 c h (may_complete k name designated d c h r q) (record_is k.types d.0 designated.text r.0 r.1) w.types_fit in
-    early_type k name.text (entity.Access (number_of c k.types)) (defined c (access_to name.text d.0) k.types) w done.0 done.1
+    early_type k name.text (entity.Access (number_of c k.types)) (defined c (access_to name.text d.0) k.types) w done.0 done.1 tt
 
 -- `type A is access T;`
 pub access_early : (k : Known) (spot : Spot) (name designated : Ident) (aspect : Option AspectTree) → Early k → Quiet (access_remark k spot name designated aspect) → Early (access_known k name designated)
@@ -248,15 +258,17 @@ one_of_those types (Some (entity.Access t)) r es spot q = by_test (designates_if
     by_test false q = tt
 one_of_those types (Some e) r es spot q = tt
 
-instance_early_at : (k : Known) (spot : Spot) (name : Ident) (o : Option TypeNo) → Early k → IsAccessIn k.types o → Quiet (one_instance o k.elaborated spot) → Early (instance_of k name o)
+instance_early_at : (k : Known) (spot : Spot) (name : Ident) (o : Option TypeNo) → Early k → IsAccessIn k.types o → Quiet (one_instance o k.here.elaborated spot) → Early (instance_of k name o)
 instance_early_at k spot name None w f q = w
 instance_early_at k spot name (Some t) w f q = record {
   no_objects = w.no_objects;
   types_fit = w.types_fit;
-  collections_fit = all_more (fits.collection_fits k.types) k.elaborated (collects t.0 ∷ []) w.collections_fit (both_parts (fits.is_access k.types t.0) true f refl);
-  only_collections = all_more is_first k.elaborated (collects t.0 ∷ []) w.only_collections refl;
-  at_most_one = λ a. one_more a t.0 k.elaborated (w.at_most_one a) (quiet_if (is_collected t.0 k.elaborated) spot Layout q);
-  names = names_entered k.types k.variables k.names name.text (entity.Instance t) f (λ other x ne is. w.names other x is);
+  collections_fit = all_more (fits.collection_fits k.types) k.here.elaborated (collects t.0 ∷ []) w.collections_fit (both_parts (fits.is_access k.types t.0) true f refl);
+  only_collections = all_more is_first k.here.elaborated (collects t.0 ∷ []) w.only_collections refl;
+  at_most_one = λ a. one_more a t.0 k.here.elaborated (w.at_most_one a) (quiet_if (is_collected t.0 k.here.elaborated) spot Layout q);
+  names = (names_entered k.types k.variables k.here.names name.text (entity.Instance t) f (λ other x ne is. w.names.0 other x is), w.names.1);
+  exceptions = raised_entered k.exceptions k.here.names k.outer name.text (entity.Instance t) tt w.exceptions;
+  only = w.only;
 }
 
 -- `procedure Free is new Ada.Unchecked_Deallocation (T, A);`
@@ -264,7 +276,7 @@ pub instance_early : (k : Known) (spot : Spot) (name : Ident) (generic : NameTre
 unfolding freed_found
 instance_early k spot name generic object access w q =
     instance_early_at k spot name (freed_found k access (record_found k object)) w (found_access k access (record_found k object) w)
-    (one_of_those k.types (visible k access.text) (record_found k object) k.elaborated spot q.1.1.1.1.1.1)
+    (one_of_those k.types (visible k access.text) (record_found k object) k.here.elaborated spot q.1.1.1.1.1.1.0)
 
 -- `N : constant := 1;`
 pub constant_early : (k : Known) (name : Ident) (value : StaticTree) → Early k → Early (constant_known k name value)
@@ -274,5 +286,20 @@ constant_early k name value w = record {
   collections_fit = w.collections_fit;
   only_collections = w.only_collections;
   at_most_one = w.at_most_one;
-  names = names_entered k.types k.variables k.names name.text (entity.Number (static_value k value)) tt (λ other x ne is. w.names other x is);
+  names = (names_entered k.types k.variables k.here.names name.text (entity.Number (static_value k value)) tt (λ other x ne is. w.names.0 other x is), w.names.1);
+  exceptions = raised_entered k.exceptions k.here.names k.outer name.text (entity.Number (static_value k value)) tt w.exceptions;
+  only = w.only;
+}
+
+-- `E : exception;`
+pub exception_early : (k : Known) (name : Ident) → Early k → Early (exception_known k name)
+exception_early k name w = record {
+  no_objects = w.no_objects;
+  types_fit = w.types_fit;
+  collections_fit = w.collections_fit;
+  only_collections = w.only_collections;
+  at_most_one = w.at_most_one;
+  names = (names_entered k.types k.variables k.here.names name.text (entity.Exception (exception.Declared (next_exception k))) tt (λ other x ne is. w.names.0 other x is), w.names.1);
+  exceptions = raised_declared k.exceptions k.here.names k.outer name.text w.exceptions;
+  only = w.only;
 }

@@ -1,7 +1,7 @@
 -- The types of expressions, and the variables that they name.
 
 use Rattle.std.proofs.Common.{◌≡◌, ◌∙◌, ℕ, ◌<◌, Bool, true, false, cond, List, [], ◌∷◌, ◌++◌, length, refl, sym, subst, zero, suc, arith}
-use Rattle.std.specs.Prelude.{Option, Some, None, nat_lt}
+use Rattle.std.specs.Prelude.{Option, Some, None, ◌&&◌, is_some, nat_lt}
 use Rattle.std.proofs.lemmas.Bool.{lt-ltb}
 use Rattle.ada_values.specs.declared.operator.UnaryOperator.{UnaryOperator}
 use Rattle.ada_values.specs.declared.operator.UnaryOperator.TheVariants as unary
@@ -10,7 +10,7 @@ use Rattle.ada_values.specs.declared.operator.BinaryOperator.TheVariants as bina
 use Rattle.ada_program.specs.declared.program.VariableKind.{VariableKind}
 use Rattle.ada_program.specs.declared.program.ScalarType.{ScalarType}
 use Rattle.ada_program.specs.declared.program.ScalarType.TheVariants.{Integer, Boolean}
-use Rattle.ada_program.specs.Form.{PathForm, ExpressionForm, integer, boolean, reads, applied_to, chained, LinksForm, no_more_links, a_link}
+use Rattle.ada_program.specs.Form.{PathForm, ExpressionForm, integer, boolean, reads, is_null, applied_to, chained, LinksForm, no_more_links, a_link}
 use Rattle.ada_program.specs.ProgramForm.{TypeForm, VariableForm}
 use Rattle.ada_program.specs.WellFormed as fits
 use Rattle.ada_resolve.specs.Operators.{Signature, arithmetic, ordering, equality, logical, signature_of, one_link_more, joined}
@@ -137,12 +137,30 @@ read_before types variables path t h = by_length (fits.follows_at_most_one path)
     by_length true (Some k) is e = path_before types variables path k is
     by_length false found is e = absurd (cc e)
 
+-- what is compared with null
+null_test_stays : (types : List TypeForm) (variables : List VariableForm) (o : VariableForm) (path : PathForm) (t : ScalarType) → fits.null_test_type types variables path ≡ Some t → fits.null_test_type types (variables ++ o ∷ []) path ≡ Some t
+null_test_stays types variables o path t h = by_length (fits.follows_at_most_one path) (fits.path_kind types variables path) refl h
+  where
+    by_length : (b : Bool) (found : Option VariableKind) → fits.path_kind types variables path ≡ found → cond (b && is_some (fits.access_of found)) (Some Boolean) None ≡ Some t → cond (b && is_some (fits.path_access types (variables ++ o ∷ []) path)) (Some Boolean) None ≡ Some t
+    by_length true None is e = absurd (cc e)
+    by_length true (Some k) is e = rw (path_stays types variables o path k is) e
+    by_length false found is e = absurd (cc e)
+
+null_test_before : (types : List TypeForm) (variables : List VariableForm) (path : PathForm) (t : ScalarType) → fits.null_test_type types variables path ≡ Some t → nat_lt path.root (length variables) ≡ true
+null_test_before types variables path t h = by_length (fits.follows_at_most_one path) (fits.path_kind types variables path) refl h
+  where
+    by_length : (b : Bool) (found : Option VariableKind) → fits.path_kind types variables path ≡ found → cond (b && is_some (fits.access_of found)) (Some Boolean) None ≡ Some t → nat_lt path.root (length variables) ≡ true
+    by_length true None is e = absurd (cc e)
+    by_length true (Some k) is e = path_before types variables path k is
+    by_length false found is e = absurd (cc e)
+
 -- the type of an expression stays as one more object is declared
 mutual
   pub type_stays : (types : List TypeForm) (variables : List VariableForm) (o : VariableForm) (e : ExpressionForm) (t : ScalarType) → fits.type_of types variables e ≡ Some t → fits.type_of types (variables ++ o ∷ []) e ≡ Some t
   type_stays types variables o (integer n) t h = h
   type_stays types variables o (boolean b) t h = h
   type_stays types variables o (reads path) t h = read_stays types variables o path t h
+  type_stays types variables o (is_null equal path) t h = null_test_stays types variables o path t h
   type_stays types variables o (applied_to operator e) t h =
       let there = unary_typed operator (fits.type_of types variables e) t h in
       rw (type_stays types variables o e there.0 there.1) (subst (λ v. fits.unary_type operator v ≡ Some t) there.1 h)
@@ -165,6 +183,7 @@ mutual
   typed_before types variables (integer n) t h = refl
   typed_before types variables (boolean b) t h = refl
   typed_before types variables (reads path) t h = read_before types variables path t h
+  typed_before types variables (is_null equal path) t h = null_test_before types variables path t h
   typed_before types variables (applied_to operator e) t h =
       let there = unary_typed operator (fits.type_of types variables e) t h in typed_before types variables e there.0 there.1
   typed_before types variables (chained e links) t h =

@@ -17,7 +17,7 @@ use Rattle.ada_program.specs.WellFormed as fits
 use Rattle.ada_resolve.specs.declared.fault.NameRule.TheVariants.{WrongType, NotInProfile}
 use Rattle.ada_resolve.specs.declared.scope.Entity.{Entity}
 use Rattle.ada_resolve.specs.declared.scope.Entity.TheVariants as entity
-use Rattle.ada_resolve.specs.Known.{Known, visible, is_empty}
+use Rattle.ada_resolve.specs.Known.{Known, visible, is_empty, parts}
 use Rattle.ada_resolve.specs.Library.{is_library_root}
 use Rattle.ada_resolve.specs.Types.{is_access_to, designates}
 use Rattle.ada_resolve.specs.Paths.{Meant, unknown, null_value, access_variable, integer_value, boolean_value, components_of}
@@ -31,7 +31,7 @@ use Rattle.ada_resolve.specs.Remark.{wrong}
 use Rattle.ada_resolve.specs.Spots.{expression_spot}
 use Rattle.ada_resolve.proofs.WellFormed.Remarks.{Quiet, quiet_unless}
 use Rattle.ada_resolve.proofs.WellFormed.Tables.{both_parts}
-use Rattle.ada_resolve.proofs.WellFormed.Names.{EntityFits, NamesFit, visible_fits, kind_there}
+use Rattle.ada_resolve.proofs.WellFormed.Names.{EntityFits, PartsFit, visible_fits, kind_there}
 use Rattle.ada_resolve.proofs.WellFormed.Types.{access_is}
 use Rattle.ada_resolve.proofs.WellFormed.Typing.{is_of_type}
 use Rattle.ada_resolve.proofs.WellFormed.Meanings.{MeantFits, expression_fits}
@@ -54,7 +54,7 @@ type_named types variables text false false o w = tt
 type_named types variables text false true None w = tt
 type_named types variables text false true (Some e) w = type_one types variables text e (w e refl)
 
-pub found_type : (k : Known) (name : NameTree) → NamesFit k.types k.variables k.names → IsKindIn k.types (kind_of (object_type_found k name))
+pub found_type : (k : Known) (name : NameTree) → PartsFit k.types k.variables (parts k) → IsKindIn k.types (kind_of (object_type_found k name))
 unfolding object_type_found
 found_type k name w = type_named k.types k.variables name.first.text (is_library_root name.first.text) (is_empty name.rest) (visible k name.first.text) (visible_fits k w name.first.text)
 
@@ -71,7 +71,7 @@ target_named : (types : List TypeForm) (variables : List VariableForm) (text : L
 target_named types variables text None w = tt
 target_named types variables text (Some e) w = target_one types variables text e (w e refl)
 
-pub found_target : (k : Known) (name : Ident) → NamesFit k.types k.variables k.names → IsTargetIn k.variables (target_found k name)
+pub found_target : (k : Known) (name : Ident) → PartsFit k.types k.variables (parts k) → IsTargetIn k.variables (target_found k name)
 found_target k name w = target_named k.types k.variables name.text (visible k name.text) (visible_fits k w name.text)
 
 -- what is assigned is known, and fits what the object holds
@@ -108,7 +108,7 @@ reached_is : (types : List TypeForm) (access t : ℕ) (name : List ℕ) (cs : Li
 reached_is types access t name cs d e = rw d (rw e refl)
 
 -- a new object
-filled_one : (k : Known) (text : List ℕ) (e : Entity) (access : TypeNo) (spot end_spot : Spot) (name : Ident) (items : ItemsTree) → NamesFit k.types k.variables k.names → EntityFits k.types k.variables text e → Quiet (allocated_wanted (Some e) k.types (Some access) spot name) → Quiet (items_remark k (filled_components k (complete_in (Some e))) (names_component items) (first_filling (filled_components k (complete_in (Some e)))) items) → Quiet (count_remark (names_component items) (filling_of k (filled_components k (complete_in (Some e))) items) end_spot) → IsSourceFor k.types k.variables (variable.Access access) (allocation k (Some access) (complete_in (Some e)) items)
+filled_one : (k : Known) (text : List ℕ) (e : Entity) (access : TypeNo) (spot end_spot : Spot) (name : Ident) (items : ItemsTree) → PartsFit k.types k.variables (parts k) → EntityFits k.types k.variables text e → Quiet (allocated_wanted (Some e) k.types (Some access) spot name) → Quiet (items_remark k (filled_components k (complete_in (Some e))) (names_component items) (first_filling (filled_components k (complete_in (Some e)))) items) → Quiet (count_remark (names_component items) (filling_of k (filled_components k (complete_in (Some e))) items) end_spot) → IsSourceFor k.types k.variables (variable.Access access) (allocation k (Some access) (complete_in (Some e)) items)
 filled_one k text (entity.Record t) access spot end_spot name items w f q i c =
     let d : fits.designated_type k.types access.0 ≡ Some t.0 = access_designates k.types access.0 t.0 (quiet_unless (designates k.types access.0 t.0) spot WrongType q) in
     let whole : components_of k.types t.0 ≡ f.0 = components_are k.types t.0 text f.0 f.1 in
@@ -118,25 +118,25 @@ filled_one k text (entity.Record t) access spot end_spot name items w f q i c =
     (rw (reached, sym whole) (items_fit k (components_of k.types t.0) items end_spot w i c))
 filled_one k text e access spot end_spot name items w f q i c = absurd q
 
-filled_named : (k : Known) (text : List ℕ) (o : Option Entity) (access : TypeNo) (spot end_spot : Spot) (name : Ident) (items : ItemsTree) → NamesFit k.types k.variables k.names → ((e : Entity) → o ≡ Some e → EntityFits k.types k.variables text e) → Quiet (allocated_wanted o k.types (Some access) spot name) → Quiet (items_remark k (filled_components k (complete_in o)) (names_component items) (first_filling (filled_components k (complete_in o))) items) → Quiet (count_remark (names_component items) (filling_of k (filled_components k (complete_in o)) items) end_spot) → IsSourceFor k.types k.variables (variable.Access access) (allocation k (Some access) (complete_in o) items)
+filled_named : (k : Known) (text : List ℕ) (o : Option Entity) (access : TypeNo) (spot end_spot : Spot) (name : Ident) (items : ItemsTree) → PartsFit k.types k.variables (parts k) → ((e : Entity) → o ≡ Some e → EntityFits k.types k.variables text e) → Quiet (allocated_wanted o k.types (Some access) spot name) → Quiet (items_remark k (filled_components k (complete_in o)) (names_component items) (first_filling (filled_components k (complete_in o))) items) → Quiet (count_remark (names_component items) (filling_of k (filled_components k (complete_in o)) items) end_spot) → IsSourceFor k.types k.variables (variable.Access access) (allocation k (Some access) (complete_in o) items)
 filled_named k text (Some e) access spot end_spot name items w v q i c = filled_one k text e access spot end_spot name items w (v e refl) q i c
 filled_named k text None access spot end_spot name items w v q i c = absurd q
 
-aggregate_fits : (k : Known) (access : TypeNo) (spot : Spot) (type_name : Ident) (items : ItemsTree) → NamesFit k.types k.variables k.names → Quiet (aggregate_remark k (Some access) spot type_name items) → IsSourceFor k.types k.variables (variable.Access access) (aggregate_found k (Some access) type_name items)
+aggregate_fits : (k : Known) (access : TypeNo) (spot : Spot) (type_name : Ident) (items : ItemsTree) → PartsFit k.types k.variables (parts k) → Quiet (aggregate_remark k (Some access) spot type_name items) → IsSourceFor k.types k.variables (variable.Access access) (aggregate_found k (Some access) type_name items)
 unfolding aggregate_remark aggregate_found allocated_remark allocated_found
 aggregate_fits k access spot type_name items w q =
     filled_named k type_name.text (visible k type_name.text) access spot type_name.spot type_name items w (visible_fits k w type_name.text) q.0 q.1.0 q.1.1
 
-allocator_by : (k : Known) (access : TypeNo) (spot : Spot) (type_name : Ident) (items : ItemsTree) (b : Bool) → NamesFit k.types k.variables k.names → Quiet (cond b (aggregate_remark k (Some access) spot type_name items) (wrong spot NotInProfile)) → IsSourceFor k.types k.variables (variable.Access access) (cond b (aggregate_found k (Some access) type_name items) None)
+allocator_by : (k : Known) (access : TypeNo) (spot : Spot) (type_name : Ident) (items : ItemsTree) (b : Bool) → PartsFit k.types k.variables (parts k) → Quiet (cond b (aggregate_remark k (Some access) spot type_name items) (wrong spot NotInProfile)) → IsSourceFor k.types k.variables (variable.Access access) (cond b (aggregate_found k (Some access) type_name items) None)
 allocator_by k access spot type_name items true w q = aggregate_fits k access spot type_name items w q
 allocator_by k access spot type_name items false w q = absurd q
 
-allocator_fits : (k : Known) (access : TypeNo) (spot : Spot) (handle : Option Ident) (type_name : Ident) (items : ItemsTree) → NamesFit k.types k.variables k.names → Quiet (allocator_remark k (Some access) spot handle type_name items) → IsSourceFor k.types k.variables (variable.Access access) (allocator_found k (Some access) handle type_name items)
+allocator_fits : (k : Known) (access : TypeNo) (spot : Spot) (handle : Option Ident) (type_name : Ident) (items : ItemsTree) → PartsFit k.types k.variables (parts k) → Quiet (allocator_remark k (Some access) spot handle type_name items) → IsSourceFor k.types k.variables (variable.Access access) (allocator_found k (Some access) handle type_name items)
 unfolding allocator_remark allocator_found
 allocator_fits k access spot handle type_name items w q = allocator_by k access spot type_name items (is_in_use handle items) w q
 
 -- what is assigned to an object that holds this
-pub right_fits : (k : Known) (kind : VariableKind) (right : RightTree) → NamesFit k.types k.variables k.names → Quiet (right_remark k (Some kind) right) → IsSourceFor k.types k.variables kind (right_found k (Some kind) right)
+pub right_fits : (k : Known) (kind : VariableKind) (right : RightTree) → PartsFit k.types k.variables (parts k) → Quiet (right_remark k (Some kind) right) → IsSourceFor k.types k.variables kind (right_found k (Some kind) right)
 right_fits k kind (expression_right e) w q =
     assigned_fits k.types k.variables kind (expression_meant k e) (expression_spot e) (expression_fits k e w q.0) q.1
 right_fits k (variable.Access access) (allocator_right spot handle type_name items) w q = allocator_fits k access spot handle type_name items w q.1

@@ -4,6 +4,6 @@ use Rattle.std.proofs.Math.ListN.{replicate}
 use Rattle.ada_resolve.specs.View.{item_in}
 use Rattle.ada_resolve.proofs.items.empty_slots.Given as goal
 
--- so many are none so far
+-- as many slots as the loop has counted, all empty
 abbrev pub invariant-loop : goal.invariant-loop
 invariant-loop l = map item_in l.slots.items ≡ replicate l.counter None

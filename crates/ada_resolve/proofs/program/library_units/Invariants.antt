@@ -7,4 +7,4 @@ use Rattle.ada_resolve.proofs.program.library_units.Given as goal
 abbrev pub invariant-loop-clause : goal.invariant-loop-clause
 invariant-loop-clause l =
     clauses_told (map clause_of (drop l.clause-index l.clauses)) l.units ≡
-    clauses_told (map clause_of l.clauses) (record { text_io = false; deallocation = false })
+    clauses_told (map clause_of l.clauses) (record { text_io = false; deallocation = false; run_input = false })

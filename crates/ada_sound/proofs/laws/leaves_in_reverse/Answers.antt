@@ -1,4 +1,4 @@
--- The items that are left have lower numbers.
+-- In any run of any program.
 use Rattle.ada_sound.proofs.Headline as headline
 use Rattle.ada_sound.proofs.laws.leaves_in_reverse.Goals as goal
 

@@ -1,4 +1,4 @@
--- An item's number is that of the items below it.
+-- An item's number is that of the items below it; and so it is of masters in any run of any program.
 use Rattle.ada_sound.proofs.Headline as headline
 use Rattle.ada_sound.proofs.laws.numbers_fall.Goals as goal
 

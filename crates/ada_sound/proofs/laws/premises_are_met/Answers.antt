@@ -1,5 +1,6 @@
--- By two programs and their runs.
+-- By ten programs and their runs.
 use Rattle.ada_sound.proofs.Example as example
+use Rattle.ada_sound.proofs.ExampleBlocks as blocks
 use Rattle.ada_sound.proofs.laws.premises_are_met.Goals as goal
 
 pub returns-clause-begins : goal.returns-clause-begins
@@ -10,3 +11,24 @@ returns-clause-finishes c = (example.program, example.obeys, example.finishes)
 
 pub returns-clause-raises : goal.returns-clause-raises
 returns-clause-raises c = (example.raising, example.raising_obeys, example.raises)
+
+pub returns-clause-repeats : goal.returns-clause-repeats
+returns-clause-repeats c = (example.repeating, example.repeating_form, example.repeating_obeys, example.repeats)
+
+pub returns-clause-returns : goal.returns-clause-returns
+returns-clause-returns c = (example.returning, example.returning_form, example.returning_obeys, example.returns)
+
+pub returns-clause-nests : goal.returns-clause-nests
+returns-clause-nests c = (example.nesting, example.nesting_form, example.nesting_obeys, example.nests)
+
+pub returns-clause-handles : goal.returns-clause-handles
+returns-clause-handles c = (blocks.handling, blocks.handling_form, blocks.handling_handles, blocks.handling_obeys, blocks.handles)
+
+pub returns-clause-encloses : goal.returns-clause-encloses
+returns-clause-encloses c = (blocks.enclosing, blocks.enclosing_form, blocks.enclosing_obeys, blocks.encloses)
+
+pub returns-clause-unwinds : goal.returns-clause-unwinds
+returns-clause-unwinds c = (blocks.unwinding, blocks.unwinding_form, blocks.unwinding_handles, blocks.unwinding_obeys, blocks.unwinds)
+
+pub returns-clause-counts : goal.returns-clause-counts
+returns-clause-counts c = (blocks.counting, blocks.counting_form, blocks.counting_handles, blocks.counting_obeys, blocks.counts)

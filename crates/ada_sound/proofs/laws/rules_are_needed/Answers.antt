@@ -1,5 +1,6 @@
--- By two programs and their runs.
+-- By nine programs and their runs.
 use Rattle.ada_sound.proofs.Example as example
+use Rattle.ada_sound.proofs.ExampleBlocks as blocks
 use Rattle.ada_sound.proofs.laws.rules_are_needed.Goals as goal
 
 pub returns-clause-follows : goal.returns-clause-follows
@@ -7,3 +8,31 @@ returns-clause-follows c = (example.following_gone, example.following_breaks, ex
 
 pub returns-clause-ends : goal.returns-clause-ends
 returns-clause-ends c = (example.freeing_twice, example.freeing_breaks, example.ends)
+
+pub returns-clause-loops : goal.returns-clause-loops
+returns-clause-loops c = (example.losing, example.losing_form, example.losing_breaks, example.loses)
+
+pub returns-clause-exits : goal.returns-clause-exits
+returns-clause-exits c = (example.leaving, example.leaving_form, example.leaving_breaks, example.leaves)
+
+pub returns-clause-raises : goal.returns-clause-raises
+returns-clause-raises c = (
+  blocks.losing_by_raising,
+  blocks.losing_by_raising_form,
+  blocks.losing_by_raising_handles,
+  blocks.losing_by_raising_breaks,
+  blocks.losing_by_raising_fine,
+  blocks.loses_by_raising,
+)
+
+pub returns-clause-operators : goal.returns-clause-operators
+returns-clause-operators c = (blocks.overflowing, blocks.overflowing_form, blocks.overflowing_handles, blocks.overflowing_breaks, blocks.overflows)
+
+pub returns-clause-outlives : goal.returns-clause-outlives
+returns-clause-outlives c = (blocks.outliving, blocks.outliving_form, blocks.outliving_breaks, blocks.outlives)
+
+pub returns-clause-escapes : goal.returns-clause-escapes
+returns-clause-escapes c = (blocks.escaping, blocks.escaping_form, blocks.escaping_breaks, blocks.escapes)
+
+pub returns-clause-mistypes : goal.returns-clause-mistypes
+returns-clause-mistypes c = (blocks.mistyping, blocks.mistyping_form, blocks.mistyping_breaks, blocks.mistypes)

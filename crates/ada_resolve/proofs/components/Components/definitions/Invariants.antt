@@ -1,4 +1,4 @@
-use Rattle.std.proofs.Common.{◌≡◌, ◌++◌, map, drop}
+use Rattle.std.proofs.Common.{◌≡◌, ◌++◌, map}
 use Rattle.ada_program.specs.ProgramForm.{component_form}
 use Rattle.ada_resolve.specs.Kept.{entry_form}
 use Rattle.ada_resolve.proofs.components.Components.definitions.Given as goal

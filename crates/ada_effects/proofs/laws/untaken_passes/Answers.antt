@@ -1,0 +1,5 @@
+use Rattle.ada_effects.proofs.Raising as raising
+use Rattle.ada_effects.proofs.laws.untaken_passes.Goals as goal
+
+pub returns : goal.returns
+returns c = raising.untaken_passes

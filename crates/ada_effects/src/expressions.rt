@@ -1,0 +1,98 @@
+//! Whether expressions may raise an exception: Constraint_Error is the only one that they can (11.5).
+
+ghost use Rattle.std.specs.Prelude.{◌≡◌, map};
+ghost use Rattle.ada_effects.specs.Effects as rules;
+ghost use Rattle.ada_program.specs.Form.{condition_form, expression_form, item_form, links_form, path_form};
+
+use ada_program::Path;
+use ada_program::program::{Expression, Item, Link};
+use ada_values::operator::{BinaryOperator, UnaryOperator};
+
+/// Whether an expression may raise an exception.
+#[cycle(evaluation)]
+#[tactic(auto, using(std::proofs::lemmas::Grind::common_steps, ada_program::specs::Form::expression_rules))]
+pub fn expression_raises(expression: &Expression) -> bool
+    ensures { result ≡ rules.expression_raises (expression_form expression.now) }
+{
+    match expression {
+        Expression::Integer(_) | Expression::Boolean(_) => false,
+        Expression::Path(path) | Expression::NullTest { path, equal: _ } => path_raises(path),
+        Expression::Unary { operator, operand } => unary_raises(*operator)
+            || expression_raises(operand),
+        Expression::Chain { first, links } => expression_raises(first) || links_raise(links),
+    }
+}
+
+/// Whether the operators behind the first operand may, or their right operands.
+#[cycle(evaluation)]
+fn links_raise(links: &[Link]) -> bool
+    ensures { result ≡ rules.links_raise (links_form links.now) }
+{
+    'links: for link in links {
+        if binary_raises(link.operator) || expression_raises(&link.operand) {
+            return true;
+        }
+    }
+    false
+}
+
+/// Whether an operator before its operand may: a negation may overflow (4.5.4).
+fn unary_raises(operator: UnaryOperator) -> bool
+    ensures { result ≡ rules.unary_raises operator }
+{
+    matches!(operator, UnaryOperator::Minus)
+}
+
+/// Whether an operator between two operands may: it may overflow, or divide by zero (4.5).
+fn binary_raises(operator: BinaryOperator) -> bool
+    ensures { result ≡ rules.binary_raises operator }
+{
+    matches!(
+        operator,
+        BinaryOperator::Add
+            | BinaryOperator::Subtract
+            | BinaryOperator::Multiply
+            | BinaryOperator::Divide
+            | BinaryOperator::Modulo
+            | BinaryOperator::Remainder
+    )
+}
+
+/// Whether a path may find null where it follows an access value (4.1).
+pub(crate) fn path_raises(path: &Path) -> bool
+    ensures { result ≡ rules.path_raises (path_form path.now).selectors }
+{
+    !path.selectors.is_empty()
+}
+
+/// Whether an item of an allocator may raise an exception.
+fn item_raises(item: &Item) -> bool
+    ensures { result ≡ rules.item_raises (item_form item.now) }
+{
+    match item {
+        Item::Null => false,
+        Item::Value(expression) => expression_raises(expression),
+    }
+}
+
+/// Whether the items of an allocator may raise an exception.
+pub fn items_raise(items: &[Item]) -> bool
+    ensures { result ≡ rules.items_raise (map item_form items.now) }
+{
+    'items: for item in items {
+        if item_raises(item) {
+            return true;
+        }
+    }
+    false
+}
+
+/// Whether the condition of a loop or of an exit may raise an exception, where there is one.
+pub fn condition_raises(condition: &Option<Expression>) -> bool
+    ensures { result ≡ rules.condition_raises (condition_form condition.now) }
+{
+    match condition {
+        None => false,
+        Some(expression) => expression_raises(expression),
+    }
+}

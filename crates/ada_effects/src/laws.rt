@@ -1,0 +1,28 @@
+//! Laws of the exceptions that statements may raise, by the definitions alone.
+
+ghost use Rattle.ada_effects.specs.Laws.{SameMeansEqual, AnswersAgree, UntakenPasses, SomethingPasses, OthersTakeAll};
+
+/// The test of two exceptions tells whether they are equal.
+pub fn same_means_equal()
+    ensures { SameMeansEqual }
+{}
+
+/// Whether statements may raise one of some exceptions depends on nothing but which these are.
+pub fn answers_agree()
+    ensures { AnswersAgree }
+{}
+
+/// An exception that statements may raise, and that no handler takes, passes (11.4).
+pub fn untaken_passes()
+    ensures { UntakenPasses }
+{}
+
+/// Where something passes, it is an exception that the statements may raise and that no handler takes.
+pub fn something_passes()
+    ensures { SomethingPasses }
+{}
+
+/// A handler with `others` takes every exception, so that nothing passes (11.2).
+pub fn others_take_all()
+    ensures { OthersTakeAll }
+{}

@@ -1,0 +1,2 @@
+procedure Main is begin
+if True then begin null; end; end if; end Main;

@@ -1,0 +1,6 @@
+procedure Main is
+begin
+null;
+exception
+when Constraint_Error | Main => null;
+end Main;

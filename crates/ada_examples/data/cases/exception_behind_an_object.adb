@@ -1,0 +1,5 @@
+procedure Main is
+N : Integer := 0; E : exception;
+begin
+null;
+end Main;

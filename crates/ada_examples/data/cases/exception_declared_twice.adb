@@ -1,0 +1,5 @@
+procedure Main is
+E : exception; E : exception;
+begin
+null;
+end Main;

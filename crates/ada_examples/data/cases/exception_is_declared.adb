@@ -1,1 +1,0 @@
-procedure Main is E : exception; begin null; end Main;

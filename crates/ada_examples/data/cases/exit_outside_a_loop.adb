@@ -1,0 +1,2 @@
+procedure Main is begin
+if True then exit; end if; end Main;

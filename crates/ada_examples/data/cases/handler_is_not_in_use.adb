@@ -1,1 +1,0 @@
-procedure Main is begin null; exception when others => null; end Main;

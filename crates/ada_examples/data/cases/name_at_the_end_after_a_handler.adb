@@ -1,0 +1,6 @@
+procedure Main is
+begin
+null;
+exception
+when others => Nothing;
+end Other;

@@ -1,0 +1,5 @@
+procedure Main is
+N : Integer := 0;
+begin
+raise N;
+end Main;

@@ -1,1 +1,0 @@
-procedure Main is begin return; end Main;

@@ -1,0 +1,4 @@
+procedure Main is
+type Node is record Value : Integer := 0; end record; type Link is access Node;
+A : Link := new Node'(Value => 1); B : Link; N : Integer := 0;
+begin while N < 2 loop N := N + 1; B := A; end loop; end Main;

@@ -1,0 +1,232 @@
+use Rattle.std.proofs.Common.{rules, ◌≡◌, ℕ, ◌+◌, ◌<◌, Bool, true, false, List, ◌∷◌, ◌++◌, map, length, get_or, take, drop, Option, Some, None, refl, sym, ap, ◌∙◌, subst, arith}
+use Rattle.std.proofs.lemmas.Grind.{common_steps}
+use Rattle.std.proofs.lemmas.List.{at_drop_more}
+use Rattle.std.proofs.lemmas.Result.{err_from_is_err_and}
+use Rattle.std.specs.Prelude.{Ok, Err, IfSome, if◌then◌else◌}
+use Rattle.ada_text.specs.declared.spot.Spot.{Spot}
+use Rattle.ada_effects.specs.Effects.{passes}
+use Rattle.ada_program.specs.declared.program.Handler.{Handler}
+use Rattle.ada_program.specs.declared.program.Stmt.{Stmt}
+use Rattle.ada_program.specs.Form.{StmtForm, StmtsForm, ExpressionForm, HandlersForm, a_handler, DeclarationForm, encloses, encloses_form, condition_form, declaration_form, handlers_form, stmt_form, stmts_form}
+use Rattle.ada_program.specs.ProgramForm.{VariableForm, variable_form}
+use Rattle.ada_flow.specs.declared.fault.FlowFault.{FlowFault}
+use Rattle.ada_flow.specs.declared.fault.FlowFault.TheVariants.{Broken, NoMemory}
+use Rattle.ada_flow.specs.Flow.{Holds, goes, Around, join_option, left_option, stmt_flow, stmts_flow, handlers_flow, unless_worse, condition_flow, loop_flow, in_loop, in_block, collected, declarations_flow}
+use Rattle.ada_flow.specs.Told.{Noted, emptied, ending, end_handled, around_of, breach_of, held, joined_end, noted, noted_behind, noted_for, start_in, type_number, variables_in}
+use Rattle.ada_flow.proofs.Noted.{End, handlers_end, turn_returns, turn_stops, block_declares_badly, block_breaks, block_handles}
+use Rattle.ada_flow.proofs.Written.{written_back}
+use Rattle.ada_flow.proofs.+flowing.Goals as goal
+use Rattle.ada_flow.proofs.+flowing.Goals.{repetition::turn-in-Some+in_ok-unless_worse, repetition::turn-in_default}
+
+-- a handler joins those before it
+handler_step : (so_far joined end : Option Holds) (n k : Noted) (variables : List VariableForm) (around : Around) (handlers : List Handler) (i : ℕ) (one : Handler) (statements : List Stmt) (raising copied : Holds) (all : End) →
+    i < length handlers → one ≡ get_or handlers i one → statements ≡ one.statements.items → copied ≡ raising →
+    ending n (stmts_flow variables around (stmts_form statements) copied) ≡ Ok (end, k) → joined ≡ join_option so_far end →
+    joined_end so_far (ending n (handlers_flow variables around (handlers_form (drop i handlers)) raising)) ≡ all →
+    joined_end joined (ending k (handlers_flow variables around (handlers_form (drop (i + 1) handlers)) raising)) ≡ all
+handler_step so_far joined end n k variables around handlers i one statements raising copied all inside item same copy ends joins before =
+    let left = handlers_form (drop (i + 1) handlers) in
+    let step : handlers_form (drop i handlers) ≡ a_handler one.choices.items (stmts_form one.statements.items) left =
+    at_drop_more handlers_form handlers i one inside ∙ ap (λ (h : Handler). handlers_form (h ∷ drop (i + 1) handlers)) (sym item) in
+    let own : ending n (stmts_flow variables around (stmts_form one.statements.items) raising) ≡ Ok (end, k) =
+    subst (λ (ss : List Stmt). ending n (stmts_flow variables around (stmts_form ss) raising) ≡ Ok (end, k)) same
+    (subst (λ (hs : Holds). ending n (stmts_flow variables around (stmts_form statements) hs) ≡ Ok (end, k)) copy ends) in
+    ap (λ (j : Option Holds). joined_end j (ending k (handlers_flow variables around left raising))) joins
+    ∙ sym (handlers_end so_far n k variables around one.choices.items (stmts_form one.statements.items) left raising end own)
+    ∙ sym (ap (λ (hs : HandlersForm). joined_end so_far (ending n (handlers_flow variables around hs raising))) step)
+    ∙ before
+
+pub blocks::handlers-handlers-preserved : goal.blocks::handlers-handlers-preserved
+blocks::handlers-handlers-preserved t c =
+    let copy : c.in_ok-to_vec.field-0.items ≡ c.args.raising.now = c.in_ok-to_vec.ensures.items_if_clones_equal (λ x y h. h) in
+    handler_step (held c.handlers.joined) (held c.join_ends-joined.result) (held c.in_ok-end.end) (noted c.handlers.raised) (noted c.statements.new.raised)
+    (variables_in c.args.around.now) (around_of c.args.around.now) c.args.handlers.now c.handlers.handler-index c.handler-item.result c.deref.result.now
+    c.args.raising.now c.in_ok-to_vec.field-0.items
+    (ending (noted c.args.raised.now) (handlers_flow (variables_in c.args.around.now) (around_of c.args.around.now) (handlers_form c.args.handlers.now) c.args.raising.now))
+    c.handlers-test.true c.handler-item.is c.deref.ensures.value copy c.in_ok-end.ensures c.join_ends-joined.ensures c.handlers.invariant
+
+-- one turn, where it leads back and where it doesn't
+turned : (leaves : Bool) (n m k : Noted) (condition : Option ExpressionForm) (spot : Spot) (variables : List VariableForm) (fs : StmtsForm) (start : Holds) (end : Option Holds) →
+    ending n (condition_flow condition start) ≡ Ok (Some start, m) → ending m (stmts_flow variables (in_loop (Some start)) fs start) ≡ Ok (end, k) →
+    IfSome end (λ after. unless_worse start after spot (goes (Some after) None) ≡ goes (Some after) None) →
+    ending n (loop_flow condition leaves spot (λ place hs. stmts_flow variables (in_loop place) fs hs) start) ≡ Ok ((if leaves then Some start else None), k)
+turned leaves n m k condition spot variables fs start None tests turns keeps = turn_stops leaves n m k condition spot variables fs start tests turns
+turned leaves n m k condition spot variables fs start (Some after) tests turns keeps = turn_returns leaves n m k condition spot variables fs start after tests turns keeps
+
+-- the same of what the code keeps
+turned_in : (leaves b : Bool) (n m k : Noted) (condition : Option ExpressionForm) (spot : Spot) (variables vs : List VariableForm) (place : Around) (fs fs' : StmtsForm) (start tested placed copied : Holds) (end : Option Holds) →
+    leaves ≡ b → tested ≡ start → placed ≡ start → copied ≡ start → fs' ≡ fs → vs ≡ variables → place ≡ in_loop (Some placed) →
+    ending n (condition_flow condition tested) ≡ Ok (Some tested, m) → ending m (stmts_flow vs place fs' copied) ≡ Ok (end, k) →
+    IfSome end (λ after. unless_worse start after spot (goes (Some after) None) ≡ goes (Some after) None) →
+    ending n (loop_flow condition leaves spot (λ place hs. stmts_flow variables (in_loop place) fs hs) start) ≡ Ok ((if b then Some start else None), k)
+turned_in leaves b n m k condition spot variables vs place fs fs' start tested placed copied end leaves_is tested_is placed_is copied_is fs_is vs_is place_is tests turns keeps =
+    let first : ending n (condition_flow condition start) ≡ Ok (Some start, m) =
+    subst (λ (d : Holds). ending n (condition_flow condition d) ≡ Ok (Some d, m)) tested_is tests in
+    let at_start : place ≡ in_loop (Some start) = place_is ∙ ap (λ (d : Holds). in_loop (Some d)) placed_is in
+    let second : ending m (stmts_flow variables (in_loop (Some start)) fs start) ≡ Ok (end, k) =
+    subst (λ (v : List VariableForm). ending m (stmts_flow v (in_loop (Some start)) fs start) ≡ Ok (end, k)) vs_is
+    (subst (λ (p : Around). ending m (stmts_flow vs p fs start) ≡ Ok (end, k)) at_start
+    (subst (λ (f : StmtsForm). ending m (stmts_flow vs place f start) ≡ Ok (end, k)) fs_is
+    (subst (λ (d : Holds). ending m (stmts_flow vs place fs' d) ≡ Ok (end, k)) copied_is turns))) in
+    subst (λ (l : Bool). ending n (loop_flow condition leaves spot (λ place hs. stmts_flow variables (in_loop place) fs hs) start) ≡ Ok ((if l then Some start else None), k)) leaves_is
+    (turned leaves n m k condition spot variables fs start end first second keeps)
+
+keeps_start : (start first after seen : Holds) (spot : Spot) → first ≡ start → seen ≡ after → unless_worse first seen spot (goes (Some seen) None) ≡ goes (Some seen) None →
+    unless_worse start after spot (goes (Some after) None) ≡ goes (Some after) None
+keeps_start start first after seen spot first_is seen_is keeps =
+    subst (λ (a : Holds). unless_worse start a spot (goes (Some a) None) ≡ goes (Some a) None) seen_is
+    (subst (λ (s : Holds). unless_worse s seen spot (goes (Some seen) None) ≡ goes (Some seen) None) first_is keeps)
+
+pub repetition::turn-returns-then-leaves : goal.repetition::turn-returns-then-leaves
+repetition::turn-returns-then-leaves t c =
+    let copy : c.in_ok-to_vec.field-0.items ≡ c.deref-3.result.now = c.in_ok-to_vec.ensures.items_if_clones_equal (λ x y h. h) in
+    let keeps : IfSome (held c.in_ok-after.field-0) (λ after. unless_worse c.args.start.items after c.args.end (goes (Some after) None) ≡ goes (Some after) None) =
+    elim c.match-branch-4.branch as (λ _. IfSome (held c.in_ok-after.field-0) (λ after. unless_worse c.args.start.items after c.args.end (goes (Some after) None) ≡ goes (Some after) None)) [
+      | repetition::turn-in-Some+in_ok-unless_worse w ↦ rw w.in-Some.is (keeps_start c.args.start.items w.deref-in-Some-2.result.now w.in-Some.after.items w.deref-in-Some.result.now c.args.end w.deref-in-Some-2.ensures.value w.deref-in-Some.ensures.value w.in_ok-unless_worse.ensures)
+      | repetition::turn-in_default w ↦ rw w.in_default.is tt
+    ] in
+    turned_in c.args.leaves true (noted c.args.raised.now) (noted c.compute_condition.new.raised) (noted c.statements.new.raised) (condition_form c.args.condition.now) c.args.end
+    (map variable_form c.args.variables.now) (variables_in c.in_loop-around.result) (around_of c.in_loop-around.result) (stmts_form c.args.body.now) (stmts_form c.args.body.now)
+    c.args.start.items c.deref.result.now c.deref-2.result.now c.in_ok-to_vec.field-0.items (held c.in_ok-after.field-0)
+    c.if-leaves.true c.deref.ensures.value c.deref-2.ensures.value (copy ∙ c.deref-3.ensures.value) refl c.in_loop-around.ensures.variables c.in_loop-around.ensures.place
+    c.in_ok-compute_condition.ensures c.in_ok-after.ensures keeps
+
+pub repetition::turn-returns-else-leaves : goal.repetition::turn-returns-else-leaves
+repetition::turn-returns-else-leaves t c =
+    let copy : c.in_ok-to_vec.field-0.items ≡ c.deref-3.result.now = c.in_ok-to_vec.ensures.items_if_clones_equal (λ x y h. h) in
+    let keeps : IfSome (held c.in_ok-after.field-0) (λ after. unless_worse c.args.start.items after c.args.end (goes (Some after) None) ≡ goes (Some after) None) =
+    elim c.match-branch-4.branch as (λ _. IfSome (held c.in_ok-after.field-0) (λ after. unless_worse c.args.start.items after c.args.end (goes (Some after) None) ≡ goes (Some after) None)) [
+      | repetition::turn-in-Some+in_ok-unless_worse w ↦ rw w.in-Some.is (keeps_start c.args.start.items w.deref-in-Some-2.result.now w.in-Some.after.items w.deref-in-Some.result.now c.args.end w.deref-in-Some-2.ensures.value w.deref-in-Some.ensures.value w.in_ok-unless_worse.ensures)
+      | repetition::turn-in_default w ↦ rw w.in_default.is tt
+    ] in
+    turned_in c.args.leaves false (noted c.args.raised.now) (noted c.compute_condition.new.raised) (noted c.statements.new.raised) (condition_form c.args.condition.now) c.args.end
+    (map variable_form c.args.variables.now) (variables_in c.in_loop-around.result) (around_of c.in_loop-around.result) (stmts_form c.args.body.now) (stmts_form c.args.body.now)
+    c.args.start.items c.deref.result.now c.deref-2.result.now c.in_ok-to_vec.field-0.items (held c.in_ok-after.field-0)
+    c.if-leaves.false c.deref.ensures.value c.deref-2.ensures.value (copy ∙ c.deref-3.ensures.value) refl c.in_loop-around.ensures.variables c.in_loop-around.ensures.place
+    c.in_ok-compute_condition.ensures c.in_ok-after.ensures keeps
+
+-- how the declarations of a block end
+declared : (n own : Noted) (variables : List VariableForm) (ds ds' : List DeclarationForm) (holds first : Holds) (end : End) → own ≡ emptied n → ds' ≡ ds → first ≡ holds →
+    ending own (declarations_flow variables ds' first) ≡ end → ending (emptied n) (declarations_flow variables ds holds) ≡ end
+declared n own variables ds ds' holds first end own_is ds_is first_is ends =
+    subst (λ (o : Noted). ending o (declarations_flow variables ds holds) ≡ end) own_is
+    (subst (λ (xs : List DeclarationForm). ending own (declarations_flow variables xs holds) ≡ end) ds_is
+    (subst (λ (hs : Holds). ending own (declarations_flow variables ds' hs) ≡ end) first_is ends))
+
+-- and its statements
+inner_ends : (m inner : Noted) (variables : List VariableForm) (around within : Around) (types : List ℕ) (fs fs' : StmtsForm) (hs hs' : HandlersForm) (after at : Holds) (end : End) →
+    within ≡ in_block types around → inner ≡ noted_for m hs' → hs' ≡ hs → fs' ≡ fs → at ≡ after →
+    ending inner (stmts_flow variables within fs' at) ≡ end → ending (noted_for m hs) (stmts_flow variables (in_block types around) fs after) ≡ end
+inner_ends m inner variables around within types fs fs' hs hs' after at end within_is inner_is hs_is fs_is at_is ends =
+    subst (λ (o : Noted). ending o (stmts_flow variables (in_block types around) fs after) ≡ end) (inner_is ∙ ap (noted_for m) hs_is)
+    (subst (λ (p : Around). ending inner (stmts_flow variables p fs after) ≡ end) within_is
+    (subst (λ (f : StmtsForm). ending inner (stmts_flow variables within f after) ≡ end) fs_is
+    (subst (λ (h : Holds). ending inner (stmts_flow variables within fs' h) ≡ end) at_is ends)))
+
+-- where a block's statements stand
+abbrev stands : Option Holds → List ℕ → Around
+stands start inside = record { start = start; inside = inside }
+
+stands_in : (types inside : List ℕ) (around : Around) → inside ≡ types ++ around.inside → stands around.start inside ≡ in_block types around
+stands_in types inside around e = ap (stands around.start) e
+
+-- its declarations break a rule
+declares_badly : (fault : FlowFault) (n own : Noted) (variables : List VariableForm) (around : Around) (f : StmtForm) (ds ds' : List DeclarationForm) (fs : StmtsForm) (hs : HandlersForm) (holds first : Holds) →
+    f ≡ encloses ds fs hs → own ≡ emptied n → ds' ≡ ds → first ≡ holds →
+    IfSome (breach_of fault) (λ breach. ending own (declarations_flow variables ds' first) ≡ Err breach) →
+    IfSome (breach_of fault) (λ breach. ending n (stmt_flow variables around f holds) ≡ Err breach)
+declares_badly NoMemory n own variables around f ds ds' fs hs holds first form own_is ds_is first_is breaks = tt
+declares_badly (Broken spot rule) n own variables around f ds ds' fs hs holds first form own_is ds_is first_is breaks =
+    subst (λ (g : StmtForm). ending n (stmt_flow variables around g holds) ≡ Err (spot, rule)) (sym form)
+    (block_declares_badly n variables around ds fs hs holds (spot, rule) (declared n own variables ds ds' holds first (Err (spot, rule)) own_is ds_is first_is breaks))
+
+-- its statements do
+inner_breaks : (fault : FlowFault) (n own m inner : Noted) (variables : List VariableForm) (around within : Around) (types : List ℕ) (f : StmtForm) (ds ds' : List DeclarationForm) (fs fs' : StmtsForm) (hs hs' : HandlersForm) (holds first after at : Holds) →
+    f ≡ encloses ds fs hs → types ≡ collected ds → own ≡ emptied n → ds' ≡ ds → first ≡ holds →
+    ending own (declarations_flow variables ds' first) ≡ Ok (Some after, m) →
+    within ≡ in_block types around → inner ≡ noted_for m hs' → hs' ≡ hs → fs' ≡ fs → at ≡ after →
+    IfSome (breach_of fault) (λ breach. ending inner (stmts_flow variables within fs' at) ≡ Err breach) →
+    IfSome (breach_of fault) (λ breach. ending n (stmt_flow variables around f holds) ≡ Err breach)
+inner_breaks NoMemory n own m inner variables around within types f ds ds' fs fs' hs hs' holds first after at form types_is own_is ds_is first_is declares within_is inner_is hs_is fs_is at_is breaks = tt
+inner_breaks (Broken spot rule) n own m inner variables around within types f ds ds' fs fs' hs hs' holds first after at form types_is own_is ds_is first_is declares within_is inner_is hs_is fs_is at_is breaks =
+    subst (λ (g : StmtForm). ending n (stmt_flow variables around g holds) ≡ Err (spot, rule)) (sym form)
+    (block_breaks n m variables around types ds fs hs holds after (spot, rule) types_is
+    (declared n own variables ds ds' holds first (Ok (Some after, m)) own_is ds_is first_is declares)
+    (inner_ends m inner variables around within types fs fs' hs hs' after at (Err (spot, rule)) within_is inner_is hs_is fs_is at_is breaks))
+
+-- and where nothing does
+block_is_left : (n own m inner k l raised : Noted) (variables : List VariableForm) (around within : Around) (types behind left : List ℕ) (f : StmtForm) (ds ds' : List DeclarationForm) (fs fs' fs'' : StmtsForm) (hs hs' hs'' : HandlersForm) (holds first after at : Holds) (normal end leaves : Option Holds) →
+    f ≡ encloses ds fs hs → types ≡ collected ds → own ≡ emptied n → ds' ≡ ds → first ≡ holds →
+    ending own (declarations_flow variables ds' first) ≡ Ok (Some after, m) →
+    within ≡ in_block types around → inner ≡ noted_for m hs' → hs' ≡ hs → fs' ≡ fs → at ≡ after →
+    ending inner (stmts_flow variables within fs' at) ≡ Ok (normal, k) →
+    fs'' ≡ fs → hs'' ≡ hs → end_handled m (passes fs'' hs'') (handlers_flow variables within hs'') normal k ≡ Ok (end, l) →
+    behind ≡ types → raised ≡ noted_behind n variables behind l → left ≡ types → leaves ≡ left_option variables left end →
+    ending n (stmt_flow variables around f holds) ≡ Ok (leaves, raised)
+block_is_left n own m inner k l raised variables around within types behind left f ds ds' fs fs' fs'' hs hs' hs'' holds first after at normal end leaves form types_is own_is ds_is first_is declares within_is inner_is hs_is fs_is at_is ends fs_is' hs_is' handles behind_is raised_is left_is leaves_is =
+    let handlers_end : end_handled m (passes fs hs) (handlers_flow variables (in_block types around) hs) normal k ≡ Ok (end, l) =
+    subst (λ (p : Around). end_handled m (passes fs hs) (handlers_flow variables p hs) normal k ≡ Ok (end, l)) within_is
+    (subst (λ (h : HandlersForm). end_handled m (passes fs h) (handlers_flow variables within h) normal k ≡ Ok (end, l)) hs_is'
+    (subst (λ (g : StmtsForm). end_handled m (passes g hs'') (handlers_flow variables within hs'') normal k ≡ Ok (end, l)) fs_is' handles)) in
+    let raised_so : raised ≡ noted_behind n variables types l = raised_is ∙ ap (λ (ts : List ℕ). noted_behind n variables ts l) behind_is in
+    let leaves_so : leaves ≡ left_option variables types end = leaves_is ∙ ap (λ (ts : List ℕ). left_option variables ts end) left_is in
+    subst (λ (x : Option Holds). ending n (stmt_flow variables around f holds) ≡ Ok (x, raised)) (sym leaves_so)
+    (subst (λ (x : Noted). ending n (stmt_flow variables around f holds) ≡ Ok (left_option variables types end, x)) (sym raised_so)
+    (subst (λ (g : StmtForm). ending n (stmt_flow variables around g holds) ≡ Ok (left_option variables types end, noted_behind n variables types l)) (sym form)
+    (block_handles n m k variables around types ds fs hs holds after normal (Ok (end, l)) types_is
+    (declared n own variables ds ds' holds first (Ok (Some after, m)) own_is ds_is first_is declares)
+    (inner_ends m inner variables around within types fs fs' hs hs' after at (Ok (normal, k)) within_is inner_is hs_is fs_is at_is ends)
+    handlers_end)))
+
+pub statements::statement-returns-in_err-declare-in-Block :
+    goal.statements::statement-returns-in_err-declare-in-Block
+statements::statement-returns-in_err-declare-in-Block t c =
+    let form : stmt_form c.args.statement.now ≡ encloses (map declaration_form c.in-Block.declarations.items) (stmts_form c.in-Block.statements.items) (handlers_form c.in-Block.handlers.items) =
+    ap stmt_form c.in-Block.is ∙ encloses_form c.in-Block.declarations c.in-Block.statements c.in-Block.handlers in
+    let p = err_from_is_err_and c.from_residual-in_err-declare-in-Block.result c.from_residual-in_err-declare-in-Block.ensures.1 in
+    rw (p.1, p.2) (declares_badly c.in_err-declare-in-Block.field-0.0 (noted c.args.raised.now) (noted c.emptied-own.result) (variables_in c.args.around.now) (around_of c.args.around.now) (stmt_form c.args.statement.now)
+    (map declaration_form c.in-Block.declarations.items) (map declaration_form c.deref-in-Block-4.result.now) (stmts_form c.in-Block.statements.items) (handlers_form c.in-Block.handlers.items)
+    c.args.holds.items c.deref_mut-in-Block.result.now form c.emptied-own.ensures (ap (map declaration_form) c.deref-in-Block-4.ensures.value) c.deref_mut-in-Block.ensures.value c.in_err-declare-in-Block.ensures)
+
+pub statements::statement-returns-in_err-end-in-Block :
+    goal.statements::statement-returns-in_err-end-in-Block
+statements::statement-returns-in_err-end-in-Block t c =
+    let form : stmt_form c.args.statement.now ≡ encloses (map declaration_form c.in-Block.declarations.items) (stmts_form c.in-Block.statements.items) (handlers_form c.in-Block.handlers.items) =
+    ap stmt_form c.in-Block.is ∙ encloses_form c.in-Block.declarations c.in-Block.statements c.in-Block.handlers in
+    let types_is : map type_number c.in_ok-types-in-Block.types.items ≡ collected (map declaration_form c.in-Block.declarations.items) =
+    c.in_ok-types-in-Block.ensures ∙ ap collected (ap (map declaration_form) c.deref-in-Block.ensures.value) in
+    let inside_is : map type_number c.deref-in-Block-3.result.now ≡ map type_number c.in_ok-types-in-Block.types.items ++ map type_number c.args.around.now.inside.now =
+    ap (map type_number) c.deref-in-Block-3.ensures.value ∙ c.in_ok-inside-in-Block.ensures ∙ ap (λ (ts : List ℕ). ts ++ map type_number c.args.around.now.inside.now) (ap (map type_number) c.deref-in-Block-2.ensures.value) in
+    let long : length c.declare.new.holds ≡ c.args.holds.len = first_of (cc, omega arith, search rules, grind (arith, common_steps)) in
+    let p = err_from_is_err_and c.from_residual-in_err-end-in-Block.result c.from_residual-in_err-end-in-Block.ensures.1 in
+    rw (p.1, p.2) (inner_breaks c.in_err-end-in-Block.field-0.0 (noted c.args.raised.now) (noted c.emptied-own.result) (noted c.declare.new.raised) (noted c.with_handlers-inner.result) (variables_in c.args.around.now) (around_of c.args.around.now)
+    (stands (start_in c.args.around.now) (map type_number c.deref-in-Block-3.result.now)) (map type_number c.in_ok-types-in-Block.types.items) (stmt_form c.args.statement.now)
+    (map declaration_form c.in-Block.declarations.items) (map declaration_form c.deref-in-Block-4.result.now) (stmts_form c.in-Block.statements.items) (stmts_form c.deref-in-Block-6.result.now)
+    (handlers_form c.in-Block.handlers.items) (handlers_form c.deref-in-Block-5.result.now) c.args.holds.items c.deref_mut-in-Block.result.now c.declare.new.holds (take c.args.holds.len (c.declare.new.holds ++ drop (length c.declare.new.holds) c.args.holds.items))
+    form types_is c.emptied-own.ensures (ap (map declaration_form) c.deref-in-Block-4.ensures.value) c.deref_mut-in-Block.ensures.value c.in_ok-declare-in-Block.ensures
+    (stands_in (map type_number c.in_ok-types-in-Block.types.items) (map type_number c.deref-in-Block-3.result.now) (around_of c.args.around.now) inside_is)
+    c.with_handlers-inner.ensures (ap handlers_form c.deref-in-Block-5.ensures.value) (ap stmts_form c.deref-in-Block-6.ensures.value) (written_back c.args.holds.len c.declare.new.holds c.args.holds.items long) c.in_err-end-in-Block.ensures)
+
+pub statements::statement-returns-in-Block : goal.statements::statement-returns-in-Block
+statements::statement-returns-in-Block t c =
+    let form : stmt_form c.args.statement.now ≡ encloses (map declaration_form c.in-Block.declarations.items) (stmts_form c.in-Block.statements.items) (handlers_form c.in-Block.handlers.items) =
+    ap stmt_form c.in-Block.is ∙ encloses_form c.in-Block.declarations c.in-Block.statements c.in-Block.handlers in
+    let types_is : map type_number c.in_ok-types-in-Block.types.items ≡ collected (map declaration_form c.in-Block.declarations.items) =
+    c.in_ok-types-in-Block.ensures ∙ ap collected (ap (map declaration_form) c.deref-in-Block.ensures.value) in
+    let inside_is : map type_number c.deref-in-Block-3.result.now ≡ map type_number c.in_ok-types-in-Block.types.items ++ map type_number c.args.around.now.inside.now =
+    ap (map type_number) c.deref-in-Block-3.ensures.value ∙ c.in_ok-inside-in-Block.ensures ∙ ap (λ (ts : List ℕ). ts ++ map type_number c.args.around.now.inside.now) (ap (map type_number) c.deref-in-Block-2.ensures.value) in
+    let long : length c.declare.new.holds ≡ c.args.holds.len = first_of (cc, omega arith, search rules, grind (arith, common_steps)) in
+    block_is_left (noted c.args.raised.now) (noted c.emptied-own.result) (noted c.declare.new.raised) (noted c.with_handlers-inner.result) (noted c.statements-in-Block.new.raised) (noted c.handled.new.raised) (noted c.add_behind.new.self)
+    (variables_in c.args.around.now) (around_of c.args.around.now)
+    (stands (start_in c.args.around.now) (map type_number c.deref-in-Block-3.result.now)) (map type_number c.in_ok-types-in-Block.types.items)
+    (map type_number c.deref-in-Block-9.result.now) (map type_number c.deref-in-Block-10.result.now) (stmt_form c.args.statement.now)
+    (map declaration_form c.in-Block.declarations.items) (map declaration_form c.deref-in-Block-4.result.now)
+    (stmts_form c.in-Block.statements.items) (stmts_form c.deref-in-Block-6.result.now) (stmts_form c.deref-in-Block-8.result.now)
+    (handlers_form c.in-Block.handlers.items) (handlers_form c.deref-in-Block-5.result.now) (handlers_form c.deref-in-Block-7.result.now)
+    c.args.holds.items c.deref_mut-in-Block.result.now c.declare.new.holds (take c.args.holds.len (c.declare.new.holds ++ drop (length c.declare.new.holds) c.args.holds.items))
+    (held c.in_ok-end-in-Block.end) (held c.in_ok-end-in-Block-2.end) (held c.leave_end.result)
+    form types_is c.emptied-own.ensures (ap (map declaration_form) c.deref-in-Block-4.ensures.value) c.deref_mut-in-Block.ensures.value c.in_ok-declare-in-Block.ensures
+    (stands_in (map type_number c.in_ok-types-in-Block.types.items) (map type_number c.deref-in-Block-3.result.now) (around_of c.args.around.now) inside_is)
+    c.with_handlers-inner.ensures (ap handlers_form c.deref-in-Block-5.ensures.value) (ap stmts_form c.deref-in-Block-6.ensures.value) (written_back c.args.holds.len c.declare.new.holds c.args.holds.items long) c.in_ok-end-in-Block.ensures
+    (ap stmts_form c.deref-in-Block-8.ensures.value) (ap handlers_form c.deref-in-Block-7.ensures.value) c.in_ok-end-in-Block-2.ensures
+    (ap (map type_number) c.deref-in-Block-9.ensures.value) c.add_behind.ensures (ap (map type_number) c.deref-in-Block-10.ensures.value) c.leave_end.ensures

@@ -1,0 +1,323 @@
+-- How forms end, one after another, by what is noted of where they raise exceptions.
+
+use Rattle.std.proofs.Common.{◌≡◌, ℕ, Bool, true, false, List, [], ◌∷◌, ◌≤◌, length, arith, Option, Some, None, refl, sym, ap, ◌∙◌}
+use Rattle.std.specs.Prelude.{Result, Ok, Err, if◌then◌else◌}
+use Rattle.ada_text.specs.declared.spot.Spot.{Spot}
+use Rattle.ada_effects.specs.Effects.{passes}
+use Rattle.ada_program.specs.declared.program.Choice.{Choice}
+use Rattle.ada_program.specs.declared.program.Handler.{Handler}
+use Rattle.ada_flow.specs.declared.rule.Rule.{Rule}
+use Rattle.ada_flow.specs.declared.rule.Rule.TheVariants.{LoopState}
+use Rattle.ada_flow.specs.Flow.{Holds, Outcome, faults, goes, Around, join_option, left_option, either_of, also_raises, then_flow, computed, stmt_flow, stmts_flow, branches_flow, handlers_flow, handled, leaves_block, raising_if, left_with, ends_turn, unless_worse, are_as_good, condition_flow, loop_flow, in_loop, in_block, collected, declaration_flow, declarations_flow}
+use Rattle.ada_flow.specs.Told.{Noted, unwanted, wanted, also_noted, noted_behind, emptied, ending, end_handled, joined_end, judgement, noted_for}
+use Rattle.ada_flow.proofs.Joined.{join_option_of_three, join_option_none}
+use Rattle.ada_program.specs.Form.{StmtForm, StmtsForm, a_stmt, BranchesForm, a_branch, ExpressionForm, HandlersForm, no_handlers, a_handler, DeclarationForm, encloses, handlers_form}
+use Rattle.ada_program.specs.ProgramForm.{VariableForm}
+
+-- how a form ends, as data
+abbrev pub End : Type 0
+End = Result (Option Holds × Noted) (Spot × Rule)
+
+-- where nothing is raised, nothing is noted
+pub nothing_noted : (n : Noted) → also_noted n None ≡ n
+nothing_noted unwanted = refl
+nothing_noted (wanted before) = ap wanted (join_option_none before)
+
+-- what two forms raise is noted in turn
+pub noted_twice : (n : Noted) (a b : Option Holds) → also_noted n (join_option a b) ≡ also_noted (also_noted n a) b
+noted_twice unwanted a b = refl
+noted_twice (wanted before) a b = ap wanted (sym (join_option_of_three before a b))
+
+-- where there is a handler, all is noted
+pub noted_for_some : (n : Noted) (hs : List Handler) → 1 ≤ length hs → noted_for n (handlers_form hs) ≡ wanted None
+noted_for_some (wanted before) hs some = refl
+noted_for_some unwanted [] some = absurd (omega arith)
+noted_for_some unwanted (h ∷ hs) some = refl
+
+-- what is raised before a form
+raised_before : (n : Noted) (raising : Option Holds) (o : Outcome) → ending n (also_raises raising o) ≡ ending (also_noted n raising) o
+raised_before n raising (faults spot rule) = refl
+raised_before n raising (goes normal more) = ap (λ m. Ok (normal, m)) (noted_twice n raising more)
+
+-- how another form ends behind this end
+abbrev pub end_on : Option Holds → Noted → (Holds → Outcome) → End
+end_on None n more = Ok (None, n)
+end_on (Some holds) n more = ending n (more holds)
+
+abbrev pub then_end : End → (Holds → Outcome) → End
+then_end (Err breach) more = Err breach
+then_end (Ok end) more = end_on end.0 end.1 more
+
+pub then_ends : (n : Noted) (o : Outcome) (more : Holds → Outcome) → ending n (then_flow o more) ≡ then_end (ending n o) more
+then_ends n (faults spot rule) more = refl
+then_ends n (goes None raising) more = refl
+then_ends n (goes (Some holds) raising) more = raised_before n raising (more holds)
+
+-- two ways
+abbrev pub either_end : End → (Noted → End) → End
+either_end (Err breach) other = Err breach
+either_end (Ok end) other = joined_end end.0 (other end.1)
+
+pub either_ends : (n : Noted) (a b : Outcome) → ending n (either_of a b) ≡ either_end (ending n a) (λ m. ending m b)
+either_ends n (faults spot rule) b = refl
+either_ends n (goes normal raising) (faults spot rule) = refl
+either_ends n (goes normal raising) (goes other other_raising) = ap (λ m. Ok (join_option normal other, m)) (noted_twice n raising other_raising)
+
+-- ways join in any order
+joined_twice : (a b : Option Holds) (end : End) → joined_end (join_option a b) end ≡ joined_end a (joined_end b end)
+joined_twice a b (Err breach) = refl
+joined_twice a b (Ok end) = ap (λ h. Ok (h, end.1)) (join_option_of_three a b end.0)
+
+-- before any way, nothing is joined
+pub joined_to_none : (end : End) → joined_end None end ≡ end
+joined_to_none (Err breach) = refl
+joined_to_none (Ok end) = refl
+
+-- statements end as the first, or else as the others
+pub statements_end : (n : Noted) (variables : List VariableForm) (around : Around) (f : StmtForm) (fs : StmtsForm) (holds : Holds) →
+    ending n (stmts_flow variables around (a_stmt f fs) holds) ≡ then_end (ending n (stmt_flow variables around f holds)) (stmts_flow variables around fs)
+statements_end n variables around f fs holds = then_ends n (stmt_flow variables around f holds) (stmts_flow variables around fs)
+
+-- an `if` ends as its first branch behind its condition, joined with the others
+abbrev pub branch_end : (so_far : Option Holds) (variables : List VariableForm) (around : Around) → StmtsForm → BranchesForm → End → End
+branch_end so_far variables around fs branches (Err breach) = Err breach
+branch_end so_far variables around fs branches (Ok end) =
+    joined_end so_far (end_on end.0 end.1 (λ hs. either_of (stmts_flow variables around fs hs) (branches_flow variables around branches hs)))
+
+pub branches_end : (so_far : Option Holds) (n m k : Noted) (variables : List VariableForm) (around : Around) (e : ExpressionForm) (fs : StmtsForm) (branches : BranchesForm) (holds : Holds) (end : Option Holds) →
+    ending n (computed e holds) ≡ Ok (Some holds, m) → ending m (stmts_flow variables around fs holds) ≡ Ok (end, k) →
+    joined_end so_far (ending n (branches_flow variables around (a_branch e fs branches) holds))
+    ≡ joined_end (join_option so_far end) (ending k (branches_flow variables around branches holds))
+branches_end so_far n m k variables around e fs branches holds end computes ends =
+    ap (joined_end so_far) (then_ends n (computed e holds) (λ hs. either_of (stmts_flow variables around fs hs) (branches_flow variables around branches hs))
+    ∙ ap (λ o. then_end o (λ hs. either_of (stmts_flow variables around fs hs) (branches_flow variables around branches hs))) computes
+    ∙ either_ends m (stmts_flow variables around fs holds) (branches_flow variables around branches holds)
+    ∙ ap (λ o. either_end o (λ x. ending x (branches_flow variables around branches holds))) ends)
+    ∙ sym (joined_twice so_far end (ending k (branches_flow variables around branches holds)))
+
+pub branches_break : (so_far : Option Holds) (n m : Noted) (variables : List VariableForm) (around : Around) (e : ExpressionForm) (fs : StmtsForm) (branches : BranchesForm) (holds : Holds) (breach : Spot × Rule) →
+    ending n (computed e holds) ≡ Ok (Some holds, m) → ending m (stmts_flow variables around fs holds) ≡ Err breach →
+    joined_end so_far (ending n (branches_flow variables around (a_branch e fs branches) holds)) ≡ Err breach
+branches_break so_far n m variables around e fs branches holds breach computes breaks =
+    ap (joined_end so_far) (then_ends n (computed e holds) (λ hs. either_of (stmts_flow variables around fs hs) (branches_flow variables around branches hs))
+    ∙ ap (λ o. then_end o (λ hs. either_of (stmts_flow variables around fs hs) (branches_flow variables around branches hs))) computes
+    ∙ either_ends m (stmts_flow variables around fs holds) (branches_flow variables around branches holds)
+    ∙ ap (λ o. either_end o (λ x. ending x (branches_flow variables around branches holds))) breaks)
+
+pub condition_breaks : (so_far : Option Holds) (n : Noted) (variables : List VariableForm) (around : Around) (e : ExpressionForm) (fs : StmtsForm) (branches : BranchesForm) (holds : Holds) (breach : Spot × Rule) →
+    ending n (computed e holds) ≡ Err breach →
+    joined_end so_far (ending n (branches_flow variables around (a_branch e fs branches) holds)) ≡ Err breach
+condition_breaks so_far n variables around e fs branches holds breach breaks =
+    ap (joined_end so_far) (then_ends n (computed e holds) (λ hs. either_of (stmts_flow variables around fs hs) (branches_flow variables around branches hs))
+    ∙ ap (λ o. then_end o (λ hs. either_of (stmts_flow variables around fs hs) (branches_flow variables around branches hs))) breaks)
+
+-- handlers end as the first, joined with the others
+pub handlers_end : (so_far : Option Holds) (n k : Noted) (variables : List VariableForm) (around : Around) (choices : List Choice) (fs : StmtsForm) (hs : HandlersForm) (raising : Holds) (end : Option Holds) →
+    ending n (stmts_flow variables around fs raising) ≡ Ok (end, k) →
+    joined_end so_far (ending n (handlers_flow variables around (a_handler choices fs hs) raising))
+    ≡ joined_end (join_option so_far end) (ending k (handlers_flow variables around hs raising))
+handlers_end so_far n k variables around choices fs hs raising end ends =
+    ap (joined_end so_far) (either_ends n (stmts_flow variables around fs raising) (handlers_flow variables around hs raising)
+    ∙ ap (λ o. either_end o (λ m. ending m (handlers_flow variables around hs raising))) ends)
+    ∙ sym (joined_twice so_far end (ending k (handlers_flow variables around hs raising)))
+
+pub handlers_break : (so_far : Option Holds) (n : Noted) (variables : List VariableForm) (around : Around) (choices : List Choice) (fs : StmtsForm) (hs : HandlersForm) (raising : Holds) (breach : Spot × Rule) →
+    ending n (stmts_flow variables around fs raising) ≡ Err breach →
+    joined_end so_far (ending n (handlers_flow variables around (a_handler choices fs hs) raising)) ≡ Err breach
+handlers_break so_far n variables around choices fs hs raising breach breaks =
+    ap (joined_end so_far) (either_ends n (stmts_flow variables around fs raising) (handlers_flow variables around hs raising)
+    ∙ ap (λ o. either_end o (λ m. ending m (handlers_flow variables around hs raising))) breaks)
+
+-- a block that is left
+abbrev pub left_end : Noted → List VariableForm → (types : List ℕ) → End → End
+left_end n variables types (Err breach) = Err breach
+left_end n variables types (Ok end) = Ok (left_option variables types end.0, noted_behind n variables types end.1)
+
+pub block_ends : (n : Noted) (variables : List VariableForm) (types : List ℕ) (o : Outcome) →
+    ending n (leaves_block variables types o) ≡ left_end n variables types (ending (emptied n) o)
+block_ends unwanted variables types (faults spot rule) = refl
+block_ends unwanted variables types (goes normal raising) = refl
+block_ends (wanted before) variables types (faults spot rule) = refl
+block_ends (wanted before) variables types (goes normal raising) = refl
+
+-- a loop that is left, or is not
+abbrev pub left_over : Bool → Holds → End → End
+left_over leaves start (Err breach) = Err breach
+left_over leaves start (Ok end) = Ok ((if leaves then Some start else None), end.1)
+
+left_ends : (n : Noted) (leaves : Bool) (start : Holds) (o : Outcome) → ending n (left_with leaves start o) ≡ left_over leaves start (ending n o)
+left_ends n leaves start (faults spot rule) = refl
+left_ends n leaves start (goes normal raising) = refl
+
+abbrev normal_of : End → Option Holds
+normal_of (Err breach) = None
+normal_of (Ok end) = end.0
+
+turn_keeps : (n k : Noted) (start : Holds) (spot : Spot) (b : Bool) (holds after : Holds) (raising : Option Holds) → are_as_good holds start ≡ b →
+    ending n (goes (Some holds) raising) ≡ Ok (Some after, k) → unless_worse start after spot (goes (Some after) None) ≡ goes (Some after) None →
+    ending n (if b then goes (Some holds) raising else faults spot LoopState) ≡ Ok (Some after, k)
+turn_keeps n k start spot true holds after raising e ends keeps = ends
+turn_keeps n k start spot false holds after raising e ends keeps =
+    let one : Some holds ≡ Some after = ap normal_of ends in
+    let same : holds ≡ after = cc in
+    let worse : are_as_good after start ≡ false = ap (λ hs. are_as_good hs start) (sym same) ∙ e in
+    let broken : faults spot LoopState ≡ goes (Some after) None =
+    ap (λ c. if c then goes (Some after) None else faults spot LoopState) (sym worse) ∙ keeps in
+    cc
+
+-- the end of a turn, where it leads back to the start
+turn_ends : (n k : Noted) (start : Holds) (spot : Spot) (o : Outcome) (after : Holds) → ending n o ≡ Ok (Some after, k) →
+    unless_worse start after spot (goes (Some after) None) ≡ goes (Some after) None → ending n (ends_turn start spot o) ≡ Ok (Some after, k)
+turn_ends n k start spot (faults other rule) after ends keeps = cc
+turn_ends n k start spot (goes None raising) after ends keeps = cc
+turn_ends n k start spot (goes (Some holds) raising) after ends keeps = turn_keeps n k start spot (are_as_good holds start) holds after raising refl ends keeps
+
+-- and where it doesn't
+turn_stays : (n k : Noted) (start : Holds) (spot : Spot) (o : Outcome) → ending n o ≡ Ok (None, k) → ending n (ends_turn start spot o) ≡ Ok (None, k)
+turn_stays n k start spot (faults other rule) ends = cc
+turn_stays n k start spot (goes None raising) ends = ends
+turn_stays n k start spot (goes (Some holds) raising) ends = let none : Some holds ≡ None = ap normal_of ends in cc
+
+-- statements with their handlers
+abbrev pub handled_end : Noted → (passes : Bool) → (Holds → Outcome) → End → End
+handled_end n passes handlers (Err breach) = Err breach
+handled_end n passes handlers (Ok end) = end_handled n passes handlers end.0 end.1
+
+wanted_ends : (n : Noted) (passes : Bool) (handlers : Holds → Outcome) (o : Outcome) →
+    ending n (handled passes handlers o) ≡ handled_end n passes handlers (ending (wanted None) o)
+wanted_ends n passes handlers (faults spot rule) = refl
+wanted_ends n passes handlers (goes normal None) = ap (λ m. Ok (normal, m)) (nothing_noted n)
+wanted_ends n passes handlers (goes normal (Some raising)) = either_ends n (goes normal (raising_if passes raising)) (handlers raising)
+
+pub handled_ends : (n : Noted) (variables : List VariableForm) (around : Around) (passes : Bool) (hs : HandlersForm) (o : Outcome) →
+    ending n (handled passes (handlers_flow variables around hs) o) ≡ handled_end n passes (handlers_flow variables around hs) (ending (noted_for n hs) o)
+handled_ends unwanted variables around passes no_handlers (faults spot rule) = refl
+handled_ends unwanted variables around passes no_handlers (goes normal None) = refl
+handled_ends unwanted variables around passes no_handlers (goes normal (Some raising)) = ap (λ h. Ok (h, unwanted)) (join_option_none normal)
+handled_ends unwanted variables around passes (a_handler choices fs hs) o = wanted_ends unwanted passes (handlers_flow variables around (a_handler choices fs hs)) o
+handled_ends (wanted before) variables around passes hs o = wanted_ends (wanted before) passes (handlers_flow variables around hs) o
+
+-- what statements with their handlers come to behind this end
+abbrev pub handled_on : List VariableForm → Around → (passes : Bool) → StmtsForm → HandlersForm → Option Holds → Noted → End
+handled_on variables around passes fs hs None n = Ok (None, n)
+handled_on variables around passes fs hs (Some at) n =
+    handled_end n passes (handlers_flow variables around hs) (ending (noted_for n hs) (stmts_flow variables around fs at))
+
+abbrev pub then_handled : List VariableForm → Around → (passes : Bool) → StmtsForm → HandlersForm → End → End
+then_handled variables around passes fs hs (Err breach) = Err breach
+then_handled variables around passes fs hs (Ok end) = handled_on variables around passes fs hs end.0 end.1
+
+handled_behind : (variables : List VariableForm) (around : Around) (passes : Bool) (fs : StmtsForm) (hs : HandlersForm) (end : End) →
+    then_end end (λ at. handled passes (handlers_flow variables around hs) (stmts_flow variables around fs at)) ≡ then_handled variables around passes fs hs end
+handled_behind variables around passes fs hs (Err breach) = refl
+handled_behind variables around passes fs hs (Ok (None, n)) = refl
+handled_behind variables around passes fs hs (Ok (Some at, n)) = handled_ends n variables around passes hs (stmts_flow variables around fs at)
+
+-- declarations, then statements with their handlers
+pub body_ends : (n : Noted) (variables : List VariableForm) (around : Around) (passes : Bool) (ds : List DeclarationForm) (fs : StmtsForm) (hs : HandlersForm) (holds : Holds) →
+    ending n (then_flow (declarations_flow variables ds holds) (λ at. handled passes (handlers_flow variables around hs) (stmts_flow variables around fs at)))
+    ≡ then_handled variables around passes fs hs (ending n (declarations_flow variables ds holds))
+body_ends n variables around passes ds fs hs holds =
+    then_ends n (declarations_flow variables ds holds) (λ at. handled passes (handlers_flow variables around hs) (stmts_flow variables around fs at))
+    ∙ handled_behind variables around passes fs hs (ending n (declarations_flow variables ds holds))
+
+-- the judgement by an end
+abbrev pub judged : End → Result (Unit {0}) (Spot × Rule)
+judged (Err breach) = Err breach
+judged (Ok end) = Ok tt
+
+pub judgement_by : (n : Noted) (o : Outcome) → judgement o ≡ judged (ending n o)
+judgement_by n (faults spot rule) = refl
+judgement_by n (goes normal raising) = refl
+
+-- a whole program is judged by how it ends
+pub program_ends : (n : Noted) (variables : List VariableForm) (around : Around) (passes : Bool) (ds : List DeclarationForm) (fs : StmtsForm) (hs : HandlersForm) (holds : Holds) →
+    judgement (then_flow (declarations_flow variables ds holds) (λ at. handled passes (handlers_flow variables around hs) (stmts_flow variables around fs at)))
+    ≡ judged (then_handled variables around passes fs hs (ending n (declarations_flow variables ds holds)))
+program_ends n variables around passes ds fs hs holds =
+    judgement_by n (then_flow (declarations_flow variables ds holds) (λ at. handled passes (handlers_flow variables around hs) (stmts_flow variables around fs at)))
+    ∙ ap judged (body_ends n variables around passes ds fs hs holds)
+
+-- declarations end as the first, or else as the others
+pub declarations_end : (n : Noted) (variables : List VariableForm) (d : DeclarationForm) (ds : List DeclarationForm) (holds : Holds) →
+    ending n (declarations_flow variables (d ∷ ds) holds) ≡ then_end (ending n (declaration_flow variables d holds)) (declarations_flow variables ds)
+declarations_end n variables d ds holds = then_ends n (declaration_flow variables d holds) (declarations_flow variables ds)
+
+-- one turn of a loop, where it leads back
+pub turn_returns : (leaves : Bool) (n m k : Noted) (condition : Option ExpressionForm) (spot : Spot) (variables : List VariableForm) (fs : StmtsForm) (start after : Holds) →
+    ending n (condition_flow condition start) ≡ Ok (Some start, m) → ending m (stmts_flow variables (in_loop (Some start)) fs start) ≡ Ok (Some after, k) →
+    unless_worse start after spot (goes (Some after) None) ≡ goes (Some after) None →
+    ending n (loop_flow condition leaves spot (λ place hs. stmts_flow variables (in_loop place) fs hs) start) ≡ Ok ((if leaves then Some start else None), k)
+turn_returns leaves n m k condition spot variables fs start after tests turns keeps =
+    left_ends n leaves start (then_flow (condition_flow condition start) (λ hs. ends_turn start spot (stmts_flow variables (in_loop (Some start)) fs hs)))
+    ∙ ap (left_over leaves start)
+    (then_ends n (condition_flow condition start) (λ hs. ends_turn start spot (stmts_flow variables (in_loop (Some start)) fs hs))
+    ∙ ap (λ e. then_end e (λ hs. ends_turn start spot (stmts_flow variables (in_loop (Some start)) fs hs))) tests
+    ∙ turn_ends m k start spot (stmts_flow variables (in_loop (Some start)) fs start) after turns keeps)
+
+-- and where it doesn't
+pub turn_stops : (leaves : Bool) (n m k : Noted) (condition : Option ExpressionForm) (spot : Spot) (variables : List VariableForm) (fs : StmtsForm) (start : Holds) →
+    ending n (condition_flow condition start) ≡ Ok (Some start, m) → ending m (stmts_flow variables (in_loop (Some start)) fs start) ≡ Ok (None, k) →
+    ending n (loop_flow condition leaves spot (λ place hs. stmts_flow variables (in_loop place) fs hs) start) ≡ Ok ((if leaves then Some start else None), k)
+turn_stops leaves n m k condition spot variables fs start tests turns =
+    left_ends n leaves start (then_flow (condition_flow condition start) (λ hs. ends_turn start spot (stmts_flow variables (in_loop (Some start)) fs hs)))
+    ∙ ap (left_over leaves start)
+    (then_ends n (condition_flow condition start) (λ hs. ends_turn start spot (stmts_flow variables (in_loop (Some start)) fs hs))
+    ∙ ap (λ e. then_end e (λ hs. ends_turn start spot (stmts_flow variables (in_loop (Some start)) fs hs))) tests
+    ∙ turn_stays m k start spot (stmts_flow variables (in_loop (Some start)) fs start) turns)
+
+-- a block ends as its statements do with their handlers, behind its declarations
+enclosed_ends : (n : Noted) (variables : List VariableForm) (around : Around) (ds : List DeclarationForm) (fs : StmtsForm) (hs : HandlersForm) (holds : Holds) →
+    ending n (stmt_flow variables around (encloses ds fs hs) holds)
+    ≡ left_end n variables (collected ds)
+    (then_handled variables (in_block (collected ds) around) (passes fs hs) fs hs (ending (emptied n) (declarations_flow variables ds holds)))
+enclosed_ends n variables around ds fs hs holds =
+    block_ends n variables (collected ds) (then_flow (declarations_flow variables ds holds) (λ at. handled (passes fs hs) (handlers_flow variables (in_block (collected ds) around) hs) (stmts_flow variables (in_block (collected ds) around) fs at)))
+    ∙ ap (left_end n variables (collected ds)) (body_ends (emptied n) variables (in_block (collected ds) around) (passes fs hs) ds fs hs holds)
+
+-- its declarations break a rule
+pub block_declares_badly : (n : Noted) (variables : List VariableForm) (around : Around) (ds : List DeclarationForm) (fs : StmtsForm) (hs : HandlersForm) (holds : Holds) (breach : Spot × Rule) →
+    ending (emptied n) (declarations_flow variables ds holds) ≡ Err breach →
+    ending n (stmt_flow variables around (encloses ds fs hs) holds) ≡ Err breach
+block_declares_badly n variables around ds fs hs holds breach declares =
+    enclosed_ends n variables around ds fs hs holds
+    ∙ ap (λ e. left_end n variables (collected ds) (then_handled variables (in_block (collected ds) around) (passes fs hs) fs hs e)) declares
+
+-- its statements do
+pub block_breaks : (n m : Noted) (variables : List VariableForm) (around : Around) (types : List ℕ) (ds : List DeclarationForm) (fs : StmtsForm) (hs : HandlersForm) (holds at : Holds) (breach : Spot × Rule) →
+    types ≡ collected ds → ending (emptied n) (declarations_flow variables ds holds) ≡ Ok (Some at, m) →
+    ending (noted_for m hs) (stmts_flow variables (in_block types around) fs at) ≡ Err breach →
+    ending n (stmt_flow variables around (encloses ds fs hs) holds) ≡ Err breach
+block_breaks n m variables around types ds fs hs holds at breach same declares breaks =
+    enclosed_ends n variables around ds fs hs holds
+    ∙ ap (λ e. left_end n variables (collected ds) (then_handled variables (in_block (collected ds) around) (passes fs hs) fs hs e)) declares
+    ∙ ap (λ ts. left_end n variables (collected ds) (handled_end m (passes fs hs) (handlers_flow variables (in_block (collected ds) around) hs) (ending (noted_for m hs) (stmts_flow variables (in_block ts around) fs at)))) (sym same)
+    ∙ ap (λ e. left_end n variables (collected ds) (handled_end m (passes fs hs) (handlers_flow variables (in_block (collected ds) around) hs) e)) breaks
+
+-- its statements end, and its handlers do, or break a rule
+pub block_handles : (n m k : Noted) (variables : List VariableForm) (around : Around) (types : List ℕ) (ds : List DeclarationForm) (fs : StmtsForm) (hs : HandlersForm) (holds at : Holds) (normal : Option Holds) (end : End) →
+    types ≡ collected ds → ending (emptied n) (declarations_flow variables ds holds) ≡ Ok (Some at, m) →
+    ending (noted_for m hs) (stmts_flow variables (in_block types around) fs at) ≡ Ok (normal, k) →
+    end_handled m (passes fs hs) (handlers_flow variables (in_block types around) hs) normal k ≡ end →
+    ending n (stmt_flow variables around (encloses ds fs hs) holds) ≡ left_end n variables types end
+block_handles n m k variables around types ds fs hs holds at normal end same declares ends handles =
+    enclosed_ends n variables around ds fs hs holds
+    ∙ ap (λ e. left_end n variables (collected ds) (then_handled variables (in_block (collected ds) around) (passes fs hs) fs hs e)) declares
+    ∙ ap (λ ts. left_end n variables ts (handled_end m (passes fs hs) (handlers_flow variables (in_block ts around) hs) (ending (noted_for m hs) (stmts_flow variables (in_block ts around) fs at)))) (sym same)
+    ∙ ap (λ e. left_end n variables types (handled_end m (passes fs hs) (handlers_flow variables (in_block types around) hs) e)) ends
+    ∙ ap (left_end n variables types) handles
+
+-- a program whose declarations, statements and handlers come to an end obeys the rules
+pub program_obeys : (n m k : Noted) (variables : List VariableForm) (around : Around) (passes : Bool) (ds : List DeclarationForm) (fs : StmtsForm) (hs : HandlersForm) (holds at : Holds) (normal : Option Holds) (end : Option Holds × Noted) →
+    ending n (declarations_flow variables ds holds) ≡ Ok (Some at, m) → ending (noted_for m hs) (stmts_flow variables around fs at) ≡ Ok (normal, k) →
+    end_handled m passes (handlers_flow variables around hs) normal k ≡ Ok end →
+    judgement (then_flow (declarations_flow variables ds holds) (λ at. handled passes (handlers_flow variables around hs) (stmts_flow variables around fs at))) ≡ Ok tt
+program_obeys n m k variables around passes ds fs hs holds at normal end declares ends handles =
+    program_ends n variables around passes ds fs hs holds
+    ∙ ap (λ e. judged (then_handled variables around passes fs hs e)) declares
+    ∙ ap (λ e. judged (handled_end m passes (handlers_flow variables around hs) e)) ends
+    ∙ ap judged handles
+
+pub ruleset block_steps = (block_declares_badly, block_breaks, block_handles)
+
+pub ruleset noted_steps = (nothing_noted, declarations_end, statements_end, branches_end, branches_break, condition_breaks, handlers_end, handlers_break, joined_to_none, join_option_none)

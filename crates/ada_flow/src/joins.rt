@@ -1,0 +1,44 @@
+//! What is known after two ways: of each variable what both say of it.
+
+ghost use Rattle.std.specs.Prelude.{◌≡◌};
+ghost use Rattle.ada_flow.specs.Flow as rules;
+ghost use Rattle.ada_flow.specs.Told.{held};
+
+use crate::rule::{Hold, Region};
+
+/// What is known of a variable after two ways.
+fn join_hold(one: Hold, other: Hold) -> Hold
+    ensures { result ≡ rules.join_hold one other }
+{
+    match (one, other) {
+        (Hold::Null, hold) | (hold, Hold::Null) => hold,
+        (Hold::Own(Region::Whole), Hold::Own(Region::Whole)) => one,
+        (Hold::Alias(Region::Whole), Hold::Alias(Region::Whole)) => one,
+        _ => Hold::Lost,
+    }
+}
+
+/// What is known of each variable after two ways, as far as both know of variables.
+#[tactic(auto, using(std::proofs::lemmas::Grind::common_steps, crate::proofs::Joined::join_short))]
+pub(crate) fn join_into(one: &mut Vec<Hold>, other: &[Hold])
+    ensures { one.new.items ≡ rules.join one.old.items other.now }
+{
+    one.truncate(other.len());
+    for number in 0..one.len() {
+        one[number] = join_hold(one[number], other[number]);
+    }
+}
+
+/// What is known where one way, or both, may not come to their end.
+pub(crate) fn join_ends(one: Option<Vec<Hold>>, other: Option<Vec<Hold>>) -> Option<Vec<Hold>>
+    ensures { held result ≡ rules.join_option (held one) (held other) }
+{
+    match (one, other) {
+        (None, other) => other,
+        (Some(one), None) => Some(one),
+        (Some(mut one), Some(other)) => {
+            join_into(&mut one, &other);
+            Some(one)
+        }
+    }
+}

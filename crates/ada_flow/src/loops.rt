@@ -1,0 +1,220 @@
+//! What is known where a loop starts, whether an exit leaves it, and what may lead back to its start.
+
+ghost use Rattle.std.specs.Prelude.{◌≡◌, ◌||◌, map};
+ghost use Rattle.ada_flow.specs.Flow as rules;
+ghost use Rattle.ada_program.specs.Form.{StmtsForm, stmt_form, stmts_form, branches_form, handlers_form};
+ghost use Rattle.ada_flow.specs.Told.{type_number};
+ghost use Rattle.ada_program.specs.ProgramForm.{variable_form};
+
+use crate::holds::{hold_of, put};
+use crate::kinds::hold_behind;
+use crate::rule::{Hold, Region};
+use ada_program::program::{Branch, Handler, Variable};
+use ada_program::{Stmt, TypeNo, VariableNo};
+
+/// What is known of a variable that a loop's body assigns, where each turn begins.
+fn opened_hold(hold: Hold) -> Hold
+    ensures { result ≡ rules.opened_hold hold }
+{
+    match hold {
+        Hold::Null => Hold::Own(Region::Whole),
+        hold => hold,
+    }
+}
+
+/// A variable that a loop's body assigns is opened.
+fn open(holds: &mut [Hold], variable: VariableNo)
+    ensures { holds.new ≡ rules.opened variable.0 holds.old }
+{
+    let hold = opened_hold(hold_of(holds, variable));
+    put(holds, variable, hold);
+}
+
+/// Each variable that statements of a loop's body assign, wherever they stand in it, is opened.
+#[cycle(opening)]
+pub(crate) fn open_all(holds: &mut [Hold], statements: &[Stmt])
+    ensures { holds.new ≡ rules.opened_by_all (stmts_form statements.now) holds.old }
+{
+    'statements: for statement in statements {
+        open_by(holds, statement);
+    }
+}
+
+/// Each variable that a statement of a loop's body assigns is opened.
+#[cycle(opening)]
+#[tactic(auto, using(std::proofs::lemmas::Grind::common_steps, ada_program::specs::Form::statement_rules))]
+fn open_by(holds: &mut [Hold], statement: &Stmt)
+    ensures { holds.new ≡ rules.opened_by (stmt_form statement.now) holds.old }
+{
+    match statement {
+        Stmt::Assign { target, value: _ } => open(holds, target.root),
+        Stmt::If {
+            branches,
+            otherwise,
+        } => {
+            open_branches(holds, branches);
+            open_all(holds, otherwise);
+        }
+        Stmt::Loop {
+            condition: _,
+            statements,
+            end: _,
+        }
+        | Stmt::For {
+            parameter: _,
+            first: _,
+            last: _,
+            statements,
+            end: _,
+        } => open_all(holds, statements),
+        Stmt::Block {
+            declarations: _,
+            statements,
+            handlers,
+        } => {
+            open_all(holds, statements);
+            open_handlers(holds, handlers);
+        }
+        Stmt::Null
+        | Stmt::Free { .. }
+        | Stmt::Get(_)
+        | Stmt::PutImage(_)
+        | Stmt::PutText(_)
+        | Stmt::Exit { .. }
+        | Stmt::Return(_)
+        | Stmt::Raise(_) => {}
+    }
+}
+
+/// Each variable that a branch assigns is opened.
+#[cycle(opening)]
+fn open_branches(holds: &mut [Hold], branches: &[Branch])
+    ensures { (others : StmtsForm) → rules.opened_by_branches (branches_form branches.now others) holds.old ≡ rules.opened_by_all others holds.new }
+{
+    'branches: for branch in branches {
+        open_all(holds, &branch.statements);
+    }
+}
+
+/// Each variable that a handler assigns is opened.
+#[cycle(opening)]
+fn open_handlers(holds: &mut [Hold], handlers: &[Handler])
+    ensures { holds.new ≡ rules.opened_by_handlers (handlers_form handlers.now) holds.old }
+{
+    'handlers: for handler in handlers {
+        open_all(holds, &handler.statements);
+    }
+}
+
+/// Whether an exit leaves the loop whose body this is.
+#[cycle(leaving)]
+pub(crate) fn have_exit(statements: &[Stmt]) -> bool
+    ensures { result ≡ rules.have_exit (stmts_form statements.now) }
+{
+    'statements: for statement in statements {
+        if has_exit(statement) {
+            return true;
+        }
+    }
+    false
+}
+
+/// Whether a statement of a loop's body has an exit from that loop; one inside another loop leaves that one.
+#[cycle(leaving)]
+#[tactic(auto, using(std::proofs::lemmas::Grind::common_steps, ada_program::specs::Form::statement_rules))]
+fn has_exit(statement: &Stmt) -> bool
+    ensures { result ≡ rules.has_exit (stmt_form statement.now) }
+{
+    match statement {
+        Stmt::Exit { .. } => true,
+        Stmt::If {
+            branches,
+            otherwise,
+        } => branches_have_exit(branches) || have_exit(otherwise),
+        Stmt::Block {
+            declarations: _,
+            statements,
+            handlers,
+        } => have_exit(statements) || handlers_have_exit(handlers),
+        Stmt::Null
+        | Stmt::Assign { .. }
+        | Stmt::Free { .. }
+        | Stmt::Get(_)
+        | Stmt::PutImage(_)
+        | Stmt::PutText(_)
+        | Stmt::Loop { .. }
+        | Stmt::For { .. }
+        | Stmt::Return(_)
+        | Stmt::Raise(_) => false,
+    }
+}
+
+/// Whether a branch has an exit.
+#[cycle(leaving)]
+fn branches_have_exit(branches: &[Branch]) -> bool
+    ensures { (others : StmtsForm) → rules.branches_have_exit (branches_form branches.now others) ≡ (result || rules.have_exit others) }
+{
+    'branches: for branch in branches {
+        if have_exit(&branch.statements) {
+            return true;
+        }
+    }
+    false
+}
+
+/// Whether a handler has an exit.
+#[cycle(leaving)]
+fn handlers_have_exit(handlers: &[Handler]) -> bool
+    ensures { result ≡ rules.handlers_have_exit (handlers_form handlers.now) }
+{
+    'handlers: for handler in handlers {
+        if have_exit(&handler.statements) {
+            return true;
+        }
+    }
+    false
+}
+
+/// Whether each variable is known at least as well as where the loop starts.
+pub(crate) fn are_as_good(holds: &[Hold], start: &[Hold]) -> bool
+    ensures { result ≡ rules.are_as_good holds.now start.now }
+{
+    for (number, wanted) in start.iter().enumerate() {
+        if !is_as_good(hold_of(holds, VariableNo(number)), *wanted) {
+            return false;
+        }
+    }
+    true
+}
+
+/// The same behind blocks with the collections of these types.
+pub(crate) fn are_as_good_behind(
+    variables: &[Variable],
+    types: &[TypeNo],
+    holds: &[Hold],
+    start: &[Hold],
+) -> bool
+    ensures { result ≡ rules.are_as_good (rules.left (map variable_form variables.now) (map type_number types.now) holds.now) start.now }
+{
+    for (number, wanted) in start.iter().enumerate() {
+        if !is_as_good(
+            hold_behind(variables, types, holds, VariableNo(number)),
+            *wanted,
+        ) {
+            return false;
+        }
+    }
+    true
+}
+
+/// Whether a variable is known at least as well: null is an owner or an alias, and whatever it is may be called lost.
+fn is_as_good(hold: Hold, wanted: Hold) -> bool
+    ensures { result ≡ rules.is_as_good hold wanted }
+{
+    match (hold, wanted) {
+        (Hold::Null, _) | (_, Hold::Lost) => true,
+        (Hold::Own(Region::Whole), Hold::Own(Region::Whole)) => true,
+        (Hold::Alias(Region::Whole), Hold::Alias(Region::Whole)) => true,
+        _ => false,
+    }
+}

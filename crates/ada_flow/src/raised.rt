@@ -1,0 +1,106 @@
+//! What is known wherever an exception may be raised, as far as a handler or a block around wants to know it.
+
+ghost use Rattle.std.specs.Prelude.{◌≡◌, Some, None, OnOk, map};
+ghost use Rattle.ada_flow.specs.Flow.{raising_if};
+ghost use Rattle.ada_flow.specs.Told.{held, noted, also_noted, noted_behind, emptied, is_wanted, noted_for, type_number};
+ghost use Rattle.ada_program.specs.Form.{handlers_form};
+ghost use Rattle.ada_program.specs.ProgramForm.{variable_form};
+
+use crate::joins::{join_ends, join_into};
+use crate::kinds::leave_end;
+use crate::rule::Hold;
+use ada_program::TypeNo;
+use ada_program::program::{Handler, Variable};
+use std::alloc::{AllocError, Global};
+
+/// What each variable holds wherever an exception may be raised.
+#[derive(Drop)]
+pub(crate) enum Raised {
+    /// Nothing around wants to know it.
+    Unwanted,
+    /// What is known at all those places so far, if there is one.
+    Wanted(Option<Vec<Hold>>),
+}
+
+impl Raised {
+    /// Whether something around wants to know it.
+    pub(crate) fn is_wanted(&self) -> bool
+        ensures { result ≡ is_wanted (noted self.now) }
+    {
+        match self {
+            Raised::Unwanted => false,
+            Raised::Wanted(_) => true,
+        }
+    }
+
+    /// Nothing is raised yet, where as much is wanted.
+    pub(crate) fn emptied(&self) -> Raised
+        ensures { noted result ≡ emptied (noted self.now) }
+    {
+        match self {
+            Raised::Unwanted => Raised::Unwanted,
+            Raised::Wanted(_) => Raised::Wanted(None),
+        }
+    }
+
+    /// Nothing is raised yet by statements with these handlers: all is wanted, unless neither they nor anything around do.
+    #[tactic(auto, using(std::proofs::lemmas::Grind::common_steps, crate::proofs::Noted::noted_for_some))]
+    pub(crate) fn with_handlers(&self, handlers: &[Handler]) -> Raised
+        ensures { noted result ≡ noted_for (noted self.now) (handlers_form handlers.now) }
+    {
+        match self {
+            Raised::Wanted(_) => Raised::Wanted(None),
+            Raised::Unwanted => match handlers {
+                [] => Raised::Unwanted,
+                [_, ..] => Raised::Wanted(None),
+            },
+        }
+    }
+
+    /// An exception may be raised where the variables hold this.
+    pub(crate) fn note(&mut self, alloc: Global, holds: &[Hold]) -> Result<(), AllocError>
+        ensures { OnOk result (noted self.new ≡ also_noted (noted self.old) (Some holds.now)) }
+    {
+        match self {
+            Raised::Unwanted => {}
+            Raised::Wanted(Some(known)) => join_into(known, holds),
+            Raised::Wanted(None) => *self = Raised::Wanted(Some(holds.to_vec(alloc)?)),
+        }
+        Ok(())
+    }
+
+    /// The same, if it may at all.
+    pub(crate) fn note_if(
+        &mut self,
+        may_raise: bool,
+        alloc: Global,
+        holds: &[Hold],
+    ) -> Result<(), AllocError>
+        ensures { OnOk result (noted self.new ≡ also_noted (noted self.old) (raising_if may_raise holds.now)) }
+    {
+        if may_raise {
+            self.note(alloc, holds)?;
+        }
+        Ok(())
+    }
+
+    /// Exceptions may be raised besides where the variables hold this, if anywhere.
+    pub(crate) fn add(&mut self, holds: Option<Vec<Hold>>)
+        ensures { noted self.new ≡ also_noted (noted self.old) (held holds) }
+    {
+        match self {
+            Raised::Unwanted => {}
+            Raised::Wanted(known) => *known = join_ends(known.take(), holds),
+        }
+    }
+
+    /// What is raised in a block is raised behind it, where its collections are gone.
+    pub(crate) fn add_behind(&mut self, variables: &[Variable], types: &[TypeNo], raised: Raised)
+        ensures { noted self.new ≡ noted_behind (noted self.old) (map variable_form variables.now) (map type_number types.now) (noted raised) }
+    {
+        match raised {
+            Raised::Unwanted => {}
+            Raised::Wanted(holds) => self.add(leave_end(variables, types, holds)),
+        }
+    }
+}

@@ -1,0 +1,109 @@
+//! The flow of values through loops: one turn tells what each turn does, from what is known where each begins.
+
+ghost use Rattle.std.specs.Prelude.{◌≡◌, true, Some, None, map};
+ghost use Rattle.ada_flow.specs.Flow.{counting_start, goes, in_loop, is_left, loop_flow, opened_by_all, stmts_flow, unless_worse};
+ghost use Rattle.ada_flow.specs.Told.{Ends, Tells, around_of, exit_begins, variables_in};
+ghost use Rattle.ada_program.specs.Form.{condition_form, stmts_form};
+ghost use Rattle.ada_program.specs.ProgramForm.{variable_form};
+
+use crate::around::Around;
+use crate::compute::compute_condition;
+use crate::fault::{Breach, FlowFault};
+use crate::holds::put;
+use crate::loops::{are_as_good, are_as_good_behind, have_exit, open_all};
+use crate::raised::Raised;
+use crate::rule::{Hold, Rule};
+use crate::statements::statements;
+use ada_program::program::{Expression, Variable};
+use ada_program::{Spot, Stmt, VariableNo};
+use std::alloc::Global;
+
+/// A way may lead back to a loop's start only with what is known at that start.
+fn unless_worse(holds: &[Hold], start: &[Hold], spot: Spot) -> Result<(), Breach>
+    ensures { Tells result holds.now (unless_worse start.now holds.now spot (goes (Some holds.now) None)) }
+{
+    if are_as_good(holds, start) {
+        Ok(())
+    } else {
+        Err(Breach {
+            spot,
+            rule: Rule::LoopState,
+        })
+    }
+}
+
+/// An exit leads out of a loop, and out of the blocks in it, only with what is known at the loop's start.
+pub(crate) fn keeps_start(around: &Around<'_>, holds: &[Hold], spot: Spot) -> Result<(), Breach>
+    ensures { let place = around_of around.now in Tells result holds.now (exit_begins (variables_in around.now) place.start place.inside spot holds.now) }
+{
+    match around.start {
+        Some(start) if !are_as_good_behind(around.variables, around.inside, holds, start) => {
+            Err(Breach {
+                spot,
+                rule: Rule::LoopState,
+            })
+        }
+        _ => Ok(()),
+    }
+}
+
+/// `loop`, or `while` with a condition.
+#[cycle(flowing)]
+pub(crate) fn repeat(
+    alloc: Global,
+    variables: &[Variable],
+    mut holds: Vec<Hold>,
+    raised: &mut Raised,
+    condition: &Option<Expression>,
+    body: &[Stmt],
+    end: Spot,
+) -> Result<Option<Vec<Hold>>, FlowFault>
+    ensures { let fs = stmts_form body.now in Ends result raised.old raised.new (loop_flow (condition_form condition.now) (is_left (condition_form condition.now) fs) end (λ start hs. stmts_flow (map variable_form variables.now) (in_loop start) fs hs) (opened_by_all fs holds.items)) }
+{
+    open_all(&mut holds, body);
+    let leaves = condition.is_some() || have_exit(body);
+    turn(
+        alloc, variables, holds, raised, condition, body, end, leaves,
+    )
+}
+
+/// `for`, behind its bounds.
+#[cycle(flowing)]
+pub(crate) fn count(
+    alloc: Global,
+    variables: &[Variable],
+    mut holds: Vec<Hold>,
+    raised: &mut Raised,
+    parameter: VariableNo,
+    body: &[Stmt],
+    end: Spot,
+) -> Result<Option<Vec<Hold>>, FlowFault>
+    ensures { let fs = stmts_form body.now in Ends result raised.old raised.new (loop_flow None true end (λ start hs. stmts_flow (map variable_form variables.now) (in_loop start) fs hs) (counting_start parameter.0 fs holds.items)) }
+{
+    open_all(&mut holds, body);
+    put(&mut holds, parameter, Hold::Lost);
+    turn(alloc, variables, holds, raised, &None, body, end, true)
+}
+
+/// One turn of a loop, from its start; behind the loop, if it is left, the variables hold what they did there.
+#[cycle(flowing)]
+#[tactic(auto, using(std::proofs::lemmas::Grind::common_steps, crate::proofs::Noted::turn_returns, crate::proofs::Noted::turn_stops))]
+fn turn(
+    alloc: Global,
+    variables: &[Variable],
+    start: Vec<Hold>,
+    raised: &mut Raised,
+    condition: &Option<Expression>,
+    body: &[Stmt],
+    end: Spot,
+    leaves: bool,
+) -> Result<Option<Vec<Hold>>, FlowFault>
+    ensures { Ends result raised.old raised.new (loop_flow (condition_form condition.now) leaves end (λ place hs. stmts_flow (map variable_form variables.now) (in_loop place) (stmts_form body.now) hs) start.items) }
+{
+    compute_condition(alloc, &start, raised, condition)?;
+    let around = Around::in_loop(variables, &start);
+    if let Some(after) = statements(alloc, &around, start.to_vec(alloc)?, raised, body)? {
+        unless_worse(&after, &start, end)?;
+    }
+    if leaves { Ok(Some(start)) } else { Ok(None) }
+}

@@ -1,0 +1,184 @@
+//! The flow of values through statements that nest: what is known where each comes to its end, if it does.
+
+ghost use Rattle.std.specs.Prelude.{◌≡◌, None};
+ghost use Rattle.ada_flow.specs.Flow.{exit_flow, stmt_flow, stmts_flow};
+ghost use Rattle.ada_flow.specs.Told.{Joins, Ends, around_of, start_in, variables_in};
+ghost use Rattle.ada_program.specs.Form.{condition_form, stmt_form, stmts_form};
+
+use crate::analysis::{assign, declare, get, release};
+use crate::around::Around;
+use crate::blocks::{collected, handled, joined_types};
+use crate::compute::compute;
+use crate::fault::FlowFault;
+use crate::joins::join_ends;
+use crate::kinds::leave_end;
+use crate::raised::Raised;
+use crate::repetition::{count, keeps_start, repeat};
+use crate::rule::Hold;
+use ada_program::program::{Branch, Expression};
+use ada_program::{Spot, Stmt};
+use std::alloc::Global;
+
+/// `exit`, inside a loop, if it stands in one.
+fn exit(
+    alloc: Global,
+    around: &Around<'_>,
+    holds: Vec<Hold>,
+    raised: &mut Raised,
+    condition: &Option<Expression>,
+    spot: Spot,
+) -> Result<Option<Vec<Hold>>, FlowFault>
+    ensures { let place = around_of around.now in Ends result raised.old raised.new (exit_flow (variables_in around.now) place.start place.inside (condition_form condition.now) spot holds.items) }
+{
+    keeps_start(around, &holds, spot)?;
+    match condition {
+        None => Ok(None),
+        Some(condition) => {
+            compute(alloc, &holds, raised, condition)?;
+            Ok(Some(holds))
+        }
+    }
+}
+
+/// One statement.
+#[cycle(flowing)]
+#[tactic(auto, using(std::proofs::lemmas::Grind::common_steps, ada_program::specs::Form::statement_rules, crate::proofs::Noted::noted_steps, crate::proofs::Noted::block_steps, crate::proofs::Noted::then_ends))]
+fn statement(
+    alloc: Global,
+    around: &Around<'_>,
+    mut holds: Vec<Hold>,
+    raised: &mut Raised,
+    statement: &Stmt,
+) -> Result<Option<Vec<Hold>>, FlowFault>
+    ensures { Ends result raised.old raised.new (stmt_flow (variables_in around.now) (around_of around.now) (stmt_form statement.now) holds.items) }
+{
+    match statement {
+        Stmt::Null | Stmt::PutText(_) => {}
+        Stmt::Assign { target, value } => {
+            assign(alloc, around.variables, &mut holds, raised, target, value)?;
+        }
+        Stmt::Free {
+            access: _,
+            variable,
+        } => release(&mut holds, variable)?,
+        Stmt::Get(target) => get(alloc, &mut holds, raised, target)?,
+        Stmt::PutImage(expression) => compute(alloc, &holds, raised, expression)?,
+        Stmt::If {
+            branches,
+            otherwise,
+        } => {
+            let joined = self::branches(alloc, around, &holds, raised, branches)?;
+            let end = statements(alloc, around, holds, raised, otherwise)?;
+            return Ok(join_ends(joined, end));
+        }
+        Stmt::Loop {
+            condition,
+            statements,
+            end,
+        } => return repeat(
+            alloc,
+            around.variables,
+            holds,
+            raised,
+            condition,
+            statements,
+            *end,
+        ),
+        Stmt::For {
+            parameter,
+            first,
+            last,
+            statements,
+            end,
+        } => {
+            compute(alloc, &holds, raised, first)?;
+            compute(alloc, &holds, raised, last)?;
+            return count(
+                alloc,
+                around.variables,
+                holds,
+                raised,
+                *parameter,
+                statements,
+                *end,
+            );
+        }
+        Stmt::Exit { condition, spot } => {
+            return exit(alloc, around, holds, raised, condition, *spot);
+        }
+        Stmt::Return(_) => return Ok(None),
+        Stmt::Raise(_) => {
+            raised.add(Some(holds));
+            return Ok(None);
+        }
+        Stmt::Block {
+            declarations,
+            statements,
+            handlers,
+        } => {
+            let types = collected(alloc, declarations)?;
+            let inside = joined_types(alloc, &types, around.inside)?;
+            let within = Around {
+                variables: around.variables,
+                start: around.start,
+                inside: &inside,
+            };
+            let mut own = raised.emptied();
+            declare(alloc, around.variables, &mut holds, &mut own, declarations)?;
+            let mut inner = own.with_handlers(handlers);
+            let end = self::statements(alloc, &within, holds, &mut inner, statements)?;
+            let end = handled(alloc, &within, inner, end, &mut own, handlers, statements)?;
+            raised.add_behind(around.variables, &types, own);
+            return Ok(leave_end(around.variables, &types, end));
+        }
+    }
+    Ok(Some(holds))
+}
+
+/// The statements, in order, as far as each comes to its end.
+#[cycle(flowing)]
+#[tactic(auto, using(std::proofs::lemmas::Grind::common_steps, crate::proofs::Noted::noted_steps))]
+pub(crate) fn statements(
+    alloc: Global,
+    around: &Around<'_>,
+    mut holds: Vec<Hold>,
+    raised: &mut Raised,
+    statements: &[Stmt],
+) -> Result<Option<Vec<Hold>>, FlowFault>
+    ensures { Ends result raised.old raised.new (stmts_flow (variables_in around.now) (around_of around.now) (stmts_form statements.now) holds.items) }
+{
+    'statements: for one in statements {
+        match statement(alloc, around, holds, raised, one)? {
+            None => return Ok(None),
+            Some(after) => holds = after,
+        }
+    }
+    Ok(Some(holds))
+}
+
+/// The branches of an `if`: each begins behind the conditions up to its own, and their ends join.
+#[cycle(flowing)]
+#[tactic(auto, using(std::proofs::lemmas::Grind::common_steps, crate::proofs::Noted::noted_steps))]
+fn branches(
+    alloc: Global,
+    around: &Around<'_>,
+    holds: &[Hold],
+    raised: &mut Raised,
+    branches: &[Branch],
+) -> Result<Option<Vec<Hold>>, FlowFault>
+    ensures { Joins result raised.old raised.new around.now branches.now holds.now }
+{
+    let mut joined = None;
+    'branches: for branch in branches {
+        compute(alloc, holds, raised, &branch.condition)?;
+        let end = statements(
+            alloc,
+            around,
+            holds.to_vec(alloc)?,
+            raised,
+            &branch.statements,
+        )?;
+        joined = join_ends(joined, end);
+    }
+    Ok(joined)
+}

@@ -1,0 +1,180 @@
+//! Turns: what the first of what is left to do does, and how a jump passes it.
+
+ghost use Rattle.std.specs.Prelude.{◌≡◌};
+ghost use Rattle.ada_meaning.specs.Step.{running_next, jump_next, frame_next, pass_next, landed, end_of};
+ghost use Rattle.ada_meaning.specs.Named.{next, named};
+ghost use Rattle.ada_interpreter.specs.Process.{frame_of, landing_of, state_of, passed, Turns};
+
+use crate::frame::Frame;
+use crate::handling::Landing;
+use crate::process::Process;
+use crate::turn::{QUIET, Turn};
+use ada_meaning::{Halt, Mode};
+use ada_program::Program;
+use std::alloc::AllocError;
+
+impl<'a> Process<'a> {
+    /// What comes next; the step is made, up to what it asks.
+    #[tactic(auto, unfolding(ada_meaning::specs::Named::next))]
+    pub(crate) fn turn(&mut self, program: &Program) -> Result<Turn, AllocError>
+        ensures { Turns (next program.now.types.items (state_of self.old)) (state_of self.old) result (state_of self.new) }
+    {
+        match self.mode {
+            Mode::Running => self.run(program),
+            Mode::Raising(exception) => self.unwind(Mode::Raising(exception)),
+            Mode::Exiting => self.unwind(Mode::Exiting),
+            Mode::Returning => self.unwind(Mode::Returning),
+        }
+    }
+
+    /// What comes next where no jump is on its way.
+    fn run(&mut self, program: &Program) -> Result<Turn, AllocError>
+        ensures { let s = state_of self.old in
+            Turns (running_next named program.now.types.items s.control s)
+            s result (state_of self.new) }
+    {
+        match self.frames.top() {
+            None => Ok(Turn::Halts(Halt::Finished)),
+            Some(frame) => {
+                let frame = *frame;
+                self.advance(program, frame)
+            }
+        }
+    }
+
+    /// What the first of what is left to do does.
+    fn advance(&mut self, program: &Program, frame: Frame<'a>) -> Result<Turn, AllocError>
+        ensures { let s = state_of self.old in
+            Turns (frame_next named program.now.types.items (frame_of frame.entry) (passed s))
+            s result (state_of self.new) }
+    {
+        match frame {
+            Frame::Elaborates {
+                declarations,
+                statements,
+                handlers,
+            } => self.elaborate(declarations, statements, handlers),
+            Frame::Does(statements) => self.begin(statements),
+            Frame::Decides {
+                statements,
+                branches,
+                otherwise,
+            } => self.decide(statements, branches, otherwise),
+            Frame::Repeats {
+                condition,
+                statements,
+            } => self.repeat(condition, statements),
+            Frame::Turns {
+                condition,
+                statements,
+            } => self.go_round(condition, statements),
+            Frame::Ranges {
+                parameter,
+                statements,
+            } => self.count(parameter, statements),
+            Frame::Counts {
+                parameter,
+                value,
+                last,
+                statements,
+            } => self.count_on(parameter, value, last, statements),
+            Frame::Exits => Ok(self.exit_where_true()),
+            Frame::Handles(_) => {
+                self.pass();
+                Ok(QUIET)
+            }
+            Frame::Closes => self.close(),
+            Frame::Leaves(mode) => self.leave(mode),
+            Frame::Evaluates(right) => self.evaluate(right),
+            Frame::Computes(expression) => self.compute(expression),
+            Frame::Follows(selectors) => self.follow(selectors),
+            Frame::TestsNull { equal } => self.test_null(equal),
+            Frame::Continues(links) => self.go_on(links),
+            Frame::Applies(operator) => self.apply(operator),
+            Frame::AppliesAlone(operator) => self.apply_alone(operator),
+            Frame::Fills(items) => self.fill(items),
+            Frame::Creates { access, count } => Ok(self.ask(program, access, count)),
+            Frame::Stores(variable) => Ok(self.store(variable)),
+            Frame::Declares(variable) => self.create(variable),
+            Frame::Writes => Ok(self.write()),
+            Frame::Ends(object) => Ok(self.end(object)),
+            Frame::GivesBack {
+                object,
+                cause,
+                pool,
+            } => Ok(self.give_back(object, cause, pool)),
+            Frame::Clears(variable) => Ok(self.clear(variable)),
+        }
+    }
+
+    /// What comes next while a jump is on its way (5.7, 6.5, 11.4).
+    fn unwind(&mut self, mode: Mode) -> Result<Turn, AllocError>
+        ensures { let s = state_of self.old in
+            Turns (jump_next named mode s.control s) s result (state_of self.new) }
+    {
+        match self.frames.top() {
+            None => Ok(Turn::Halts(end_of(mode))),
+            Some(frame) => {
+                let is_master = frame.is_master();
+                let landing = frame.landing(mode);
+                self.discard(mode, is_master, landing)
+            }
+        }
+    }
+
+    /// A jump discards pending work, up to where it lands. Only a master interrupts it: that is left first.
+    fn discard(
+        &mut self,
+        mode: Mode,
+        is_master: bool,
+        landing: Landing<'a>,
+    ) -> Result<Turn, AllocError>
+        ensures { let s = state_of self.old in
+            Turns (pass_next named is_master (landing_of landing.entry) mode (passed s)) s result (state_of self.new) }
+    {
+        if is_master {
+            self.replace(Frame::Leaves(mode))?;
+            self.mode = Mode::Running;
+            Ok(QUIET)
+        } else {
+            self.land(landing)
+        }
+    }
+
+    /// A jump passes, or lands: behind the first of what is left to do, or in the statements of a handler.
+    fn land(&mut self, landing: Landing<'a>) -> Result<Turn, AllocError>
+        ensures { let s = state_of self.old in
+            Turns (landed named (landing_of landing.entry) (passed s)) s result (state_of self.new) }
+    {
+        match landing {
+            Landing::PassesOn => {
+                self.pass();
+                Ok(QUIET)
+            }
+            Landing::GoesBehind => {
+                self.pass();
+                self.mode = Mode::Running;
+                Ok(QUIET)
+            }
+            Landing::GoesIn(statements) => match statements.first() {
+                None => Ok(Turn::Halts(Halt::Stuck)),
+                Some(_) => {
+                    self.replace(Frame::Does(statements))?;
+                    self.mode = Mode::Running;
+                    Ok(QUIET)
+                }
+            },
+        }
+    }
+}
+
+/// How a run ends where nothing is left to do, or to pass: an exit always has a loop.
+fn end_of(mode: Mode) -> Halt
+    ensures { result ≡ end_of mode }
+{
+    match mode {
+        Mode::Running | Mode::Returning => Halt::Finished,
+        Mode::Raising(exception) => Halt::Unhandled(exception),
+        Mode::Exiting => Halt::Stuck,
+    }
+}

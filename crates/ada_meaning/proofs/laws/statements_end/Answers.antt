@@ -1,0 +1,6 @@
+-- By the weight.
+use Rattle.ada_meaning.proofs.Weight as weights
+use Rattle.ada_meaning.proofs.laws.statements_end.Goals as goal
+
+pub returns : goal.returns
+returns c = weights.statements_end

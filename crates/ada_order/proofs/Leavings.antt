@@ -1,0 +1,135 @@
+-- Each step at the leaving of a master, and so each step.
+
+use Rattle.std.proofs.Common.{◌≡◌, ℕ, ◌==◌, Bool, true, false, if◌then◌else◌, List, [], ◌∷◌, refl, ◌⊎◌, inl, inr}
+use Rattle.ada_program.specs.declared.program.Program.{Program}
+use Rattle.ada_program.specs.declared.program.TypeDefinition.{TypeDefinition}
+use Rattle.ada_meaning.specs.declared.state.Value.{Value}
+use Rattle.ada_meaning.specs.declared.state.Mode.{Mode}
+use Rattle.ada_meaning.specs.declared.state.Mode.TheVariants.{Running, Raising, Exiting, Returning}
+use Rattle.ada_meaning.specs.declared.event.Cause.TheVariants.{Leaving, Freeing, Assigning, Undoing}
+use Rattle.ada_meaning.specs.declared.event.Halt.TheVariants.{Erroneous}
+use Rattle.ada_meaning.specs.declared.event.Why.TheVariants.{GivesElsewhere}
+use Rattle.ada_meaning.specs.Frame.{Frame, Leaves, Ends, GivesBack}
+use Rattle.ada_meaning.specs.Heap.{Cell, Found, on_null, on_gone, on_other, finds}
+use Rattle.ada_meaning.specs.State.{Owned, declared, collection, Item, Master}
+use Rattle.ada_meaning.specs.Step.{halts, end_next, given_back, back_next, members_next, item_leave_next, master_leave_next, leave_next, running_next, mode_next}
+use Rattle.ada_meaning.specs.Named.{State, Next, look, lent, members, named, next}
+use Rattle.ada_meaning.specs.Run.{Event, Choice, Step}
+use Rattle.ada_order.proofs.Numbers.{Newest}
+use Rattle.ada_order.proofs.Controls.{Control, IsPlain, Plain, Stands, plainly, ending, backing, LeavesFirst, IsLeaving, Work, Leave, waits, shortens, gives, left, Deed, works, leaves, Does, does_map, led}
+use Rattle.ada_order.proofs.Works.{IsWork, frame_works, jump_works}
+
+-- A running state with this left to do.
+abbrev running : Control → State → State
+running k s = record s { control = k; mode = Running }
+
+-- A step at the leaving of a master.
+abbrev LeavesBy : State → Next → Type 0
+LeavesBy s coming = Does (Leave s.masters s.next) coming
+
+-- The leaving of a master.
+module _ (mode : Mode) (k : Control) (p : Plain k) (s : State) (m : ℕ) (ms : List Master) where
+  -- the state with these items of the master left
+  left_with : List Item → Control → State
+  left_with items control = record s { masters = record { number = m; items = items } ∷ ms; control = control; mode = Running }
+
+  members_leave : (item : Item) (items : List Item) (access : ℕ) (vs : List Value) → LeavesBy (left_with (item ∷ items) k) (members_next named (Leaving m item.number) access vs (left_with (item ∷ items) (Leaves mode ∷ k)))
+  unfolding left_with
+  members_leave item items access [] = shortens refl (refl, tt) (tt, p) refl refl
+  members_leave item items access (v ∷ vs) = λ i. waits refl (refl, tt) (ending _ m item.number _ mode k (refl, refl) p) refl refl
+
+  item_leaves : (item : Item) (items : List Item) (what : Owned) → LeavesBy (left_with (item ∷ items) k) (item_leave_next named m item what (left_with (item ∷ items) (Leaves mode ∷ k)))
+  unfolding left_with
+  item_leaves item items (declared x) = shortens refl (refl, tt) (tt, p) refl refl
+  item_leaves item items (collection access) = members_leave item items access (members s.heap item.number)
+
+  master_leaves : (items : List Item) → LeavesBy (left_with items k) (master_leave_next named mode m items (left_with items k))
+  unfolding left_with
+  master_leaves [] = left m ms refl refl p refl refl
+  master_leaves (item ∷ items) = item_leaves item items item.owned
+
+leave_leaves : (mode : Mode) (k : Control) (ms : List Master) (s : State) → Plain k → LeavesBy (record s { masters = ms }) (leave_next named mode ms (running k (record s { masters = ms })))
+unfolding left_with
+leave_leaves mode k [] s p = tt
+leave_leaves mode k (m ∷ ms) s p = master_leaves mode k p s m.number ms m.items
+
+-- An object of the newest item ends, and its words go back.
+module _ (v : Value) (m i pool : ℕ) (mode : Mode) (k : Control) (s : State) (newest : Newest m i s.masters) (p : Plain k) where
+  end_leaves : (found : Found (Cell Value)) → LeavesBy s (end_next named v found (running (GivesBack v (Leaving m i) pool ∷ Leaves mode ∷ k) s))
+  end_leaves on_null = tt
+  end_leaves on_gone = tt
+  end_leaves on_other = tt
+  end_leaves (finds cell) = waits refl (refl, tt) (backing v m i pool mode k newest p) refl refl
+
+  given_leaves : (fits : Bool) (cell : Cell Value) → LeavesBy s (if fits then given_back named v (Leaving m i) cell (running (Leaves mode ∷ k) s) else halts (Erroneous GivesElsewhere))
+  given_leaves true cell = gives m i refl refl newest (refl, tt) (tt, p) refl refl
+  given_leaves false cell = tt
+
+  back_leaves : (found : Found (Cell Value)) → LeavesBy s (back_next named v (Leaving m i) pool found (running (Leaves mode ∷ k) s))
+  back_leaves on_null = tt
+  back_leaves on_gone = tt
+  back_leaves on_other = tt
+  back_leaves (finds cell) = given_leaves (pool == cell.home.pool) cell
+
+-- A master is being left, or another frame is next.
+leaves_or_works : (f : Frame Value) → IsPlain f → ((mode : Mode) × (f ≡ Leaves mode)) ⊎ IsWork f
+leaves_or_works (Leaves mode) p = inl (mode, refl)
+leaves_or_works (GivesBack v (Leaving m i) pool) p = absurd p
+leaves_or_works (GivesBack v (Freeing number) pool) p = inr tt
+leaves_or_works (GivesBack v (Assigning number) pool) p = inr tt
+leaves_or_works (GivesBack v (Undoing number) pool) p = inr tt
+leaves_or_works f p = inr tt
+
+not_behind : (v : Value) (k : Control) → Plain k → LeavesFirst (Ends v ∷ k) → ⊥
+not_behind v [] p on = on
+not_behind v (GivesBack w (Leaving m i) pool ∷ k) p on = absurd p.0
+not_behind v (GivesBack w (Freeing number) pool ∷ k) p on = on
+not_behind v (GivesBack w (Assigning number) pool ∷ k) p on = on
+not_behind v (GivesBack w (Undoing number) pool ∷ k) p on = on
+not_behind v (f ∷ k) p on = on
+
+not_leaving : (f : Frame Value) (k : Control) → IsWork f → Plain k → LeavesFirst (f ∷ k) → ⊥
+not_leaving (Leaves mode) k is p on = absurd is
+not_leaving (Ends v) k is p on = not_behind v k p on
+not_leaving (GivesBack v (Leaving m i) pool) k is p on = absurd is
+not_leaving (GivesBack v (Freeing number) pool) k is p on = on
+not_leaving (GivesBack v (Assigning number) pool) k is p on = on
+not_leaving (GivesBack v (Undoing number) pool) k is p on = on
+not_leaving f k is p on = on
+
+-- Either kind of step, from a state that is known.
+abbrev DoesDeed : State → Next → Type 0
+DoesDeed s coming = Does (Deed s) coming
+
+leaving_deed : (s : State) (coming : Next) → LeavesBy s coming → DoesDeed s coming
+leaving_deed s coming d = does_map (Leave s.masters s.next) (Deed s) (λ e after l. leaves l) coming d
+
+working_deed : (s : State) (coming : Next) → (IsLeaving s.mode s.control → ⊥) → Does (Work s.masters s.next) coming → DoesDeed s coming
+working_deed s coming off d = does_map (Work s.masters s.next) (Deed s) (λ e after w. works off w) coming d
+
+plain_deed : (types : List TypeDefinition) (f : Frame Value) (k : Control) (s : State) → IsPlain f → Plain k → DoesDeed (running (f ∷ k) s) (running_next named types (f ∷ k) (running (f ∷ k) s))
+plain_deed types f k s is p = go (leaves_or_works f is)
+  where
+    go : ((mode : Mode) × (f ≡ Leaves mode)) ⊎ IsWork f → DoesDeed (running (f ∷ k) s) (running_next named types (f ∷ k) (running (f ∷ k) s))
+    go (inl h) = rw h.1 (leaving_deed (running (Leaves h.0 ∷ k) s) _ (leave_leaves h.0 k s.masters s p))
+    go (inr w) = working_deed (running (f ∷ k) s) _ (λ on. not_leaving f k w p on.1) (frame_works types f (running k s) w p)
+
+running_deed : (types : List TypeDefinition) (k : Control) (s : State) → Plain k → DoesDeed (running k s) (running_next named types k (running k s))
+running_deed types [] s p = tt
+running_deed types (f ∷ k) s p = plain_deed types f k s p.0 p.1
+
+mode_deed : (types : List TypeDefinition) (mode : Mode) (k : Control) (s : State) → Stands s.masters mode k → DoesDeed (record s { control = k; mode = mode }) (mode_next named types mode (record s { control = k; mode = mode }))
+mode_deed types Running k s (plainly p) = running_deed types k s p
+mode_deed types (Raising x) k s (plainly p) = working_deed (record s { control = k; mode = Raising x }) _ (λ on. cc (on.0)) (jump_works (Raising x) k (record s { control = k; mode = Raising x }) p)
+mode_deed types Exiting k s (plainly p) = working_deed (record s { control = k; mode = Exiting }) _ (λ on. cc (on.0)) (jump_works Exiting k (record s { control = k; mode = Exiting }) p)
+mode_deed types Returning k s (plainly p) = working_deed (record s { control = k; mode = Returning }) _ (λ on. cc (on.0)) (jump_works Returning k (record s { control = k; mode = Returning }) p)
+mode_deed types Running _ s (ending v m i pool mode k newest p) = leaving_deed (running (Ends v ∷ GivesBack v (Leaving m i) pool ∷ Leaves mode ∷ k) s) _ (end_leaves v m i pool mode k s newest p (look s.heap v))
+mode_deed types Running _ s (backing v m i pool mode k newest p) = leaving_deed (running (GivesBack v (Leaving m i) pool ∷ Leaves mode ∷ k) s) _ (back_leaves v m i pool mode k s newest p (lent s.heap v))
+
+next_deed : (types : List TypeDefinition) (s : State) → Stands s.masters s.mode s.control → DoesDeed s (next types s)
+unfolding next
+next_deed types s stands = mode_deed types s.mode s.control s stands
+
+-- What each step does.
+pub step_deed : (program : Program) (s : State) (choice : Choice) (e : Event) (after : State) → Stands s.masters s.mode s.control → Step program s choice e after → Deed s e after
+step_deed program s choice e after stands step = led (Deed s) (next program.types.items s) choice e after (next_deed program.types.items s stands) step

@@ -1,0 +1,259 @@
+-- Whole runs: what each state keeps, and what an event of a leaving leaves behind.
+
+use Rattle.std.proofs.Common.{◌≡◌, ℕ, ℤ, suc, ◌+◌, ◌<◌, ◌≤◌, List, [], ◌∷◌, refl, ◌⊎◌, inl, inr, arith}
+use Rattle.std.specs.Prelude.{Option, Some, None, IfSome}
+use Rattle.std.specs.List.{All, AllPairs}
+use Rattle.std.proofs.lemmas.List.Elements.{All-nil, All-cons}
+use Rattle.std.proofs.lemmas.List.Kept.{AllPairs-cons}
+use Rattle.ada_program.specs.declared.program.Program.{Program}
+use Rattle.ada_meaning.specs.Event.{Born, Finalized, Back, Followed, Left, Line, Quiet}
+use Rattle.ada_meaning.specs.State.{Master, height}
+use Rattle.ada_meaning.specs.Named.{State}
+use Rattle.ada_meaning.specs.Run.{Event, Choice, Step, Run, here, there, first_state}
+use Rattle.ada_meaning.specs.Law.{AtItem, leaving_of, master_in, left_by, Between, Differ, NeverRises, InReverseOrder, items_of, Falls, MastersFall, IsInnermost, LeavesInnermost}
+use Rattle.ada_order.specs.Masters.{IsBelow, left_of, LeftTwoMasters, GoesBeforeLeft}
+use Rattle.ada_order.proofs.Numbers.{Counted, Entered, NotEntered, Newest, is_innermost, counted_owning, counted_shorter, newest_counted, height_shorter, entered_owning, entered_shorter, entered_above, not_owning, not_shorter, innermost_shorter, not_innermost, not_above, counted_fall, entered_below, entered_fall}
+use Rattle.ada_order.proofs.Controls.{Stands, plainly, IsLeaving, Work, stays, numbers, owns, enters, Leave, waits, shortens, gives, left, Deed, works, leaves, tells_none}
+use Rattle.ada_order.proofs.Leavings.{step_deed}
+
+-- What each state of a run keeps.
+pub record Kept (s : State) : Type 0 where
+  pub stands : Stands s.masters s.mode s.control
+  pub counted : Counted (items_of s.masters)
+  pub entered : Entered s.next s.masters
+
+pub kept_first : (program : Program) (input : List ℤ) → Kept (first_state program input)
+kept_first program input = record { stands = plainly (tt, tt); counted = tt; entered = (omega arith, tt) }
+
+work_keeps : (s : State) (e : Event) (after : State) → Kept s → Work s.masters s.next e after → Kept after
+work_keeps s e after k (stays is p ms n) = record { stands = plainly p; counted = rw ms k.counted; entered = rw (ms, n) k.entered }
+work_keeps s e after k (numbers is p ms n) = record { stands = plainly p; counted = rw ms k.counted; entered = rw (ms, n) (entered_above s.next (s.next + 1) s.masters (omega arith) k.entered) }
+work_keeps s e after k (owns what is p ms n) = record { stands = plainly p; counted = rw ms (counted_owning what s.masters k.counted); entered = rw (ms, n) (entered_owning s.next _ s.masters k.entered) }
+work_keeps s e after k (enters is p ms n) = record { stands = plainly p; counted = rw ms k.counted; entered = rw (ms, n) (omega arith, k.entered) }
+
+leave_keeps : (s : State) (e : Event) (after : State) → Kept s → Leave s.masters s.next e after → Kept after
+leave_keeps s e after k (waits is on stands ms n) = record { stands = stands; counted = rw ms k.counted; entered = rw (ms, n) k.entered }
+leave_keeps s e after k (shortens is on p ms n) = record { stands = plainly p; counted = rw ms (counted_shorter s.masters k.counted); entered = rw (ms, n) (entered_shorter s.next s.masters k.entered) }
+leave_keeps s e after k (gives m i at_item is newest on p ms n) = record { stands = plainly p; counted = rw ms k.counted; entered = rw (ms, n) k.entered }
+leave_keeps s e after k (left m rest is was p ms n) =
+    let c : Counted (items_of (record { number = m; items = [] } ∷ rest)) = rw was at k.counted in
+    let below : Entered s.next (record { number = m; items = [] } ∷ rest) = rw was at k.entered in
+    let lt = below.0 in
+    record { stands = plainly p; counted = rw ms c; entered = rw (ms, n) (entered_above m s.next rest (omega (arith, lt)) below.1) }
+
+deed_keeps : (s : State) (e : Event) (after : State) → Kept s → Deed s e after → Kept after
+deed_keeps s e after k (works off w) = work_keeps s e after k w
+deed_keeps s e after k (leaves l) = leave_keeps s e after k l
+
+step_does : (program : Program) (s : State) (choice : Choice) (e : Event) (after : State) → Kept s → Step program s choice e after → Deed s e after
+step_does program s choice e after k step = step_deed program s choice e after k.stands step
+
+pub step_keeps : (program : Program) (s : State) (choice : Choice) (e : Event) (after : State) → Kept s → Step program s choice e after → Kept after
+step_keeps program s choice e after k step = deed_keeps s e after k (step_does program s choice e after k step)
+
+pub run_keeps : {program : Program} {s last : State} {events : List Event} → Run program s events last → Kept s → Kept last
+run_keeps here k = k
+run_keeps {program} {s = s} (there {event = e} choice mid step run) k = run_keeps run (step_keeps program s choice e mid k step)
+
+-- The innermost master is left.
+work_innermost : (ms : List Master) (n : ℕ) (e : Event) (after : State) → Work ms n e after → left_by e ≡ None
+work_innermost ms n e after (stays is p same next) = is
+work_innermost ms n e after (numbers is p same next) = is
+work_innermost ms n e after (owns what is p same next) = is
+work_innermost ms n e after (enters is p same next) = is
+
+leave_innermost : (ms : List Master) (n : ℕ) (e : Event) (after : State) → Leave ms n e after → LeavesInnermost e ms
+leave_innermost ms n e after (waits is on stands same next) = rw is tt
+leave_innermost ms n e after (shortens is on p same next) = rw is tt
+leave_innermost ms n e after (gives m i at_item is newest on p same next) = rw is (is_innermost m i ms newest)
+leave_innermost ms n e after (left m rest is was p same next) = rw (is, was) refl
+
+deed_innermost : (s : State) (e : Event) (after : State) → Deed s e after → LeavesInnermost e s.masters
+deed_innermost s e after (works off w) = rw (work_innermost s.masters s.next e after w) tt
+deed_innermost s e after (leaves l) = leave_innermost s.masters s.next e after l
+
+-- A master has been left: its number was used, and it is not entered.
+abbrev IsOver : ℕ → State → Type 0
+IsOver m s = (m < s.next) × NotEntered m s.masters
+
+work_over : (s : State) (e : Event) (after : State) (m : ℕ) → Work s.masters s.next e after → IsOver m s → IsOver m after
+work_over s e after m (stays is p ms n) o = (rw n o.0, rw ms o.1)
+work_over s e after m (numbers is p ms n) o = let lt = o.0 in (rw n (omega (arith, lt)), rw ms o.1)
+work_over s e after m (owns what is p ms n) o = (rw n o.0, rw ms (not_owning m _ s.masters o.1))
+work_over s e after m (enters is p ms n) o = let lt = o.0 in (rw n (omega (arith, lt)), rw ms ((λ same. omega (arith, lt, same)), o.1))
+
+leave_over : (s : State) (e : Event) (after : State) (m : ℕ) → Leave s.masters s.next e after → IsOver m s → IsOver m after
+leave_over s e after m (waits is on stands ms n) o = (rw n o.0, rw ms o.1)
+leave_over s e after m (shortens is on p ms n) o = (rw n o.0, rw ms (not_shorter m s.masters o.1))
+leave_over s e after m (gives x i at_item is newest on p ms n) o = (rw n o.0, rw ms o.1)
+leave_over s e after m (left x rest is was p ms n) o = let away : NotEntered m (record { number = x; items = [] } ∷ rest) = rw was at o.1 in (rw n o.0, rw ms away.1)
+
+deed_over : (s : State) (e : Event) (after : State) (m : ℕ) → Deed s e after → IsOver m s → IsOver m after
+deed_over s e after m (works off w) o = work_over s e after m w o
+deed_over s e after m (leaves l) o = leave_over s e after m l o
+
+-- A master that has just been left is over.
+left_is_over : (s : State) (after : State) (m : ℕ) (rest : List Master) → Kept s → s.masters ≡ record { number = m; items = [] } ∷ rest → after.masters ≡ rest → after.next ≡ s.next → IsOver m after
+left_is_over s after m rest k was ms n =
+    let below : Entered s.next (record { number = m; items = [] } ∷ rest) = rw was at k.entered in
+    (rw n below.0, rw ms (not_above m rest below.1))
+
+-- What an event of a leaving leaves behind: the master is over; or it is the innermost one, is being left, and no item of it is later than
+-- that of the event.
+abbrev IsAt : AtItem → State → Type 0
+IsAt a s = IsInnermost a.master s.masters × IsLeaving s.mode s.control × (height s.masters ≤ suc a.item)
+
+abbrev Past : Option AtItem → State → Type 0
+Past None s = Unit {0}
+Past (Some a) s = IsOver a.master s ⊎ IsAt a s
+
+leave_past : (s : State) (e : Event) (after : State) (a : AtItem) → Kept s → Leave s.masters s.next e after → IsAt a s → Past (Some a) after
+leave_past s e after a k (waits is on stands ms n) past = inr (rw ms past.0, on, rw ms past.2)
+leave_past s e after a k (shortens is on p ms n) past = let le = past.2 in inr (rw ms (innermost_shorter a.master s.masters past.0), on, rw ms (omega (arith, height_shorter s.masters, le)))
+leave_past s e after a k (gives m i at_item is newest on p ms n) past = inr (rw ms past.0, on, rw ms past.2)
+leave_past s e after a k (left m rest is was p ms n) past = let same : m ≡ a.master = rw was at past.0 in inl (rw (← same) (left_is_over s after m rest k was ms n))
+
+deed_past_at : (s : State) (e : Event) (after : State) (a : AtItem) → Kept s → Deed s e after → IsOver a.master s ⊎ IsAt a s → Past (Some a) after
+deed_past_at s e after a k d (inl o) = inl (deed_over s e after a.master d o)
+deed_past_at s e after a k (works off w) (inr past) = absurd (off past.1)
+deed_past_at s e after a k (leaves l) (inr past) = leave_past s e after a k l past
+
+deed_past : (s : State) (e : Event) (after : State) (a : Option AtItem) → Kept s → Deed s e after → Past a s → Past a after
+deed_past s e after None k d past = tt
+deed_past s e after (Some a) k d past = deed_past_at s e after a k d past
+
+-- It is so directly after the event.
+deed_born : (s : State) (e : Event) (after : State) → Kept s → Deed s e after → Past (leaving_of e) after
+deed_born s e after k (works off w) = rw (tells_none e (work_innermost s.masters s.next e after w)) tt
+deed_born s e after k (leaves l) = go l
+  where
+    go : Leave s.masters s.next e after → Past (leaving_of e) after
+    go (waits is on stands ms n) = rw (tells_none e is) tt
+    go (shortens is on p ms n) = rw (tells_none e is) tt
+    go (gives m i at_item is newest on p ms n) =
+        let counted = newest_counted m i s.masters newest k.counted in
+        rw at_item (inr (rw ms (is_innermost m i s.masters newest), on, rw ms (omega (arith, counted))))
+    go (left m rest is was p ms n) = rw is tt
+
+-- What goes at a leaving later goes no later item.
+none_between : {X Y : Type 0} (R : X → Y → Type 0) (a : Option X) → Between R a None
+none_between R None = tt
+none_between R (Some x) = tt
+
+no_rise : (s : State) (a : AtItem) (m i : ℕ) → Kept s → Newest m i s.masters → IsOver a.master s ⊎ IsAt a s → NeverRises a (record { master = m; item = i })
+no_rise s a m i k newest (inl o) = λ same. absurd (not_innermost a.master m s.masters o.1 (is_innermost m i s.masters newest) same)
+no_rise s a m i k newest (inr past) = λ same. let counted = newest_counted m i s.masters newest k.counted in let le = past.2 in omega (arith, counted, le)
+
+no_rises : (s : State) (a : Option AtItem) (m i : ℕ) → Kept s → Newest m i s.masters → Past a s → Between NeverRises a (Some (record { master = m; item = i }))
+no_rises s None m i k newest past = tt
+no_rises s (Some a) m i k newest past = no_rise s a m i k newest past
+
+deed_falls : (s : State) (e : Event) (after : State) (a : Option AtItem) → Kept s → Deed s e after → Past a s → Between NeverRises a (leaving_of e)
+deed_falls s e after a k (works off w) past = rw (tells_none e (work_innermost s.masters s.next e after w)) (none_between NeverRises a)
+deed_falls s e after a k (leaves l) past = go l
+  where
+    go : Leave s.masters s.next e after → Between NeverRises a (leaving_of e)
+    go (waits is on stands ms n) = rw (tells_none e is) (none_between NeverRises a)
+    go (shortens is on p ms n) = rw (tells_none e is) (none_between NeverRises a)
+    go (gives m i at_item is newest on p ms n) = rw at_item (no_rises s a m i k newest past)
+    go (left m rest is was p ms n) = rw is (none_between NeverRises a)
+
+-- What a master that has been left leaves behind.
+abbrev Ended : Option ℕ → State → Type 0
+Ended None s = Unit {0}
+Ended (Some m) s = IsOver m s
+
+ended_kept : (s : State) (e : Event) (after : State) (m : Option ℕ) → Deed s e after → Ended m s → Ended m after
+ended_kept s e after None d over = tt
+ended_kept s e after (Some m) d over = deed_over s e after m d over
+
+-- Only an event that says so tells that a master has been left.
+none_left : (e : Event) → left_by e ≡ None → left_of e ≡ None
+none_left (Born v part turn type number by) is = refl
+none_left (Finalized v part turn type number cause) is = refl
+none_left (Back v access number pool subpool cause) is = refl
+none_left (Followed v) is = refl
+none_left (Left master) is = is
+none_left (Line line) is = refl
+none_left Quiet is = refl
+
+leaving_is_not_left : (e : Event) (a : AtItem) → leaving_of e ≡ Some a → left_of e ≡ None
+leaving_is_not_left (Born v part turn type number by) a is = refl
+leaving_is_not_left (Finalized v part turn type number cause) a is = refl
+leaving_is_not_left (Back v access number pool subpool cause) a is = refl
+leaving_is_not_left (Followed v) a is = refl
+leaving_is_not_left (Left master) a is = absurd (cc is)
+leaving_is_not_left (Line line) a is = refl
+leaving_is_not_left Quiet a is = refl
+
+ended_born : (s : State) (e : Event) (after : State) → Kept s → Deed s e after → Ended (left_of e) after
+ended_born s e after k (works off w) = rw (none_left e (work_innermost s.masters s.next e after w)) tt
+ended_born s e after k (leaves l) = go l
+  where
+    go : Leave s.masters s.next e after → Ended (left_of e) after
+    go (waits is on stands ms n) = rw (none_left e is) tt
+    go (shortens is on p ms n) = rw (none_left e is) tt
+    go (gives m i at_item is newest on p ms n) = rw (leaving_is_not_left e _ at_item) tt
+    go (left m rest is was p ms n) = rw is (left_is_over s after m rest k was ms n)
+
+-- What is being left is another master.
+ended_differs : (s : State) (m : Option ℕ) (n : Option ℕ) → Ended m s → IfSome n (λ x. IsInnermost x s.masters) → Differ m n
+ended_differs s None n over is = tt
+ended_differs s (Some m) None over is = tt
+ended_differs s (Some m) (Some n) over is = not_innermost m n s.masters over.1 is
+
+deed_differs : (s : State) (e : Event) (after : State) (m : Option ℕ) → Deed s e after → Ended m s → Differ m (left_by e)
+deed_differs s e after m d over = ended_differs s m (left_by e) over (deed_innermost s e after d)
+
+-- An event tells of a master that has been left, or at whose leaving something goes.
+left_differs : (m : Option ℕ) (e : Event) → Differ m (left_by e) → Differ m (left_of e) × Differ m (master_in (leaving_of e))
+left_differs m (Born v part turn type number by) d = (none_between _ m, d)
+left_differs m (Finalized v part turn type number cause) d = (none_between _ m, d)
+left_differs m (Back v access number pool subpool cause) d = (none_between _ m, d)
+left_differs m (Followed v) d = (d, d)
+left_differs m (Left master) d = (d, none_between _ m)
+left_differs m (Line line) d = (d, d)
+left_differs m Quiet d = (d, d)
+
+-- Laws of two events: what the first leaves behind lasts, and the second keeps to it.
+module _ (R : Event → Event → Type 0) (P : Event → State → Type 0) (born : (s : State) (e : Event) (after : State) → Kept s → Deed s e after → P e after) (lasts : (d : Event) (s : State) (e : Event) (after : State) → Kept s → Deed s e after → P d s → R d e × P d after) where
+  all_after : {program : Program} {s last : State} {events : List Event} (d : Event) → Run program s events last → Kept s → P d s → All (R d) events
+  all_after d here k h = All-nil (R d)
+  all_after {program} {s = s} d (there {event = e} {events = es} choice mid step run) k h =
+      let g = lasts d s e mid k (step_does program s choice e mid k step) h in
+      All-cons (R d) e es g.0 (all_after d run (step_keeps program s choice e mid k step) g.1)
+
+  all_pairs : {program : Program} {s last : State} {events : List Event} → Run program s events last → Kept s → AllPairs R events
+  all_pairs here k = λ i j d lt short. absurd (omega (arith, short))
+  all_pairs {program} {s = s} (there {event = e} {events = es} choice mid step run) k =
+      let kept = step_keeps program s choice e mid k step in
+      AllPairs-cons R e es (all_after e run kept (born s e mid k (step_does program s choice e mid k step))) (all_pairs run kept)
+
+-- At the leaving of a master, what was created later goes earlier.
+pub in_reverse : (program : Program) (input : List ℤ) (events : List Event) (last : State) → Run program (first_state program input) events last → AllPairs InReverseOrder events
+in_reverse program input events last run =
+    all_pairs InReverseOrder (λ e s. Past (leaving_of e) s) deed_born (λ d s e after k deed past. (deed_falls s e after (leaving_of d) k deed past, deed_past s e after (leaving_of d) k deed past)) run (kept_first program input)
+
+-- Only the innermost master is being left.
+pub inner_first : (program : Program) (input : List ℤ) (events : List Event) (before after : State) (choice : Choice) (event : Event) → Run program (first_state program input) events before → Step program before choice event after → LeavesInnermost event before.masters
+inner_first program input events before after choice event run step =
+    deed_innermost before event after (step_does program before choice event after (run_keeps run (kept_first program input)) step)
+
+-- Numbers fall along items and masters, and the next number is above them.
+pub items_fall : (program : Program) (input : List ℤ) (events : List Event) (last : State) → Run program (first_state program input) events last → AllPairs Falls (items_of last.masters)
+items_fall program input events last run = counted_fall (items_of last.masters) (run_keeps run (kept_first program input)).counted
+
+pub masters_fall : (program : Program) (input : List ℤ) (events : List Event) (last : State) → Run program (first_state program input) events last → AllPairs MastersFall last.masters
+masters_fall program input events last run = entered_fall last.next last.masters (run_keeps run (kept_first program input)).entered
+
+pub below_next : (program : Program) (input : List ℤ) (events : List Event) (last : State) → Run program (first_state program input) events last → All (IsBelow last.next) last.masters
+below_next program input events last run = entered_below last.next last.masters (run_keeps run (kept_first program input)).entered
+
+-- A master is left once, and nothing goes at its leaving after.
+pub left_once : (program : Program) (input : List ℤ) (events : List Event) (last : State) → Run program (first_state program input) events last → AllPairs LeftTwoMasters events
+left_once program input events last run =
+    all_pairs LeftTwoMasters (λ e s. Ended (left_of e) s) ended_born (λ d s e after k deed over. ((left_differs (left_of d) e (deed_differs s e after (left_of d) deed over)).0, ended_kept s e after (left_of d) deed over)) run (kept_first program input)
+
+pub nothing_after_left : (program : Program) (input : List ℤ) (events : List Event) (last : State) → Run program (first_state program input) events last → AllPairs GoesBeforeLeft events
+nothing_after_left program input events last run =
+    all_pairs GoesBeforeLeft (λ e s. Ended (left_of e) s) ended_born (λ d s e after k deed over. ((left_differs (left_of d) e (deed_differs s e after (left_of d) deed over)).1, ended_kept s e after (left_of d) deed over)) run (kept_first program input)

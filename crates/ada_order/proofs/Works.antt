@@ -1,0 +1,275 @@
+-- Each step that leaves no master.
+
+use Rattle.std.proofs.Common.{◌≡◌, ℕ, ℤ, ◌==◌, Bool, true, false, if◌then◌else◌, List, [], ◌∷◌, Option, Some, None, Result, Ok, Err, refl}
+use Rattle.std.specs.Prelude.{int_le}
+use Rattle.std.specs.List.{slice_get}
+use Rattle.ada_program.specs.declared.program.TypeDefinition.{TypeDefinition}
+use Rattle.ada_program.specs.Form.{ExpressionForm, integer, boolean, reads, is_null, applied_to, chained, LinksForm, no_more_links, a_link, ItemForm, null_item, item_of_value, RightForm, nothing, value_of, allocates, computes, StmtForm, skips, assigns, frees, gets, writes, writes_text, chooses, repeats, counts, exits, raises, encloses, StmtsForm, no_stmts, a_stmt, BranchesForm, otherwise, a_branch, HandlersForm, DeclarationForm, collects, declares}
+use Rattle.ada_program.specs.Form as form
+use Rattle.ada_program.specs.Typed.{words_of}
+use Rattle.ada_values.specs.declared.operator.BinaryOperator.{BinaryOperator}
+use Rattle.ada_values.specs.declared.fault.OperatorFault.{OperatorFault}
+use Rattle.ada_values.specs.declared.fault.OperatorFault.TheVariants.{Overflow, DivisionByZero, WrongType}
+use Rattle.ada_meaning.specs.declared.state.Value.{Value}
+use Rattle.ada_meaning.specs.declared.state.Mode.{Mode}
+use Rattle.ada_meaning.specs.declared.event.Cause.{Cause}
+use Rattle.ada_meaning.specs.declared.event.Cause.TheVariants.{Leaving, Freeing, Assigning, Undoing}
+use Rattle.ada_meaning.specs.declared.event.Halt.TheVariants.{Erroneous}
+use Rattle.ada_meaning.specs.declared.event.Why.TheVariants.{GivesElsewhere}
+use Rattle.ada_meaning.specs.Event.{Quiet}
+use Rattle.ada_meaning.specs.Frame.{Frame, is_master, Landing, passes_on, goes_behind, goes_in, landing}
+use Rattle.ada_meaning.specs.Frame as frame
+use Rattle.ada_meaning.specs.State.{declared, collection, home_of}
+use Rattle.ada_meaning.specs.Heap.{Cell, Found, on_null, on_gone, on_other, finds}
+use Rattle.ada_meaning.specs.Step.{halts, at, popped, held, newest, reading, component_next, follow_next, path_next, expression_next, null_test_next, is_decided, link_next, links_next, outcome_next, item_next, items_next, answered, new_next, right_next, free_next, end_next, given_back, back_next, assign_next, frees_next, branches_next, decided_next, turn_next, repeats_next, turned_next, count_turn_next, counts_next, ranges_next, gets_next, exit_next, exited_next, stmt_next, stmts_next, line_next, declaration_next, declarations_next, frame_next, landed, pass_next, jump_next}
+use Rattle.ada_meaning.specs.Named.{State, Next, named, look, lent, reads_boolean, reads_null, reads_integer, unary_given, binary_given}
+use Rattle.ada_meaning.specs.Run.{Event}
+use Rattle.ada_meaning.specs.Law.{left_by}
+use Rattle.ada_order.proofs.Controls.{IsPlain, Plain, Work, stays, numbers, owns, enters, Does}
+
+-- A step of this state that leaves no master.
+abbrev pub Works : State → Next → Type 0
+Works s coming = Does (Work s.masters s.next) coming
+
+-- Paths and expressions.
+reading_works : (cs : List ℕ) (v : Value) (e : Event) (s : State) → left_by e ≡ None → Plain s.control → Work s.masters s.next e (reading named cs v s)
+reading_works [] v e s h p = stays h p refl refl
+reading_works (c ∷ cs) v e s h p = stays h (tt, p) refl refl
+
+component_works : (v : Value) (cs : List ℕ) (found : Option Value) (s : State) → Plain s.control → Works s (component_next named v cs found s)
+component_works v cs None s p = tt
+component_works v cs (Some u) s p = reading_works cs u _ s refl p
+
+follow_works : (v : Value) (c : ℕ) (cs : List ℕ) (found : Found (Cell Value)) (s : State) → Plain s.control → Works s (follow_next named v c cs found s)
+follow_works v c cs on_null s p = stays refl p refl refl
+follow_works v c cs on_gone s p = tt
+follow_works v c cs on_other s p = tt
+follow_works v c cs (finds cell) s p = component_works v cs (slice_get cell.values c) s p
+
+path_works : (cs : List ℕ) (v : Value) (s : State) → Plain s.control → Works s (path_next named cs v s)
+path_works [] v s p = stays refl p refl refl
+path_works (c ∷ cs) v s p = follow_works v c cs (look s.heap v) s p
+
+expression_works : (e : ExpressionForm) (s : State) → Plain s.control → Works s (expression_next named e s)
+expression_works (integer i) s p = stays refl p refl refl
+expression_works (boolean b) s p = stays refl p refl refl
+expression_works (reads path) s p = path_works path.selectors (held named s path.root) s p
+expression_works (is_null equal path) s p = path_works path.selectors (held named s path.root) (at (frame.TestsNull equal ∷ s.control) s) (tt, p)
+expression_works (applied_to operator e) s p = stays refl (tt, (tt, p)) refl refl
+expression_works (chained e links) s p = stays refl (tt, (tt, p)) refl refl
+
+null_test_works : (equal : Bool) (null : Option Bool) (s : State) → Plain s.control → Works s (null_test_next named equal null s)
+null_test_works equal None s p = tt
+null_test_works true (Some null) s p = stays refl p refl refl
+null_test_works false (Some null) s p = stays refl p refl refl
+
+link_works : (decided : Bool) (operator : BinaryOperator) (e : ExpressionForm) (links : LinksForm) (s : State) → Plain s.control → Works s (link_next named decided operator e links s)
+link_works true operator e links s p = stays refl (tt, p) refl refl
+link_works false operator e links s p = stays refl (tt, (tt, (tt, p))) refl refl
+
+links_work : (links : LinksForm) (s : State) → Plain s.control → Works s (links_next named links s)
+links_work no_more_links s p = stays refl p refl refl
+links_work (a_link operator e links) s p = link_works (is_decided named operator (reads_boolean (newest named s))) operator e links s p
+
+outcome_works : (outcome : Result Value OperatorFault) (s : State) → Plain s.control → Works s (outcome_next named outcome s)
+outcome_works (Ok v) s p = stays refl p refl refl
+outcome_works (Err Overflow) s p = stays refl p refl refl
+outcome_works (Err DivisionByZero) s p = stays refl p refl refl
+outcome_works (Err WrongType) s p = tt
+
+-- Allocators, and what is assigned.
+item_works : (item : ItemForm) (s : State) → Plain s.control → Works s (item_next named item s)
+item_works null_item s p = stays refl p refl refl
+item_works (item_of_value e) s p = stays refl (tt, p) refl refl
+
+items_work : (items : List ItemForm) (s : State) → Plain s.control → Works s (items_next named items s)
+items_work [] s p = stays refl p refl refl
+items_work (i ∷ is) s p = item_works i (at (frame.Fills is ∷ s.control) s) (tt, p)
+
+answered_works : (access count item words : ℕ) (s : State) (granted : Bool) → Plain s.control → Work s.masters s.next Quiet (answered named access count item words s granted)
+answered_works access count item words s true p = stays refl p refl refl
+answered_works access count item words s false p = stays refl p refl refl
+
+new_works : (access count words : ℕ) (home : Option ℕ) (s : State) → Plain s.control → Works s (new_next named access count words home s)
+new_works access count words None s p = stays refl p refl refl
+new_works access count words (Some item) s p = λ granted. answered_works access count item words s granted p
+
+right_works : (right : RightForm) (s : State) → Plain s.control → Works s (right_next named right s)
+right_works nothing s p = stays refl p refl refl
+right_works (value_of path) s p = path_works path.selectors (held named s path.root) s p
+right_works (allocates access items) s p = stays refl (tt, (tt, p)) refl refl
+right_works (computes e) s p = stays refl (tt, p) refl refl
+
+-- Free, and what it leads to.
+free_works : (access x : ℕ) (v : Value) (found : Found (Cell Value)) (s : State) → Plain s.control → Works s (free_next named access x v found s)
+free_works access x v on_null s p = stays refl p refl refl
+free_works access x v on_gone s p = tt
+free_works access x v on_other s p = tt
+free_works access x v (finds cell) s p = numbers refl (tt, (tt, (tt, p))) refl refl
+
+end_works : (v : Value) (found : Found (Cell Value)) (s : State) → Plain s.control → Works s (end_next named v found s)
+end_works v on_null s p = tt
+end_works v on_gone s p = tt
+end_works v on_other s p = tt
+end_works v (finds cell) s p = stays refl p refl refl
+
+given_works : (fits : Bool) (v : Value) (cause : Cause) (pool : ℕ) (cell : Cell Value) (s : State) → IsPlain (frame.GivesBack v cause pool) → Plain s.control → Works s (if fits then given_back named v cause cell s else halts (Erroneous GivesElsewhere))
+given_works true v (Leaving m i) pool cell s is p = absurd is
+given_works true v (Freeing number) pool cell s is p = stays refl p refl refl
+given_works true v (Assigning number) pool cell s is p = stays refl p refl refl
+given_works true v (Undoing number) pool cell s is p = stays refl p refl refl
+given_works false v cause pool cell s is p = tt
+
+back_works : (v : Value) (cause : Cause) (pool : ℕ) (found : Found (Cell Value)) (s : State) → IsPlain (frame.GivesBack v cause pool) → Plain s.control → Works s (back_next named v cause pool found s)
+back_works v cause pool on_null s is p = tt
+back_works v cause pool on_gone s is p = tt
+back_works v cause pool on_other s is p = tt
+back_works v cause pool (finds cell) s is p = given_works (pool == cell.home.pool) v cause pool cell s is p
+
+-- Statements and declarations.
+assign_works : (cs : List ℕ) (x : ℕ) (right : RightForm) (s : State) → Plain s.control → Works s (assign_next named cs x right s)
+assign_works [] x right s p = stays refl (tt, (tt, p)) refl refl
+assign_works (c ∷ cs) x right s p = tt
+
+frees_work : (cs : List ℕ) (access x : ℕ) (s : State) → Plain s.control → Works s (frees_next named cs access x s)
+frees_work [] access x s p = free_works access x (held named s x) (look s.heap (held named s x)) s p
+frees_work (c ∷ cs) access x s p = tt
+
+branches_work : (branches : BranchesForm) (s : State) → Plain s.control → Works s (branches_next named branches s)
+branches_work (otherwise fs) s p = stays refl (tt, p) refl refl
+branches_work (a_branch e fs branches) s p = stays refl (tt, (tt, p)) refl refl
+
+decided_works : (fs : StmtsForm) (branches : BranchesForm) (truth : Option Bool) (s : State) → Plain s.control → Works s (decided_next named fs branches truth s)
+decided_works fs branches None s p = tt
+decided_works fs branches (Some true) s p = stays refl (tt, p) refl refl
+decided_works fs branches (Some false) s p = branches_work branches s p
+
+turn_works : (condition : Option ExpressionForm) (fs : StmtsForm) (s : State) → Plain s.control → Works s (turn_next named condition fs s)
+turn_works condition no_stmts s p = tt
+turn_works condition (a_stmt f fs) s p = stays refl (tt, (tt, p)) refl refl
+
+repeats_work : (condition : Option ExpressionForm) (fs : StmtsForm) (s : State) → Plain s.control → Works s (repeats_next named condition fs s)
+repeats_work None fs s p = turn_works None fs s p
+repeats_work (Some e) fs s p = stays refl (tt, (tt, p)) refl refl
+
+turned_works : (e : ExpressionForm) (fs : StmtsForm) (truth : Option Bool) (s : State) → Plain s.control → Works s (turned_next named e fs truth s)
+turned_works e fs None s p = tt
+turned_works e fs (Some true) s p = turn_works (Some e) fs s p
+turned_works e fs (Some false) s p = stays refl p refl refl
+
+count_turn_works : (x : ℕ) (value last : ℤ) (fs : StmtsForm) (s : State) → Plain s.control → Works s (count_turn_next named x value last fs s)
+count_turn_works x value last no_stmts s p = tt
+count_turn_works x value last (a_stmt f fs) s p = stays refl (tt, (tt, p)) refl refl
+
+counting_works : (more : Bool) (x : ℕ) (value last : ℤ) (fs : StmtsForm) (s : State) → int_le value last ≡ more → Plain s.control → Works s (counts_next named x value last fs s)
+counting_works true x value last fs s is p = rw is (count_turn_works x value last fs s p)
+counting_works false x value last fs s is p = rw is (stays refl p refl refl)
+
+counts_work : (x : ℕ) (value last : ℤ) (fs : StmtsForm) (s : State) → Plain s.control → Works s (counts_next named x value last fs s)
+counts_work x value last fs s p = counting_works (int_le value last) x value last fs s refl p
+
+ranges_work : (x : ℕ) (fs : StmtsForm) (low high : Option ℤ) (s : State) → Plain s.control → Works s (ranges_next named x fs low high s)
+ranges_work x fs None high s p = tt
+ranges_work x fs (Some low) None s p = tt
+ranges_work x fs (Some low) (Some high) s p = counts_work x low high fs s p
+
+gets_work : (cs : List ℕ) (x : ℕ) (input : List ℤ) (s : State) → Plain s.control → Works s (gets_next named cs x input s)
+gets_work (c ∷ cs) x input s p = tt
+gets_work [] x [] s p = stays refl p refl refl
+gets_work [] x (i ∷ is) s p = stays refl p refl refl
+
+exit_works : (condition : Option ExpressionForm) (s : State) → Plain s.control → Works s (exit_next named condition s)
+exit_works None s p = stays refl p refl refl
+exit_works (Some e) s p = stays refl (tt, (tt, p)) refl refl
+
+exited_works : (truth : Option Bool) (s : State) → Plain s.control → Works s (exited_next named truth s)
+exited_works None s p = tt
+exited_works (Some true) s p = stays refl p refl refl
+exited_works (Some false) s p = stays refl p refl refl
+
+stmt_works : (f : StmtForm) (s : State) → Plain s.control → Works s (stmt_next named f s)
+stmt_works skips s p = stays refl p refl refl
+stmt_works (assigns target right) s p = assign_works target.selectors target.root right s p
+stmt_works (frees access variable) s p = frees_work variable.selectors access variable.root s p
+stmt_works (gets target) s p = gets_work target.selectors target.root s.input s p
+stmt_works (writes e) s p = stays refl (tt, (tt, p)) refl refl
+stmt_works (writes_text text) s p = stays refl p refl refl
+stmt_works (chooses branches) s p = branches_work branches s p
+stmt_works (repeats condition fs end_spot) s p = stays refl (tt, p) refl refl
+stmt_works (counts x low high fs end_spot) s p = stays refl (tt, (tt, (tt, p))) refl refl
+stmt_works (exits condition spot) s p = exit_works condition s p
+stmt_works (form.returns spot) s p = stays refl p refl refl
+stmt_works (raises e) s p = stays refl p refl refl
+stmt_works (encloses ds fs hs) s p = enters refl (tt, p) refl refl
+
+stmts_work : (fs : StmtsForm) (s : State) → Plain s.control → Works s (stmts_next named fs s)
+stmts_work no_stmts s p = stays refl p refl refl
+stmts_work (a_stmt f fs) s p = stmt_works f (at (frame.Does fs ∷ s.control) s) (tt, p)
+
+line_works : (read : Option ℤ) (s : State) → Plain s.control → Works s (line_next named read s)
+line_works None s p = tt
+line_works (Some i) s p = stays refl p refl refl
+
+declaration_works : (d : DeclarationForm) (s : State) → Plain s.control → Works s (declaration_next named d s)
+declaration_works (collects access) s p = owns (collection access) refl p refl refl
+declaration_works (declares x right) s p = stays refl (tt, (tt, p)) refl refl
+
+declarations_work : (ds : List DeclarationForm) (fs : StmtsForm) (hs : HandlersForm) (s : State) → Plain s.control → Works s (declarations_next named ds fs hs s)
+declarations_work [] fs hs s p = stays refl (tt, (tt, (tt, p))) refl refl
+declarations_work (d ∷ ds) fs hs s p = declaration_works d (at (frame.Elaborates ds fs hs ∷ s.control) s) (tt, p)
+
+-- A frame at which no master is being left.
+abbrev pub IsWork : Frame Value → Type 0
+IsWork (frame.Leaves mode) = ⊥
+IsWork (frame.GivesBack v (Leaving m i) pool) = ⊥
+IsWork f = Unit {0}
+
+back_is_plain : (v : Value) (cause : Cause) (pool : ℕ) → IsWork (frame.GivesBack v cause pool) → IsPlain (frame.GivesBack v cause pool)
+back_is_plain v (Leaving m i) pool is = absurd is
+back_is_plain v (Freeing number) pool is = tt
+back_is_plain v (Assigning number) pool is = tt
+back_is_plain v (Undoing number) pool is = tt
+
+-- Each such frame that is taken off.
+pub frame_works : (types : List TypeDefinition) (f : Frame Value) (s : State) → IsWork f → Plain s.control → Works s (frame_next named types f s)
+frame_works types (frame.Elaborates ds fs hs) s is p = declarations_work ds fs hs s p
+frame_works types (frame.Does fs) s is p = stmts_work fs s p
+frame_works types (frame.Decides fs branches) s is p = decided_works fs branches (reads_boolean (newest named s)) (popped s) p
+frame_works types (frame.Repeats condition fs) s is p = repeats_work condition fs s p
+frame_works types (frame.Turns condition fs) s is p = turned_works condition fs (reads_boolean (newest named s)) (popped s) p
+frame_works types (frame.Ranges x fs) s is p = ranges_work x fs (reads_integer (newest named (popped s))) (reads_integer (newest named s)) (popped (popped s)) p
+frame_works types (frame.Counts x value last fs) s is p = counts_work x value last fs s p
+frame_works types frame.Exits s is p = exited_works (reads_boolean (newest named s)) (popped s) p
+frame_works types (frame.Handles hs) s is p = stays refl p refl refl
+frame_works types frame.Closes s is p = stays refl (tt, p) refl refl
+frame_works types (frame.Leaves mode) s is p = absurd is
+frame_works types (frame.Evaluates right) s is p = right_works right s p
+frame_works types (frame.Computes e) s is p = expression_works e s p
+frame_works types (frame.Follows cs) s is p = path_works cs (newest named s) (popped s) p
+frame_works types (frame.TestsNull equal) s is p = null_test_works equal (reads_null (newest named s)) (popped s) p
+frame_works types (frame.Continues links) s is p = links_work links s p
+frame_works types (frame.Applies operator) s is p = outcome_works (binary_given operator (newest named (popped s)) (newest named s)) (popped (popped s)) p
+frame_works types (frame.AppliesAlone operator) s is p = outcome_works (unary_given operator (newest named s)) (popped s) p
+frame_works types (frame.Fills items) s is p = items_work items s p
+frame_works types (frame.Creates access count) s is p = new_works access count (words_of types access) (home_of access s.masters) s p
+frame_works types (frame.Stores x) s is p = stays refl p refl refl
+frame_works types (frame.Declares x) s is p = owns (declared x) refl p refl refl
+frame_works types frame.Writes s is p = line_works (reads_integer (newest named s)) (popped s) p
+frame_works types (frame.Ends v) s is p = end_works v (look s.heap v) s p
+frame_works types (frame.GivesBack v cause pool) s is p = back_works v cause pool (lent s.heap v) s (back_is_plain v cause pool is) p
+frame_works types (frame.Clears x) s is p = stays refl p refl refl
+
+-- A jump: what it passes, and where it lands.
+landed_works : (l : Landing) (s : State) → Plain s.control → Works s (landed named l s)
+landed_works passes_on s p = stays refl p refl refl
+landed_works goes_behind s p = stays refl p refl refl
+landed_works (goes_in no_stmts) s p = tt
+landed_works (goes_in (a_stmt f fs)) s p = stays refl (tt, p) refl refl
+
+pass_works : (master : Bool) (l : Landing) (mode : Mode) (s : State) → Plain s.control → Works s (pass_next named master l mode s)
+pass_works true l mode s p = stays refl (tt, p) refl refl
+pass_works false l mode s p = landed_works l s p
+
+pub jump_works : (mode : Mode) (k : List (Frame Value)) (s : State) → Plain k → Works s (jump_next named mode k s)
+jump_works mode [] s p = tt
+jump_works mode (f ∷ k) s p = pass_works (is_master f) (landing mode f) mode (at k s) p.1

@@ -1,0 +1,90 @@
+-- A program whose blocks nest, and what its run shows.
+
+use Rattle.std.specs.Prelude.{◌≡◌, ℕ, ℤ, Bool, true, false, List, [], ◌∷◌, map, None, pos}
+use Rattle.std.specs.List.{filter}
+use Rattle.ada_program.specs.declared.program.Program.{Program}
+use Rattle.ada_program.specs.Form.{PathForm, integer, item_of_value, nothing, allocates, StmtForm, skips, assigns, writes, returns, encloses, StmtsForm, no_stmts, a_stmt, no_handlers, collects, declares, stmt_forms}
+use Rattle.ada_meaning.specs.declared.state.Value.TheVariants.{Names}
+use Rattle.ada_meaning.specs.declared.event.Cause.TheVariants.{Leaving}
+use Rattle.ada_meaning.specs.declared.event.Halt.TheVariants.{Finished}
+use Rattle.ada_meaning.specs.Event.{Back, Left, Quiet}
+use Rattle.ada_meaning.specs.State.{Master}
+use Rattle.ada_meaning.specs.Named.{State}
+use Rattle.ada_meaning.specs.Run.{Event, Choice, Step, Run, Halts, first_state}
+
+-- There is a run with such events, to such a state.
+abbrev pub InSomeRun : Program → (List Event → State → Type 0) → Type 0
+InSomeRun program P =
+    (input : List ℤ) × (events : List Event) × (last : State) × Run program (first_state program input) events last × P events last
+
+-- There is a step from such a state that a run comes to, with such an event.
+abbrev pub InSomeStep : Program → (State → Event → Type 0) → Type 0
+InSomeStep program P =
+    InSomeRun program
+    (λ events before. (choice : Choice) × (event : Event) × (after : State) × Step program before choice event after × P before event)
+
+-- An event that can be seen.
+abbrev pub is_seen : Event → Bool
+is_seen Quiet = false
+is_seen e = true
+
+-- A variable of the example, by its number.
+abbrev pub variable_at : ℕ → PathForm
+variable_at x = record { root = x; selectors = []; spot = record { line = 1; column = 1 } }
+
+-- It becomes a new object of an access type.
+abbrev pub new_to : (x access : ℕ) → StmtForm
+new_to x access = assigns (variable_at x) (allocates access (item_of_value (integer (pos 7)) ∷ []))
+
+-- declare Y : B; Z : C; begin Y := new Cell'(7); Y := new Cell'(7); Z := new Cell'(7); return; end;
+abbrev pub inner_block : StmtForm
+inner_block =
+    encloses (collects 2 ∷ declares 1 nothing ∷ collects 3 ∷ declares 2 nothing ∷ [])
+    (a_stmt (new_to 1 2)
+    (a_stmt (new_to 1 2)
+    (a_stmt (new_to 2 3)
+    (a_stmt (returns (record { line = 1; column = 1 })) no_stmts))))
+    no_handlers
+
+-- declare X : A; begin X := new Cell'(7); declare .. end; Put_Line (Integer'Image (0)); end;
+abbrev pub outer_block : StmtForm
+outer_block =
+    encloses (collects 1 ∷ declares 0 nothing ∷ [])
+    (a_stmt (new_to 0 1)
+    (a_stmt inner_block
+    (a_stmt (writes (integer (pos 0))) no_stmts)))
+    no_handlers
+
+-- begin null; end; declare .. end;
+abbrev pub nested_stmts : StmtsForm
+nested_stmts = a_stmt (encloses [] (a_stmt skips no_stmts) no_handlers) (a_stmt outer_block no_stmts)
+
+-- The first block is left. The return leaves the inner one of the other blocks, with the collection of C before that of B, whose second
+-- object is taken first here; then the outer one, and then the main procedure. Nothing is written.
+abbrev pub nested_events : List Event
+nested_events =
+    Left 1
+    ∷ Back (Names (record { 0 = 3 })) 3 4 0 None (Leaving 3 4)
+    ∷ Back (Names (record { 0 = 2 })) 2 3 0 None (Leaving 3 2)
+    ∷ Back (Names (record { 0 = 1 })) 2 2 0 None (Leaving 3 2)
+    ∷ Left 3
+    ∷ Back (Names (record { 0 = 0 })) 1 1 0 None (Leaving 2 0)
+    ∷ Left 2
+    ∷ Left 0
+    ∷ []
+
+-- The numbers of masters.
+abbrev pub number_of : Master → ℕ
+number_of m = m.number
+
+-- A run of a program with these statements finishes after these events.
+abbrev pub BlocksAreLeft : Type 0
+BlocksAreLeft =
+    (program : Program) × (stmt_forms program ≡ nested_stmts)
+    × InSomeRun program (λ events last. Halts program last Finished × (filter is_seen events ≡ nested_events))
+
+-- It comes to the step that leaves the inner block, while three masters are entered.
+abbrev pub InnerIsLeft : Type 0
+InnerIsLeft =
+    (program : Program) × (stmt_forms program ≡ nested_stmts)
+    × InSomeStep program (λ before event. (event ≡ Left 3) × (map number_of before.masters ≡ 3 ∷ 2 ∷ 0 ∷ []))

@@ -1,0 +1,6 @@
+-- The laws of masters, in the order in which they are read.
+
+-- what holds of masters in every run
+pub mod Masters
+-- a run that meets the premises
+pub mod Example

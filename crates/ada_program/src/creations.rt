@@ -1,0 +1,251 @@
+//! What a program creates, in the order of the text: each variable once and in order (3.11), and one collection for each
+//! access type (7.6.1).
+
+ghost use Rattle.std.specs.Prelude.{◌≡◌, ◌==◌, Some, map, length, count_by};
+ghost use Rattle.ada_program.specs.Created.{seen_next, seen_after, is_complete};
+ghost use Rattle.ada_program.specs.Form.{StmtsForm, stmt_form, stmts_form, branches_form, handlers_form};
+ghost use Rattle.ada_program.specs.ProgramForm.{program_form};
+ghost use Rattle.ada_program.specs.Kept as kept;
+ghost use Rattle.ada_program.specs.WellFormed as fits;
+ghost use Rattle.ada_program.specs.WellFormed.{of_collection, of_variable};
+
+use crate::program::{Branch, Declaration, Handler, Program, Stmt, TypeDefinition};
+
+/// What has been seen of the creations so far.
+#[derive(Clone, Copy, Debug, PartialEq, Eq)]
+pub(crate) enum Seen {
+    /// Variables in order; the next of so many has this number.
+    Variables { next: usize, count: usize },
+    /// The collection of this access type at most once.
+    Collection { access: usize, created: bool },
+}
+
+impl Seen {
+    /// What is seen after one more collection: none, if it is a second one of the access type.
+    fn after_collection(self, collection: usize) -> Option<Seen>
+        ensures { result ≡ seen_next self (of_collection collection) }
+    {
+        match self {
+            Seen::Variables { .. } => Some(self),
+            Seen::Collection { access, created } => {
+                if collection != access {
+                    Some(self)
+                } else if created {
+                    None
+                } else {
+                    Some(Seen::Collection {
+                        access,
+                        created: true,
+                    })
+                }
+            }
+        }
+    }
+
+    /// What is seen after one more variable: none, if it is not the next one.
+    fn after_variable(self, variable: usize) -> Option<Seen>
+        ensures { result ≡ seen_next self (of_variable variable) }
+    {
+        match self {
+            Seen::Variables { next, count } => {
+                if variable == next && next < count {
+                    Some(Seen::Variables {
+                        next: next + 1,
+                        count,
+                    })
+                } else {
+                    None
+                }
+            }
+            Seen::Collection { .. } => Some(self),
+        }
+    }
+
+    /// What is seen after what a declaration creates.
+    fn after_declaration(self, declaration: &Declaration) -> Option<Seen>
+        ensures { result ≡ seen_next self (kept.creation declaration.now) }
+    {
+        match declaration {
+            Declaration::Collection(access) => self.after_collection(access.0),
+            Declaration::Variable {
+                variable,
+                initial: _,
+            } => self.after_variable(variable.0),
+        }
+    }
+
+    /// Whether each variable, or the collection, has been created.
+    fn is_complete(self) -> bool
+        ensures { result ≡ is_complete (Some self) }
+    {
+        match self {
+            Seen::Variables { next, count } => next == count,
+            Seen::Collection { access: _, created } => created,
+        }
+    }
+}
+
+/// Whether the program creates each variable once, in the order of the text (3.11).
+#[tactic(auto, using(std::proofs::lemmas::Grind::common_steps, crate::proofs::InOrder::tells))]
+pub(crate) fn creates_in_order(program: &Program) -> bool
+    ensures { result ≡ fits.creates_from (length program.now.variables.items) 0 (kept.creations program.now) }
+{
+    let seen = Seen::Variables {
+        next: 0,
+        count: program.variables.len(),
+    };
+    is_complete_after(seen, program)
+}
+
+/// Whether the program creates one collection for each access type (7.6.1).
+#[tactic(auto, using(std::proofs::lemmas::Grind::common_steps, crate::proofs::InOrder::tells))]
+pub(crate) fn has_collections(program: &Program) -> bool
+    ensures { result ≡ kept.has_collections (kept.creations program.now) program.now.types.items }
+{
+    let types = &program.types;
+    for (access, definition) in types.iter().enumerate() {
+        let has_one = match definition {
+            TypeDefinition::Record { .. } => true,
+            TypeDefinition::Access { .. } => has_collection(access, program),
+        };
+        if !has_one {
+            return false;
+        }
+    }
+    true
+}
+
+/// Whether the program creates one collection for this access type.
+#[tactic(auto, using(std::proofs::lemmas::Grind::common_steps, crate::proofs::InOrder::tells))]
+fn has_collection(access: usize, program: &Program) -> bool
+    ensures { result ≡ (count_by (fits.is_collection access) (kept.creations program.now) == 1) }
+{
+    let seen = Seen::Collection {
+        access,
+        created: false,
+    };
+    is_complete_after(seen, program)
+}
+
+/// Whether what is wanted has been created at the end of the program.
+fn is_complete_after(seen: Seen, program: &Program) -> bool
+    ensures { result ≡ is_complete (seen_after (Some seen) (kept.creations program.now)) }
+{
+    match after_program(seen, program) {
+        None => false,
+        Some(seen) => seen.is_complete(),
+    }
+}
+
+/// What is seen after all that a program creates.
+#[tactic(auto, using(std::proofs::lemmas::Grind::common_steps, crate::proofs::InOrder::steps))]
+fn after_program(seen: Seen, program: &Program) -> Option<Seen>
+    ensures { result ≡ seen_after (Some seen) (kept.creations program.now) }
+{
+    let seen = after_declarations(seen, &program.declarations)?;
+    let seen = after_statements(seen, &program.statements)?;
+    after_handlers(seen, &program.handlers)
+}
+
+/// What is seen after what declarations create.
+#[tactic(auto, using(std::proofs::lemmas::Grind::common_steps, crate::proofs::InOrder::steps))]
+fn after_declarations(seen: Seen, declarations: &[Declaration]) -> Option<Seen>
+    ensures { result ≡ seen_after (Some seen) (kept.created declarations.now) }
+{
+    let mut seen = seen;
+    'declarations: for declaration in declarations {
+        seen = seen.after_declaration(declaration)?;
+    }
+    Some(seen)
+}
+
+/// What is seen after what statements create.
+#[cycle(creating)]
+#[tactic(auto, using(std::proofs::lemmas::Grind::common_steps, crate::proofs::InOrder::steps))]
+fn after_statements(seen: Seen, statements: &[Stmt]) -> Option<Seen>
+    ensures { result ≡ seen_after (Some seen) (fits.created_by_all (stmts_form statements.now)) }
+{
+    let mut seen = seen;
+    'statements: for statement in statements {
+        seen = after_statement(seen, statement)?;
+    }
+    Some(seen)
+}
+
+/// What is seen after what a statement creates.
+#[cycle(creating)]
+#[tactic(auto, using(std::proofs::lemmas::Grind::common_steps, crate::proofs::InOrder::steps, crate::specs::Form::statement_rules))]
+fn after_statement(seen: Seen, statement: &Stmt) -> Option<Seen>
+    ensures { result ≡ seen_after (Some seen) (fits.created_by (stmt_form statement.now)) }
+{
+    match statement {
+        Stmt::Null
+        | Stmt::Assign { .. }
+        | Stmt::Free { .. }
+        | Stmt::Get(_)
+        | Stmt::PutImage(_)
+        | Stmt::PutText(_)
+        | Stmt::Exit { .. }
+        | Stmt::Return(_)
+        | Stmt::Raise(_) => Some(seen),
+        Stmt::If {
+            branches,
+            otherwise,
+        } => {
+            let seen = after_branches(seen, branches)?;
+            after_statements(seen, otherwise)
+        }
+        Stmt::Loop {
+            condition: _,
+            statements,
+            end: _,
+        } => after_statements(seen, statements),
+        Stmt::For {
+            parameter,
+            first: _,
+            last: _,
+            statements,
+            end: _,
+        } => {
+            let seen = seen.after_variable(parameter.0)?;
+            after_statements(seen, statements)
+        }
+        Stmt::Block {
+            declarations,
+            statements,
+            handlers,
+        } => {
+            let seen = after_declarations(seen, declarations)?;
+            let seen = after_statements(seen, statements)?;
+            after_handlers(seen, handlers)
+        }
+    }
+}
+
+/// What is seen after what branches create.
+#[cycle(creating)]
+#[tactic(auto, using(std::proofs::lemmas::Grind::common_steps, crate::proofs::InOrder::steps))]
+fn after_branches(seen: Seen, branches: &[Branch]) -> Option<Seen>
+    ensures { (others : StmtsForm)
+        → seen_after (Some seen) (fits.created_by_branches (branches_form branches.now others))
+        ≡ seen_after result (fits.created_by_all others) }
+{
+    let mut seen = seen;
+    'branches: for branch in branches {
+        seen = after_statements(seen, &branch.statements)?;
+    }
+    Some(seen)
+}
+
+/// What is seen after what handlers create.
+#[cycle(creating)]
+#[tactic(auto, using(std::proofs::lemmas::Grind::common_steps, crate::proofs::InOrder::steps))]
+fn after_handlers(seen: Seen, handlers: &[Handler]) -> Option<Seen>
+    ensures { result ≡ seen_after (Some seen) (fits.created_by_handlers (handlers_form handlers.now)) }
+{
+    let mut seen = seen;
+    'handlers: for handler in handlers {
+        seen = after_statements(seen, &handler.statements)?;
+    }
+    Some(seen)
+}

@@ -1,0 +1,270 @@
+-- What a look at each part of a tree gives, by its parts as the code has them. The methods of the resolver that change nothing look so.
+
+use Rattle.std.specs.Prelude.{◌≡◌, ℕ, Bool, List, ◌∷◌, map, Option, Some, Result, Ok, Err}
+use denote.MutBor.{MutBor}
+use denote.Triple.Both.{Both}
+use Rattle.ada_text.specs.declared.spot.Spot.{Spot}
+use Rattle.ada_values.specs.declared.operator.UnaryOperator.{UnaryOperator}
+use Rattle.ada_tree.specs.ExpressionView.{argument_of, expression_of, items_of, optional_right_of, right_of}
+use Rattle.ada_tree.specs.Expressions.{expression_argument, unary_expression}
+use Rattle.ada_tree.specs.Names.{ident_of, optional_ident_of, path_of, selector_of}
+use Rattle.ada_tree.specs.Records.{component_of, record_of}
+use Rattle.ada_tree.specs.Declarations.{choice_of}
+use Rattle.ada_tree.specs.StatementView.{condition_of, statement_of}
+use Rattle.ada_tree.specs.declared.expressions.Argument.{Argument}
+use Rattle.ada_tree.specs.declared.expressions.Expression.{Expression}
+use Rattle.ada_tree.specs.declared.expressions.Item.{Item}
+use Rattle.ada_tree.specs.declared.expressions.Link.{Link}
+use Rattle.ada_tree.specs.declared.expressions.Right.{Right}
+use Rattle.ada_tree.specs.declared.names.Identifier.{Identifier}
+use Rattle.ada_tree.specs.declared.names.Path.{Path}
+use Rattle.ada_tree.specs.declared.names.Selector.{Selector}
+use Rattle.ada_tree.specs.declared.records.ComponentDefinition.{ComponentDefinition}
+use Rattle.ada_tree.specs.declared.records.RecordDefinition.{RecordDefinition}
+use Rattle.ada_tree.specs.declared.statements.Choice.{Choice}
+use Rattle.ada_tree.specs.declared.statements.Statement.{Statement}
+use Rattle.ada_program.specs.Form.{ExpressionForm, RightForm, StmtForm}
+use Rattle.ada_program.specs.ProgramForm.{ComponentForm}
+use Rattle.ada_program.specs.declared.program.Choice.{Choice as ChoiceOf}
+use Rattle.ada_program.specs.declared.program.TypeNo.{TypeNo}
+use Rattle.ada_program.specs.declared.program.VariableKind.{VariableKind}
+use Rattle.ada_program.specs.declared.program.VariableNo.{VariableNo}
+use Rattle.ada_resolve.specs.declared.calls.Callee.{Callee}
+use Rattle.ada_resolve.specs.declared.fault.NameFault.{NameFault}
+use Rattle.ada_resolve.specs.declared.fault.NameFault.TheVariants.{NoMemory}
+use Rattle.ada_resolve.specs.declared.library.LibraryName.{LibraryName}
+use Rattle.ada_resolve.specs.declared.notes.Notes.{Notes}
+use Rattle.ada_resolve.specs.Allocators.{aggregate_found, aggregate_remark, filled_components}
+use Rattle.ada_resolve.specs.Arguments.{image_value_remark}
+use Rattle.ada_resolve.specs.Calls.{actual_found, actual_remark, call_found, call_remark, library_call_found, library_call_remark, named_call_found, named_call_remark, taker_found, taker_remark}
+use Rattle.ada_resolve.specs.Chains.{links_meant, links_remark}
+use Rattle.ada_resolve.specs.Exceptions.{choices_meant, choices_remark}
+use Rattle.ada_resolve.specs.Expressions.{expression_meant, expression_remark}
+use Rattle.ada_resolve.specs.Items.{Filling, all_items_remark, filling_of}
+use Rattle.ada_resolve.specs.Known.{library_path_found, library_path_remark}
+use Rattle.ada_resolve.specs.Lines.{line_found, line_remark, put_line_found, put_line_remark}
+use Rattle.ada_resolve.specs.Method.{Seen, known, IsNoted, kept_meant}
+use Rattle.ada_resolve.specs.Objects.{initial_found, initial_remark}
+use Rattle.ada_resolve.specs.Operators.{integer_in}
+use Rattle.ada_resolve.specs.Paths.{Meant, component_within, component_within_remark, named_meant, named_remark, path_meant, path_remark, selection_meant, selection_remark, variable_meant, variable_path_remark}
+use Rattle.ada_resolve.specs.Records.{all_components_remark, components_written}
+use Rattle.ada_resolve.specs.Remark.{Remark}
+use Rattle.ada_resolve.specs.Rights.{right_found, right_remark}
+use Rattle.ada_resolve.specs.Statements.{assignment_found, assignment_remark, condition_meant, condition_remark, exit_found, exit_remark, named_assignment_found, named_assignment_remark, statement_found, statement_remark}
+
+-- What is wrong with a part, and what it means.
+pub record Look (Y : Type 0) : Type 0 where
+  pub remark : Remark
+  pub meaning : Y
+
+-- The call notes the remark and answers the meaning, seen through a view, unless memory runs out.
+abbrev pub Looks : {X Y : Type 0} → (X → Y) → Result X NameFault → Both (MutBor Notes) (MutBor Notes) → Look Y → Type 0
+Looks view (Ok x) notes look = (view x ≡ look.meaning) × IsNoted notes look.remark
+Looks view (Err e) notes look = e ≡ NoMemory
+
+-- An expression (4.4).
+abbrev pub expression_look : Seen → Expression → Look Meant
+expression_look seen e = record {
+  remark = expression_remark (known seen) (expression_of e);
+  meaning = expression_meant (known seen) (expression_of e);
+}
+
+-- An operator with its one operand (4.5.4, 4.5.6).
+abbrev pub unary_look : Seen → UnaryOperator → Spot → Expression → Look Meant
+unary_look seen operator spot operand = record {
+  remark = expression_remark (known seen) (unary_expression operator spot (expression_of operand));
+  meaning = expression_meant (known seen) (unary_expression operator spot (expression_of operand));
+}
+
+-- The operators of a chain behind a left operand, where the chain begins at the spot (4.5).
+abbrev pub links_look : Seen → Meant → Spot → List Link → Look Meant
+links_look seen left spot links = record {
+  remark = links_remark (known seen) left spot links;
+  meaning = links_meant (known seen) left links;
+}
+
+-- A path where a value is wanted (4.1).
+abbrev pub path_look : Seen → Path → Look Meant
+path_look seen path = record { remark = path_remark (known seen) (path_of path); meaning = path_meant (known seen) (path_of path) }
+
+-- A name and what is selected from it, where a value is wanted.
+abbrev pub named_look : Seen → Identifier → List Selector → Look Meant
+named_look seen name selectors = record {
+  remark = named_remark (known seen) (ident_of name) (map selector_of selectors);
+  meaning = named_meant (known seen) (ident_of name) (map selector_of selectors);
+}
+
+-- A variable and what is selected from it.
+abbrev pub variable_look : Seen → VariableNo → Spot → VariableKind → List Selector → Look Meant
+variable_look seen x spot kind selectors = record {
+  remark = variable_path_remark (known seen) spot kind (map selector_of selectors);
+  meaning = variable_meant (known seen) x spot kind (map selector_of selectors);
+}
+
+-- What is selected from the object that a variable gives access to (4.1.3).
+abbrev pub selection_look : Seen → VariableNo → Spot → TypeNo → Option Identifier → Look Meant
+selection_look seen x spot access c = record {
+  remark = selection_remark (known seen) spot access (optional_ident_of c);
+  meaning = selection_meant (known seen) x spot access (optional_ident_of c);
+}
+
+-- A component of an object of this type, by its name.
+abbrev pub within_look : Seen → VariableNo → Spot → TypeNo → Identifier → Look Meant
+within_look seen x spot t c = record {
+  remark = component_within_remark (known seen) spot (Some t.0) (ident_of c);
+  meaning = component_within (known seen) x spot (Some t.0) (ident_of c);
+}
+
+-- A path that begins with a root of the library.
+abbrev pub library_path_look : Seen → Path → Look (Option LibraryName)
+library_path_look seen path = record {
+  remark = library_path_remark (known seen) (path_of path);
+  meaning = library_path_found (known seen) (path_of path);
+}
+
+-- `Integer'Image` of a value (3.5).
+abbrev pub image_look : Seen → Identifier → Identifier → Expression → Look ExpressionForm
+image_look seen prefix attribute value = record {
+  remark = image_value_remark (known seen) (ident_of prefix) (ident_of attribute) (expression_of value);
+  meaning = integer_in (expression_meant (known seen) (expression_of value));
+}
+
+-- The items of `new T'(..)` for a record type, where that is known (4.3.1).
+abbrev pub items_look : Seen → Option TypeNo → List Item → Look Filling
+items_look seen found items = record {
+  remark = all_items_remark (known seen) (filled_components (known seen) found) (items_of items);
+  meaning = filling_of (known seen) (filled_components (known seen) found) (items_of items);
+}
+
+-- `new T'(..)` (4.8).
+abbrev pub aggregate_look : Seen → Option TypeNo → Spot → Identifier → List Item → Look (Option RightForm)
+aggregate_look seen access spot type_name items = record {
+  remark = aggregate_remark (known seen) access spot (ident_of type_name) (items_of items);
+  meaning = aggregate_found (known seen) access (ident_of type_name) (items_of items);
+}
+
+-- What is assigned (5.2).
+abbrev pub right_look : Seen → Option VariableKind → Right → Look (Option RightForm)
+right_look seen kind right = record {
+  remark = right_remark (known seen) kind (right_of right);
+  meaning = right_found (known seen) kind (right_of right);
+}
+
+-- The initial value of an object (3.3.1).
+abbrev pub initial_look : Seen → Option VariableKind → Option Right → Look (Option RightForm)
+initial_look seen kind initial = record {
+  remark = initial_remark (known seen) kind (optional_right_of initial);
+  meaning = initial_found (known seen) kind (optional_right_of initial);
+}
+
+-- A call (6.4). A text that it writes gets this number.
+abbrev pub call_look : Seen → ℕ → Path → List Argument → Look (Option StmtForm)
+call_look seen text procedure arguments = record {
+  remark = call_remark (known seen) (path_of procedure) (map argument_of arguments);
+  meaning = call_found (known seen) text (path_of procedure) (map argument_of arguments);
+}
+
+-- A call of a name of the library.
+abbrev pub library_call_look : Seen → Option LibraryName → ℕ → Spot → List Argument → Look (Option StmtForm)
+library_call_look seen found text called arguments = record {
+  remark = library_call_remark found (known seen) called (map argument_of arguments);
+  meaning = library_call_found found (known seen) text (map argument_of arguments);
+}
+
+-- A call of a declared name, which stands alone or not.
+abbrev pub named_call_look : Seen → Identifier → Bool → List Argument → Look (Option StmtForm)
+named_call_look seen name alone arguments = record {
+  remark = named_call_remark (known seen) (ident_of name) alone (map argument_of arguments);
+  meaning = named_call_found (known seen) (ident_of name) alone (map argument_of arguments);
+}
+
+-- A call of a procedure that takes one variable (6.4.1).
+abbrev pub taker_look : Seen → Callee → Spot → List Argument → Look (Option StmtForm)
+taker_look seen taker called arguments = record {
+  remark = taker_remark (known seen) taker called (map argument_of arguments);
+  meaning = taker_found (known seen) taker (map argument_of arguments);
+}
+
+-- The actual of such a procedure.
+abbrev pub actual_look : Seen → Callee → Argument → Look (Option StmtForm)
+actual_look seen taker argument = record {
+  remark = actual_remark (known seen) taker (argument_of argument);
+  meaning = actual_found (known seen) taker (argument_of argument);
+}
+
+-- The actual of such a procedure, where it is an expression.
+abbrev pub actual_value_look : Seen → Callee → Expression → Look (Option StmtForm)
+actual_value_look seen taker value = record {
+  remark = actual_remark (known seen) taker (expression_argument (expression_of value));
+  meaning = actual_found (known seen) taker (expression_argument (expression_of value));
+}
+
+-- A call of Put_Line (A.10.7).
+abbrev pub put_line_look : Seen → ℕ → Spot → List Argument → Look (Option StmtForm)
+put_line_look seen text called arguments = record {
+  remark = put_line_remark (known seen) called (map argument_of arguments);
+  meaning = put_line_found (known seen) text (map argument_of arguments);
+}
+
+-- What Put_Line writes.
+abbrev pub line_look : Seen → ℕ → Argument → Look (Option StmtForm)
+line_look seen text argument = record {
+  remark = line_remark (known seen) (argument_of argument);
+  meaning = line_found (known seen) text (argument_of argument);
+}
+
+-- A statement (5.1).
+abbrev pub statement_look : Seen → (inside_loop : Bool) → ℕ → Statement → Look (Option StmtForm)
+statement_look seen inside_loop text statement = record {
+  remark = statement_remark (known seen) inside_loop (statement_of statement);
+  meaning = statement_found (known seen) text (statement_of statement);
+}
+
+-- The choices of a handler (11.2).
+abbrev pub choices_look : Seen → List Choice → Look (List ChoiceOf)
+choices_look seen choices = record {
+  remark = choices_remark (known seen) (map choice_of choices);
+  meaning = choices_meant (known seen) (map choice_of choices);
+}
+
+-- A condition (5.3).
+abbrev pub condition_look : Seen → Expression → Look ExpressionForm
+condition_look seen condition = record {
+  remark = condition_remark (known seen) (expression_of condition);
+  meaning = condition_meant (known seen) (expression_of condition);
+}
+
+-- An exit (5.7).
+abbrev pub exit_look : Seen → (inside_loop : Bool) → Spot → Option Expression → Look (Option StmtForm)
+exit_look seen inside_loop spot condition = record {
+  remark = exit_remark (known seen) inside_loop spot (condition_of condition);
+  meaning = exit_found (known seen) spot (condition_of condition);
+}
+
+-- An assignment (5.2).
+abbrev pub assignment_look : Seen → Path → Right → Look (Option StmtForm)
+assignment_look seen target value = record {
+  remark = assignment_remark (known seen) (path_of target) (right_of value);
+  meaning = assignment_found (known seen) (path_of target) (right_of value);
+}
+
+-- An assignment to a name.
+abbrev pub named_assignment_look : Seen → Identifier → Right → Look (Option StmtForm)
+named_assignment_look seen name value = record {
+  remark = named_assignment_remark (known seen) (ident_of name) (right_of value);
+  meaning = named_assignment_found (known seen) (ident_of name) (right_of value);
+}
+
+-- The components of a record type (3.8), as the code keeps them.
+abbrev pub components_look : Seen → RecordDefinition → Look (List ComponentForm)
+components_look seen definition = record {
+  remark = all_components_remark (known seen) (components_written (record_of definition));
+  meaning = kept_meant (known seen) (components_written (record_of definition));
+}
+
+-- The components that are listed.
+abbrev pub listed_look : Seen → ComponentDefinition → List ComponentDefinition → Look (List ComponentForm)
+listed_look seen first rest = record {
+  remark = all_components_remark (known seen) (map component_of (first ∷ rest));
+  meaning = kept_meant (known seen) (map component_of (first ∷ rest));
+}

@@ -1,0 +1,326 @@
+-- What the methods of the resolver promise, in a word each: what they answer, what is noted, and what is known after them.
+
+use Rattle.std.specs.Prelude.{◌≡◌, ◌++◌, ◌∷◌, ℕ, Bool, List, [], map, length, Option, Some, Result, IfOk, OnOk, String}
+use Rattle.std.specs.Global.{Global, Vec}
+use Rattle.std.specs.String.{string_bytes}
+use denote.MutBor.{MutBor}
+use denote.Ref.{Bor}
+use denote.Triple.Both.{Both}
+use Rattle.ada_text.specs.declared.spot.Spot.{Spot}
+use Rattle.ada_tree.specs.Declarations.{choice_of, optional_aspect_of}
+use Rattle.ada_tree.specs.ExpressionView.{argument_of, expression_of, optional_right_of}
+use Rattle.ada_tree.specs.Expressions.{ExpressionTree}
+use Rattle.ada_tree.specs.Names.{Ident, ident_of, name_of, optional_ident_of}
+use Rattle.ada_tree.specs.Records.{ComponentTree, component_of, record_of, static_of}
+use Rattle.ada_tree.specs.Statements.{DeclarationTree, access_type, constant_declaration, instance, object_declaration, record_type, branches_from, handlers_from}
+use Rattle.ada_tree.specs.StatementView.{branch_of, handler_of, scheme_of, statement_of, statements_of, unit_of}
+use Rattle.ada_tree.specs.declared.declarations.Aspect.{Aspect}
+use Rattle.ada_tree.specs.declared.expressions.Argument.{Argument}
+use Rattle.ada_tree.specs.declared.expressions.Item.{Item as WrittenItem}
+use Rattle.ada_tree.specs.declared.expressions.Right.{Right}
+use Rattle.ada_tree.specs.declared.names.Identifier.{Identifier}
+use Rattle.ada_tree.specs.declared.names.Name.{Name}
+use Rattle.ada_tree.specs.declared.records.ComponentDefinition.{ComponentDefinition}
+use Rattle.ada_tree.specs.declared.records.RecordDefinition.{RecordDefinition}
+use Rattle.ada_tree.specs.declared.records.StaticValue.{StaticValue}
+use Rattle.ada_tree.specs.declared.statements.Branch.{Branch}
+use Rattle.ada_tree.specs.declared.statements.Handler.{Handler}
+use Rattle.ada_tree.specs.declared.statements.Scheme.{Scheme}
+use Rattle.ada_tree.specs.declared.statements.Statement.{Statement}
+use Rattle.ada_tree.specs.declared.unit.Unit.{Unit as UnitOf}
+use Rattle.ada_program.specs.Form.{BranchesForm, DeclarationForm, ExpressionForm, HandlersForm, StmtForm, StmtsForm, declaration_form, declares}
+use Rattle.ada_program.specs.ProgramForm.{ComponentForm, ProgramForm, VariableForm}
+use Rattle.ada_program.specs.declared.program.Branch.{Branch as BranchOf}
+use Rattle.ada_program.specs.declared.program.Choice.{Choice as ChoiceOf}
+use Rattle.ada_program.specs.declared.program.ComponentKind.{ComponentKind}
+use Rattle.ada_program.specs.declared.program.Declaration.{Declaration}
+use Rattle.ada_program.specs.declared.program.Right.{Right as RightOf}
+use Rattle.ada_program.specs.declared.program.Stmt.{Stmt}
+use Rattle.ada_program.specs.declared.program.TypeNo.{TypeNo}
+use Rattle.ada_program.specs.declared.program.VariableKind.{VariableKind}
+use Rattle.ada_program.specs.declared.program.VariableNo.{VariableNo}
+use Rattle.ada_resolve.specs.declared.components.Components.{Components}
+use Rattle.ada_resolve.specs.declared.components.KnownType.{KnownType}
+use Rattle.ada_resolve.specs.declared.fault.NameFault.{NameFault}
+use Rattle.ada_resolve.specs.declared.instances.Instance.{Instance}
+use Rattle.ada_resolve.specs.declared.items.Filling.{Filling as FillingOf}
+use Rattle.ada_resolve.specs.declared.meant.Meant.{Meant as MeantOf}
+use Rattle.ada_resolve.specs.declared.notes.Notes.{Notes}
+use Rattle.ada_resolve.specs.declared.part.Part.{Part as PartOf}
+use Rattle.ada_resolve.specs.declared.program.Body.{Body}
+use Rattle.ada_resolve.specs.declared.resolver.Resolver.{Resolver}
+use Rattle.ada_resolve.specs.declared.scope.Entity.{Entity}
+use Rattle.ada_resolve.specs.Allocators.{filled_components}
+use Rattle.ada_resolve.specs.Arguments.{argument_remark, arguments_remark, image_remark}
+use Rattle.ada_resolve.specs.Instances.{with_elaborated}
+use Rattle.ada_resolve.specs.Items.{Filling, after_item, first_filling, for_remark, item_remark}
+use Rattle.ada_resolve.specs.Kept.{forms_of, known_type_form, with_component, with_components}
+use Rattle.ada_resolve.specs.Known.{Known, entered, new_name_remark, visible}
+use Rattle.ada_resolve.specs.Objects.{initial_source, object_created}
+use Rattle.ada_resolve.specs.Records.{component_meant, further_component_remark}
+use Rattle.ada_resolve.specs.Remark.{Remark, noted}
+use Rattle.ada_resolve.specs.Resolution.{Others, Told, branch_told, branches_told, choices_told, end_told, handler_told, handlers_told, procedure_from, program_of, scheme_told, simple_told, statement_told, statements_told, told_of}
+use Rattle.ada_resolve.specs.Statements.{texts_of_branches, texts_of_handlers}
+use Rattle.ada_resolve.specs.Types.{completion_remark, new_unless, with_definition}
+use Rattle.ada_resolve.specs.View.{filling_in, handlers_in, known_of, meant_of, part_of, right_in, statements_in, AnswersBranches, AnswersWith, Tells}
+
+-- The resolver of a method that only looks at a part of the tree.
+abbrev pub Seen : Type 0
+Seen = Both (Bor Resolver) (Bor Resolver)
+
+-- What the resolver knows then.
+abbrev pub known : Seen → Known
+known resolver = known_of resolver.entry.now
+
+-- What an identifier stands for in what the resolver knows (8.3).
+abbrev pub entity_of : Seen → Identifier → Option Entity
+entity_of resolver name = visible (known resolver) name.text.now
+
+-- The value of the answer means this. A call that runs out of memory answers no value.
+abbrev pub Finds : {X Y : Type 0} → (X → Y) → Result X NameFault → Y → Type 0
+Finds view result meaning = IfOk result (λ x. view x ≡ meaning)
+
+-- The call notes this remark, after what was noted before.
+abbrev pub IsNoted : Both (MutBor Notes) (MutBor Notes) → Remark → Type 0
+IsNoted notes remark = notes.exit.now ≡ noted remark notes.entry.now
+
+-- A call that answers notes this remark.
+abbrev pub Remarks : {X : Type 0} → Result X NameFault → Both (MutBor Notes) (MutBor Notes) → Remark → Type 0
+Remarks result notes remark = OnOk result (IsNoted notes remark)
+
+-- The call changes what is known in this way, and in no other.
+abbrev pub Changes : Both (MutBor Resolver) (MutBor Resolver) → (Known → Known) → Type 0
+Changes resolver change = known_of resolver.exit.now ≡ change (known_of resolver.entry.now)
+
+-- The call declares that the name stands for this in the part, and changes nothing else of it.
+abbrev pub Enters : Both (MutBor PartOf) (MutBor PartOf) → List ℕ → Entity → Type 0
+Enters part text entity =
+    part_of part.exit.now ≡ record (part_of part.entry.now) { names = entered text entity (part_of part.entry.now).names }
+
+-- The call adds these to what the part elaborates, and changes nothing else of it.
+abbrev pub Elaborates : Both (MutBor PartOf) (MutBor PartOf) → List DeclarationForm → Type 0
+Elaborates part declarations =
+    part_of part.exit.now ≡ record (part_of part.entry.now) { elaborated = (part_of part.entry.now).elaborated ++ declarations }
+
+-- The texts of a call, before it and after it.
+abbrev pub Texts : Type 0
+Texts = Both (MutBor (Vec (String Global))) (MutBor (Vec (String Global)))
+
+-- The notes of a call.
+abbrev pub Noting : Type 0
+Noting = Both (MutBor Notes) (MutBor Notes)
+
+-- What a call that changes the resolver knows.
+abbrev pub Knowing : Type 0
+Knowing = Both (MutBor Resolver) (MutBor Resolver)
+
+-- The call takes this step: from what was known and noted before it to what is known and noted after it, or to the first fault.
+abbrev pub Takes : {X : Type 0} → Result X NameFault → Knowing → Noting → (Known × Notes → Told (Known × Notes)) → Type 0
+Takes result resolver notes step =
+    Tells result (known_of resolver.exit.now, notes.exit.now) (step (known_of resolver.entry.now, notes.entry.now))
+
+-- The call makes this declaration known and notes its remark, or fails with the first fault.
+abbrev pub Declares : {X : Type 0} → Result X NameFault → Knowing → Noting → DeclarationTree → Type 0
+Declares result resolver notes declaration = Takes result resolver notes (told_of declaration)
+
+-- The call adds these texts behind those that are there.
+abbrev pub AddsTexts : Texts → List (List ℕ) → Type 0
+AddsTexts texts added = map string_bytes texts.exit.now.items ≡ map string_bytes texts.entry.now.items ++ added
+
+-- The call adds this component to those that are there.
+abbrev pub AddsComponent : Both (MutBor Components) (MutBor Components) → ComponentForm → Type 0
+AddsComponent components c = forms_of components.exit.now ≡ with_component c (forms_of components.entry.now)
+
+-- The call changes in this way what is known of the items of an aggregate.
+abbrev pub Fills : Both (MutBor FillingOf) (MutBor FillingOf) → (Filling → Filling) → Type 0
+Fills filling change = filling_in filling.exit.now ≡ change (filling_in filling.entry.now)
+
+-- The components of a record type as the code keeps them: they are added one by one.
+abbrev pub kept_meant : Known → List ComponentTree → List ComponentForm
+kept_meant known cs = with_components [] (map (component_meant known) cs)
+
+-- Declarations of the tree, of their parts as the code has them.
+
+-- `type A is access T;` (3.10)
+abbrev pub access_tree : Spot → Identifier → Identifier → Option Aspect → DeclarationTree
+access_tree spot name designated aspect = access_type spot (ident_of name) (ident_of designated) (optional_aspect_of aspect)
+
+-- `type T is record .. end record;` (3.8)
+abbrev pub record_tree : Spot → Identifier → RecordDefinition → DeclarationTree
+record_tree spot name definition = record_type spot (ident_of name) (record_of definition)
+
+-- `N : constant := 1;` (3.3.2)
+abbrev pub constant_tree : Identifier → StaticValue → DeclarationTree
+constant_tree name value = constant_declaration (ident_of name) (static_of value)
+
+-- `X : T := ..;` (3.3.1)
+abbrev pub object_tree : Identifier → Name → Option Right → DeclarationTree
+object_tree name type_name initial = object_declaration (ident_of name) (name_of type_name) (optional_right_of initial)
+
+-- An instance (12.3).
+abbrev pub instance_tree : Instance → DeclarationTree
+instance_tree written =
+    instance written.spot (ident_of written.name) (name_of written.generic.now) (ident_of written.object) (ident_of written.access)
+
+-- Each element of a vector, seen through a view.
+abbrev pub each : {X Y : Type 0} → (X → Y) → Vec X → List Y
+each view v = map view v.items
+
+-- The name before `=>` in an item, where one is written (4.3.1).
+abbrev pub label_of : WrittenItem → Option Ident
+label_of item = optional_ident_of item.label
+
+-- The value of an item.
+abbrev pub written_value : WrittenItem → ExpressionTree
+written_value item = expression_of item.value
+
+-- What is known before the first item, for a record type where that is known.
+abbrev pub empty_filling : Seen → Option TypeNo → Filling
+empty_filling seen found = first_filling (filled_components (known seen) found)
+
+-- What is wrong with an item as it is written.
+abbrev pub written_item_remark : Seen → Option TypeNo → Bool → Both (MutBor FillingOf) (MutBor FillingOf) → WrittenItem → Remark
+written_item_remark seen found is_named filling item =
+    item_remark (known seen) (filled_components (known seen) found) is_named (filling_in filling.entry.now) (label_of item) (written_value item)
+
+-- What is known after it.
+abbrev pub item_filling : Seen → Option TypeNo → Bool → WrittenItem → Filling → Filling
+item_filling seen found is_named item filling =
+    after_item (known seen) (filled_components (known seen) found) is_named filling (label_of item) (written_value item)
+
+-- What is wrong with an item for this component, where its value means this.
+abbrev pub written_for_remark : Option (ℕ × ComponentKind) → FillingOf → WrittenItem → MeantOf → Remark
+written_for_remark component filling item meant = for_remark component (filling_in filling) (label_of item) (written_value item) (meant_of meant)
+
+-- What is wrong with one more component of a record type.
+abbrev pub next_component_remark : Seen → Both (MutBor Components) (MutBor Components) → ℕ → ComponentDefinition → Remark
+next_component_remark seen components count c = further_component_remark (known seen) (forms_of components.entry.now) count (component_of c)
+
+-- That component.
+abbrev pub meant_component : Seen → ComponentDefinition → ComponentForm
+meant_component seen c = component_meant (known seen) (component_of c)
+
+-- What is wrong with arguments, in order.
+abbrev pub remark_of_arguments : Seen → List Argument → Remark
+remark_of_arguments seen arguments = arguments_remark (known seen) (map argument_of arguments)
+
+-- What is wrong with one argument.
+abbrev pub remark_of_argument : Seen → Argument → Remark
+remark_of_argument seen argument = argument_remark (known seen) (argument_of argument)
+
+-- What is wrong with an attribute, by its prefix and its name.
+abbrev pub attribute_remark : Seen → Identifier → Identifier → Remark
+attribute_remark seen prefix attribute = image_remark (known seen) (ident_of prefix) (ident_of attribute)
+
+-- What is wrong with an access type that completes an incomplete type.
+abbrev pub completing_remark : Seen → Option TypeNo → Identifier → Identifier → Remark
+completing_remark seen completes name designated = completion_remark completes (known seen) (ident_of name) (ident_of designated)
+
+-- What is wrong with the name of a type that may complete an incomplete one.
+abbrev pub type_name_remark : Seen → Option TypeNo → Identifier → Spot → Remark
+type_name_remark seen completes name spot = new_unless completes (new_name_remark (known seen) (ident_of name) spot)
+
+-- What is known once a type is defined: a new one, or the one that it completes.
+abbrev pub with_type : Option TypeNo → KnownType → Known → Known
+with_type completes definition = with_definition completes (known_type_form definition)
+
+-- What is known once an object is declared (3.3.1): it is named, is a variable, and is created with its initial value.
+abbrev pub with_object : Identifier → VariableKind → Option RightOf → Known → Known
+with_object name kind value known = object_created known (ident_of name) (Some kind) (right_in value)
+
+-- A variable of this name.
+abbrev pub new_variable : Identifier → VariableKind → VariableForm
+new_variable name kind = record { name = name.text.now; kind = kind }
+
+-- What is known once a variable is created with its initial value.
+abbrev pub with_created : VariableNo → Option RightOf → Known → Known
+with_created variable value = with_elaborated (declares variable.0 (initial_source (right_in value)) ∷ [])
+
+-- What is known once these declarations are elaborated too.
+abbrev pub with_declarations : Vec Declaration → Known → Known
+with_declarations declarations = with_elaborated (map declaration_form declarations.items)
+
+-- How many texts there are before a call.
+abbrev pub texts_before : Texts → ℕ
+texts_before texts = length texts.entry.now.items
+
+-- What comes of a part of a tree, given the notes before it.
+abbrev pub Coming : Type 0 → Type 0
+Coming Y = Notes → Told (Y × Notes)
+
+-- The call answers what comes, seen through a view, and notes it; out of memory aside.
+abbrev pub Comes : {X Y : Type 0} → Result X NameFault → (X → Y) → Noting → Coming Y → Type 0
+Comes result view notes coming = AnswersWith result view notes.exit.now (coming notes.entry.now)
+
+-- The call answers the branches that come, whatever comes of the statements behind them.
+abbrev pub BranchesCome : Result (Vec BranchOf) NameFault → Noting → Texts → (Others → Coming BranchesForm) → Type 0
+BranchesCome result notes texts coming =
+    AnswersBranches result notes.exit.now (length texts.exit.now.items) (λ others. coming others notes.entry.now)
+
+-- What comes of the statements, in a loop or not, behind the texts before them.
+abbrev pub statements_come : Seen → (inside_loop : Bool) → Texts → List Statement → Coming StmtsForm
+statements_come seen inside_loop texts statements notes =
+    statements_told (known seen) inside_loop (texts_before texts) notes (statements_of statements)
+
+-- What comes of a statement.
+abbrev pub statement_comes : Seen → (inside_loop : Bool) → Texts → Statement → Coming StmtForm
+statement_comes seen inside_loop texts statement notes =
+    statement_told (known seen) inside_loop (texts_before texts) notes (statement_of statement)
+
+-- What comes of a statement with no others in it.
+abbrev pub simple_comes : Seen → (inside_loop : Bool) → Texts → Statement → Coming StmtForm
+simple_comes seen inside_loop texts statement notes =
+    simple_told (known seen) inside_loop (texts_before texts) notes (statement_of statement)
+
+-- What comes of branches, where this comes of the statements behind them.
+abbrev pub branches_come : Seen → (inside_loop : Bool) → Texts → List Branch → Others → Coming BranchesForm
+branches_come seen inside_loop texts branches others notes =
+    branches_told (known seen) inside_loop (texts_before texts) notes (branches_from (map branch_of branches)) others
+
+-- What comes of one branch.
+abbrev pub branch_comes : Seen → (inside_loop : Bool) → Texts → Branch → Coming (ExpressionForm × StmtsForm)
+branch_comes seen inside_loop texts branch notes =
+    branch_told (known seen) inside_loop (texts_before texts) notes (branch_of branch)
+
+-- What comes of the head of a loop, which begins at the spot.
+abbrev pub scheme_comes : Seen → Spot → Scheme → Coming (Option ExpressionForm)
+scheme_comes seen spot scheme notes = scheme_told (known seen) spot (scheme_of scheme) notes
+
+-- The texts that branches write, in order.
+abbrev pub branch_texts : List Branch → List (List ℕ)
+branch_texts branches = texts_of_branches (branches_from (map branch_of branches))
+
+-- What comes of the choices of a handler, whose `when` stands at the spot.
+abbrev pub choices_come : Seen → Handler → Coming (List ChoiceOf)
+choices_come seen handler notes =
+    choices_told (known seen) handler.spot (map choice_of handler.choices.items) (statements_of handler.statements.items) notes
+
+-- What comes of a handler, in a loop or not, behind the texts before it.
+abbrev pub handler_comes : Seen → (inside_loop : Bool) → Texts → Handler → Coming (List ChoiceOf × StmtsForm)
+handler_comes seen inside_loop texts handler notes =
+    handler_told (known seen) inside_loop (texts_before texts) notes handler.spot (map choice_of handler.choices.items)
+    (statements_of handler.statements.items)
+
+-- What comes of handlers.
+abbrev pub handlers_come : Seen → (inside_loop : Bool) → Texts → List Handler → Coming HandlersForm
+handlers_come seen inside_loop texts handlers notes =
+    handlers_told (known seen) inside_loop (texts_before texts) notes (handlers_from (map handler_of handlers))
+
+-- The texts that handlers write, in order.
+abbrev pub handler_texts : List Handler → List (List ℕ)
+handler_texts handlers = texts_of_handlers (handlers_from (map handler_of handlers))
+
+-- The outcome of the procedure of a tree, from what the resolver knows before its first declaration.
+abbrev pub procedure_outcome : Resolver → UnitOf → Told ProgramForm
+procedure_outcome resolver unit = procedure_from (unit_of unit) (known_of resolver)
+
+-- The outcome of the end of a procedure whose statements are known: its handlers, behind the texts before them, and its name.
+abbrev pub end_outcome : Resolver → UnitOf → Vec Stmt → List Handler → Texts → Noting → Told ProgramForm
+end_outcome resolver unit statements handlers texts notes =
+    end_told (unit_of unit) (handlers_from (map handler_of handlers)) (known_of resolver) (map string_bytes texts.entry.now.items)
+    (statements_in statements, notes.entry.now)
+
+-- The program of what the resolver knows, of the texts, and of the statements and their handlers.
+abbrev pub program_in : Resolver → Vec (String Global) → Body → ProgramForm
+program_in resolver texts body =
+    program_of (known_of resolver) (map string_bytes texts.items) (statements_in body.statements) (handlers_in body.handlers)

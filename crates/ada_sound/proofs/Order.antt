@@ -1,0 +1,20 @@
+-- Laws of order, of any run of any program, as they are used here.
+
+use Rattle.std.specs.Prelude.{ℤ, List, AllPairs}
+use Rattle.ada_program.specs.declared.program.Program.{Program}
+use Rattle.ada_meaning.specs.Named.{State}
+use Rattle.ada_meaning.specs.Run.{Event, Choice, Step, Run, first_state}
+use Rattle.ada_meaning.specs.Law.{InReverseOrder, MastersFall, LeavesInnermost}
+use Rattle.ada_order.proofs.Orders as orders
+
+-- At the leaving of a master items go in reverse order of their creation.
+pub in_reverse : (program : Program) (input : List ℤ) (events : List Event) (last : State) → Run program (first_state program input) events last → AllPairs InReverseOrder events
+in_reverse program input events last run = orders.in_reverse program input events last run
+
+-- Only the innermost master is being left.
+pub inner_first : (program : Program) (input : List ℤ) (events : List Event) (before : State) (choice : Choice) (event : Event) (after : State) → Run program (first_state program input) events before → Step program before choice event after → LeavesInnermost event before.masters
+inner_first program input events before choice event after run step = orders.inner_first program input events before after choice event run step
+
+-- Numbers fall along the masters that are entered.
+pub masters_fall : (program : Program) (input : List ℤ) (events : List Event) (last : State) → Run program (first_state program input) events last → AllPairs MastersFall last.masters
+masters_fall program input events last run = orders.masters_fall program input events last run

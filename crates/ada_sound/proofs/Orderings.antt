@@ -1,0 +1,164 @@
+-- What is known of variables, from most to least: what is joined, and what a loop's start is opened to.
+
+use Rattle.std.proofs.Common.{◌≡◌, ◌≢◌, ℕ, zero, suc, Bool, true, false, ◌&&◌, [], ◌∷◌, refl, ◌⊎◌, inl, inr}
+use Rattle.std.specs.List.{slice_set}
+use Rattle.ada_program.specs.Form.{StmtForm, skips, assigns, frees, gets, writes, writes_text, chooses, repeats, counts, exits, returns, raises, encloses, StmtsForm, no_stmts, a_stmt, BranchesForm, otherwise, a_branch, HandlersForm, no_handlers, a_handler}
+use Rattle.ada_flow.specs.declared.rule.Hold.{Hold}
+use Rattle.ada_flow.specs.declared.rule.Hold.TheVariants.{Null, Own, Alias, Lost}
+use Rattle.ada_flow.specs.declared.rule.Region.TheVariants.{Whole}
+use Rattle.ada_flow.specs.Flow.{Holds, hold_at, join_hold, join, is_as_good, are_as_good, opened_hold, opened, opened_by, opened_by_all, opened_by_branches, opened_by_handlers}
+use Rattle.ada_sound.proofs.Values.{read_other, same_or_not, lost_here}
+
+pub good_here : (h : Hold) → is_as_good h h ≡ true
+good_here Null = refl
+good_here (Own Whole) = refl
+good_here (Alias Whole) = refl
+good_here Lost = refl
+
+pub good_lost : (h : Hold) → is_as_good h Lost ≡ true
+good_lost Null = refl
+good_lost (Own Whole) = refl
+good_lost (Alias Whole) = refl
+good_lost Lost = refl
+
+good_then : (a b c : Hold) → is_as_good a b ≡ true → is_as_good b c ≡ true → is_as_good a c ≡ true
+good_then Null b c p q = refl
+good_then (Own Whole) Null c p q = absurd (cc p)
+good_then (Own Whole) (Own Whole) c p q = q
+good_then (Own Whole) (Alias Whole) c p q = absurd (cc p)
+good_then (Own Whole) Lost Null p q = absurd (cc q)
+good_then (Own Whole) Lost (Own Whole) p q = absurd (cc q)
+good_then (Own Whole) Lost (Alias Whole) p q = absurd (cc q)
+good_then (Own Whole) Lost Lost p q = refl
+good_then (Alias Whole) Null c p q = absurd (cc p)
+good_then (Alias Whole) (Own Whole) c p q = absurd (cc p)
+good_then (Alias Whole) (Alias Whole) c p q = q
+good_then (Alias Whole) Lost Null p q = absurd (cc q)
+good_then (Alias Whole) Lost (Own Whole) p q = absurd (cc q)
+good_then (Alias Whole) Lost (Alias Whole) p q = absurd (cc q)
+good_then (Alias Whole) Lost Lost p q = refl
+good_then Lost Null c p q = absurd (cc p)
+good_then Lost (Own Whole) c p q = absurd (cc p)
+good_then Lost (Alias Whole) c p q = absurd (cc p)
+good_then Lost Lost c p q = q
+
+-- Two ways.
+good_left : (a b : Hold) → is_as_good a (join_hold a b) ≡ true
+good_left Null b = refl
+good_left (Own Whole) Null = refl
+good_left (Own Whole) (Own Whole) = refl
+good_left (Own Whole) (Alias Whole) = refl
+good_left (Own Whole) Lost = refl
+good_left (Alias Whole) Null = refl
+good_left (Alias Whole) (Own Whole) = refl
+good_left (Alias Whole) (Alias Whole) = refl
+good_left (Alias Whole) Lost = refl
+good_left Lost b = refl
+
+good_right : (a b : Hold) → is_as_good b (join_hold a b) ≡ true
+good_right Null b = good_here b
+good_right (Own Whole) Null = refl
+good_right (Own Whole) (Own Whole) = refl
+good_right (Own Whole) (Alias Whole) = refl
+good_right (Own Whole) Lost = refl
+good_right (Alias Whole) Null = refl
+good_right (Alias Whole) (Own Whole) = refl
+good_right (Alias Whole) (Alias Whole) = refl
+good_right (Alias Whole) Lost = refl
+good_right Lost b = good_lost b
+
+-- What is known of each variable at least as well.
+abbrev pub AsGood : Holds → Holds → Type 0
+AsGood holds other = (x : ℕ) → is_as_good (hold_at holds x) (hold_at other x) ≡ true
+
+pub as_good : (holds : Holds) → AsGood holds holds
+as_good holds x = good_here (hold_at holds x)
+
+pub as_good_then : (a b c : Holds) → AsGood a b → AsGood b c → AsGood a c
+as_good_then a b c p q x = good_then (hold_at a x) (hold_at b x) (hold_at c x) (p x) (q x)
+
+both : (a b : Bool) → (a && b) ≡ true → (a ≡ true) × (b ≡ true)
+both true b e = (refl, e)
+both false b e = absurd (cc e)
+
+-- The comparison of flow says so of each variable.
+pub good_each : (holds other : Holds) → are_as_good holds other ≡ true → AsGood holds other
+good_each holds [] e x = good_lost (hold_at holds x)
+good_each [] (h ∷ hs) e zero = (both (is_as_good Lost h) (are_as_good [] hs) e).0
+good_each [] (h ∷ hs) e (suc x) = good_each [] hs (both (is_as_good Lost h) (are_as_good [] hs) e).1 x
+good_each (g ∷ gs) (h ∷ hs) e zero = (both (is_as_good g h) (are_as_good gs hs) e).0
+good_each (g ∷ gs) (h ∷ hs) e (suc x) = good_each gs hs (both (is_as_good g h) (are_as_good gs hs) e).1 x
+
+pub join_left : (a b : Holds) → AsGood a (join a b)
+join_left [] hs x = refl
+join_left (g ∷ gs) [] x = good_lost (hold_at (g ∷ gs) x)
+join_left (g ∷ gs) (h ∷ hs) zero = good_left g h
+join_left (g ∷ gs) (h ∷ hs) (suc x) = join_left gs hs x
+
+pub join_right : (a b : Holds) → AsGood b (join a b)
+join_right [] hs x = good_lost (hold_at hs x)
+join_right (g ∷ gs) [] x = refl
+join_right (g ∷ gs) (h ∷ hs) zero = good_right g h
+join_right (g ∷ gs) (h ∷ hs) (suc x) = join_right gs hs x
+
+-- What a loop's start holds is no better than what was held before the loop.
+good_opened : (h : Hold) → is_as_good h (opened_hold h) ≡ true
+good_opened Null = refl
+good_opened (Own Whole) = refl
+good_opened (Alias Whole) = refl
+good_opened Lost = refl
+
+opened_at : (x : ℕ) (holds : Holds) → is_as_good (hold_at holds x) (hold_at (slice_set holds x (opened_hold (hold_at holds x))) x) ≡ true
+opened_at x [] = refl
+opened_at zero (h ∷ hs) = good_opened h
+opened_at (suc x) (h ∷ hs) = opened_at x hs
+
+opened_good : (x : ℕ) (holds : Holds) → AsGood holds (opened x holds)
+opened_good x holds y = go (same_or_not y x)
+  where
+    go : (y ≡ x) ⊎ (y ≢ x) → is_as_good (hold_at holds y) (hold_at (opened x holds) y) ≡ true
+    go (inl e) = rw e (opened_at x holds)
+    go (inr ne) = rw (read_other holds x y (opened_hold (hold_at holds x)) Lost ne) (good_here (hold_at holds y))
+
+mutual
+  by_good : (f : StmtForm) (holds : Holds) → AsGood holds (opened_by f holds)
+  by_good skips holds = as_good holds
+  by_good (assigns target right) holds = opened_good target.root holds
+  by_good (frees access variable) holds = as_good holds
+  by_good (gets target) holds = as_good holds
+  by_good (writes e) holds = as_good holds
+  by_good (writes_text text) holds = as_good holds
+  by_good (chooses branches) holds = branches_good branches holds
+  by_good (repeats condition fs end_spot) holds = all_good fs holds
+  by_good (counts x low high fs end_spot) holds = all_good fs holds
+  by_good (exits condition spot) holds = as_good holds
+  by_good (returns spot) holds = as_good holds
+  by_good (raises e) holds = as_good holds
+  by_good (encloses ds fs hs) holds = as_good_then holds (opened_by_all fs holds) (opened_by_handlers hs (opened_by_all fs holds)) (all_good fs holds) (handlers_good hs (opened_by_all fs holds))
+
+  pub all_good : (fs : StmtsForm) (holds : Holds) → AsGood holds (opened_by_all fs holds)
+  all_good no_stmts holds = as_good holds
+  all_good (a_stmt f fs) holds = as_good_then holds (opened_by f holds) (opened_by_all fs (opened_by f holds)) (by_good f holds) (all_good fs (opened_by f holds))
+
+  branches_good : (branches : BranchesForm) (holds : Holds) → AsGood holds (opened_by_branches branches holds)
+  branches_good (otherwise fs) holds = all_good fs holds
+  branches_good (a_branch e fs branches) holds = as_good_then holds (opened_by_all fs holds) (opened_by_branches branches (opened_by_all fs holds)) (all_good fs holds) (branches_good branches (opened_by_all fs holds))
+
+  handlers_good : (hs : HandlersForm) (holds : Holds) → AsGood holds (opened_by_handlers hs holds)
+  handlers_good no_handlers holds = as_good holds
+  handlers_good (a_handler choices fs hs) holds = as_good_then holds (opened_by_all fs holds) (opened_by_handlers hs (opened_by_all fs holds)) (all_good fs holds) (handlers_good hs (opened_by_all fs holds))
+
+-- What is lost is no better than anything.
+pub good_losing : (x : ℕ) (holds other : Holds) → hold_at other x ≡ Lost → AsGood holds other → AsGood (slice_set holds x Lost) other
+good_losing x holds other is good y = go (same_or_not y x)
+  where
+    go : (y ≡ x) ⊎ (y ≢ x) → is_as_good (hold_at (slice_set holds x Lost) y) (hold_at other y) ≡ true
+    go (inl e) = rw (e, is) (good_lost (hold_at (slice_set holds x Lost) x))
+    go (inr ne) = rw (read_other holds x y Lost Lost ne) (good y)
+
+pub good_to_lost : (x : ℕ) (holds other : Holds) → AsGood holds other → AsGood holds (slice_set other x Lost)
+good_to_lost x holds other good y = go (same_or_not y x)
+  where
+    go : (y ≡ x) ⊎ (y ≢ x) → is_as_good (hold_at holds y) (hold_at (slice_set other x Lost) y) ≡ true
+    go (inl e) = rw (e, lost_here other x) (good_lost (hold_at holds x))
+    go (inr ne) = rw (read_other other x y Lost Lost ne) (good y)

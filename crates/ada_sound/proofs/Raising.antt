@@ -1,0 +1,192 @@
+-- Which exceptions may be raised: what asks for fewer finds fewer, and operators raise only what they may.
+
+use Rattle.std.proofs.Common.{◌≡◌, Bool, true, false, ◌&&◌, ◌||◌, not, List, [], ◌∷◌, refl, ap}
+use Rattle.std.proofs.lemmas.Bool.{eqb-true, eq-eqb}
+use Rattle.std.specs.Prelude.{ℤ, None, Result, Ok, Err}
+use Rattle.ada_values.specs.declared.operator.UnaryOperator.{UnaryOperator}
+use Rattle.ada_values.specs.declared.operator.UnaryOperator.TheVariants as unary
+use Rattle.ada_values.specs.declared.operator.BinaryOperator.{BinaryOperator}
+use Rattle.ada_values.specs.declared.operator.BinaryOperator.TheVariants as binary
+use Rattle.ada_values.specs.declared.value.Value.{Value as ScalarValue}
+use Rattle.ada_values.specs.declared.value.Value.TheVariants.{Integer, Boolean}
+use Rattle.ada_values.specs.declared.fault.OperatorFault.{OperatorFault}
+use Rattle.ada_values.specs.declared.fault.OperatorFault.TheVariants.{Overflow, DivisionByZero, WrongType}
+use Rattle.ada_values.specs.Outcome.{outcome_of, outcome_of_integers, outcome_of_booleans, unary_outcome_of}
+use Rattle.ada_program.specs.declared.program.Exception.{Exception}
+use Rattle.ada_program.specs.declared.program.Exception.TheVariants.{ConstraintError, ProgramError, StorageError, EndError, Declared}
+use Rattle.ada_program.specs.Form.{RightForm, nothing, value_of, allocates, computes, DeclarationForm, collects, declares, StmtForm, skips, assigns, frees, gets, writes, writes_text, chooses, repeats, counts, exits, returns, raises, encloses, StmtsForm, no_stmts, a_stmt, BranchesForm, otherwise, a_branch, HandlersForm, no_handlers, a_handler}
+use Rattle.ada_program.specs.Handling.{is_same, handler_of, is_taken}
+use Rattle.ada_effects.specs.Effects.{expression_raises, condition_raises, items_raise, path_raises, untaken, unary_raises, binary_raises, right_raises, declaration_raises, declarations_raise, stmt_raises, stmts_raise, branches_raise, handlers_raise}
+use Rattle.ada_meaning.specs.declared.state.Value.{Value}
+use Rattle.ada_meaning.specs.declared.state.Value.TheVariants.{Null, Names, Scalar}
+use Rattle.ada_meaning.specs.Named.{as_value, unary_given, binary_given}
+
+-- One of two, and both of two.
+pub or_left : (a b : Bool) → a ≡ true → (a || b) ≡ true
+or_left true b e = refl
+or_left false b e = absurd (cc e)
+
+pub or_right : (a b : Bool) → b ≡ true → (a || b) ≡ true
+or_right true b e = refl
+or_right false b e = e
+
+or_map : (a b c d : Bool) → (a ≡ true → c ≡ true) → (b ≡ true → d ≡ true) → (a || b) ≡ true → (c || d) ≡ true
+or_map true b c d f g e = or_left c d (f refl)
+or_map false b c d f g e = or_right c d (g e)
+
+and_map : (a b c d : Bool) → (a ≡ true → c ≡ true) → (b ≡ true → d ≡ true) → (a && b) ≡ true → (c && d) ≡ true
+and_map true b true d f g e = g e
+and_map true b false d f g e = absurd (cc (f refl))
+and_map false b c d f g e = absurd (cc e)
+
+and_first : (a b c : Bool) → (a ≡ true → c ≡ true) → (a && b) ≡ true → (c && b) ≡ true
+and_first a b c f e = and_map a b c b f (λ h. h) e
+
+pub both : (a b : Bool) → a ≡ true → b ≡ true → (a && b) ≡ true
+both true b e f = f
+both false b e f = absurd (cc e)
+
+-- An exception is the same as itself alone.
+pub same_here : (e : Exception) → is_same e e ≡ true
+same_here ConstraintError = refl
+same_here ProgramError = refl
+same_here StorageError = refl
+same_here EndError = refl
+same_here (Declared e) = eq-eqb e.0 e.0 refl
+
+pub same_is : (e f : Exception) → is_same e f ≡ true → e ≡ f
+same_is ConstraintError ConstraintError is = refl
+same_is ProgramError ProgramError is = refl
+same_is StorageError StorageError is = refl
+same_is EndError EndError is = refl
+same_is (Declared e) (Declared f) is = ap (λ n. Declared (record { 0 = n })) (eqb-true e.0 f.0 is)
+same_is e f is = absurd (cc is)
+
+-- What is asked for is among more.
+abbrev pub IsAmong : (Exception → Bool) → (Exception → Bool) → Type 0
+IsAmong among more = (e : Exception) → among e ≡ true → more e ≡ true
+
+untaken_more : (hs : HandlersForm) (among more : Exception → Bool) → IsAmong among more → IsAmong (untaken hs among) (untaken hs more)
+untaken_more hs among more m e is = and_first (among e) (not (is_taken hs e)) (more e) (m e) is
+
+right_more : (among more : Exception → Bool) → IsAmong among more → (right : RightForm) → right_raises among right ≡ true → right_raises more right ≡ true
+right_more among more m nothing is = is
+right_more among more m (value_of path) is = and_first (among ConstraintError) (path_raises path.selectors) (more ConstraintError) (m ConstraintError) is
+right_more among more m (allocates access items) is =
+    or_map (among StorageError) (among ConstraintError && items_raise items) (more StorageError) (more ConstraintError && items_raise items) (m StorageError)
+    (λ i. and_first (among ConstraintError) (items_raise items) (more ConstraintError) (m ConstraintError) i) is
+right_more among more m (computes e) is = and_first (among ConstraintError) (expression_raises e) (more ConstraintError) (m ConstraintError) is
+
+declarations_more : (among more : Exception → Bool) → IsAmong among more → (ds : List DeclarationForm) → declarations_raise among ds ≡ true → declarations_raise more ds ≡ true
+declarations_more among more m [] is = is
+declarations_more among more m (d ∷ ds) is =
+    or_map (declaration_raises among d) (declarations_raise among ds) (declaration_raises more d) (declarations_raise more ds) (one d) (declarations_more among more m ds) is
+  where
+    one : (d : DeclarationForm) → declaration_raises among d ≡ true → declaration_raises more d ≡ true
+    one (collects access) i = i
+    one (declares x right) i = right_more among more m right i
+
+mutual
+  stmt_more : (f : StmtForm) (among more : Exception → Bool) → IsAmong among more → stmt_raises among f ≡ true → stmt_raises more f ≡ true
+  stmt_more skips among more m is = is
+  stmt_more (assigns target right) among more m is = right_more among more m right is
+  stmt_more (frees access variable) among more m is = is
+  stmt_more (gets target) among more m is = m EndError is
+  stmt_more (writes e) among more m is = and_first (among ConstraintError) (expression_raises e) (more ConstraintError) (m ConstraintError) is
+  stmt_more (writes_text text) among more m is = is
+  stmt_more (chooses branches) among more m is = branches_more branches among more m is
+  stmt_more (repeats condition fs end_spot) among more m is =
+      or_map (among ConstraintError && condition_raises condition) (stmts_raise among fs) (more ConstraintError && condition_raises condition) (stmts_raise more fs)
+      (λ i. and_first (among ConstraintError) (condition_raises condition) (more ConstraintError) (m ConstraintError) i) (stmts_more fs among more m) is
+  stmt_more (counts x low high fs end_spot) among more m is =
+      or_map (among ConstraintError && (expression_raises low || expression_raises high)) (stmts_raise among fs) (more ConstraintError && (expression_raises low || expression_raises high)) (stmts_raise more fs)
+      (λ i. and_first (among ConstraintError) (expression_raises low || expression_raises high) (more ConstraintError) (m ConstraintError) i) (stmts_more fs among more m) is
+  stmt_more (exits condition spot) among more m is = and_first (among ConstraintError) (condition_raises condition) (more ConstraintError) (m ConstraintError) is
+  stmt_more (returns spot) among more m is = is
+  stmt_more (raises e) among more m is = m e is
+  stmt_more (encloses ds fs hs) among more m is =
+      or_map (declarations_raise among ds || stmts_raise (untaken hs among) fs) (handlers_raise among hs) (declarations_raise more ds || stmts_raise (untaken hs more) fs) (handlers_raise more hs)
+      (λ i. or_map (declarations_raise among ds) (stmts_raise (untaken hs among) fs) (declarations_raise more ds) (stmts_raise (untaken hs more) fs) (declarations_more among more m ds) (stmts_more fs (untaken hs among) (untaken hs more) (untaken_more hs among more m)) i)
+      (handlers_more hs among more m) is
+
+  pub stmts_more : (fs : StmtsForm) (among more : Exception → Bool) → IsAmong among more → stmts_raise among fs ≡ true → stmts_raise more fs ≡ true
+  stmts_more no_stmts among more m is = is
+  stmts_more (a_stmt f fs) among more m is = or_map (stmt_raises among f) (stmts_raise among fs) (stmt_raises more f) (stmts_raise more fs) (stmt_more f among more m) (stmts_more fs among more m) is
+
+  branches_more : (branches : BranchesForm) (among more : Exception → Bool) → IsAmong among more → branches_raise among branches ≡ true → branches_raise more branches ≡ true
+  branches_more (otherwise fs) among more m is = stmts_more fs among more m is
+  branches_more (a_branch e fs branches) among more m is =
+      or_map ((among ConstraintError && expression_raises e) || stmts_raise among fs) (branches_raise among branches) ((more ConstraintError && expression_raises e) || stmts_raise more fs) (branches_raise more branches)
+      (λ i. or_map (among ConstraintError && expression_raises e) (stmts_raise among fs) (more ConstraintError && expression_raises e) (stmts_raise more fs) (λ j. and_first (among ConstraintError) (expression_raises e) (more ConstraintError) (m ConstraintError) j) (stmts_more fs among more m) i)
+      (branches_more branches among more m) is
+
+  handlers_more : (hs : HandlersForm) (among more : Exception → Bool) → IsAmong among more → handlers_raise among hs ≡ true → handlers_raise more hs ≡ true
+  handlers_more no_handlers among more m is = is
+  handlers_more (a_handler choices fs hs) among more m is = or_map (stmts_raise among fs) (handlers_raise among hs) (stmts_raise more fs) (handlers_raise more hs) (stmts_more fs among more m) (handlers_more hs among more m) is
+
+-- An exception that no handler takes.
+pub not_taken : (hs : HandlersForm) (e : Exception) → handler_of e hs ≡ None → (f : Exception) → is_same e f ≡ true → not (is_taken hs f) ≡ true
+not_taken hs e none f is = rw (← same_is e f is, none) refl
+
+pub raises_untaken : (fs : StmtsForm) (hs : HandlersForm) (e : Exception) → handler_of e hs ≡ None → stmts_raise (is_same e) fs ≡ true → stmts_raise (untaken hs (is_same e)) fs ≡ true
+raises_untaken fs hs e none is = stmts_more fs (is_same e) (untaken hs (is_same e)) (λ f same. both (is_same e f) (not (is_taken hs f)) same (not_taken hs e none f same)) is
+
+pub raises_past : (fs : StmtsForm) (hs : HandlersForm) (e : Exception) → handler_of e hs ≡ None → stmts_raise (is_same e) fs ≡ true → stmts_raise (λ f. not (is_taken hs f)) fs ≡ true
+raises_past fs hs e none is = stmts_more fs (is_same e) (λ f. not (is_taken hs f)) (not_taken hs e none) is
+
+-- An operator raises an exception only where it may.
+abbrev pub RaisesOnly : {X : Type 0} → Bool → Result X OperatorFault → Type 0
+RaisesOnly may (Ok v) = Unit {0}
+RaisesOnly may (Err Overflow) = may ≡ true
+RaisesOnly may (Err DivisionByZero) = may ≡ true
+RaisesOnly may (Err WrongType) = Unit {0}
+
+may_raise : {X : Type 0} (r : Result X OperatorFault) → RaisesOnly true r
+may_raise (Ok v) = tt
+may_raise (Err Overflow) = refl
+may_raise (Err DivisionByZero) = refl
+may_raise (Err WrongType) = tt
+
+integers_only : (operator : BinaryOperator) (a b : ℤ) → RaisesOnly (binary_raises operator) (outcome_of_integers operator a b)
+integers_only binary.Add a b = may_raise (outcome_of_integers binary.Add a b)
+integers_only binary.Subtract a b = may_raise (outcome_of_integers binary.Subtract a b)
+integers_only binary.Multiply a b = may_raise (outcome_of_integers binary.Multiply a b)
+integers_only binary.Divide a b = may_raise (outcome_of_integers binary.Divide a b)
+integers_only binary.Remainder a b = may_raise (outcome_of_integers binary.Remainder a b)
+integers_only binary.Modulo a b = may_raise (outcome_of_integers binary.Modulo a b)
+integers_only operator a b = tt
+
+booleans_only : (operator : BinaryOperator) (a b : Bool) → RaisesOnly (binary_raises operator) (outcome_of_booleans operator a b)
+booleans_only binary.And a b = tt
+booleans_only operator a b = tt
+
+outcome_only : (operator : BinaryOperator) (a b : ScalarValue) → RaisesOnly (binary_raises operator) (outcome_of operator a b)
+unfolding outcome_of
+outcome_only operator (Integer a) (Integer b) = integers_only operator a b
+outcome_only operator (Boolean a) (Boolean b) = booleans_only operator a b
+outcome_only operator (Integer a) (Boolean b) = tt
+outcome_only operator (Boolean a) (Integer b) = tt
+
+unary_outcome_only : (operator : UnaryOperator) (a : ScalarValue) → RaisesOnly (unary_raises operator) (unary_outcome_of operator a)
+unfolding unary_outcome_of
+unary_outcome_only unary.Plus (Integer a) = tt
+unary_outcome_only unary.Minus (Integer a) = may_raise (unary_outcome_of unary.Minus (Integer a))
+unary_outcome_only unary.Not (Integer a) = tt
+unary_outcome_only unary.Plus (Boolean a) = tt
+unary_outcome_only unary.Minus (Boolean a) = tt
+unary_outcome_only unary.Not (Boolean a) = tt
+
+value_only : (may : Bool) (r : Result ScalarValue OperatorFault) → RaisesOnly may r → RaisesOnly may (as_value r)
+value_only may (Ok v) h = tt
+value_only may (Err Overflow) h = h
+value_only may (Err DivisionByZero) h = h
+value_only may (Err WrongType) h = tt
+
+pub unary_only : (operator : UnaryOperator) (a : Value) → RaisesOnly (unary_raises operator) (unary_given operator a)
+unary_only operator Null = tt
+unary_only operator (Names o) = tt
+unary_only operator (Scalar a) = value_only (unary_raises operator) (unary_outcome_of operator a) (unary_outcome_only operator a)
+
+pub binary_only : (operator : BinaryOperator) (a b : Value) → RaisesOnly (binary_raises operator) (binary_given operator a b)
+binary_only operator (Scalar a) (Scalar b) = value_only (binary_raises operator) (outcome_of operator a b) (outcome_only operator a b)
+binary_only operator a b = tt

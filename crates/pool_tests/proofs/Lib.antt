@@ -1,0 +1,2 @@
+-- Blocks that are held.
+pub mod Holding

@@ -1,0 +1,2 @@
+-- blocks that are held
+pub mod Held
