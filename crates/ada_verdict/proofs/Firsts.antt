@@ -80,7 +80,7 @@ flow_by p =
 flow_is : (p : Program) → program_flow p ≡ flow_by (program_form p)
 flow_is p =
     ap (λ (n : ℕ). then_flow (declarations_flow (variables_of p) (declaration_forms p) (replicate n Lost))
-        (λ at. handled (passes (stmt_forms p) (handler_forms p)) (handlers_flow (variables_of p) outermost (handler_forms p)) (stmts_flow (variables_of p) outermost (stmt_forms p) at)))
+    (λ at. handled (passes (stmt_forms p) (handler_forms p)) (handlers_flow (variables_of p) outermost (handler_forms p)) (stmts_flow (variables_of p) outermost (stmt_forms p) at)))
     (sym (length-map p.variables.items variable_form))
 
 same_judgement : (p q : Program) → program_form p ≡ program_form q → judgement (program_flow p) ≡ judgement (program_flow q)
