@@ -17,6 +17,7 @@ abbrev pub unary_raises : UnaryOperator → Bool
 unary_raises unary.Minus = true
 unary_raises operator = false
 
+-- Whether an operator between operands may raise Constraint_Error (4.5, 11.6).
 abbrev pub binary_raises : BinaryOperator → Bool
 binary_raises binary.Add = true
 binary_raises binary.Subtract = true
@@ -51,6 +52,7 @@ abbrev pub item_raises : ItemForm → Bool
 item_raises null_item = false
 item_raises (item_of_value e) = expression_raises e
 
+-- Whether one of these items may raise Constraint_Error.
 abbrev pub items_raise : List ItemForm → Bool
 items_raise [] = false
 items_raise (i ∷ is) = item_raises i || items_raise is
@@ -73,10 +75,12 @@ right_raises among (value_of path) = among ConstraintError && path_raises path.s
 right_raises among (allocates access items) = among StorageError || (among ConstraintError && items_raise items)
 right_raises among (computes e) = among ConstraintError && expression_raises e
 
+-- Whether a declaration may raise one of these exceptions: its initial value may.
 abbrev pub declaration_raises : (Exception → Bool) → DeclarationForm → Bool
 declaration_raises among (collects access) = false
 declaration_raises among (declares x right) = right_raises among right
 
+-- Whether one of these declarations may raise one of these exceptions.
 abbrev pub declarations_raise : (Exception → Bool) → List DeclarationForm → Bool
 declarations_raise among [] = false
 declarations_raise among (d ∷ ds) = declaration_raises among d || declarations_raise among ds

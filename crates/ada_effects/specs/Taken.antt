@@ -30,6 +30,7 @@ abbrev pub with_choice : Choice → (Exception → Bool) → Exception → Bool
 with_choice (choice.Exception f) set = with_one f set
 with_choice choice.Others set = set
 
+-- The exceptions of a set, and those that choices name.
 abbrev pub with_choices : List Choice → (Exception → Bool) → Exception → Bool
 with_choices [] set = set
 with_choices (c ∷ cs) set = with_choices cs (with_choice c set)
@@ -53,6 +54,7 @@ abbrev pub is_others : Choice → Bool
 is_others (choice.Exception f) = false
 is_others choice.Others = true
 
+-- Whether `others` is among choices.
 abbrev pub has_others : List Choice → Bool
 has_others [] = false
 has_others (c ∷ cs) = is_others c || has_others cs

@@ -36,12 +36,13 @@ join_hold (Alias Whole) (Alias Whole) = Alias Whole
 join_hold (Alias r) Lost = Lost
 join_hold Lost h = Lost
 
+-- What is known of each variable where two ways meet.
 abbrev pub join : Holds → Holds → Holds
 join [] hs = []
 join (g ∷ gs) [] = []
 join (g ∷ gs) (h ∷ hs) = join_hold g h ∷ join gs hs
 
--- The same where one way, or both, may not be gone.
+-- What is known where two ways meet, either of which may not be gone.
 abbrev pub join_option : Option Holds → Option Holds → Option Holds
 join_option None b = b
 join_option (Some a) None = Some a
@@ -73,6 +74,7 @@ abbrev pub raising_if : Bool → Holds → Option Holds
 raising_if false holds = None
 raising_if true holds = Some holds
 
+-- A form that comes to its end with what is known after it, and may raise with what is known before it.
 abbrev pub ends_with : Bool → (before after : Holds) → Outcome
 ends_with may_raise before after = goes (Some after) (raising_if may_raise before)
 
@@ -103,6 +105,7 @@ abbrev pub uses_in_item : ItemForm → List Use
 uses_in_item null_item = []
 uses_in_item (item_of_value e) = uses_in e
 
+-- The uses of variables in items, from left to right.
 abbrev pub uses_in_items : List ItemForm → List Use
 uses_in_items [] = []
 uses_in_items (i ∷ is) = uses_in_item i ++ uses_in_items is
@@ -130,11 +133,12 @@ lost_behind [] hold spot = None
 lost_behind (c ∷ []) hold spot = lost_by hold spot
 lost_behind (c ∷ d ∷ cs) hold spot = Some spot
 
--- The same where the value at its end is compared: a variable's own value must not be lost either.
+-- Where a path meets a lost value, if it is followed up to its end and the value there is compared: a variable's own value counts, too.
 abbrev pub lost_up_to : List ℕ → Hold → Spot → Option Spot
 lost_up_to [] hold spot = lost_by hold spot
 lost_up_to (c ∷ cs) hold spot = lost_behind (c ∷ cs) hold spot
 
+-- Where a use of a variable meets a lost value.
 abbrev pub lost_in : Holds → Use → Option Spot
 lost_in holds (reads_it path) = lost_behind path.selectors (hold_at holds path.root) path.spot
 lost_in holds (compares_it path) = lost_up_to path.selectors (hold_at holds path.root) path.spot
@@ -213,6 +217,7 @@ abbrev pub gets_path : List ℕ → PathForm → Holds → Outcome
 gets_path [] path holds = ends_with true holds (slice_set holds path.root Lost)
 gets_path (c ∷ cs) path holds = faults path.spot LostValue
 
+-- What freeing does that a path names: its variable owns nothing any more.
 abbrev pub frees_path : List ℕ → PathForm → Holds → Outcome
 frees_path [] path holds = released path.root path.spot holds (hold_at holds path.root)
 frees_path (c ∷ cs) path holds = faults path.spot LostValue
@@ -241,7 +246,7 @@ is_as_good Lost (Own q) = false
 is_as_good Lost (Alias q) = false
 is_as_good Lost Lost = true
 
--- The same of each variable; one past the end is lost.
+-- Whether what each variable holds is at least as good as what is wanted of it; one past the end is lost.
 abbrev pub are_as_good : Holds → Holds → Bool
 are_as_good holds [] = true
 are_as_good [] (h ∷ hs) = is_as_good Lost h && are_as_good [] hs
@@ -254,6 +259,7 @@ opened_hold (Own r) = Own r
 opened_hold (Alias r) = Alias r
 opened_hold Lost = Lost
 
+-- A variable may own an object at the start of each turn, if it holds null where the loop begins.
 abbrev pub opened : ℕ → Holds → Holds
 opened x holds = slice_set holds x (opened_hold (hold_at holds x))
 
@@ -330,6 +336,7 @@ abbrev pub is_left : Option ExpressionForm → StmtsForm → Bool
 is_left None fs = have_exit fs
 is_left (Some e) fs = true
 
+-- What is known behind a loop that began with this: as much, if the loop can be left; else nothing is behind it.
 abbrev pub left_with : Bool → Holds → Outcome → Outcome
 left_with leaves start (faults spot rule) = faults spot rule
 left_with leaves start (goes normal raising) = goes (if leaves then Some start else None) raising
@@ -363,11 +370,12 @@ left [] types holds = []
 left (v ∷ vs) types [] = []
 left (v ∷ vs) types (h ∷ hs) = if_own (not (is_among types (access_of (Some v.kind)))) h ∷ left vs types hs
 
--- The same where a way may not be gone.
+-- What is known behind a block that is left on a way that may not be gone.
 abbrev pub left_option : List VariableForm → (types : List ℕ) → Option Holds → Option Holds
 left_option variables types None = None
 left_option variables types (Some holds) = Some (left variables types holds)
 
+-- The outcome of a block, behind which its collections are gone.
 abbrev pub leaves_block : List VariableForm → (types : List ℕ) → Outcome → Outcome
 leaves_block variables types (faults spot rule) = faults spot rule
 leaves_block variables types (goes normal raising) = goes (left_option variables types normal) (left_option variables types raising)
@@ -389,9 +397,11 @@ pub record Around : Type 0 where
 abbrev pub outermost : Around
 outermost = record { start = None; inside = [] }
 
+-- Around the statements of a loop: its start, and no block since.
 abbrev pub in_loop : Option Holds → Around
 in_loop start = record { start = start; inside = [] }
 
+-- Around the statements of a block with collections of these types.
 abbrev pub in_block : List ℕ → Around → Around
 in_block types around = record around { inside = types ++ around.inside }
 
@@ -410,6 +420,7 @@ abbrev pub declaration_flow : List VariableForm → DeclarationForm → Holds �
 declaration_flow variables (collects access) holds = ends_with false holds holds
 declaration_flow variables (declares x right) holds = gives variables x right holds
 
+-- The flow of declarations, in order (3.11).
 abbrev pub declarations_flow : List VariableForm → List DeclarationForm → Holds → Outcome
 declarations_flow variables [] holds = ends_with false holds holds
 declarations_flow variables (d ∷ ds) holds = then_flow (declaration_flow variables d holds) (declarations_flow variables ds)

@@ -1,7 +1,8 @@
 -- How the answers of the code are tied to the outcomes of the flow of values.
 
-use Rattle.std.specs.Prelude.{◌≡◌, ℕ, Bool, true, false, List, map, Option, Some, None, IfSome, Result, Ok, Err}
+use Rattle.std.specs.Prelude.{◌≡◌, ℕ, Bool, true, false, List, [], ◌∷◌, map, not, Option, Some, None, IfSome, Result, Ok, Err}
 use Rattle.std.specs.Global.{Vec}
+use Rattle.std.specs.List.{slice_index_or}
 use Rattle.std.specs.Option.{option_copied}
 use Rattle.ada_text.specs.declared.spot.Spot.{Spot}
 use Rattle.ada_text.specs.Exactly.{Exactly}
@@ -9,6 +10,7 @@ use Rattle.ada_flow.specs.declared.around.Around.{Around as HeldAround}
 use Rattle.ada_flow.specs.declared.fault.Breach.{Breach}
 use Rattle.ada_flow.specs.declared.fault.FlowFault.{FlowFault}
 use Rattle.ada_flow.specs.declared.fault.FlowFault.TheVariants.{Broken, NoMemory}
+use Rattle.ada_flow.specs.declared.marks.Marks.{Marks}
 use Rattle.ada_flow.specs.declared.raised.Raised.{Raised}
 use Rattle.ada_flow.specs.declared.raised.Raised.TheVariants.{Unwanted, Wanted}
 use Rattle.ada_flow.specs.declared.rule.Hold.{Hold}
@@ -16,10 +18,19 @@ use Rattle.ada_flow.specs.declared.rule.Rule.{Rule}
 use Rattle.ada_flow.specs.declared.rule.Rule.TheVariants.{LostValue}
 use Rattle.ada_program.specs.declared.program.Program.{Program}
 use Rattle.ada_program.specs.declared.program.Branch.{Branch}
+use Rattle.ada_program.specs.declared.program.Declaration.{Declaration}
+use Rattle.ada_program.specs.declared.program.Expression.{Expression}
+use Rattle.ada_program.specs.declared.program.Handler.{Handler}
+use Rattle.ada_program.specs.declared.program.Path.{Path}
+use Rattle.ada_program.specs.declared.program.Right.{Right}
+use Rattle.ada_program.specs.declared.program.Stmt.{Stmt}
 use Rattle.ada_program.specs.declared.program.TypeNo.{TypeNo}
-use Rattle.ada_program.specs.Form.{StmtsForm, branches_form, HandlersForm, no_handlers, a_handler}
+use Rattle.ada_program.specs.declared.program.Variable.{Variable}
+use Rattle.ada_program.specs.Form.{ExpressionForm, StmtsForm, branches_form, HandlersForm, no_handlers, a_handler, condition_form, declaration_form, handlers_form, path_form, right_form, stmts_form}
 use Rattle.ada_program.specs.ProgramForm.{VariableForm, variable_form}
-use Rattle.ada_flow.specs.Flow.{Outcome, faults, goes, Holds, Around, join_option, left, left_option, raising_if, unless_worse, stmts_flow, branches_flow, program_flow}
+use Rattle.ada_program.specs.WellFormed.{access_of}
+use Rattle.ada_effects.specs.Effects.{passes}
+use Rattle.ada_flow.specs.Flow.{Outcome, faults, goes, Holds, Around, if_own, is_among, is_left, join_option, left, left_option, in_loop, loop_flow, opened_by_all, counting_start, exit_flow, gives_path, raising_if, unless_worse, declarations_flow, handlers_flow, stmts_flow, branches_flow, program_flow}
 
 -- The judgement of a whole program: no rule is broken, or this is the first one, and where.
 abbrev pub judgement : Outcome → Result (Unit {0}) (Spot × Rule)
@@ -50,11 +61,28 @@ type_number t = t.0
 abbrev pub variables_in : HeldAround → List VariableForm
 variables_in around = map variable_form around.variables.now
 
+-- The start of the loop around a form, as the code keeps it.
 abbrev pub start_in : HeldAround → Option Holds
 start_in around = option_copied around.start
 
+-- What stands around a form, as the code keeps it.
 abbrev pub around_of : HeldAround → Around
 around_of around = record { start = start_in around; inside = map type_number around.inside.now }
+
+-- Is there an access type, and is it marked? One past the last mark is not.
+abbrev pub is_marked : Marks → Option ℕ → Bool
+is_marked marks None = false
+is_marked marks (Some t) = slice_index_or marks.at.items t false
+
+-- These access types are marked, and no others.
+abbrev pub AreMarks : Marks → (types : List ℕ) → Type 0
+AreMarks marks types = (t : ℕ) → is_marked marks (Some t) ≡ is_among types (Some t)
+
+-- What variables hold behind a block whose access types are marked: those of a marked type are lost.
+abbrev pub left_marked : List VariableForm → Marks → Holds → Holds
+left_marked [] marks holds = []
+left_marked (v ∷ vs) marks [] = []
+left_marked (v ∷ vs) marks (h ∷ hs) = if_own (not (is_marked marks (access_of (Some v.kind)))) h ∷ left_marked vs marks hs
 
 -- What is noted of the places where a form may raise an exception: nothing, where neither a handler nor a block around wants to know it; or
 -- what the variables hold there.
@@ -62,6 +90,7 @@ pub data Noted : Type 0 where
   unwanted : Noted
   wanted : Option Holds → Noted
 
+-- What the code has noted of raising points.
 abbrev pub noted : Raised → Noted
 noted Unwanted = unwanted
 noted (Wanted holds) = wanted (held holds)
@@ -71,7 +100,7 @@ abbrev pub also_noted : Noted → Option Holds → Noted
 also_noted unwanted raising = unwanted
 also_noted (wanted before) raising = wanted (join_option before raising)
 
--- The same where it is noted in a block that is left, with the collections of these types.
+-- What is noted of a raising point in a block that is left, with the collections of these types.
 abbrev pub noted_behind : Noted → List VariableForm → (types : List ℕ) → Noted → Noted
 noted_behind before variables types unwanted = before
 noted_behind before variables types (wanted raising) = also_noted before (left_option variables types raising)
@@ -104,7 +133,7 @@ ending before (goes normal raising) = Ok (normal, also_noted before raising)
 abbrev pub Ends : Result (Option (Vec Hold)) FlowFault → (before after : Raised) → Outcome → Type 0
 Ends answer before after outcome = Exactly (λ normal. (held normal, noted after)) breach_of answer (ending (noted before) outcome)
 
--- The same of a form that comes to its end, with what the variables hold there.
+-- The answer for a form that comes to its end is exactly its outcome, with what the variables hold there.
 abbrev pub Leads : {X : Type 0} → Result X FlowFault → Holds → (before after : Raised) → Outcome → Type 0
 Leads answer holds before after outcome = Exactly (λ _. (Some holds, noted after)) breach_of answer (ending (noted before) outcome)
 
@@ -146,3 +175,42 @@ Follows (Err breach) lost = (lost ≡ Some breach.spot) × (breach.rule ≡ Lost
 abbrev pub exit_begins : List VariableForm → Option Holds → (inside : List ℕ) → Spot → Holds → Outcome
 exit_begins variables None inside spot holds = goes (Some holds) None
 exit_begins variables (Some start) inside spot holds = unless_worse start (left variables inside holds) spot (goes (Some holds) None)
+
+-- The outcomes of forms, as the code keeps them.
+
+-- An exit that stands here.
+abbrev pub exit_in : HeldAround → Option ExpressionForm → Spot → Holds → Outcome
+exit_in around condition spot holds = exit_flow (variables_in around) (start_in around) (map type_number around.inside.now) condition spot holds
+
+-- The handlers of statements that stand here, with what is known where an exception is raised.
+abbrev pub handlers_in : HeldAround → List Handler → Holds → Outcome
+handlers_in around handlers raising = handlers_flow (variables_in around) (around_of around) (handlers_form handlers) raising
+
+-- How statements that stand here end with their handlers, by how they do themselves, and by what is noted of them.
+abbrev pub handled_in : HeldAround → (before : Noted) → List Stmt → List Handler → (normal : Option Holds) → Noted →
+    Result (Option Holds × Noted) (Spot × Rule)
+handled_in around before statements handlers normal inner =
+    end_handled before (passes (stmts_form statements) (handlers_form handlers)) (handlers_in around handlers) normal inner
+
+-- A loop from its start.
+abbrev pub turns_of : List Variable → Option Expression → (leaves : Bool) → List Stmt → Spot → (start : Holds) → Outcome
+turns_of variables condition leaves body end start =
+    loop_flow (condition_form condition) leaves end (λ place hs. stmts_flow (map variable_form variables) (in_loop place) (stmts_form body) hs) start
+
+-- `loop`, or `while` with a condition.
+abbrev pub loop_of : List Variable → Option Expression → List Stmt → Spot → Holds → Outcome
+loop_of variables condition body end holds =
+    turns_of variables condition (is_left (condition_form condition) (stmts_form body)) body end (opened_by_all (stmts_form body) holds)
+
+-- `for`, behind its bounds.
+abbrev pub for_of : List Variable → (parameter : ℕ) → List Stmt → Spot → Holds → Outcome
+for_of variables parameter body end holds = turns_of variables None true body end (counting_start parameter (stmts_form body) holds)
+
+-- An assignment.
+abbrev pub assignment_of : List Variable → Path → Right → Holds → Outcome
+assignment_of variables target value holds =
+    gives_path (map variable_form variables) (path_form target).selectors (path_form target) (right_form value) holds
+
+-- Declarations, in order.
+abbrev pub declarations_of : List Variable → List Declaration → Holds → Outcome
+declarations_of variables declarations holds = declarations_flow (map variable_form variables) (map declaration_form declarations) holds

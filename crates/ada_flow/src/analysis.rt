@@ -1,8 +1,8 @@
 //! The flow of values through initial values, assignments and frees, and through a whole program.
 
 ghost use Rattle.std.specs.Prelude.{◌≡◌, map};
-ghost use Rattle.ada_flow.specs.Flow.{gives, gives_path, moves_path, frees_path, gets_path, declaration_flow, declarations_flow, program_flow};
-ghost use Rattle.ada_flow.specs.Told.{Leads, Tells, breach_of, judgement};
+ghost use Rattle.ada_flow.specs.Flow.{gives, moves_path, frees_path, gets_path, declaration_flow, program_flow};
+ghost use Rattle.ada_flow.specs.Told.{Leads, Tells, assignment_of, breach_of, declarations_of, judgement};
 ghost use Rattle.ada_program.specs.Form.{path_form, right_form, declaration_form};
 ghost use Rattle.ada_program.specs.ProgramForm.{variable_form};
 ghost use Rattle.ada_text.specs.Exactly.{Exactly};
@@ -103,7 +103,7 @@ pub(crate) fn assign(
     target: &Path,
     value: &Right,
 ) -> Result<(), FlowFault>
-    ensures { let assigned = path_form target.now in Leads result holds.new raised.old raised.new (gives_path (map variable_form variables.now) assigned.selectors assigned (right_form value.now) holds.old) }
+    ensures { Leads result holds.new raised.old raised.new (assignment_of variables.now target.now value.now holds.old) }
 {
     if !target.selectors.is_empty() {
         return Err(broken(target, Rule::LostValue).into());
@@ -180,7 +180,7 @@ pub(crate) fn declare(
     raised: &mut Raised,
     declarations: &[Declaration],
 ) -> Result<(), FlowFault>
-    ensures { Leads result holds.new raised.old raised.new (declarations_flow (map variable_form variables.now) (map declaration_form declarations.now) holds.old) }
+    ensures { Leads result holds.new raised.old raised.new (declarations_of variables.now declarations.now holds.old) }
 {
     'declarations: for one in declarations {
         declaration(alloc, variables, holds, raised, one)?;

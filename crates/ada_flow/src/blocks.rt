@@ -1,10 +1,9 @@
 //! The flow of values through blocks, and through statements with their handlers.
 
 ghost use Rattle.std.specs.Prelude.{◌≡◌, IfOk, ◌++◌, map};
-ghost use Rattle.ada_effects.specs.Effects.{passes};
 ghost use Rattle.ada_flow.specs.Flow as rules;
-ghost use Rattle.ada_flow.specs.Told.{Ends, Handles, around_of, end_handled, held, noted, type_number, variables_in};
-ghost use Rattle.ada_program.specs.Form.{declaration_form, handlers_form, stmts_form};
+ghost use Rattle.ada_flow.specs.Told.{Ends, Handles, handled_in, handlers_in, held, noted, type_number};
+ghost use Rattle.ada_program.specs.Form.{declaration_form};
 
 use crate::around::Around;
 use crate::fault::FlowFault;
@@ -57,7 +56,7 @@ pub(crate) fn handled(
     handlers: &[Handler],
     statements: &[Stmt],
 ) -> Result<Option<Vec<Hold>>, FlowFault>
-    ensures { let hs = handlers_form handlers.now in Handles result raised.new (end_handled (noted raised.old) (passes (stmts_form statements.now) hs) (rules.handlers_flow (variables_in around.now) (around_of around.now) hs) (held end) (noted inner)) }
+    ensures { Handles result raised.new (handled_in around.now (noted raised.old) statements.now handlers.now (held end) (noted inner)) }
 {
     let Raised::Wanted(Some(raising)) = inner else {
         return Ok(end);
@@ -79,7 +78,7 @@ fn handlers(
     raised: &mut Raised,
     handlers: &[Handler],
 ) -> Result<Option<Vec<Hold>>, FlowFault>
-    ensures { Ends result raised.old raised.new (rules.handlers_flow (variables_in around.now) (around_of around.now) (handlers_form handlers.now) raising.now) }
+    ensures { Ends result raised.old raised.new (handlers_in around.now handlers.now raising.now) }
 {
     let mut joined = None;
     'handlers: for handler in handlers {

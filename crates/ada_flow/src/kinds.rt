@@ -1,16 +1,18 @@
 //! The access types of variables: which values a variable relies on, and what is known of it behind a block.
 
-ghost use Rattle.std.specs.Prelude.{◌≡◌, map, not, Some};
+ghost use Rattle.std.specs.Prelude.{◌≡◌, IfOk, map, not, Some};
 ghost use Rattle.std.specs.Option.{option_map};
 ghost use Rattle.ada_flow.specs.Flow as rules;
-ghost use Rattle.ada_flow.specs.Told.{held, type_number};
+ghost use Rattle.ada_flow.specs.Told.{held, is_marked, left_marked, type_number};
 ghost use Rattle.ada_program.specs.ProgramForm.{variable_form};
 ghost use Rattle.ada_program.specs.WellFormed.{access_of};
 
 use crate::holds::hold_of;
+use crate::marks::Marks;
 use crate::rule::Hold;
 use ada_program::program::{Variable, VariableKind};
 use ada_program::{TypeNo, VariableNo};
+use std::alloc::{AllocError, Global};
 
 /// The access type of a variable: none, if it is an Integer or a Boolean.
 #[tactic(auto, using(std::proofs::lemmas::Grind::common_steps, crate::proofs::Behind::kind_steps))]
@@ -43,80 +45,69 @@ pub(crate) fn held_as(
     }
 }
 
-/// Whether an access type is one of these.
-fn has(types: &[TypeNo], access: TypeNo) -> bool
-    ensures { result ≡ rules.is_among (map type_number types.now) (Some access.0) }
+/// What is known of one variable behind a block with the collections of the marked types.
+fn left_hold(marks: &Marks, kind: VariableKind, hold: Hold) -> Hold
+    ensures { result ≡ rules.if_own (not (is_marked marks.now (access_of (Some kind)))) hold }
 {
-    'types: for one in types {
-        if *one == access {
-            return true;
-        }
-    }
-    false
+    if marks.has(kind) { Hold::Lost } else { hold }
 }
 
-/// Whether a variable is of one of these access types.
-#[tactic(auto, using(std::proofs::lemmas::Grind::common_steps, crate::proofs::Behind::among_none))]
-fn is_among(types: &[TypeNo], kind: VariableKind) -> bool
-    ensures { result ≡ rules.is_among (map type_number types.now) (access_of (Some kind)) }
-{
-    match kind {
-        VariableKind::Integer | VariableKind::Boolean => false,
-        VariableKind::Access(access) => has(types, access),
-    }
-}
-
-/// What is known of one variable behind a block with the collections of these types.
-fn left_hold(types: &[TypeNo], kind: VariableKind, hold: Hold) -> Hold
-    ensures { result ≡ rules.if_own (not (rules.is_among (map type_number types.now) (access_of (Some kind)))) hold }
-{
-    if is_among(types, kind) {
-        Hold::Lost
-    } else {
-        hold
-    }
-}
-
-/// The same of a variable by its number.
+/// What the variable of a number holds behind a block with the collections of the marked types.
 pub(crate) fn hold_behind(
     variables: &[Variable],
-    types: &[TypeNo],
+    marks: &Marks,
     holds: &[Hold],
     number: VariableNo,
 ) -> Hold
-    ensures { result ≡ rules.hold_at (rules.left (map variable_form variables.now) (map type_number types.now) holds.now) number.0 }
+    ensures { result ≡ rules.hold_at (left_marked (map variable_form variables.now) marks.now holds.now) number.0 }
 {
     match variables.get(number.0) {
-        Some(variable) => left_hold(types, variable.kind, hold_of(holds, number)),
+        Some(variable) => left_hold(marks, variable.kind, hold_of(holds, number)),
         None => Hold::Lost,
     }
 }
 
-/// Behind a block its collections are gone: a variable of one of their access types is lost.
-#[tactic(auto, using(std::proofs::lemmas::Grind::common_steps, crate::proofs::Behind::leaving_steps))]
-fn leave(variables: &[Variable], types: &[TypeNo], mut holds: Vec<Hold>) -> Vec<Hold>
-    ensures { result.items ≡ rules.left (map variable_form variables.now) (map type_number types.now) holds.items }
+/// Behind a block a variable of a marked type is lost.
+#[tactic(auto, using(std::proofs::lemmas::Grind::common_steps, crate::proofs::Behind::losing_steps))]
+fn lose(variables: &[Variable], marks: &Marks, mut holds: Vec<Hold>) -> Vec<Hold>
+    ensures { result.items ≡ left_marked (map variable_form variables.now) marks.now holds.items }
 {
     holds.truncate(variables.len());
-    if types.is_empty() {
-        return holds;
-    }
     for number in 0..holds.len() {
-        holds[number] = left_hold(types, variables[number].kind, holds[number]);
+        holds[number] = left_hold(marks, variables[number].kind, holds[number]);
     }
     holds
 }
 
-/// The same where a way may not be gone.
+/// Behind a block its collections are gone: a variable of one of their access types is lost.
+#[tactic(auto, using(std::proofs::lemmas::Grind::common_steps, crate::proofs::Behind::leaving_steps))]
+fn leave(
+    alloc: Global,
+    variables: &[Variable],
+    types: &[TypeNo],
+    mut holds: Vec<Hold>,
+) -> Result<Vec<Hold>, AllocError>
+    ensures { IfOk result (λ behind. behind.items ≡ rules.left (map variable_form variables.now) (map type_number types.now) holds.items) }
+{
+    if types.is_empty() {
+        holds.truncate(variables.len());
+        return Ok(holds);
+    }
+    let marks = Marks::of(alloc, types)?;
+    Ok(lose(variables, &marks, holds))
+}
+
+/// What is known behind a block that is left on a way that may not be gone.
 pub(crate) fn leave_end(
+    alloc: Global,
     variables: &[Variable],
     types: &[TypeNo],
     holds: Option<Vec<Hold>>,
-) -> Option<Vec<Hold>>
-    ensures { held result ≡ rules.left_option (map variable_form variables.now) (map type_number types.now) (held holds) }
+) -> Result<Option<Vec<Hold>>, AllocError>
+    ensures { IfOk result (λ end. held end ≡ rules.left_option (map variable_form variables.now) (map type_number types.now) (held holds)) }
 {
     match holds {
-        None => None,
-        Some(holds) => Some(leave(variables, types, holds)),
+        None => Ok(None),
+        Some(holds) => Ok(Some(leave(alloc, variables, types, holds)?)),
     }
 }

@@ -9,7 +9,8 @@
 //!
 //! A statement costs no more than its size, and so it does once more for each loop around it; a branch, a loop, an exit
 //! and a handler cost the number of variables besides, since each way begins with a copy of what is known and ends where
-//! it is joined or compared. A block goes over the variables once for its access types. Where a handler around wants to
+//! it is joined or compared. A block, and an exit from blocks, marks the access types of the blocks that are left by their
+//! numbers, and then goes over the variables once: that costs the number of types besides. Where a handler around wants to
 //! know it, each place that may raise an exception costs the number of variables, too, and each block around its size
 //! once more, to tell what its handlers let pass; elsewhere nothing is noted.
 #![tactic(auto)]
@@ -24,6 +25,7 @@ mod holds;
 mod joins;
 mod kinds;
 mod loops;
+mod marks;
 mod raised;
 mod repetition;
 mod rule;

@@ -3,14 +3,15 @@
 ghost use Rattle.std.specs.Prelude.{◌≡◌, ◌||◌, map};
 ghost use Rattle.ada_flow.specs.Flow as rules;
 ghost use Rattle.ada_program.specs.Form.{StmtsForm, stmt_form, stmts_form, branches_form, handlers_form};
-ghost use Rattle.ada_flow.specs.Told.{type_number};
+ghost use Rattle.ada_flow.specs.Told.{left_marked};
 ghost use Rattle.ada_program.specs.ProgramForm.{variable_form};
 
 use crate::holds::{hold_of, put};
 use crate::kinds::hold_behind;
+use crate::marks::Marks;
 use crate::rule::{Hold, Region};
 use ada_program::program::{Branch, Handler, Variable};
-use ada_program::{Stmt, TypeNo, VariableNo};
+use ada_program::{Stmt, VariableNo};
 
 /// What is known of a variable that a loop's body assigns, where each turn begins.
 fn opened_hold(hold: Hold) -> Hold
@@ -187,18 +188,18 @@ pub(crate) fn are_as_good(holds: &[Hold], start: &[Hold]) -> bool
     true
 }
 
-/// The same behind blocks with the collections of these types.
+/// Whether all variables are as good as at the start, behind blocks with the collections of the marked types.
 pub(crate) fn are_as_good_behind(
     variables: &[Variable],
-    types: &[TypeNo],
+    marks: &Marks,
     holds: &[Hold],
     start: &[Hold],
 ) -> bool
-    ensures { result ≡ rules.are_as_good (rules.left (map variable_form variables.now) (map type_number types.now) holds.now) start.now }
+    ensures { result ≡ rules.are_as_good (left_marked (map variable_form variables.now) marks.now holds.now) start.now }
 {
     for (number, wanted) in start.iter().enumerate() {
         if !is_as_good(
-            hold_behind(variables, types, holds, VariableNo(number)),
+            hold_behind(variables, marks, holds, VariableNo(number)),
             *wanted,
         ) {
             return false;

@@ -69,7 +69,7 @@ impl Raised {
         Ok(())
     }
 
-    /// The same, if it may at all.
+    /// Notes a raising point, if the form may raise at all.
     pub(crate) fn note_if(
         &mut self,
         may_raise: bool,
@@ -95,12 +95,19 @@ impl Raised {
     }
 
     /// What is raised in a block is raised behind it, where its collections are gone.
-    pub(crate) fn add_behind(&mut self, variables: &[Variable], types: &[TypeNo], raised: Raised)
-        ensures { noted self.new ≡ noted_behind (noted self.old) (map variable_form variables.now) (map type_number types.now) (noted raised) }
+    pub(crate) fn add_behind(
+        &mut self,
+        alloc: Global,
+        variables: &[Variable],
+        types: &[TypeNo],
+        raised: Raised,
+    ) -> Result<(), AllocError>
+        ensures { OnOk result (noted self.new ≡ noted_behind (noted self.old) (map variable_form variables.now) (map type_number types.now) (noted raised)) }
     {
         match raised {
             Raised::Unwanted => {}
-            Raised::Wanted(holds) => self.add(leave_end(variables, types, holds)),
+            Raised::Wanted(holds) => self.add(leave_end(alloc, variables, types, holds)?),
         }
+        Ok(())
     }
 }

@@ -1,16 +1,15 @@
 //! The flow of values through loops: one turn tells what each turn does, from what is known where each begins.
 
-ghost use Rattle.std.specs.Prelude.{◌≡◌, true, Some, None, map};
-ghost use Rattle.ada_flow.specs.Flow.{counting_start, goes, in_loop, is_left, loop_flow, opened_by_all, stmts_flow, unless_worse};
-ghost use Rattle.ada_flow.specs.Told.{Ends, Tells, around_of, exit_begins, variables_in};
-ghost use Rattle.ada_program.specs.Form.{condition_form, stmts_form};
-ghost use Rattle.ada_program.specs.ProgramForm.{variable_form};
+ghost use Rattle.std.specs.Prelude.{Some, None, map};
+ghost use Rattle.ada_flow.specs.Flow.{goes, unless_worse};
+ghost use Rattle.ada_flow.specs.Told.{AreMarks, Ends, Tells, around_of, exit_begins, for_of, loop_of, turns_of, type_number, variables_in};
 
 use crate::around::Around;
 use crate::compute::compute_condition;
 use crate::fault::{Breach, FlowFault};
 use crate::holds::put;
 use crate::loops::{are_as_good, are_as_good_behind, have_exit, open_all};
+use crate::marks::Marks;
 use crate::raised::Raised;
 use crate::rule::{Hold, Rule};
 use crate::statements::statements;
@@ -33,17 +32,26 @@ fn unless_worse(holds: &[Hold], start: &[Hold], spot: Spot) -> Result<(), Breach
 }
 
 /// An exit leads out of a loop, and out of the blocks in it, only with what is known at the loop's start.
-pub(crate) fn keeps_start(around: &Around<'_>, holds: &[Hold], spot: Spot) -> Result<(), Breach>
+/// Marked are the access types of those blocks.
+pub(crate) fn keeps_start(
+    around: &Around<'_>,
+    inside: &Marks,
+    holds: &[Hold],
+    spot: Spot,
+) -> Result<(), Breach>
+    requires { AreMarks inside.now (map type_number around.now.inside.now) }
     ensures { let place = around_of around.now in Tells result holds.now (exit_begins (variables_in around.now) place.start place.inside spot holds.now) }
 {
-    match around.start {
-        Some(start) if !are_as_good_behind(around.variables, around.inside, holds, start) => {
-            Err(Breach {
-                spot,
-                rule: Rule::LoopState,
-            })
-        }
-        _ => Ok(()),
+    let Some(start) = around.start else {
+        return Ok(());
+    };
+    if are_as_good_behind(around.variables, inside, holds, start) {
+        Ok(())
+    } else {
+        Err(Breach {
+            spot,
+            rule: Rule::LoopState,
+        })
     }
 }
 
@@ -58,7 +66,7 @@ pub(crate) fn repeat(
     body: &[Stmt],
     end: Spot,
 ) -> Result<Option<Vec<Hold>>, FlowFault>
-    ensures { let fs = stmts_form body.now in Ends result raised.old raised.new (loop_flow (condition_form condition.now) (is_left (condition_form condition.now) fs) end (λ start hs. stmts_flow (map variable_form variables.now) (in_loop start) fs hs) (opened_by_all fs holds.items)) }
+    ensures { Ends result raised.old raised.new (loop_of variables.now condition.now body.now end holds.items) }
 {
     open_all(&mut holds, body);
     let leaves = condition.is_some() || have_exit(body);
@@ -78,7 +86,7 @@ pub(crate) fn count(
     body: &[Stmt],
     end: Spot,
 ) -> Result<Option<Vec<Hold>>, FlowFault>
-    ensures { let fs = stmts_form body.now in Ends result raised.old raised.new (loop_flow None true end (λ start hs. stmts_flow (map variable_form variables.now) (in_loop start) fs hs) (counting_start parameter.0 fs holds.items)) }
+    ensures { Ends result raised.old raised.new (for_of variables.now parameter.0 body.now end holds.items) }
 {
     open_all(&mut holds, body);
     put(&mut holds, parameter, Hold::Lost);
@@ -98,7 +106,7 @@ fn turn(
     end: Spot,
     leaves: bool,
 ) -> Result<Option<Vec<Hold>>, FlowFault>
-    ensures { Ends result raised.old raised.new (loop_flow (condition_form condition.now) leaves end (λ place hs. stmts_flow (map variable_form variables.now) (in_loop place) (stmts_form body.now) hs) start.items) }
+    ensures { Ends result raised.old raised.new (turns_of variables.now condition.now leaves body.now end start.items) }
 {
     compute_condition(alloc, &start, raised, condition)?;
     let around = Around::in_loop(variables, &start);

@@ -1,8 +1,8 @@
 //! The flow of values through statements that nest: what is known where each comes to its end, if it does.
 
 ghost use Rattle.std.specs.Prelude.{◌≡◌, None};
-ghost use Rattle.ada_flow.specs.Flow.{exit_flow, stmt_flow, stmts_flow};
-ghost use Rattle.ada_flow.specs.Told.{Joins, Ends, around_of, start_in, variables_in};
+ghost use Rattle.ada_flow.specs.Flow.{stmt_flow, stmts_flow};
+ghost use Rattle.ada_flow.specs.Told.{Joins, Ends, around_of, exit_in, variables_in};
 ghost use Rattle.ada_program.specs.Form.{condition_form, stmt_form, stmts_form};
 
 use crate::analysis::{assign, declare, get, release};
@@ -12,6 +12,7 @@ use crate::compute::compute;
 use crate::fault::FlowFault;
 use crate::joins::join_ends;
 use crate::kinds::leave_end;
+use crate::marks::Marks;
 use crate::raised::Raised;
 use crate::repetition::{count, keeps_start, repeat};
 use crate::rule::Hold;
@@ -28,9 +29,10 @@ fn exit(
     condition: &Option<Expression>,
     spot: Spot,
 ) -> Result<Option<Vec<Hold>>, FlowFault>
-    ensures { let place = around_of around.now in Ends result raised.old raised.new (exit_flow (variables_in around.now) place.start place.inside (condition_form condition.now) spot holds.items) }
+    ensures { Ends result raised.old raised.new (exit_in around.now (condition_form condition.now) spot holds.items) }
 {
-    keeps_start(around, &holds, spot)?;
+    let inside = Marks::of(alloc, around.inside)?;
+    keeps_start(around, &inside, &holds, spot)?;
     match condition {
         None => Ok(None),
         Some(condition) => {
@@ -128,8 +130,8 @@ fn statement(
             let mut inner = own.with_handlers(handlers);
             let end = self::statements(alloc, &within, holds, &mut inner, statements)?;
             let end = handled(alloc, &within, inner, end, &mut own, handlers, statements)?;
-            raised.add_behind(around.variables, &types, own);
-            return Ok(leave_end(around.variables, &types, end));
+            raised.add_behind(alloc, around.variables, &types, own)?;
+            return Ok(leave_end(alloc, around.variables, &types, end)?);
         }
     }
     Ok(Some(holds))

@@ -26,6 +26,7 @@ pub record Spaced : Type 0 where
   pub number : ℤ
   pub gap : List ℕ
 
+-- The number that is written.
 abbrev pub number_in : Spaced → ℤ
 number_in x = x.number
 

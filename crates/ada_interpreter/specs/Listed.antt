@@ -28,6 +28,7 @@ is_asked (request.Gone pool) = false
 abbrev pub granted_by : Request → List Bool → Bool
 granted_by request answers = cond (is_asked request) (first_or true answers) true
 
+-- The answers that are left behind a request: one less, where it was asked.
 abbrev pub left_by : Request → List Bool → List Bool
 left_by request answers = cond (is_asked request) (older answers) answers
 

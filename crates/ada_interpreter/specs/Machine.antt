@@ -19,12 +19,15 @@ use Rattle.ada_interpreter.specs.Process.{state_of}
 abbrev pub state_in : {C : Type 0} → Machine C → State
 state_in m = state_of m.process
 
+-- The program that a machine runs.
 abbrev pub program_of : {C : Type 0} → Machine C → Program
 program_of m = m.program.now
 
+-- Who answers what the run leaves open.
 abbrev pub choices_of : {C : Type 0} → Machine C → C
 choices_of m = m.choices
 
+-- How the run of a machine has ended, if it has.
 abbrev pub halt_of : {C : Type 0} → Machine C → Option Halt
 halt_of m = m.halted
 
@@ -32,6 +35,7 @@ halt_of m = m.halted
 abbrev pub MayGrant : Type 0 → Type 1
 MayGrant C = C → Request → Bool → C → Type 0
 
+-- What a pick may answer: the choices before it, how many there are to pick from, the answer, and the choices after it.
 abbrev pub MayPick : Type 0 → Type 1
 MayPick C = C → ℕ → ℕ → C → Type 0
 

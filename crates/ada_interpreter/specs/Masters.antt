@@ -35,6 +35,7 @@ abbrev pub newest_by : ℕ → HeldOwned → ℕ → Option ℕ → Option ℕ
 newest_by access (held.Declared variable) number older = older
 newest_by access (held.Collection t) number older = if access == t.0 then Some number else older
 
+-- The number of the newest of these items that is the collection of an access type, if one is.
 abbrev pub newest_in : ℕ → List HeldItem → Option ℕ
 newest_in access [] = None
 newest_in access (i ∷ is) = newest_by access i.owned (length is) (newest_in access is)
@@ -44,6 +45,7 @@ abbrev pub IsLinked : HeldOwned → Option ℕ → List HeldItem → Type 0
 IsLinked (held.Declared variable) previous is = Unit {0}
 IsLinked (held.Collection t) previous is = previous ≡ newest_in t.0 is
 
+-- Each collection among the items is linked to the one of its access type that came before.
 abbrev pub AreLinked : List HeldItem → Type 0
 AreLinked [] = Unit {0}
 AreLinked (i ∷ is) = IsLinked i.owned i.previous is × AreLinked is
@@ -57,10 +59,12 @@ abbrev pub remains_at : ℕ → Item → Owned → Remains
 remains_at master item (declared x) = Variable
 remains_at master item (collection access) = Collection master item.number (record { 0 = access })
 
+-- What remains of a master that is being left, with these items.
 abbrev pub remains_in : ℕ → List Item → Remains
 remains_in master [] = NoItem master
 remains_in master (item ∷ items) = remains_at master item item.owned
 
+-- What remains of the innermost of these masters.
 abbrev pub remains_of : List Master → Remains
 remains_of [] = NoMaster
 remains_of (m ∷ ms) = remains_in m.number m.items
@@ -81,10 +85,12 @@ abbrev pub newest_like : List (Option ℕ) → HeldOwned → Option ℕ
 newest_like newest (held.Declared variable) = None
 newest_like newest (held.Collection t) = slice_index_or newest t.0 None
 
+-- The newest collection of each access type, once something is owned under a number.
 abbrev pub with_newest : List (Option ℕ) → HeldOwned → Option ℕ → List (Option ℕ)
 with_newest newest (held.Declared variable) number = newest
 with_newest newest (held.Collection t) number = slice_set newest t.0 number
 
+-- The list of newest collections has a place for the access type of what is owned.
 abbrev pub HasRoom : List (Option ℕ) → HeldOwned → Type 0
 HasRoom newest (held.Declared variable) = Unit {0}
 HasRoom newest (held.Collection t) = t.0 < length newest

@@ -16,9 +16,11 @@ use Rattle.ada_interpreter.specs.declared.objects.Shelf.{Shelf}
 abbrev pub home_form : HeldHome → Home
 home_form home = record { item = home.item; pool = home.pool; subpool = home.subpool }
 
+-- The cell of an object, as the code keeps it.
 abbrev pub cell_of : HeldCell → Cell Value
 cell_of cell = record { access = cell.access.0; number = cell.number; home = home_form cell.home; values = cell.values.items }
 
+-- An object, as the code keeps it.
 abbrev pub object_of : HeldObject → Object
 object_of object = record { cell = cell_of object.cell; stage = object.stage; listed = object.listed; out = object.out }
 
@@ -27,6 +29,7 @@ abbrev pub is_member_by : ℕ → Option Object → Bool
 is_member_by item None = false
 is_member_by item (Some object) = is_member item object
 
+-- Whether an object is a member of the collection of an item.
 abbrev pub is_member_at : List Object → ℕ → Id → Bool
 is_member_at objects item o = is_member_by item (object_at objects o)
 
@@ -39,6 +42,7 @@ pub record Kept : Type 0 where
   pub entries : List Id
   pub live : ℕ
 
+-- What the code keeps of a collection: names of objects, and how many of these are still members.
 abbrev pub kept_of : Shelf → Kept
 kept_of shelf = record { entries = shelf.entries.items; live = shelf.live }
 
@@ -46,6 +50,7 @@ kept_of shelf = record { entries = shelf.entries.items; live = shelf.live }
 abbrev pub nothing_kept : Kept
 nothing_kept = record { entries = []; live = 0 }
 
+-- What is kept of the collection of an item; nothing, where there is none.
 abbrev pub kept_at : List Kept → ℕ → Kept
 kept_at shelves item = slice_index_or shelves item nothing_kept
 
@@ -68,9 +73,11 @@ AreShelved objects shelves = (item : ℕ) → Shows objects item (kept_at shelve
 abbrev pub entered : Kept → Id → Kept
 entered kept o = record { entries = kept.entries ++ o ∷ []; live = kept.live + 1 }
 
+-- A collection once one of its members less is left.
 abbrev pub discounted : Kept → Kept
 discounted kept = record kept { live = kept.live - 1 }
 
+-- The collections once the one of an item, where there is one, has a member less.
 abbrev pub discounted_at : Option ℕ → List Kept → List Kept
 discounted_at None shelves = shelves
 discounted_at (Some item) shelves = slice_set shelves item (discounted (kept_at shelves item))
@@ -89,6 +96,7 @@ pub record Trims (objects : List Object) (item : ℕ) (before after : List Id) :
   pub members : members_among objects item (reverse after) ≡ members_among objects item (reverse before)
   pub given : (n : ℕ) → AreGiven n before → AreGiven n after
 
+-- What is kept of a collection after names of objects that are no members any more were dropped from it.
 pub record IsTidied (objects : List Object) (item : ℕ) (before after : Kept) : Type 0 where
   pub trims : Trims objects item before.entries after.entries
   pub live : after.live ≡ before.live

@@ -98,6 +98,7 @@ pub record IsTurn (coming : Next) (before : State) (turn : Turn) (after : State)
   pub shows : shown turn after ≡ coming
   pub stays : Stays turn before after
 
+-- A turn is answered that is what comes in a state, unless memory runs out.
 abbrev pub Turns : Next → State → Result Turn AllocError → State → Type 0
 Turns coming before (Ok turn) after = IsTurn coming before turn after
 Turns coming before (Err e) after = Unit {0}
@@ -106,9 +107,11 @@ Turns coming before (Err e) after = Unit {0}
 abbrev pub passed : State → State
 passed s = at (older s.control) s
 
+-- The state once another thing is left to do in place of the first.
 abbrev pub replaced : Frame ValueOf → State → State
 replaced f s = at (f ∷ older s.control) s
 
+-- The state once one more thing is left to do, before all others.
 abbrev pub pushed : Frame ValueOf → State → State
 pushed f s = at (f ∷ s.control) s
 
@@ -117,11 +120,13 @@ abbrev pub behind : List ℕ → State → State
 behind [] s = s
 behind (c ∷ cs) s = pushed (frame.Follows (c ∷ cs)) s
 
+-- What comes of an outcome: its value is computed, Constraint_Error is raised, or an object is followed.
 abbrev pub going_by : Outcome → State → Next
 going_by (Value v) s = moves Quiet (computed v s)
 going_by Raises s = moves Quiet (raised ConstraintError s)
 going_by (Component object v rest) s = moves (Followed (Names object)) (behind (map component_number rest.now) (computed v s))
 
+-- What comes of an outcome, or of the halt in place of one.
 abbrev pub outcome_of : Result Outcome Halt → State → Next
 outcome_of (Ok outcome) s = going_by outcome s
 outcome_of (Err halt) s = halts halt
@@ -133,6 +138,6 @@ ending v cause s = record s {
   control = frame.Ends v ∷ frame.GivesBack v cause 0 ∷ s.control;
 }
 
--- The same by a Free: a number is used up for it, and the variable is to become null (13.11.2).
+-- An object begins to end by a Free: a number is used up for it, and the variable is to become null (13.11.2).
 abbrev pub releasing : ValueOf → ℕ → State → State
 releasing v x s = numbered (ending v (freeing s.next) (pushed (frame.Clears x) s))

@@ -45,7 +45,10 @@ impl<'a> Process<'a> {
                 self.keep(Value::Null)?;
                 Ok(QUIET)
             }
-            Item::Value(expression) => self.replace_by_two(Frame::Computes(expression), rest),
+            Item::Value(expression) => {
+                self.replace_by_two(Frame::Computes(expression), rest)?;
+                Ok(QUIET)
+            }
         }
     }
 

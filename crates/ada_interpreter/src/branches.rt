@@ -87,16 +87,20 @@ impl<'a> Process<'a> {
                 None => Ok(Turn::Halts(Halt::Stuck)),
                 Some(_) => {
                     self.pass();
-                    self.begin_turn(None, statements)
+                    self.begin_turn(None, statements)?;
+                    Ok(QUIET)
                 }
             },
-            Some(condition) => self.replace_by_two(
-                Frame::Computes(condition),
-                Frame::Turns {
-                    condition,
-                    statements,
-                },
-            ),
+            Some(condition) => {
+                self.replace_by_two(
+                    Frame::Computes(condition),
+                    Frame::Turns {
+                        condition,
+                        statements,
+                    },
+                )?;
+                Ok(QUIET)
+            }
         }
     }
 
@@ -118,7 +122,8 @@ impl<'a> Process<'a> {
                 Some(_) => {
                     self.pass();
                     self.pop();
-                    self.begin_turn(Some(condition), statements)
+                    self.begin_turn(Some(condition), statements)?;
+                    Ok(QUIET)
                 }
             },
             Some(false) => {
@@ -134,18 +139,17 @@ impl<'a> Process<'a> {
         &mut self,
         condition: Option<&'a Expression>,
         statements: &'a [Stmt],
-    ) -> Result<Turn, AllocError>
+    ) -> Result<(), AllocError>
         ensures { let s = state_of self.old in let form = stmts_form statements.now in
-            Turns
-            (step.moves Quiet (pushed (frame.Does form) (pushed (frame.Repeats (condition_form (option_copied condition.entry)) form) s)))
-            s result (state_of self.new) }
+            OnOk result
+            (state_of self.new ≡
+            pushed (frame.Does form) (pushed (frame.Repeats (condition_form (option_copied condition.entry)) form) s)) }
     {
         self.push(Frame::Repeats {
             condition,
             statements,
         })?;
-        self.push(Frame::Does(statements))?;
-        Ok(QUIET)
+        self.push(Frame::Does(statements))
     }
 
     /// The bounds of a `for` loop are known (5.5): there is a turn for each value from the first to the last.
@@ -171,7 +175,8 @@ impl<'a> Process<'a> {
                         None => Ok(Turn::Halts(Halt::Stuck)),
                         Some(_) => {
                             self.pass_operands();
-                            self.begin_count(parameter, first, last, statements)
+                            self.begin_count(parameter, first, last, statements)?;
+                            Ok(QUIET)
                         }
                     }
                 }
@@ -210,7 +215,8 @@ impl<'a> Process<'a> {
                 None => Ok(Turn::Halts(Halt::Stuck)),
                 Some(_) => {
                     self.pass();
-                    self.begin_count(parameter, value + 1, last, statements)
+                    self.begin_count(parameter, value + 1, last, statements)?;
+                    Ok(QUIET)
                 }
             }
         }
@@ -224,12 +230,11 @@ impl<'a> Process<'a> {
         value: i32,
         last: i32,
         statements: &'a [Stmt],
-    ) -> Result<Turn, AllocError>
+    ) -> Result<(), AllocError>
         ensures { let s = state_of self.old in let form = stmts_form statements.now in
             let turns = frame.Counts parameter.0 (value +ℤ pos 1) last form in
-            Turns
-            (step.moves Quiet (step.put parameter.0 (an_integer value) (pushed (frame.Does form) (pushed turns s))))
-            s result (state_of self.new) }
+            OnOk result
+            (state_of self.new ≡ step.put parameter.0 (an_integer value) (pushed (frame.Does form) (pushed turns s))) }
     {
         self.push(Frame::Counts {
             parameter,
@@ -239,7 +244,7 @@ impl<'a> Process<'a> {
         })?;
         self.push(Frame::Does(statements))?;
         self.put(parameter, Value::Scalar(Scalar::Integer(value)));
-        Ok(QUIET)
+        Ok(())
     }
 
     /// An exit (5.7), at once or on a condition.
@@ -260,7 +265,8 @@ impl<'a> Process<'a> {
                 Ok(QUIET)
             }
             Some(condition) => {
-                self.replace_by_three(Frame::Computes(condition), Frame::Exits, rest)
+                self.replace_by_three(Frame::Computes(condition), Frame::Exits, rest)?;
+                Ok(QUIET)
             }
         }
     }

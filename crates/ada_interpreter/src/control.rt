@@ -21,9 +21,8 @@ impl<'a> Process<'a> {
     {
         match self.mode {
             Mode::Running => self.run(program),
-            Mode::Raising(exception) => self.unwind(Mode::Raising(exception)),
-            Mode::Exiting => self.unwind(Mode::Exiting),
-            Mode::Returning => self.unwind(Mode::Returning),
+            // One temporary for all jumps, and a running process doesn't pay for it.
+            mode => Ok(self.unwind(mode)?),
         }
     }
 

@@ -2,15 +2,15 @@
 
 ghost use Rattle.std.specs.Prelude.{◌≡◌, map, IfOk, OnOk};
 ghost use Rattle.ada_program.specs.Form.{component_number, path_form, expression_form};
-ghost use Rattle.ada_meaning.specs.Event.{event_of};
+ghost use Rattle.ada_meaning.specs.Event.{Quiet, event_of};
 ghost use Rattle.ada_meaning.specs.Frame as frame;
 ghost use Rattle.ada_meaning.specs.Step as step;
 ghost use Rattle.ada_meaning.specs.Named.{State, named, look};
-ghost use Rattle.ada_interpreter.specs.Process.{state_of, passed, replaced, Turns, behind, going_by, outcome_of};
+ghost use Rattle.ada_interpreter.specs.Process.{frame_of, state_of, passed, replaced, pushed, Turns, behind, going_by, outcome_of};
 
 use crate::frame::Frame;
 use crate::process::Process;
-use crate::turn::Turn;
+use crate::turn::{QUIET, Turn};
 use ada_meaning::{Event, Exception, Halt, Id, Value, Why};
 use ada_program::Path;
 use ada_program::program::{ComponentNo, Expression};
@@ -41,23 +41,55 @@ impl<'a> Process<'a> {
             s result (state_of self.new) }
     {
         match expression {
-            Expression::Integer(value) => self.give(Value::Scalar(Scalar::Integer(*value))),
-            Expression::Boolean(value) => self.give(Value::Scalar(Scalar::Boolean(*value))),
+            Expression::Integer(value) => {
+                self.give(Value::Scalar(Scalar::Integer(*value)))?;
+                Ok(QUIET)
+            }
+            Expression::Boolean(value) => {
+                self.give(Value::Scalar(Scalar::Boolean(*value)))?;
+                Ok(QUIET)
+            }
             Expression::Path(path) => self.read(path),
             Expression::NullTest { path, equal } => self.read_for_test(path, *equal),
-            Expression::Unary { operator, operand } => self.replace_by_two(
-                Frame::Computes(operand),
-                Frame::AppliesAlone(*operator),
-            ),
-            Expression::Chain { first, links } => self.replace_by_two(
-                Frame::Computes(first),
-                Frame::Continues(links.as_slice()),
-            ),
+            Expression::Unary { operator, operand } => {
+                self.compute_then(operand, Frame::AppliesAlone(*operator))
+            }
+            Expression::Chain { first, links } => {
+                self.compute_then(first, Frame::Continues(links.as_slice()))
+            }
         }
+    }
+
+    /// An operand is evaluated in place of the first of what is left to do, and then this is to be done.
+    fn compute_then(&mut self, operand: &'a Expression, then: Frame<'a>) -> Result<Turn, AllocError>
+        ensures { let s = replaced (frame_of then.entry) (state_of self.old) in
+            Turns
+            (step.moves Quiet (pushed (frame.Computes (expression_form operand.now)) s))
+            (state_of self.old) result (state_of self.new) }
+    {
+        self.replace_by_two(Frame::Computes(operand), then)?;
+        Ok(QUIET)
     }
 
     /// A path is read (4.1): null raises Constraint_Error, and to follow an object that is gone is erroneous (13.11.2).
     pub(crate) fn read(&mut self, path: &'a Path) -> Result<Turn, AllocError>
+        ensures { let s = state_of self.old in let form = path_form path.now in
+            Turns
+            (step.path_next named form.selectors (step.held named (passed s) form.root) (passed s))
+            s result (state_of self.new) }
+    {
+        match path.selectors.as_slice().split_first() {
+            None => {
+                let value = self.held(path.root);
+                self.give(value)?;
+                Ok(QUIET)
+            }
+            Some(_) => self.read_behind(path),
+        }
+    }
+
+    /// A path is read that goes on behind its variable.
+    fn read_behind(&mut self, path: &'a Path) -> Result<Turn, AllocError>
         ensures { let s = state_of self.old in let form = path_form path.now in
             Turns
             (step.path_next named form.selectors (step.held named (passed s) form.root) (passed s))

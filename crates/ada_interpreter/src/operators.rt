@@ -1,9 +1,8 @@
 //! Operators: the chains of one level, and the tests of an access value against null.
 
-ghost use Rattle.std.specs.Prelude.{◌≡◌};
+ghost use Rattle.std.specs.Prelude.{◌≡◌, OnOk};
 ghost use Rattle.ada_program.specs.Form.{links_form};
 ghost use Rattle.ada_meaning.specs.Step as step;
-ghost use Rattle.ada_meaning.specs.Event.{Quiet};
 ghost use Rattle.ada_meaning.specs.Named.{State, named, reads_boolean, reads_null, unary_given, binary_given, as_value};
 ghost use Rattle.ada_interpreter.specs.Process.{state_of, passed, Turns, outcome_of};
 
@@ -38,7 +37,8 @@ impl<'a> Process<'a> {
                         Frame::Computes(&first.operand),
                         Frame::Applies(first.operator),
                         Frame::Continues(rest),
-                    )
+                    )?;
+                    Ok(QUIET)
                 }
             }
         }
@@ -86,17 +86,22 @@ impl<'a> Process<'a> {
             (state_of self.old) result (state_of self.new) }
     {
         match self.newest() {
-            Value::Null => self.exchange(Value::Scalar(Scalar::Boolean(equal))),
-            Value::Names(_) => self.exchange(Value::Scalar(Scalar::Boolean(!equal))),
+            Value::Null => {
+                self.exchange(Value::Scalar(Scalar::Boolean(equal)))?;
+                Ok(QUIET)
+            }
+            Value::Names(_) => {
+                self.exchange(Value::Scalar(Scalar::Boolean(!equal)))?;
+                Ok(QUIET)
+            }
             Value::Scalar(_) => Ok(Turn::Halts(Halt::Stuck)),
         }
     }
 
     /// The first of what is left to do gives a value in place of the newest operand.
-    fn exchange(&mut self, value: Value) -> Result<Turn, AllocError>
-        ensures { let s = state_of self.old in
-            Turns (step.moves Quiet (step.computed value (step.popped (passed s))))
-            s result (state_of self.new) }
+    fn exchange(&mut self, value: Value) -> Result<(), AllocError>
+        ensures { OnOk result
+            (state_of self.new ≡ step.computed value (step.popped (passed (state_of self.old)))) }
     {
         self.pop();
         self.give(value)

@@ -2,18 +2,16 @@
 
 ghost use Rattle.std.specs.Prelude.{◌≡◌, map, IfOk, OnOk};
 ghost use Rattle.ada_meaning.specs.State.{begins};
-ghost use Rattle.ada_meaning.specs.Event.{Quiet};
-ghost use Rattle.ada_meaning.specs.Step.{moves, jumping, raised, computed, popped, put, entered, newest, held};
+ghost use Rattle.ada_meaning.specs.Step.{jumping, raised, computed, popped, put, entered, newest, held};
 ghost use Rattle.ada_meaning.specs.Named.{named};
 ghost use Rattle.ada_meaning.specs.Run.{first_state, blank, blank_of};
-ghost use Rattle.ada_interpreter.specs.Process.{frame_of, state_of, passed, replaced, pushed, Turns};
+ghost use Rattle.ada_interpreter.specs.Process.{frame_of, state_of, passed, replaced, pushed};
 
 use crate::frame::Frame;
 use crate::input::Input;
 use crate::masters::Masters;
 use crate::objects::Objects;
 use crate::stack::Stack;
-use crate::turn::{QUIET, Turn};
 use crate::values::{set_value, value_at};
 use ada_meaning::{Exception, Mode, Value};
 use ada_program::program::{Variable, VariableKind};
@@ -104,8 +102,7 @@ impl<'a> Process<'a> {
         ensures { OnOk result
             (state_of self.new ≡ replaced (frame_of frame.entry) (state_of self.old)) }
     {
-        self.pass();
-        self.push(frame)
+        self.frames.replace(frame)
     }
 
     /// Two things are left to do in place of the first.
@@ -113,14 +110,13 @@ impl<'a> Process<'a> {
         &mut self,
         inner: Frame<'a>,
         outer: Frame<'a>,
-    ) -> Result<Turn, AllocError>
-        ensures { let s = state_of self.old in
-            Turns (moves Quiet (pushed (frame_of inner.entry) (replaced (frame_of outer.entry) s)))
-            s result (state_of self.new) }
+    ) -> Result<(), AllocError>
+        ensures { OnOk result
+            (state_of self.new ≡
+            pushed (frame_of inner.entry) (replaced (frame_of outer.entry) (state_of self.old))) }
     {
         self.replace(outer)?;
-        self.push(inner)?;
-        Ok(QUIET)
+        self.push(inner)
     }
 
     /// Three things are left to do in place of the first.
@@ -129,16 +125,14 @@ impl<'a> Process<'a> {
         inner: Frame<'a>,
         middle: Frame<'a>,
         outer: Frame<'a>,
-    ) -> Result<Turn, AllocError>
-        ensures { let s = state_of self.old in
-            Turns
-            (moves Quiet (pushed (frame_of inner.entry) (pushed (frame_of middle.entry) (replaced (frame_of outer.entry) s))))
-            s result (state_of self.new) }
+    ) -> Result<(), AllocError>
+        ensures { let s = replaced (frame_of outer.entry) (state_of self.old) in
+            OnOk result
+            (state_of self.new ≡ pushed (frame_of inner.entry) (pushed (frame_of middle.entry) s)) }
     {
         self.replace(outer)?;
         self.push(middle)?;
-        self.push(inner)?;
-        Ok(QUIET)
+        self.push(inner)
     }
 
     /// Four things are left to do in place of the first.
@@ -148,17 +142,16 @@ impl<'a> Process<'a> {
         second: Frame<'a>,
         third: Frame<'a>,
         outer: Frame<'a>,
-    ) -> Result<Turn, AllocError>
+    ) -> Result<(), AllocError>
         ensures { let s = replaced (frame_of outer.entry) (state_of self.old) in
-            Turns
-            (moves Quiet (pushed (frame_of inner.entry) (pushed (frame_of second.entry) (pushed (frame_of third.entry) s))))
-            (state_of self.old) result (state_of self.new) }
+            OnOk result
+            (state_of self.new ≡
+            pushed (frame_of inner.entry) (pushed (frame_of second.entry) (pushed (frame_of third.entry) s))) }
     {
         self.replace(outer)?;
         self.push(third)?;
         self.push(second)?;
-        self.push(inner)?;
-        Ok(QUIET)
+        self.push(inner)
     }
 
     /// A jump begins (5.7, 6.5, 11.3), and what pending forms have computed is dropped.
@@ -197,13 +190,11 @@ impl<'a> Process<'a> {
     }
 
     /// The first of what is left to do gives a value.
-    pub(crate) fn give(&mut self, value: Value) -> Result<Turn, AllocError>
-        ensures { let s = state_of self.old in
-            Turns (moves Quiet (computed value (passed s))) s result (state_of self.new) }
+    pub(crate) fn give(&mut self, value: Value) -> Result<(), AllocError>
+        ensures { OnOk result (state_of self.new ≡ computed value (passed (state_of self.old))) }
     {
         self.pass();
-        self.keep(value)?;
-        Ok(QUIET)
+        self.keep(value)
     }
 
     /// The newest operand; null, if there is none.

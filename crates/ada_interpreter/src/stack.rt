@@ -68,6 +68,18 @@ impl<T: Drop> Stack<T> {
         }
     }
 
+    /// Another item comes in place of the newest, or is put on, if there is none.
+    pub(crate) fn replace(&mut self, item: T) -> Result<(), AllocError>
+        ensures { OnOk result (self.new ≡ item ∷ older self.old) }
+    {
+        if self.len() > 0 {
+            self.set_top(item);
+            Ok(())
+        } else {
+            self.push(item)
+        }
+    }
+
     /// How many items there are.
     #[tactic(auto, using(crate::proofs::StackLemmas::newest_first))]
     pub(crate) fn len(&self) -> usize

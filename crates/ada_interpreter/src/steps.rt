@@ -34,11 +34,14 @@ impl<'a> Process<'a> {
             s result (state_of self.new) }
     {
         match declarations.split_first() {
-            None => self.replace_by_three(
-                Frame::Does(statements),
-                Frame::Handles(handlers),
-                Frame::Closes,
-            ),
+            None => {
+                self.replace_by_three(
+                    Frame::Does(statements),
+                    Frame::Handles(handlers),
+                    Frame::Closes,
+                )?;
+                Ok(QUIET)
+            }
             Some((first, rest)) => self.declare(
                 first,
                 Frame::Elaborates {
@@ -63,11 +66,14 @@ impl<'a> Process<'a> {
                 self.masters.own(Owned::Collection(*access))?;
                 Ok(QUIET)
             }
-            Declaration::Variable { variable, initial } => self.replace_by_three(
-                Frame::Evaluates(initial.as_ref()),
-                Frame::Declares(*variable),
-                rest,
-            ),
+            Declaration::Variable { variable, initial } => {
+                self.replace_by_three(
+                    Frame::Evaluates(initial.as_ref()),
+                    Frame::Declares(*variable),
+                    rest,
+                )?;
+                Ok(QUIET)
+            }
         }
     }
 
@@ -105,7 +111,8 @@ impl<'a> Process<'a> {
                         Frame::Evaluates(Some(value)),
                         Frame::Stores(target.root),
                         rest,
-                    )
+                    )?;
+                    Ok(QUIET)
                 } else {
                     Ok(Turn::Halts(Halt::Stuck))
                 }
@@ -125,7 +132,8 @@ impl<'a> Process<'a> {
                 }
             }
             Stmt::PutImage(expression) => {
-                self.replace_by_three(Frame::Computes(expression), Frame::Writes, rest)
+                self.replace_by_three(Frame::Computes(expression), Frame::Writes, rest)?;
+                Ok(QUIET)
             }
             Stmt::PutText(text) => {
                 self.replace(rest)?;
@@ -143,28 +151,34 @@ impl<'a> Process<'a> {
                 condition,
                 statements,
                 end: _,
-            } => self.replace_by_two(
-                Frame::Repeats {
-                    condition: condition.as_ref(),
-                    statements: statements.as_slice(),
-                },
-                rest,
-            ),
+            } => {
+                self.replace_by_two(
+                    Frame::Repeats {
+                        condition: condition.as_ref(),
+                        statements: statements.as_slice(),
+                    },
+                    rest,
+                )?;
+                Ok(QUIET)
+            }
             Stmt::For {
                 parameter,
                 first,
                 last,
                 statements,
                 end: _,
-            } => self.replace_by_four(
-                Frame::Computes(first),
-                Frame::Computes(last),
-                Frame::Ranges {
-                    parameter: *parameter,
-                    statements: statements.as_slice(),
-                },
-                rest,
-            ),
+            } => {
+                self.replace_by_four(
+                    Frame::Computes(first),
+                    Frame::Computes(last),
+                    Frame::Ranges {
+                        parameter: *parameter,
+                        statements: statements.as_slice(),
+                    },
+                    rest,
+                )?;
+                Ok(QUIET)
+            }
             Stmt::Exit { condition, spot: _ } => self.exit(condition.as_ref(), rest),
             Stmt::Return(_) => {
                 self.replace(rest)?;
@@ -232,7 +246,10 @@ impl<'a> Process<'a> {
             s result (state_of self.new) }
     {
         match right {
-            None => self.give(Value::Null),
+            None => {
+                self.give(Value::Null)?;
+                Ok(QUIET)
+            }
             Some(right) => self.value(right),
         }
     }
@@ -244,15 +261,21 @@ impl<'a> Process<'a> {
             s result (state_of self.new) }
     {
         match right {
-            Right::Null => self.give(Value::Null),
+            Right::Null => {
+                self.give(Value::Null)?;
+                Ok(QUIET)
+            }
             Right::Variable(path) => self.read(path),
-            Right::Allocator { access, items } => self.replace_by_two(
-                Frame::Fills(items.as_slice()),
-                Frame::Creates {
-                    access: *access,
-                    count: items.len(),
-                },
-            ),
+            Right::Allocator { access, items } => {
+                self.replace_by_two(
+                    Frame::Fills(items.as_slice()),
+                    Frame::Creates {
+                        access: *access,
+                        count: items.len(),
+                    },
+                )?;
+                Ok(QUIET)
+            }
             Right::Value(expression) => {
                 self.replace(Frame::Computes(expression))?;
                 Ok(QUIET)

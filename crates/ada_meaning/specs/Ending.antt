@@ -133,7 +133,7 @@ abbrev mutual
   run_weight [] = 0
   run_weight (f ∷ k) = frame_weight f + behind_weight f (passed_weight k) (exit_weight k) (run_weight k)
 
-  -- The same for an exit that is on its way: it lands behind a loop.
+  -- The weight of what is left while an exit is on its way: it lands behind a loop.
   pub exit_weight : List (Frame Value) → ℕ
   exit_weight [] = 0
   exit_weight (f ∷ k) = pass_weight f + (if is_loop f then run_weight k else exit_weight k)

@@ -93,10 +93,12 @@ abbrev pub handler_landing : Option StmtsForm → Landing
 handler_landing None = passes_on
 handler_landing (Some fs) = goes_in fs
 
+-- Where an exception lands that comes to a frame: in the first handler that takes it (11.4).
 abbrev pub exception_landing : {V : Type 0} → Exception → Frame V → Landing
 exception_landing e (Handles hs) = handler_landing (handler_of e hs)
 exception_landing e f = passes_on
 
+-- Where a jump lands that comes to a frame.
 abbrev pub landing : {V : Type 0} → Mode → Frame V → Landing
 landing Running f = passes_on
 landing (Raising e) f = exception_landing e f

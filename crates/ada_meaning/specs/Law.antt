@@ -40,6 +40,7 @@ pub record ControlledValue : Type 0 where
   pub part : ℕ
   pub turn : ℕ
 
+-- The controlled value of a part of an object, if the event names an object.
 abbrev pub controlled_by : Option Id → (part turn : ℕ) → Option ControlledValue
 controlled_by None part turn = None
 controlled_by (Some o) part turn = Some (record { object = o; part = part; turn = turn })
@@ -60,6 +61,7 @@ pub record AtItem : Type 0 where
   pub master : ℕ
   pub item : ℕ
 
+-- The master and the item whose leaving is a cause, if it is one.
 abbrev pub leaving_by : Option Cause → Option AtItem
 leaving_by None = None
 leaving_by (Some (Leaving master item)) = Some (record { master = master; item = item })
@@ -76,6 +78,7 @@ abbrev pub master_in : Option AtItem → Option ℕ
 master_in None = None
 master_in (Some at_item) = Some at_item.master
 
+-- The master whose leaving an event belongs to, or ends, if it does.
 abbrev pub left_by : Event → Option ℕ
 left_by (Left master) = Some master
 left_by e = master_in (leaving_of e)
@@ -88,6 +91,7 @@ Between R None b = Unit {0}
 Between R (Some a) None = Unit {0}
 Between R (Some a) (Some b) = R a b
 
+-- Two things, where both are there, are not the same.
 abbrev pub Differ : {X : Type 0} → Option X → Option X → Type 0
 Differ {X} a b = Between (λ (x y : X). x ≢ y) a b
 
@@ -107,6 +111,7 @@ FollowedBeforeBack e f = Differ (back_of e) (followed_of f)
 abbrev pub NeverRises : AtItem → AtItem → Type 0
 NeverRises a b = a.master ≡ b.master → b.item ≤ a.item
 
+-- Of two events of one leaving, the later is for no item with a greater number.
 abbrev pub InReverseOrder : Event → Event → Type 0
 InReverseOrder e f = Between NeverRises (leaving_of e) (leaving_of f)
 
@@ -123,6 +128,7 @@ GoesHome objects None access number pool subpool leaving = ⊥
 GoesHome objects (Some o) access number pool subpool leaving =
     (object : Object) × (object_at objects o ≡ Some object) × (object.cell.access ≡ access) × (object.cell.number ≡ number) × (object.cell.home.pool ≡ pool) × (object.cell.home.subpool ≡ subpool) × LeavesHome object.cell.home leaving
 
+-- Words that an event gives back go to their object's own pool, and at a leaving with the item that is its home.
 abbrev pub IsBackHome : List Object → Event → Type 0
 IsBackHome objects (Back object access number pool subpool cause) = GoesHome objects (named_by object) access number pool subpool (leaving_by (Some cause))
 IsBackHome objects e = Unit {0}
@@ -141,9 +147,11 @@ abbrev pub items_of : List Master → List Item
 items_of [] = []
 items_of (m ∷ ms) = m.items ++ items_of ms
 
+-- The number of the second item is less than that of the first.
 abbrev pub Falls : Item → Item → Type 0
 Falls i j = j.number < i.number
 
+-- The number of the second master is less than that of the first.
 abbrev pub MastersFall : Master → Master → Type 0
 MastersFall m n = n.number < m.number
 

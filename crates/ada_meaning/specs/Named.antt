@@ -30,6 +30,7 @@ pub record Object : Type 0 where
 abbrev pub State : Type 0
 State = StateOver Value (List Object)
 
+-- What comes next over the heap of names.
 abbrev pub Next : Type 0
 Next = NextOver Value (List Object)
 
@@ -48,20 +49,23 @@ existing object Building = finds object.cell
 existing object Existing = finds object.cell
 existing object Gone = on_gone
 
+-- What is found where an object is looked for: its cell as long as it exists, and that it is gone after that.
 abbrev pub seen : Option Object → Found (Cell Value)
 seen None = on_gone
 seen (Some object) = existing object object.stage
 
+-- What an access value gives access to.
 abbrev pub look : List Object → Value → Found (Cell Value)
 look objects Null = on_null
 look objects (Names o) = seen (object_at objects o)
 look objects (Scalar v) = on_other
 
--- The same as long as its words are out.
+-- The cell of an object as long as its words are out.
 abbrev pub lent_by : Option Object → Found (Cell Value)
 lent_by None = on_gone
 lent_by (Some object) = if object.out then finds object.cell else on_gone
 
+-- The cell of the object of a value, as long as its words are out.
 abbrev pub lent : List Object → Value → Found (Cell Value)
 lent objects Null = on_null
 lent objects (Names o) = lent_by (object_at objects o)
@@ -71,6 +75,7 @@ lent objects (Scalar v) = on_other
 abbrev pub new_object : Cell Value → Object
 new_object cell = record { cell = cell; stage = Existing; listed = true; out = true }
 
+-- The objects with a new one, which gets the next name.
 abbrev pub create : List Object → ℕ → Cell Value → List Object
 create objects words cell = objects ++ new_object cell ∷ []
 
@@ -82,9 +87,11 @@ created objects words = Names (record { 0 = length objects })
 abbrev pub parted : Object → Object
 parted object = record object { listed = false }
 
+-- An object once it is gone.
 abbrev pub finished : Object → Object
 finished object = record object { stage = Gone; listed = false }
 
+-- An object once its words are back.
 abbrev pub returned : Object → Object
 returned object = record object { out = false }
 
@@ -98,13 +105,16 @@ on_object change objects (Scalar v) = objects
 abbrev pub is_member : ℕ → Object → Bool
 is_member item object = object.listed && (object.cell.home.item == item)
 
+-- The members of the collection of an item among objects of which the first has this name, newest first.
 abbrev pub members_from : ℕ → ℕ → List Object → List Id
 members_from item n [] = []
 members_from item n (object ∷ objects) = members_from item (suc n) objects ++ (if is_member item object then record { 0 = n } ∷ [] else [])
 
+-- The members of the collection of an item, newest first.
 abbrev pub members_of : List Object → ℕ → List Id
 members_of objects item = members_from item 0 objects
 
+-- The members of the collection of an item, as access values.
 abbrev pub members : List Object → ℕ → List Value
 members objects item = map Names (members_of objects item)
 
@@ -113,15 +123,18 @@ abbrev pub integer_in : ScalarValue → Option ℤ
 integer_in (scalar.Integer i) = Some i
 integer_in (scalar.Boolean b) = None
 
+-- The truth that a scalar value is, if it is one.
 abbrev pub boolean_in : ScalarValue → Option Bool
 boolean_in (scalar.Integer i) = None
 boolean_in (scalar.Boolean b) = Some b
 
+-- The number that a value is, if it is one (3.5.4).
 abbrev pub reads_integer : Value → Option ℤ
 reads_integer Null = None
 reads_integer (Names o) = None
 reads_integer (Scalar v) = integer_in v
 
+-- The truth that a value is, if it is one (3.5.3).
 abbrev pub reads_boolean : Value → Option Bool
 reads_boolean Null = None
 reads_boolean (Names o) = None
@@ -138,17 +151,21 @@ abbrev pub as_value : Result ScalarValue OperatorFault → Result Value Operator
 as_value (Ok v) = Ok (Scalar v)
 as_value (Err fault) = Err fault
 
+-- What an operator gives for one value.
 abbrev pub unary_given : UnaryOperator → Value → Result Value OperatorFault
 unary_given operator (Scalar a) = as_value (unary_outcome_of operator a)
 unary_given operator a = Err WrongType
 
+-- What an operator gives for two values.
 abbrev pub binary_given : BinaryOperator → Value → Value → Result Value OperatorFault
 binary_given operator (Scalar a) (Scalar b) = as_value (outcome_of operator a b)
 binary_given operator a b = Err WrongType
 
+-- A number as a value.
 abbrev pub an_integer : ℤ → Value
 an_integer i = Scalar (scalar.Integer i)
 
+-- A truth as a value.
 abbrev pub a_boolean : Bool → Value
 a_boolean b = Scalar (scalar.Boolean b)
 

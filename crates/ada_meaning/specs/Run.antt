@@ -51,6 +51,7 @@ blank variable.Integer = an_integer (pos 0)
 blank variable.Boolean = a_boolean false
 blank (variable.Access access) = Null
 
+-- What lies in a variable's place before its declaration is elaborated.
 abbrev pub blank_of : Variable → Value
 blank_of x = blank x.kind
 

@@ -52,10 +52,12 @@ abbrev pub collection_in : ℕ → Item → Owned → Option ℕ → Option ℕ
 collection_in access item (declared x) outer = outer
 collection_in access item (collection t) outer = if access == t then Some item.number else outer
 
+-- The number of the newest of these items that is the collection of an access type, or of an outer one.
 abbrev pub home_among : ℕ → List Item → Option ℕ → Option ℕ
 home_among access [] outer = outer
 home_among access (i ∷ is) outer = collection_in access i i.owned (home_among access is outer)
 
+-- The number of the newest open collection of an access type, if one is open.
 abbrev pub home_of : ℕ → List Master → Option ℕ
 home_of access [] = None
 home_of access (m ∷ ms) = home_among access m.items (home_of access ms)
@@ -73,11 +75,13 @@ abbrev pub begins_among : {V : Type 0} → List (Frame V) → Bool
 begins_among [] = false
 begins_among (f ∷ fs) = begins_by f
 
+-- Whether a statement begins next, in a mode with this left to do.
 abbrev pub begins_in : {V : Type 0} → Mode → List (Frame V) → Bool
 begins_in Running k = begins_among k
 begins_in (Raising e) k = false
 begins_in Exiting k = false
 begins_in Returning k = false
 
+-- Whether the next step begins a statement.
 abbrev pub begins : {V H : Type 0} → State V H → Bool
 begins s = begins_in s.mode s.control

@@ -45,14 +45,17 @@ abbrev pub first_or : {X : Type 0} → X → List X → X
 first_or d [] = d
 first_or d (x ∷ xs) = x
 
+-- All but the first.
 abbrev pub older : {X : Type 0} → List X → List X
 older [] = []
 older (x ∷ xs) = xs
 
+-- What the variables of the running activation hold.
 abbrev pub places_of : {V : Type 0} → List (Activation V) → List V
 places_of [] = []
 places_of (a ∷ suspended) = a.places
 
+-- What pending forms of the running activation have computed, the newest first.
 abbrev pub operands_of : {V : Type 0} → List (Activation V) → List V
 operands_of [] = []
 operands_of (a ∷ suspended) = a.operands
@@ -62,19 +65,24 @@ abbrev pub with_places : {V : Type 0} → List V → List (Activation V) → Lis
 with_places vs [] = []
 with_places vs (a ∷ suspended) = record a { places = vs } ∷ suspended
 
+-- The activations once the running one has these operands.
 abbrev pub with_operands : {V : Type 0} → List V → List (Activation V) → List (Activation V)
 with_operands vs [] = []
 with_operands vs (a ∷ suspended) = record a { operands = vs } ∷ suspended
 
+-- What each variable holds.
 abbrev pub places : {V H : Type 0} → State V H → List V
 places s = places_of s.activations
 
+-- What pending forms have computed, the newest first.
 abbrev pub operands : {V H : Type 0} → State V H → List V
 operands s = operands_of s.activations
 
+-- The state once variables hold this.
 abbrev pub set_places : {V H : Type 0} → List V → State V H → State V H
 set_places vs s = record s { activations = with_places vs s.activations }
 
+-- The state once this is computed.
 abbrev pub set_operands : {V H : Type 0} → List V → State V H → State V H
 set_operands vs s = record s { activations = with_operands vs s.activations }
 
@@ -82,6 +90,7 @@ set_operands vs s = record s { activations = with_operands vs s.activations }
 abbrev pub computed : {V H : Type 0} → V → State V H → State V H
 computed v s = set_operands (v ∷ operands s) s
 
+-- The state without the newest operand.
 abbrev pub popped : {V H : Type 0} → State V H → State V H
 popped s = set_operands (older (operands s)) s
 
@@ -102,6 +111,7 @@ abbrev pub owning : Item → List Master → List Master
 owning item [] = []
 owning item (m ∷ ms) = record m { items = item ∷ m.items } ∷ ms
 
+-- The state once the innermost master owns something more, under the number of its height.
 abbrev pub owned : {V H : Type 0} → Owned → State V H → State V H
 owned what s = record s { masters = owning (record { number = height s.masters; owned = what }) s.masters }
 

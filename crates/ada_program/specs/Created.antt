@@ -14,7 +14,7 @@ seen_next (Collection access created) (of_collection t) =
     if t == access then (if created then None else Some (Collection access true)) else Some (Collection access created)
 seen_next (Collection access created) (of_variable x) = Some (Collection access created)
 
--- The same, where something may have been wrong before.
+-- What is seen after one more creation, where something may have been wrong before.
 abbrev pub seen_then : Option Seen → Creation → Option Seen
 seen_then None c = None
 seen_then (Some seen) c = seen_next seen c

@@ -108,6 +108,7 @@ mutual
 abbrev pub component_number : ComponentNo → ℕ
 component_number c = c.0
 
+-- A path: the number of its variable, those of the components, and where it stands.
 abbrev pub path_form : Path → PathForm
 path_form p = record { root = p.root.0; selectors = map component_number p.selectors.items; spot = p.spot }
 
@@ -212,9 +213,11 @@ handlers_form (h ∷ hs) = a_handler h.choices.items (stmts_form h.statements.it
 abbrev pub declaration_forms : Program → List DeclarationForm
 declaration_forms program = map declaration_form program.declarations.items
 
+-- What the statements of a program do.
 abbrev pub stmt_forms : Program → StmtsForm
 stmt_forms program = stmts_form program.statements.items
 
+-- How a program handles exceptions.
 abbrev pub handler_forms : Program → HandlersForm
 handler_forms program = handlers_form program.handlers.items
 

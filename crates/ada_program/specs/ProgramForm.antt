@@ -36,16 +36,20 @@ pub record ProgramForm : Type 0 where
   pub statements : StmtsForm
   pub handlers : HandlersForm
 
+-- A component, as the program keeps it.
 abbrev pub component_form : Component → ComponentForm
 component_form c = record { name = string_bytes c.name; kind = c.kind }
 
+-- A type, as the program keeps it.
 abbrev pub type_form : TypeDefinition → TypeForm
 type_form (definition.Record name components) = record_of (string_bytes name) (map component_form components.items)
 type_form (definition.Access name designated) = access_to (string_bytes name) designated.0
 
+-- A variable, as the program keeps it.
 abbrev pub variable_form : Variable → VariableForm
 variable_form o = record { name = string_bytes o.name; kind = o.kind }
 
+-- A program, whatever it keeps its parts in.
 abbrev pub program_form : Program → ProgramForm
 program_form p = record {
   types = map type_form p.types.items;

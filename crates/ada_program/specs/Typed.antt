@@ -12,6 +12,7 @@ designated_by None = None
 designated_by (Some (definition.Record name components)) = None
 designated_by (Some (definition.Access name designated)) = Some designated.0
 
+-- The type that the access type of a number designates (3.10).
 abbrev pub designated_of : List TypeDefinition → ℕ → Option ℕ
 designated_of types t = designated_by (slice_get types t)
 
@@ -21,6 +22,7 @@ components_by None = None
 components_by (Some (definition.Record name components)) = Some components.items
 components_by (Some (definition.Access name designated)) = None
 
+-- The components of the record type of a number (3.8).
 abbrev pub components_of : List TypeDefinition → ℕ → Option (List Component)
 components_of types t = components_by (slice_get types t)
 
@@ -29,6 +31,7 @@ abbrev pub reached_by : List TypeDefinition → Option ℕ → Option (List Comp
 reached_by types None = None
 reached_by types (Some t) = components_of types t
 
+-- The components of the objects that the values of an access type designate.
 abbrev pub reached_of : List TypeDefinition → ℕ → Option (List Component)
 reached_of types access = reached_by types (designated_of types access)
 
@@ -37,5 +40,6 @@ abbrev pub count_of : Option (List Component) → ℕ
 count_of None = 0
 count_of (Some components) = length components
 
+-- How many words an object takes that the values of an access type designate (13.11).
 abbrev pub words_of : List TypeDefinition → ℕ → ℕ
 words_of types access = count_of (reached_of types access)

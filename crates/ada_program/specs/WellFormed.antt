@@ -25,7 +25,7 @@ designated_in None = None
 designated_in (Some (record_of name components)) = None
 designated_in (Some (access_to name designated)) = Some designated
 
--- The same by the access type's number.
+-- The type that the access type of a number designates (3.10).
 abbrev pub designated_type : List TypeForm → ℕ → Option ℕ
 designated_type types t = designated_in (slice_get types t)
 
@@ -35,7 +35,7 @@ components_in None = None
 components_in (Some (record_of name components)) = Some components
 components_in (Some (access_to name designated)) = None
 
--- The same by the record type's number.
+-- The components of the record type of a number (3.8).
 abbrev pub record_components : List TypeForm → ℕ → Option (List ComponentForm)
 record_components types t = components_in (slice_get types t)
 
@@ -44,7 +44,7 @@ abbrev pub components_reached : List TypeForm → Option ℕ → Option (List Co
 components_reached types None = None
 components_reached types (Some t) = record_components types t
 
--- The same by the access type's number.
+-- The components of the objects that the values of the access type of a number designate (3.10).
 abbrev pub reached_components : List TypeForm → ℕ → Option (List ComponentForm)
 reached_components types access = components_reached types (designated_type types access)
 
@@ -62,7 +62,7 @@ kind_fits types (component.Integer initial) = true
 kind_fits types (component.Boolean initial) = true
 kind_fits types (component.Access access) = is_access types access.0
 
--- The same of a component.
+-- A component's kind fits (3.6, 3.8).
 abbrev pub component_fits : List TypeForm → ComponentForm → Bool
 component_fits types c = kind_fits types c.kind
 
@@ -77,7 +77,7 @@ variable_kind_fits types variable.Integer = true
 variable_kind_fits types variable.Boolean = true
 variable_kind_fits types (variable.Access access) = is_access types access.0
 
--- The same of a variable.
+-- A variable's kind fits (3.3.1).
 abbrev pub variable_fits : List TypeForm → VariableForm → Bool
 variable_fits types x = variable_kind_fits types x.kind
 
@@ -165,7 +165,7 @@ abbrev pub kind_in : Option VariableForm → Option VariableKind
 kind_in None = None
 kind_in (Some x) = Some x.kind
 
--- The same by the variable's number.
+-- What the variable of a number holds (3.3.1).
 abbrev pub variable_kind : List VariableForm → ℕ → Option VariableKind
 variable_kind variables x = kind_in (slice_get variables x)
 
@@ -189,17 +189,17 @@ held_kind (component.Integer initial) = variable.Integer
 held_kind (component.Boolean initial) = variable.Boolean
 held_kind (component.Access access) = variable.Access access
 
--- The same of a component, where it is there.
+-- What a component holds, where it is there.
 abbrev pub component_kind : Option ComponentForm → Option VariableKind
 component_kind None = None
 component_kind (Some c) = Some (held_kind c.kind)
 
--- The same by the component's number in its record type.
+-- What the component of a number holds in its record type.
 abbrev pub kind_among : Option (List ComponentForm) → ℕ → Option VariableKind
 kind_among None c = None
 kind_among (Some components) c = component_kind (slice_get components c)
 
--- The same of the objects that the values of an access type designate (3.10): none, if there is no access type.
+-- What the component of a number holds in the objects that an access type designates (3.10): none, if there is no access type.
 abbrev pub kind_behind : List TypeForm → Option ℕ → ℕ → Option VariableKind
 kind_behind types None c = None
 kind_behind types (Some access) c = kind_among (reached_components types access) c
@@ -209,7 +209,7 @@ kind_behind types (Some access) c = kind_among (reached_components types access)
 abbrev pub selected_kind : List TypeForm → Option VariableKind → ℕ → Option VariableKind
 selected_kind types kind c = kind_behind types (access_of kind) c
 
--- The same after all the components that are selected, one behind the other.
+-- What is held behind all the components that are selected, one behind the other (4.1.3).
 abbrev pub selectors_kind : List TypeForm → Option VariableKind → List ℕ → Option VariableKind
 selectors_kind types kind [] = kind
 selectors_kind types kind (c ∷ selectors) = selectors_kind types (selected_kind types kind c) selectors
@@ -367,12 +367,12 @@ abbrev mutual
   expression_before x (applied_to operator e) = expression_before x e
   expression_before x (chained e links) = expression_before x e && links_before x links
 
-  -- The same of operands behind the first one.
+  -- The operands behind the first one name only such variables.
   pub links_before : ℕ → LinksForm → Bool
   links_before x no_more_links = true
   links_before x (a_link operator e links) = expression_before x e && links_before x links
 
--- The same of an item.
+-- An item names only such variables.
 abbrev pub item_before : ℕ → ItemForm → Bool
 item_before x null_item = true
 item_before x (item_of_value e) = expression_before x e

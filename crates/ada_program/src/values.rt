@@ -133,14 +133,14 @@ pub(crate) fn names_before(number: usize, value: &Right) -> bool
     }
 }
 
-/// The same of items.
+/// Whether items name only variables before the one of a number.
 fn items_before(number: usize, items: &[Item]) -> bool
     ensures { result ≡ list_all (λ i. fits.item_before number (item_form i)) items.now }
 {
     items.iter().all(|item| item_before(number, item))
 }
 
-/// The same of an item.
+/// Whether an item names only variables before the one of a number.
 fn item_before(number: usize, item: &Item) -> bool
     ensures { result ≡ fits.item_before number (item_form item.now) }
 {
@@ -150,7 +150,7 @@ fn item_before(number: usize, item: &Item) -> bool
     }
 }
 
-/// The same of an expression.
+/// Whether an expression names only variables before the one of a number.
 #[cycle(before)]
 #[tactic(auto, using(crate::specs::Form::expression_rules))]
 fn expression_before(number: usize, expression: &Expression) -> bool
@@ -168,7 +168,7 @@ fn expression_before(number: usize, expression: &Expression) -> bool
     }
 }
 
-/// The same of operands behind the first one.
+/// Whether the operands behind the first one name only variables before the one of a number.
 #[cycle(before)]
 fn links_before(number: usize, links: &[Link]) -> bool
     ensures { result ≡ fits.links_before number (links_form links.now) }

@@ -18,6 +18,7 @@ use Rattle.ada_reader.specs.declared.reader.Stop.TheVariants.{Here, TooDeep, NoM
 
 -- A step, and then one that takes its value; the first step that fails is the answer.
 infixl 10 ◌>>=◌
+-- What is read, and then what is read behind it; where reading stops, it stops there.
 abbrev pub ◌>>=◌ : {A B E : Type 0} → Result A E → (A → Result B E) → Result B E
 (Ok x) >>= f = f x
 (Err e) >>= f = Err e

@@ -9,13 +9,15 @@ pub mod ItemLists
 pub mod First
 pub mod Actuals
 pub mod WellFormed
-pub mod Naming
 -- parts that begin and end
 pub mod Parts
+-- what stands as more is declared and done
+pub mod Standing
+-- what is known at a place, and what the place has bound
+mod Agreeing
+mod Reading
 mod Keeping
 mod Written
-mod Growing
-mod Steps
 mod Others
+mod Elaborated
 pub mod Whole
-pub mod Reading

@@ -1,14 +1,19 @@
 -- The collections that are created where the types end.
 
-use Rattle.std.proofs.Common.{◌≡◌, ◌∙◌, ℕ, ◌+◌, ◌≤◌, ◌<◌, Bool, true, false, ◌&&◌, List, [], ◌∷◌, refl, sym, ap, subst, zero, suc, arith, eqb, eq-eqb}
-use Rattle.std.specs.Prelude.{not, map}
-use Rattle.std.proofs.lemmas.Bool.{ne_eqb}
+use Rattle.std.proofs.Common.{◌≡◌, ◌∙◌, ◌⊎◌, inl, inr, get_or, ℕ, ◌+◌, ◌≤◌, ◌<◌, ◌-◌, length, Bool, true, false, ◌&&◌, List, [], ◌∷◌, refl, sym, ap, subst, zero, suc, arith, eqb, eq-eqb}
+use Rattle.std.specs.Prelude.{not, map, nat_le, nat_lt, Option, Some, None, is_some}
+use Rattle.std.specs.List.{slice_get}
+use Rattle.std.proofs.Math.ListN.{drop}
+use Rattle.std.proofs.lemmas.Bool.{ne_eqb, leb-true, leb-false, le-ltb, lt-ltb}
+use Rattle.std.proofs.lemmas.Option.{slice_get_cases}
 use Rattle.ada_program.specs.Form.{DeclarationForm, collects}
 use Rattle.ada_program.specs.ProgramForm.{ComponentForm, TypeForm, record_of, access_to}
 use Rattle.ada_program.specs.WellFormed as fits
-use Rattle.ada_resolve.specs.Objects.{collections_of}
+use Rattle.ada_resolve.specs.Objects.{collections_of, missing_collections}
 use Rattle.ada_resolve.specs.Instances.{is_collected}
-use Rattle.ada_resolve.specs.Reading.{is_one_of, Rise, AreOthers}
+use Rattle.ada_resolve.specs.Reading.{is_one_of, is_own_access, Rise, AreOthers}
+use Rattle.ada_resolve.specs.Known.{Known}
+use Rattle.ada_resolve.specs.Naming.{Context}
 
 -- numbers that rise from one on
 abbrev RiseFrom : ℕ → List ℕ → Type 0
@@ -86,14 +91,58 @@ rest_of t [] es = record { others = []; these = refl; from = tt; each = λ i. re
 rest_of t (record_of name cs ∷ ts) es = past_record t name cs ts es (rest_of (t + 1) ts es)
 rest_of t (access_to name d ∷ ts) es = past_access t name d ts es (rest_of (t + 1) ts es) (is_collected t es) refl
 
--- all of them
-pub others_of : (ts : List TypeForm) (es : List DeclarationForm) (made : List ℕ) → ((t : ℕ) → is_one_of t made ≡ is_collected t es) → (others : List ℕ) × (collections_of 0 ts es ≡ map collects others) × AreOthers ts made others
-others_of ts es made w =
-    let r = rest_of 0 ts es in (
-      r.others,
-      r.these,
-      record {
-        each = λ t. let at : 0 + t ≡ t = omega arith in subst (λ (n : ℕ). is_one_of n r.others ≡ (fits.is_access ts t && not (is_collected n es))) at (r.each t) ∙ ap (λ b. fits.is_access ts t && not b) (sym (w t));
-        in_order = rise 0 r.others r.from;
-      },
-    )
+-- a type of the part is one of those from its first type on
+past : (n : ℕ) (xs : List TypeForm) (i : ℕ) → slice_get (drop n xs) i ≡ slice_get xs (n + i)
+past zero xs i = let none : 0 + i ≡ i = omega arith in ap (λ (m : ℕ). slice_get xs m) (sym none)
+past (suc n) [] i = refl
+past (suc n) (x ∷ xs) i = past n xs i ∙ ap (λ (m : ℕ). slice_get (x ∷ xs) m) next
+  where
+    next : suc (n + i) ≡ suc n + i
+    next = omega arith
+
+-- an access type of these types is one of those that they become
+same_access : (ts us : List TypeForm) (t : ℕ) → ((u : ℕ) (form : TypeForm) → slice_get ts u ≡ Some form → slice_get us u ≡ Some form) → fits.is_access ts t ≡ (nat_lt t (length ts) && fits.is_access us t)
+same_access ts us t w = by_place (slice_get_cases ts t).1
+  where
+    by_place : ((x : TypeForm) × (t < length ts) × (slice_get ts t ≡ Some x) × (get_or ts t x ≡ x)) ⊎ ((length ts ≤ t) × (slice_get ts t ≡ None)) → fits.is_access ts t ≡ (nat_lt t (length ts) && fits.is_access us t)
+    by_place (inl (x, lt, there, same)) =
+        ap (λ (o : Option TypeForm). is_some (fits.designated_in o)) (there ∙ sym (w t x there)) ∙ ap (λ (b : Bool). b && fits.is_access us t) (sym (lt-ltb t (length ts) lt))
+    by_place (inr (le, none)) =
+        ap (λ (o : Option TypeForm). is_some (fits.designated_in o)) none ∙ ap (λ (b : Bool). b && fits.is_access us t) (sym (le-ltb t (length ts) le))
+
+-- the others of a part, where its types end
+pub record Remain (k : Known) (p : Context) (made : List ℕ) : Type 0 where
+  pub others : List ℕ
+  pub these : missing_collections k ≡ map collects others
+  pub so : AreOthers p made others
+
+pub others_of : (k : Known) (p : Context) (made : List ℕ) → p.place.first_type ≡ k.here.first_type → p.place.types ≡ length k.types → ((t : ℕ) (form : TypeForm) → slice_get k.types t ≡ Some form → slice_get p.types t ≡ Some form) → ((t : ℕ) → is_one_of t made ≡ is_collected t k.here.elaborated) → Remain k p made
+others_of k p made first count w collected = record {
+  others = r.others;
+  these = r.these;
+  so = record { each = each; in_order = rise k.here.first_type r.others r.from };
+}
+  where
+    r : Rest k.here.first_type (drop k.here.first_type k.types) k.here.elaborated
+    r = rest_of k.here.first_type (drop k.here.first_type k.types) k.here.elaborated
+
+    own : (i : ℕ) → is_one_of (k.here.first_type + i) r.others ≡ (fits.is_access k.types (k.here.first_type + i) && not (is_collected (k.here.first_type + i) k.here.elaborated))
+    own i = r.each i ∙ ap (λ (o : Option TypeForm). is_some (fits.designated_in o) && not (is_collected (k.here.first_type + i) k.here.elaborated)) (past k.here.first_type k.types i)
+
+    own_at : (t : ℕ) → k.here.first_type ≤ t → is_one_of t r.others ≡ (fits.is_access k.types t && not (is_collected t k.here.elaborated))
+    own_at t le =
+        let at : k.here.first_type + (t - k.here.first_type) ≡ t = omega arith in
+        subst (λ (n : ℕ). is_one_of n r.others ≡ (fits.is_access k.types n && not (is_collected n k.here.elaborated))) at (own (t - k.here.first_type))
+
+    by_first : (t : ℕ) (b : Bool) → nat_le k.here.first_type t ≡ b → is_one_of t r.others ≡ ((b && nat_lt t (length k.types) && fits.is_access p.types t) && not (is_one_of t made))
+    by_first t false off = below k.here.first_type t r.others (leb-false k.here.first_type t off) r.from
+    by_first t true on =
+        own_at t (leb-true k.here.first_type t on) ∙
+        (ap (λ (b : Bool). b && not (is_collected t k.here.elaborated)) (same_access k.types p.types t w) ∙
+        ap (λ (b : Bool). (nat_lt t (length k.types) && fits.is_access p.types t) && not b) (sym (collected t)))
+
+    each : (t : ℕ) → is_one_of t r.others ≡ (is_own_access p t && not (is_one_of t made))
+    each t =
+        by_first t (nat_le k.here.first_type t) refl ∙
+        (ap (λ (n : ℕ). (nat_le n t && nat_lt t (length k.types) && fits.is_access p.types t) && not (is_one_of t made)) (sym first) ∙
+        ap (λ (n : ℕ). (nat_le p.place.first_type t && nat_lt t n && fits.is_access p.types t) && not (is_one_of t made)) (sym count))

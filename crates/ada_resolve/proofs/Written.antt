@@ -1,18 +1,18 @@
 -- What each declaration writes is what is known after it.
 
-use Rattle.std.proofs.Common.{◌≡◌, ℕ, ◌+◌, Bool, true, false, cond, List, [], ◌∷◌, ◌++◌, refl, sym, subst, eqb-true}
-use Rattle.std.specs.Prelude.{Option, Some, None, codes, map}
-use Rattle.std.specs.List.{slice_get}
+use Rattle.std.proofs.Common.{◌≡◌, zero, suc, inl, inr, ℕ, ◌+◌, Bool, true, false, cond, List, [], ◌∷◌, ◌++◌, refl, sym, subst, eqb-true}
+use Rattle.std.specs.Prelude.{Option, Some, None, codes, is_some, map}
+use Rattle.std.specs.List.{slice_get, list_all}
 use Rattle.ada_text.specs.declared.spot.Spot.{Spot}
 use Rattle.ada_tree.specs.Names.{Ident, NameTree}
 use Rattle.ada_tree.specs.Records.{StaticTree, plain, minus, named as static_name, ComponentTree}
 use Rattle.ada_tree.specs.Expressions.{RightTree}
-use Rattle.ada_tree.specs.Statements.{DeclarationsTree}
 use Rattle.ada_program.specs.declared.program.TypeNo.{TypeNo}
 use Rattle.ada_program.specs.declared.program.VariableKind.{VariableKind}
 use Rattle.ada_program.specs.declared.program.VariableKind.TheVariants as variable
 use Rattle.ada_program.specs.Form.{RightForm}
-use Rattle.ada_program.specs.ProgramForm.{ComponentForm, TypeForm, record_of, access_to, VariableForm}
+use Rattle.ada_program.specs.ProgramForm.{ComponentForm, TypeForm, record_of, access_to}
+use Rattle.ada_program.specs.WellFormed as well
 use Rattle.ada_resolve.specs.declared.fault.NameRule.TheVariants.{UnknownName, WrongType}
 use Rattle.ada_resolve.specs.declared.library.LibraryName.{LibraryName}
 use Rattle.ada_resolve.specs.declared.library.LibraryName.TheVariants.{TextIo, PutLine, UncheckedDeallocation, RunInput, Get, EndError, OtherUnit, Unknown}
@@ -28,40 +28,50 @@ use Rattle.ada_resolve.specs.Records.{integer_remark, boolean_remark, no_value_r
 use Rattle.ada_resolve.specs.Instances.{deallocation_wanted, no_generic, generic_remark, access_if, access_in, access_wanted, freed_found, freed_remark}
 use Rattle.ada_resolve.specs.Paths.{library_is_no_value}
 use Rattle.ada_resolve.specs.Objects.{initial_remark, initial_found, initial_wanted, type_in, type_wanted, object_type_found, object_type_remark, kind_of, initial_source}
-use Rattle.ada_resolve.specs.Naming.{IsStaticRead, read_plain, read_minus, read_named, IsKindRead, AreComponentsRead, IsKindNamed, truth_name}
+use Rattle.ada_resolve.specs.Naming.{Context, IsNumberNamed, IsStaticRead, IsKindRead, AreComponentsRead, IsTypeNamed, IsRecordNamed, IsKindNamed, truth_name}
 use Rattle.ada_resolve.specs.Reading.{IsInitialRead}
+use Rattle.ada_resolve.specs.Paths.{name_of_type}
 use Rattle.ada_resolve.proofs.WellFormed.Remarks.{Quiet, quiet_unless}
 use Rattle.ada_resolve.proofs.WellFormed.Names.{EntityFits, PartsFit, visible_fits}
-use Rattle.ada_resolve.proofs.Naming.{HasName, ReachesNamed, EntityTold, PartsTold, Readable, visible_told}
-use Rattle.ada_resolve.proofs.Reading.{tables, FoundRight, right_read, empty_is, no_name}
+use Rattle.ada_resolve.proofs.WellFormed.Tables.{first_part, second_part}
+use Rattle.ada_resolve.proofs.Agreeing.{Agrees, EntityRead, Readable, visible_read}
+use Rattle.ada_resolve.proofs.Keeping.{HasName, has_name, Lasts}
+use Rattle.ada_resolve.proofs.Standing.{Sound}
+use Rattle.ada_resolve.proofs.Reading.{FoundRight, right_read, empty_is, no_name}
+
+-- what declarations are read by, where a type may be incomplete
+pub record Legible (k : Known) (p : Context) : Type 0 where
+  pub sound : Sound k
+  pub agrees : Agrees k p.place
+  pub lasts : Lasts k p
 
 -- a static Integer
-number_read : (ds : DeclarationsTree) (types : List TypeForm) (name : Ident) (o : Option Entity) → ((e : Entity) → o ≡ Some e → EntityTold ds types name.text e) → Quiet (number_wanted o name) → IsStaticRead ds (static_name name) (number_in o)
-number_read ds types name (Some (entity.Number n)) t q = let told = t (entity.Number n) refl in read_named told.2 told.3 told.4
-number_read ds types name (Some e) t q = absurd q
-number_read ds types name None t q = absurd q
+number_read : (p : Context) (name : Ident) (o : Option Entity) → ((e : Entity) → o ≡ Some e → EntityRead p name.text e) → Quiet (number_wanted o name) → IsNumberNamed p name.text (number_in o)
+number_read p name (Some (entity.Number n)) t q = t (entity.Number n) refl
+number_read p name (Some e) t q = absurd q
+number_read p name None t q = absurd q
 
-pub static_read : (k : Known) (ds : DeclarationsTree) (value : StaticTree) → PartsTold ds k.types (parts k) → Quiet (static_remark k value) → IsStaticRead ds value (static_value k value)
-static_read k ds (plain spot n) w q = read_plain
-static_read k ds (minus spot n) w q = read_minus
-static_read k ds (static_name name) w q = number_read ds k.types name (visible k name.text) (visible_told k ds w name.text) q
+pub static_read : (k : Known) (p : Context) (value : StaticTree) → Agrees k p.place → Quiet (static_remark k value) → IsStaticRead p value (static_value k value)
+static_read k p (plain spot n) w q = refl
+static_read k p (minus spot n) w q = refl
+static_read k p (static_name name) w q = number_read p name (visible k name.text) (visible_read k p w name.text) q
 
 -- a static Boolean
-truth_read : (types : List TypeForm) (variables : List VariableForm) (name : Ident) (o : Option Entity) → ((e : Entity) → o ≡ Some e → EntityFits types variables name.text e) → Quiet (truth_wanted o name) → name.text ≡ truth_name (truth_in o)
-truth_read types variables name (Some (entity.Truth b)) f q = f (entity.Truth b) refl
-truth_read types variables name (Some e) f q = absurd q
-truth_read types variables name None f q = absurd q
+truth_read : (p : Context) (name : Ident) (o : Option Entity) → ((e : Entity) → o ≡ Some e → EntityRead p name.text e) → Quiet (truth_wanted o name) → name.text ≡ truth_name (truth_in o)
+truth_read p name (Some (entity.Truth b)) f q = f (entity.Truth b) refl
+truth_read p name (Some e) f q = absurd q
+truth_read p name None f q = absurd q
 
 -- what a component holds
-boolean_read : (k : Known) (ds : DeclarationsTree) (texts : List (List ℕ)) (name type_name : Ident) (initial : Option StaticTree) → Readable k ds → type_name.text ≡ codes "BOOLEAN" → Quiet (boolean_remark k name initial) → IsKindRead (tables k ds texts) (record { name = name; type_name = type_name; initial = initial }) (kind_in (Some entity.Boolean) k initial)
-boolean_read k ds texts name type_name None w t q = absurd q
-boolean_read k ds texts name type_name (Some (plain spot n)) w t q = absurd q
-boolean_read k ds texts name type_name (Some (minus spot n)) w t q = absurd q
-boolean_read k ds texts name type_name (Some (static_name value)) w t q = (t, value, refl, truth_read k.types k.variables value (visible k value.text) (visible_fits k w.fits value.text) q)
+boolean_read : (k : Known) (p : Context) (name type_name : Ident) (initial : Option StaticTree) → Legible k p → type_name.text ≡ codes "BOOLEAN" → Quiet (boolean_remark k name initial) → IsKindRead p (record { name = name; type_name = type_name; initial = initial }) (kind_in (Some entity.Boolean) k initial)
+boolean_read k p name type_name None w t q = absurd q
+boolean_read k p name type_name (Some (plain spot n)) w t q = absurd q
+boolean_read k p name type_name (Some (minus spot n)) w t q = absurd q
+boolean_read k p name type_name (Some (static_name value)) w t q = (t, value, refl, truth_read p value (visible k value.text) (visible_read k p w.agrees value.text) q)
 
-integer_read : (k : Known) (ds : DeclarationsTree) (texts : List (List ℕ)) (name type_name : Ident) (initial : Option StaticTree) → Readable k ds → type_name.text ≡ codes "INTEGER" → Quiet (integer_remark k name initial) → IsKindRead (tables k ds texts) (record { name = name; type_name = type_name; initial = initial }) (kind_in (Some entity.Integer) k initial)
-integer_read k ds texts name type_name None w t q = absurd q
-integer_read k ds texts name type_name (Some value) w t q = (t, value, refl, static_read k ds value w.told q)
+integer_read : (k : Known) (p : Context) (name type_name : Ident) (initial : Option StaticTree) → Legible k p → type_name.text ≡ codes "INTEGER" → Quiet (integer_remark k name initial) → IsKindRead p (record { name = name; type_name = type_name; initial = initial }) (kind_in (Some entity.Integer) k initial)
+integer_read k p name type_name None w t q = absurd q
+integer_read k p name type_name (Some value) w t q = (t, value, refl, static_read k p value w.agrees q)
 
 no_value : (k : Known) (initial : Option StaticTree) → Quiet (no_value_remark k initial) → initial ≡ None
 no_value k None q = refl
@@ -69,62 +79,81 @@ no_value k (Some (plain spot n)) q = absurd q
 no_value k (Some (minus spot n)) q = absurd q
 no_value k (Some (static_name name)) q = absurd q.1
 
-kind_read : (k : Known) (ds : DeclarationsTree) (texts : List (List ℕ)) (name type_name : Ident) (initial : Option StaticTree) (o : Option Entity) → Readable k ds → ((e : Entity) → o ≡ Some e → EntityFits k.types k.variables type_name.text e) → ((e : Entity) → o ≡ Some e → EntityTold ds k.types type_name.text e) → Quiet (kind_wanted o k (record { name = name; type_name = type_name; initial = initial })) → IsKindRead (tables k ds texts) (record { name = name; type_name = type_name; initial = initial }) (kind_in o k initial)
-kind_read k ds texts name type_name initial (Some entity.Integer) w f t q = integer_read k ds texts name type_name initial w (t entity.Integer refl) q
-kind_read k ds texts name type_name initial (Some entity.Boolean) w f t q = boolean_read k ds texts name type_name initial w (t entity.Boolean refl) q
-kind_read k ds texts name type_name initial (Some (entity.Access a)) w f t q = (f (entity.Access a) refl, no_value k initial q)
-kind_read k ds texts name type_name initial (Some (entity.Record u)) w f t q = absurd q
-kind_read k ds texts name type_name initial (Some e) w f t q = absurd q
-kind_read k ds texts name type_name initial None w f t q = absurd q
+kind_read : (k : Known) (p : Context) (name type_name : Ident) (initial : Option StaticTree) (o : Option Entity) → Legible k p → ((e : Entity) → o ≡ Some e → EntityFits k.types k.variables type_name.text e) → ((e : Entity) → o ≡ Some e → EntityRead p type_name.text e) → Quiet (kind_wanted o k (record { name = name; type_name = type_name; initial = initial })) → IsKindRead p (record { name = name; type_name = type_name; initial = initial }) (kind_in o k initial)
+kind_read k p name type_name initial (Some entity.Integer) w f t q = integer_read k p name type_name initial w (t entity.Integer refl) q
+kind_read k p name type_name initial (Some entity.Boolean) w f t q = boolean_read k p name type_name initial w (t entity.Boolean refl) q
+kind_read k p name type_name initial (Some (entity.Access a)) w f t q =
+    let there = f (entity.Access a) refl in ((inl (t (entity.Access a) refl), there.0, w.lasts.accesses a.0 type_name.text there.0 there.1), no_value k initial q)
+kind_read k p name type_name initial (Some (entity.Record u)) w f t q = absurd q
+kind_read k p name type_name initial (Some e) w f t q = absurd q
+kind_read k p name type_name initial None w f t q = absurd q
 
-pub components_read : (k : Known) (ds : DeclarationsTree) (texts : List (List ℕ)) (before : List ComponentForm) (count : ℕ) (cs : List ComponentTree) → Readable k ds → Quiet (components_remark k before count cs) → AreComponentsRead (tables k ds texts) cs (map (component_meant k) cs)
+pub components_read : (k : Known) (p : Context) (before : List ComponentForm) (count : ℕ) (cs : List ComponentTree) → Legible k p → Quiet (components_remark k before count cs) → AreComponentsRead p cs (map (component_meant k) cs)
 unfolding component_remark component_meant
-components_read k ds texts before count [] w q = tt
-components_read k ds texts before count (c ∷ cs) w q = (
+components_read k p before count [] w q = tt
+components_read k p before count (c ∷ cs) w q = (
   refl,
-  kind_read k ds texts c.name c.type_name c.initial (visible k c.type_name.text) w (visible_fits k w.fits c.type_name.text) (visible_told k ds w.told c.type_name.text) q.0.1.1.1.1.1,
-  components_read k ds texts (before ++ component_meant k c ∷ []) (count + 1) cs w q.1,
+  kind_read k p c.name c.type_name c.initial (visible k c.type_name.text) w (visible_fits k w.sound.names c.type_name.text) (visible_read k p w.agrees c.type_name.text) q.0.1.1.1.1.1,
+  components_read k p (before ++ component_meant k c ∷ []) (count + 1) cs w q.1,
 )
 
 -- the record type of a name
-abbrev pub FoundRecord : Known → Ident → Option TypeNo → Type 0
-FoundRecord k name None = ⊥
-FoundRecord k name (Some t) = HasName k.types name.text t.0
+abbrev pub FoundRecord : Known → Context → Ident → Option TypeNo → Type 0
+FoundRecord k p name None = ⊥
+FoundRecord k p name (Some t) = HasName k.types name.text t.0 × IsTypeNamed p name.text t.0
 
-record_at : (k : Known) (name : Ident) (o : Option Entity) → ((e : Entity) → o ≡ Some e → EntityFits k.types k.variables name.text e) → Quiet (record_wanted o name) → FoundRecord k name (record_in o)
-record_at k name (Some (entity.Incomplete t)) f q = (record_of name.text [], f (entity.Incomplete t) refl, refl)
-record_at k name (Some (entity.Record t)) f q = let there = f (entity.Record t) refl in (record_of name.text there.0, there.1, refl)
-record_at k name (Some e) f q = absurd q
-record_at k name None f q = absurd q
+record_at : (k : Known) (p : Context) (name : Ident) (o : Option Entity) → ((e : Entity) → o ≡ Some e → EntityFits k.types k.variables name.text e) → ((e : Entity) → o ≡ Some e → EntityRead p name.text e) → Quiet (record_wanted o name) → FoundRecord k p name (record_in o)
+record_at k p name (Some (entity.Incomplete t)) f r q = (has_name k.types name.text t.0 (record_of name.text []) (f (entity.Incomplete t) refl) refl, inr (r (entity.Incomplete t) refl))
+record_at k p name (Some (entity.Record t)) f r q = let there = f (entity.Record t) refl in (has_name k.types name.text t.0 (record_of name.text there.0) there.1 refl, inl (r (entity.Record t) refl))
+record_at k p name (Some e) f r q = absurd q
+record_at k p name None f r q = absurd q
 
-pub record_read : (k : Known) (name : Ident) → PartsFit k.types k.variables (parts k) → Quiet (record_remark k name) → FoundRecord k name (record_found k name)
+pub record_read : (k : Known) (p : Context) (name : Ident) → PartsFit k.types k.variables (parts k) → Agrees k p.place → Quiet (record_remark k name) → FoundRecord k p name (record_found k name)
 unfolding record_found record_remark
-record_read k name w q = record_at k name (visible k name.text) (visible_fits k w name.text) q
+record_read k p name w a q = record_at k p name (visible k name.text) (visible_fits k w name.text) (visible_read k p a name.text) q
+
+-- what is designated is a record type
+all_at : {X : Type 0} (f : X → Bool) (xs : List X) (i : ℕ) (x : X) → list_all f xs ≡ true → slice_get xs i ≡ Some x → f x ≡ true
+all_at f [] i x all is = absurd (cc is)
+all_at f (y ∷ xs) zero x all is = let same : y ≡ x = cc is in rw (sym same) (first_part (f y) (list_all f xs) all)
+all_at f (y ∷ xs) (suc i) x all is = all_at f xs i x (second_part (f y) (list_all f xs) all) is
+
+record_there : (types : List TypeForm) (text : List ℕ) (d : ℕ) (o : Option TypeForm) → slice_get types d ≡ o → name_of_type o ≡ Some text → is_some (well.components_in o) ≡ true → (cs : List ComponentForm) × (slice_get types d ≡ Some (record_of text cs))
+record_there types text d None there same is = absurd (cc is)
+record_there types text d (Some (record_of name cs)) there same is =
+    let name_is : name ≡ text = cc same in (cs, subst (λ (n : List ℕ). slice_get types d ≡ Some (record_of n cs)) name_is there)
+record_there types text d (Some (access_to name u)) there same is = absurd (cc is)
+
+pub designated_read : (p : Context) (text designated : List ℕ) (t d : ℕ) → list_all (well.type_fits p.types) p.types ≡ true → slice_get p.types t ≡ Some (access_to text d) → HasName p.types designated d → IsTypeNamed p designated d → IsRecordNamed p designated d
+designated_read p text designated t d all there same named_so =
+    let is = record_there p.types designated d (slice_get p.types d) refl same (all_at (well.type_fits p.types) p.types t (access_to text d) all there) in (named_so, is.0, is.1)
 
 -- the access type of an instance
-abbrev pub FoundAccess : Known → Ident → Ident → Option TypeNo → Type 0
-FoundAccess k access object None = ⊥
-FoundAccess k access object (Some t) = ReachesNamed k.types access.text object.text t.0
+abbrev pub FoundAccess : Known → Context → Ident → Ident → Option TypeNo → Type 0
+FoundAccess k p access object None = ⊥
+FoundAccess k p access object (Some t) =
+    IsTypeNamed p access.text t.0 × (d : ℕ) × (slice_get k.types t.0 ≡ Some (access_to access.text d)) × HasName k.types object.text d × IsTypeNamed p object.text d
 
 reached : (types : List TypeForm) (t u d : ℕ) (text : List ℕ) → slice_get types t ≡ Some (access_to text d) → is_access_to (slice_get types t) u ≡ true → d ≡ u
 reached types t u d text there is = eqb-true d u (subst (λ (o : Option TypeForm). is_access_to o u ≡ true) there is)
 
-access_at : (k : Known) (access object : Ident) (u : TypeNo) (o : Option Entity) → HasName k.types object.text u.0 → ((e : Entity) → o ≡ Some e → EntityFits k.types k.variables access.text e) → Quiet (access_wanted o k.types (Some u) access) → FoundAccess k access object (access_in o k.types (Some u))
+access_at : (k : Known) (p : Context) (access object : Ident) (u : TypeNo) (o : Option Entity) → HasName k.types object.text u.0 × IsTypeNamed p object.text u.0 → ((e : Entity) → o ≡ Some e → EntityFits k.types k.variables access.text e) → ((e : Entity) → o ≡ Some e → EntityRead p access.text e) → Quiet (access_wanted o k.types (Some u) access) → FoundAccess k p access object (access_in o k.types (Some u))
 unfolding designates
-access_at k access object u (Some (entity.Access t)) has f q = by_test (is_access_to (slice_get k.types t.0) u.0) refl (quiet_unless (is_access_to (slice_get k.types t.0) u.0) access.spot WrongType q)
+access_at k p access object u (Some (entity.Access t)) has f r q = by_test (is_access_to (slice_get k.types t.0) u.0) refl (quiet_unless (is_access_to (slice_get k.types t.0) u.0) access.spot WrongType q)
   where
-    by_test : (b : Bool) → is_access_to (slice_get k.types t.0) u.0 ≡ b → b ≡ true → FoundAccess k access object (access_if b t)
+    by_test : (b : Bool) → is_access_to (slice_get k.types t.0) u.0 ≡ b → b ≡ true → FoundAccess k p access object (access_if b t)
     by_test true is on =
         let there = f (entity.Access t) refl in
-        (there.0, there.1, subst (λ (d : ℕ). HasName k.types object.text d) (sym (reached k.types t.0 u.0 there.0 access.text there.1 is)) has)
+        let same = sym (reached k.types t.0 u.0 there.0 access.text there.1 is) in
+        (inl (r (entity.Access t) refl), there.0, there.1, subst (λ (d : ℕ). HasName k.types object.text d) same has.0, subst (λ (d : ℕ). IsTypeNamed p object.text d) same has.1)
     by_test false is on = absurd (cc on)
-access_at k access object u (Some e) has f q = absurd q
-access_at k access object u None has f q = absurd q
+access_at k p access object u (Some e) has f r q = absurd q
+access_at k p access object u None has f r q = absurd q
 
-pub access_read : (k : Known) (access object : Ident) (r : Option TypeNo) → PartsFit k.types k.variables (parts k) → FoundRecord k object r → Quiet (freed_remark k access r) → FoundAccess k access object (freed_found k access r)
+pub access_read : (k : Known) (p : Context) (access object : Ident) (o : Option TypeNo) → PartsFit k.types k.variables (parts k) → Agrees k p.place → FoundRecord k p object o → Quiet (freed_remark k access o) → FoundAccess k p access object (freed_found k access o)
 unfolding freed_found freed_remark
-access_read k access object None w found q = absurd found
-access_read k access object (Some u) w found q = access_at k access object u (visible k access.text) found (visible_fits k w access.text) q
+access_read k p access object None w a found q = absurd found
+access_read k p access object (Some u) w a found q = access_at k p access object u (visible k access.text) found (visible_fits k w access.text) (visible_read k p a access.text) q
 
 -- the generic of an instance
 generic_is : (withs : Withs) (n : LibraryName) (spot : Spot) → Quiet (library_wrong withs n spot) → Quiet (deallocation_wanted (if_with (is_with withs n) n) spot) → n ≡ UncheckedDeallocation
@@ -150,47 +179,47 @@ generic_read k generic q = by_root (is_library_root generic.first.text) q
     by_root false q = absurd (by_entity (visible k generic.first.text) q)
 
 -- the type of an object, and its initial value
-pub record ObjectRead (k : Known) (ds : DeclarationsTree) (texts : List (List ℕ)) (type_name : NameTree) (initial : Option RightTree) (kind : Option VariableKind) (value : Option RightForm) : Type 0 where
+pub record ObjectRead (k : Known) (p : Context) (type_name : NameTree) (initial : Option RightTree) (kind : Option VariableKind) (value : Option RightForm) : Type 0 where
   pub of : VariableKind
   pub is : kind ≡ Some of
-  pub kind_named : IsKindNamed (tables k ds texts) type_name of
-  pub starts : IsInitialRead (tables k ds texts) of initial (initial_source value)
+  pub kind_named : IsKindNamed p type_name of
+  pub starts : IsInitialRead p of initial (initial_source value)
 
-starts_read : (k : Known) (ds : DeclarationsTree) (texts : List (List ℕ)) (of : VariableKind) (right : RightTree) (o : Option RightForm) → FoundRight (tables k ds texts) right o → IsInitialRead (tables k ds texts) of (Some right) (initial_source o)
-starts_read k ds texts of right None f = absurd f
-starts_read k ds texts of right (Some form) f = f
+starts_read : (k : Known) (p : Context) (of : VariableKind) (right : RightTree) (o : Option RightForm) → FoundRight p right o → IsInitialRead p of (Some right) (initial_source o)
+starts_read k p of right None f = absurd f
+starts_read k p of right (Some form) f = f
 
-object_at : (k : Known) (ds : DeclarationsTree) (texts : List (List ℕ)) (name : Ident) (type_name : NameTree) (initial : Option RightTree) (e : Entity) → Readable k ds → type_name.rest ≡ [] → EntityFits k.types k.variables type_name.first.text e → EntityTold ds k.types type_name.first.text e → Quiet (initial_remark k (kind_of (Some e)) initial) → Quiet (initial_wanted (Some e) name initial) → ObjectRead k ds texts type_name initial (kind_of (Some e)) (initial_found k (kind_of (Some e)) initial)
-object_at k ds texts name type_name None entity.Integer w alone f t q g = absurd g
-object_at k ds texts name type_name None entity.Boolean w alone f t q g = absurd g
-object_at k ds texts name type_name (Some right) entity.Integer w alone f t q g = record {
+object_at : (k : Known) (p : Context) (name : Ident) (type_name : NameTree) (initial : Option RightTree) (e : Entity) → Readable k p → type_name.rest ≡ [] → EntityFits k.types k.variables type_name.first.text e → EntityRead p type_name.first.text e → Quiet (initial_remark k (kind_of (Some e)) initial) → Quiet (initial_wanted (Some e) name initial) → ObjectRead k p type_name initial (kind_of (Some e)) (initial_found k (kind_of (Some e)) initial)
+object_at k p name type_name None entity.Integer w alone f t q g = absurd g
+object_at k p name type_name None entity.Boolean w alone f t q g = absurd g
+object_at k p name type_name (Some right) entity.Integer w alone f t q g = record {
   of = variable.Integer;
   is = refl;
   kind_named = (alone, t);
-  starts = starts_read k ds texts variable.Integer right (initial_found k (Some variable.Integer) (Some right)) (right_read k ds texts variable.Integer right w q);
+  starts = starts_read k p variable.Integer right (initial_found k (Some variable.Integer) (Some right)) (right_read k p variable.Integer right w q);
 }
-object_at k ds texts name type_name (Some right) entity.Boolean w alone f t q g = record {
+object_at k p name type_name (Some right) entity.Boolean w alone f t q g = record {
   of = variable.Boolean;
   is = refl;
   kind_named = (alone, t);
-  starts = starts_read k ds texts variable.Boolean right (initial_found k (Some variable.Boolean) (Some right)) (right_read k ds texts variable.Boolean right w q);
+  starts = starts_read k p variable.Boolean right (initial_found k (Some variable.Boolean) (Some right)) (right_read k p variable.Boolean right w q);
 }
-object_at k ds texts name type_name None (entity.Access a) w alone f t q g = record { of = variable.Access a; is = refl; kind_named = (alone, f); starts = tt }
-object_at k ds texts name type_name (Some right) (entity.Access a) w alone f t q g = record {
+object_at k p name type_name None (entity.Access a) w alone f t q g = record { of = variable.Access a; is = refl; kind_named = (alone, (inl t, f.0, w.ahead.types a.0 (access_to type_name.first.text f.0) f.1)); starts = tt }
+object_at k p name type_name (Some right) (entity.Access a) w alone f t q g = record {
   of = variable.Access a;
   is = refl;
-  kind_named = (alone, f);
-  starts = starts_read k ds texts (variable.Access a) right (initial_found k (Some (variable.Access a)) (Some right)) (right_read k ds texts (variable.Access a) right w q);
+  kind_named = (alone, (inl t, f.0, w.ahead.types a.0 (access_to type_name.first.text f.0) f.1));
+  starts = starts_read k p (variable.Access a) right (initial_found k (Some (variable.Access a)) (Some right)) (right_read k p (variable.Access a) right w q);
 }
-object_at k ds texts name type_name initial e w alone f t q g = absurd g
+object_at k p name type_name initial e w alone f t q g = absurd g
 
-object_typed : (k : Known) (ds : DeclarationsTree) (texts : List (List ℕ)) (name : Ident) (type_name : NameTree) (initial : Option RightTree) (o : Option Entity) → Readable k ds → type_name.rest ≡ [] → ((e : Entity) → o ≡ Some e → EntityFits k.types k.variables type_name.first.text e) → ((e : Entity) → o ≡ Some e → EntityTold ds k.types type_name.first.text e) → Quiet (type_wanted o true type_name.first) → Quiet (initial_remark k (kind_of (type_in o)) initial) → Quiet (initial_wanted (type_in o) name initial) → ObjectRead k ds texts type_name initial (kind_of (type_in o)) (initial_found k (kind_of (type_in o)) initial)
-object_typed k ds texts name type_name initial None w alone f t r q g = absurd r
-object_typed k ds texts name type_name initial (Some entity.Integer) w alone f t r q g = object_at k ds texts name type_name initial entity.Integer w alone (f entity.Integer refl) (t entity.Integer refl) q g
-object_typed k ds texts name type_name initial (Some entity.Boolean) w alone f t r q g = object_at k ds texts name type_name initial entity.Boolean w alone (f entity.Boolean refl) (t entity.Boolean refl) q g
-object_typed k ds texts name type_name initial (Some (entity.Access a)) w alone f t r q g = object_at k ds texts name type_name initial (entity.Access a) w alone (f (entity.Access a) refl) (t (entity.Access a) refl) q g
-object_typed k ds texts name type_name initial (Some (entity.Record u)) w alone f t r q g = absurd g
-object_typed k ds texts name type_name initial (Some e) w alone f t r q g = absurd r.1
+object_typed : (k : Known) (p : Context) (name : Ident) (type_name : NameTree) (initial : Option RightTree) (o : Option Entity) → Readable k p → type_name.rest ≡ [] → ((e : Entity) → o ≡ Some e → EntityFits k.types k.variables type_name.first.text e) → ((e : Entity) → o ≡ Some e → EntityRead p type_name.first.text e) → Quiet (type_wanted o true type_name.first) → Quiet (initial_remark k (kind_of (type_in o)) initial) → Quiet (initial_wanted (type_in o) name initial) → ObjectRead k p type_name initial (kind_of (type_in o)) (initial_found k (kind_of (type_in o)) initial)
+object_typed k p name type_name initial None w alone f t r q g = absurd r
+object_typed k p name type_name initial (Some entity.Integer) w alone f t r q g = object_at k p name type_name initial entity.Integer w alone (f entity.Integer refl) (t entity.Integer refl) q g
+object_typed k p name type_name initial (Some entity.Boolean) w alone f t r q g = object_at k p name type_name initial entity.Boolean w alone (f entity.Boolean refl) (t entity.Boolean refl) q g
+object_typed k p name type_name initial (Some (entity.Access a)) w alone f t r q g = object_at k p name type_name initial (entity.Access a) w alone (f (entity.Access a) refl) (t (entity.Access a) refl) q g
+object_typed k p name type_name initial (Some (entity.Record u)) w alone f t r q g = absurd g
+object_typed k p name type_name initial (Some e) w alone f t r q g = absurd r.1
 
 -- a name of the library is no type
 no_library : (withs : Withs) (n : LibraryName) (spot : Spot) (o : Option LibraryName) → if_with (is_with withs n) n ≡ o → Quiet (library_wrong withs n spot) → Quiet (library_is_no_value o spot) → ⊥
@@ -201,14 +230,35 @@ not_alone : (o : Option Entity) (name : Ident) → Quiet (type_wanted o false na
 not_alone (Some e) name q = q.0
 not_alone None name q = q
 
-pub object_read : (k : Known) (ds : DeclarationsTree) (texts : List (List ℕ)) (name : Ident) (type_name : NameTree) (initial : Option RightTree) → Readable k ds → Quiet (object_type_remark k type_name) → Quiet (initial_remark k (kind_of (object_type_found k type_name)) initial) → Quiet (initial_wanted (object_type_found k type_name) name initial) → ObjectRead k ds texts type_name initial (kind_of (object_type_found k type_name)) (initial_found k (kind_of (object_type_found k type_name)) initial)
+pub object_read : (k : Known) (p : Context) (name : Ident) (type_name : NameTree) (initial : Option RightTree) → Readable k p → Quiet (object_type_remark k type_name) → Quiet (initial_remark k (kind_of (object_type_found k type_name)) initial) → Quiet (initial_wanted (object_type_found k type_name) name initial) → ObjectRead k p type_name initial (kind_of (object_type_found k type_name)) (initial_found k (kind_of (object_type_found k type_name)) initial)
 unfolding object_type_found object_type_remark
-object_read k ds texts name type_name initial w r q g = by_root (is_library_root type_name.first.text) r q g
+object_read k p name type_name initial w r q g = by_root (is_library_root type_name.first.text) r q g
   where
-    by_rest : (b : Bool) → is_empty type_name.rest ≡ b → Quiet (type_wanted (visible k type_name.first.text) b type_name.first) → Quiet (initial_remark k (kind_of (cond b (type_in (visible k type_name.first.text)) None)) initial) → Quiet (initial_wanted (cond b (type_in (visible k type_name.first.text)) None) name initial) → ObjectRead k ds texts type_name initial (kind_of (cond b (type_in (visible k type_name.first.text)) None)) (initial_found k (kind_of (cond b (type_in (visible k type_name.first.text)) None)) initial)
-    by_rest true is r q g = object_typed k ds texts name type_name initial (visible k type_name.first.text) w (empty_is type_name.rest is) (visible_fits k w.fits type_name.first.text) (visible_told k ds w.told type_name.first.text) r q g
+    by_rest : (b : Bool) → is_empty type_name.rest ≡ b → Quiet (type_wanted (visible k type_name.first.text) b type_name.first) → Quiet (initial_remark k (kind_of (cond b (type_in (visible k type_name.first.text)) None)) initial) → Quiet (initial_wanted (cond b (type_in (visible k type_name.first.text)) None) name initial) → ObjectRead k p type_name initial (kind_of (cond b (type_in (visible k type_name.first.text)) None)) (initial_found k (kind_of (cond b (type_in (visible k type_name.first.text)) None)) initial)
+    by_rest true is r q g = object_typed k p name type_name initial (visible k type_name.first.text) w (empty_is type_name.rest is) (visible_fits k w.fits type_name.first.text) (visible_read k p w.agrees type_name.first.text) r q g
     by_rest false is r q g = absurd (not_alone (visible k type_name.first.text) type_name.first r)
 
-    by_root : (b : Bool) → Quiet (cond b (library_remark k type_name.first type_name.rest also library_is_no_value (if_with (is_with k.withs (library_name type_name.first.text type_name.rest)) (library_name type_name.first.text type_name.rest)) type_name.first.spot) (type_wanted (visible k type_name.first.text) (is_empty type_name.rest) type_name.first)) → Quiet (initial_remark k (kind_of (cond b None (cond (is_empty type_name.rest) (type_in (visible k type_name.first.text)) None))) initial) → Quiet (initial_wanted (cond b None (cond (is_empty type_name.rest) (type_in (visible k type_name.first.text)) None)) name initial) → ObjectRead k ds texts type_name initial (kind_of (cond b None (cond (is_empty type_name.rest) (type_in (visible k type_name.first.text)) None))) (initial_found k (kind_of (cond b None (cond (is_empty type_name.rest) (type_in (visible k type_name.first.text)) None))) initial)
+    by_root : (b : Bool) → Quiet (cond b (library_remark k type_name.first type_name.rest also library_is_no_value (if_with (is_with k.withs (library_name type_name.first.text type_name.rest)) (library_name type_name.first.text type_name.rest)) type_name.first.spot) (type_wanted (visible k type_name.first.text) (is_empty type_name.rest) type_name.first)) → Quiet (initial_remark k (kind_of (cond b None (cond (is_empty type_name.rest) (type_in (visible k type_name.first.text)) None))) initial) → Quiet (initial_wanted (cond b None (cond (is_empty type_name.rest) (type_in (visible k type_name.first.text)) None)) name initial) → ObjectRead k p type_name initial (kind_of (cond b None (cond (is_empty type_name.rest) (type_in (visible k type_name.first.text)) None))) (initial_found k (kind_of (cond b None (cond (is_empty type_name.rest) (type_in (visible k type_name.first.text)) None))) initial)
     by_root true r q g = absurd (no_library k.withs (library_name type_name.first.text type_name.rest) type_name.first.spot (if_with (is_with k.withs (library_name type_name.first.text type_name.rest)) (library_name type_name.first.text type_name.rest)) refl r.0 r.1)
     by_root false r q g = by_rest (is_empty type_name.rest) refl r q g
+
+-- what an object holds is known
+pub object_kind : (k : Known) (name : Ident) (type_name : NameTree) (initial : Option RightTree) → Quiet (object_type_remark k type_name) → Quiet (initial_wanted (object_type_found k type_name) name initial) → (of : VariableKind) × (kind_of (object_type_found k type_name) ≡ Some of)
+unfolding object_type_found object_type_remark
+object_kind k name type_name initial r g = by_root (is_library_root type_name.first.text) r g
+  where
+    by_entity : (o : Option Entity) → Quiet (type_wanted o true type_name.first) → Quiet (initial_wanted (type_in o) name initial) → (of : VariableKind) × (kind_of (type_in o) ≡ Some of)
+    by_entity None r g = absurd r
+    by_entity (Some entity.Integer) r g = (variable.Integer, refl)
+    by_entity (Some entity.Boolean) r g = (variable.Boolean, refl)
+    by_entity (Some (entity.Access a)) r g = (variable.Access a, refl)
+    by_entity (Some (entity.Record u)) r g = absurd g
+    by_entity (Some e) r g = absurd r.1
+
+    by_rest : (b : Bool) → Quiet (type_wanted (visible k type_name.first.text) b type_name.first) → Quiet (initial_wanted (cond b (type_in (visible k type_name.first.text)) None) name initial) → (of : VariableKind) × (kind_of (cond b (type_in (visible k type_name.first.text)) None) ≡ Some of)
+    by_rest true r g = by_entity (visible k type_name.first.text) r g
+    by_rest false r g = absurd (not_alone (visible k type_name.first.text) type_name.first r)
+
+    by_root : (b : Bool) → Quiet (cond b (library_remark k type_name.first type_name.rest also library_is_no_value (if_with (is_with k.withs (library_name type_name.first.text type_name.rest)) (library_name type_name.first.text type_name.rest)) type_name.first.spot) (type_wanted (visible k type_name.first.text) (is_empty type_name.rest) type_name.first)) → Quiet (initial_wanted (cond b None (cond (is_empty type_name.rest) (type_in (visible k type_name.first.text)) None)) name initial) → (of : VariableKind) × (kind_of (cond b None (cond (is_empty type_name.rest) (type_in (visible k type_name.first.text)) None)) ≡ Some of)
+    by_root true r g = absurd (no_library k.withs (library_name type_name.first.text type_name.rest) type_name.first.spot (if_with (is_with k.withs (library_name type_name.first.text type_name.rest)) (library_name type_name.first.text type_name.rest)) refl r.0 r.1)
+    by_root false r g = by_rest (is_empty type_name.rest) r g

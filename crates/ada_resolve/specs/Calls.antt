@@ -40,14 +40,21 @@ abbrev pub actual_wanted : Callee → Meant → Spot → Remark
 actual_wanted (callee.Free access) meant spot = freed_wanted access meant spot
 actual_wanted callee.Get meant spot = got_wanted meant spot
 
+-- A loop parameter is a constant (3.3, 5.5): nothing is written to it.
+abbrev pub written_wanted : Option Entity → Spot → Remark
+written_wanted (Some (entity.Parameter x)) spot = wrong spot WrongType
+written_wanted (Some other) spot = fine
+written_wanted None spot = fine
+
 -- An actual that is no path is of the wrong kind, and what is wrong with it as an expression is told too.
 abbrev pub no_path_remark : Known → ExpressionTree → Remark
 no_path_remark known value = wrong (expression_spot value) WrongType also expression_remark known value
 
--- What is wrong with the actual of a procedure that takes a variable: it is a path.
+-- What is wrong with the actual of a procedure that takes a variable: it is a path, and no constant.
 abbrev pub actual_remark : Known → Callee → ArgumentTree → Remark
 actual_remark known taker (expression_argument (path_expression path)) =
-    expression_remark known (path_expression path) also actual_wanted taker (path_meant known path) path.root.spot
+    expression_remark known (path_expression path) also actual_wanted taker (path_meant known path) path.root.spot also
+    written_wanted (visible known path.root.text) path.root.spot
 actual_remark known taker other = wrong (argument_spot other) WrongType also argument_remark known other
 
 -- What the variable gives access to is freed, by the instance of this access type.

@@ -28,7 +28,7 @@ pub record Part : Type 0 where
   pub elaborated : List DeclarationForm
 
 -- What is known: the library units of the with clauses, the procedure's name, the declarative part that declares here, those around it, the
--- inner ones first (8.1), and all types, variables and exceptions by their numbers; of an exception that is its name.
+-- inner ones first (8.1), and all types, variables, exceptions and texts by their numbers; of an exception that is its name.
 pub record Known : Type 0 where
   pub withs : Withs
   pub procedure : List ℕ
@@ -37,6 +37,7 @@ pub record Known : Type 0 where
   pub types : List TypeForm
   pub variables : List VariableForm
   pub exceptions : List (List ℕ)
+  pub texts : List (List ℕ)
 
 -- The declarative parts of a place, the innermost first (8.1).
 abbrev pub parts : Known → List Part

@@ -50,7 +50,7 @@ use Rattle.ada_resolve.specs.Paths.{Meant, component_within, component_within_re
 use Rattle.ada_resolve.specs.Records.{all_components_remark, components_written}
 use Rattle.ada_resolve.specs.Remark.{Remark}
 use Rattle.ada_resolve.specs.Rights.{right_found, right_remark}
-use Rattle.ada_resolve.specs.Statements.{assignment_found, assignment_remark, condition_meant, condition_remark, exit_found, exit_remark, named_assignment_found, named_assignment_remark, statement_found, statement_remark}
+use Rattle.ada_resolve.specs.Statements.{assignment_found, assignment_remark, condition_meant, condition_remark, exit_found, exit_remark, bound_meant, bound_remark, named_assignment_found, named_assignment_remark, statement_found, statement_remark}
 
 -- What is wrong with a part, and what it means.
 pub record Look (Y : Type 0) : Type 0 where
@@ -214,10 +214,17 @@ line_look seen text argument = record {
 }
 
 -- A statement (5.1).
-abbrev pub statement_look : Seen → (inside_loop : Bool) → ℕ → Statement → Look (Option StmtForm)
-statement_look seen inside_loop text statement = record {
+abbrev pub statement_look : Seen → (inside_loop : Bool) → Statement → Look (Option StmtForm)
+statement_look seen inside_loop statement = record {
   remark = statement_remark (known seen) inside_loop (statement_of statement);
-  meaning = statement_found (known seen) text (statement_of statement);
+  meaning = statement_found (known seen) (statement_of statement);
+}
+
+-- A bound of a range (5.5).
+abbrev pub bound_look : Seen → Expression → Look ExpressionForm
+bound_look seen bound = record {
+  remark = bound_remark (known seen) (expression_of bound);
+  meaning = bound_meant (known seen) (expression_of bound);
 }
 
 -- The choices of a handler (11.2).

@@ -7,13 +7,13 @@ use denote.MutBor.{MutBor}
 use denote.Ref.{Bor}
 use denote.Triple.Both.{Both}
 use Rattle.ada_text.specs.declared.spot.Spot.{Spot}
-use Rattle.ada_tree.specs.Declarations.{choice_of, optional_aspect_of}
+use Rattle.ada_tree.specs.Declarations.{optional_aspect_of}
 use Rattle.ada_tree.specs.ExpressionView.{argument_of, expression_of, optional_right_of}
 use Rattle.ada_tree.specs.Expressions.{ExpressionTree}
 use Rattle.ada_tree.specs.Names.{Ident, ident_of, name_of, optional_ident_of}
 use Rattle.ada_tree.specs.Records.{ComponentTree, component_of, record_of, static_of}
-use Rattle.ada_tree.specs.Statements.{DeclarationTree, access_type, constant_declaration, instance, object_declaration, record_type, branches_from, handlers_from}
-use Rattle.ada_tree.specs.StatementView.{branch_of, handler_of, scheme_of, statement_of, statements_of, unit_of}
+use Rattle.ada_tree.specs.Statements.{DeclarationTree, access_type, constant_declaration, instance, object_declaration, record_type, HandlersTree, branches_from, handlers_from}
+use Rattle.ada_tree.specs.StatementView.{branch_of, handler_of, unit_of}
 use Rattle.ada_tree.specs.declared.declarations.Aspect.{Aspect}
 use Rattle.ada_tree.specs.declared.expressions.Argument.{Argument}
 use Rattle.ada_tree.specs.declared.expressions.Item.{Item as WrittenItem}
@@ -25,8 +25,6 @@ use Rattle.ada_tree.specs.declared.records.RecordDefinition.{RecordDefinition}
 use Rattle.ada_tree.specs.declared.records.StaticValue.{StaticValue}
 use Rattle.ada_tree.specs.declared.statements.Branch.{Branch}
 use Rattle.ada_tree.specs.declared.statements.Handler.{Handler}
-use Rattle.ada_tree.specs.declared.statements.Scheme.{Scheme}
-use Rattle.ada_tree.specs.declared.statements.Statement.{Statement}
 use Rattle.ada_tree.specs.declared.unit.Unit.{Unit as UnitOf}
 use Rattle.ada_program.specs.Form.{BranchesForm, DeclarationForm, ExpressionForm, HandlersForm, StmtForm, StmtsForm, declaration_form, declares}
 use Rattle.ada_program.specs.ProgramForm.{ComponentForm, ProgramForm, VariableForm}
@@ -59,8 +57,7 @@ use Rattle.ada_resolve.specs.Known.{Known, entered, new_name_remark, visible}
 use Rattle.ada_resolve.specs.Objects.{initial_source, object_created}
 use Rattle.ada_resolve.specs.Records.{component_meant, further_component_remark}
 use Rattle.ada_resolve.specs.Remark.{Remark, noted}
-use Rattle.ada_resolve.specs.Resolution.{Others, Told, branch_told, branches_told, choices_told, end_told, handler_told, handlers_told, procedure_from, program_of, scheme_told, simple_told, statement_told, statements_told, told_of}
-use Rattle.ada_resolve.specs.Statements.{texts_of_branches, texts_of_handlers}
+use Rattle.ada_resolve.specs.Resolution.{At, Others, Told, branches_told, end_told, procedure_from, program_of, told_of, with_parameter}
 use Rattle.ada_resolve.specs.Types.{completion_remark, new_unless, with_definition}
 use Rattle.ada_resolve.specs.View.{filling_in, handlers_in, known_of, meant_of, part_of, right_in, statements_in, AnswersBranches, AnswersWith, Tells}
 
@@ -102,10 +99,6 @@ abbrev pub Elaborates : Both (MutBor PartOf) (MutBor PartOf) → List Declaratio
 Elaborates part declarations =
     part_of part.exit.now ≡ record (part_of part.entry.now) { elaborated = (part_of part.entry.now).elaborated ++ declarations }
 
--- The texts of a call, before it and after it.
-abbrev pub Texts : Type 0
-Texts = Both (MutBor (Vec (String Global))) (MutBor (Vec (String Global)))
-
 -- The notes of a call.
 abbrev pub Noting : Type 0
 Noting = Both (MutBor Notes) (MutBor Notes)
@@ -115,17 +108,13 @@ abbrev pub Knowing : Type 0
 Knowing = Both (MutBor Resolver) (MutBor Resolver)
 
 -- The call takes this step: from what was known and noted before it to what is known and noted after it, or to the first fault.
-abbrev pub Takes : {X : Type 0} → Result X NameFault → Knowing → Noting → (Known × Notes → Told (Known × Notes)) → Type 0
+abbrev pub Takes : {X : Type 0} → Result X NameFault → Knowing → Noting → (At → Told (At)) → Type 0
 Takes result resolver notes step =
     Tells result (known_of resolver.exit.now, notes.exit.now) (step (known_of resolver.entry.now, notes.entry.now))
 
 -- The call makes this declaration known and notes its remark, or fails with the first fault.
 abbrev pub Declares : {X : Type 0} → Result X NameFault → Knowing → Noting → DeclarationTree → Type 0
 Declares result resolver notes declaration = Takes result resolver notes (told_of declaration)
-
--- The call adds these texts behind those that are there.
-abbrev pub AddsTexts : Texts → List (List ℕ) → Type 0
-AddsTexts texts added = map string_bytes texts.exit.now.items ≡ map string_bytes texts.entry.now.items ++ added
 
 -- The call adds this component to those that are there.
 abbrev pub AddsComponent : Both (MutBor Components) (MutBor Components) → ComponentForm → Type 0
@@ -240,87 +229,39 @@ with_created variable value = with_elaborated (declares variable.0 (initial_sour
 abbrev pub with_declarations : Vec Declaration → Known → Known
 with_declarations declarations = with_elaborated (map declaration_form declarations.items)
 
--- How many texts there are before a call.
-abbrev pub texts_before : Texts → ℕ
-texts_before texts = length texts.entry.now.items
+-- The call does what comes of a part of a tree, seen through a view: from what was known and noted before it to what is known and noted after
+-- it, or to the first fault; out of memory aside.
+abbrev pub Does : {X Y : Type 0} → Result X NameFault → (X → Y) → Knowing → Noting → (At → Told (Y × At)) → Type 0
+Does result view resolver notes step =
+    AnswersWith result view (known_of resolver.exit.now, notes.exit.now) (step (known_of resolver.entry.now, notes.entry.now))
 
--- What comes of a part of a tree, given the notes before it.
-abbrev pub Coming : Type 0 → Type 0
-Coming Y = Notes → Told (Y × Notes)
+-- The call does the branches of an `if`, whatever comes of the statements behind them.
+abbrev pub DoesBranches : Result (Vec BranchOf) NameFault → Knowing → Noting → (Others → At → Told (BranchesForm × At)) → Type 0
+DoesBranches result resolver notes step =
+    AnswersBranches result (known_of resolver.exit.now, notes.exit.now)
+    (λ others. step others (known_of resolver.entry.now, notes.entry.now))
 
--- The call answers what comes, seen through a view, and notes it; out of memory aside.
-abbrev pub Comes : {X Y : Type 0} → Result X NameFault → (X → Y) → Noting → Coming Y → Type 0
-Comes result view notes coming = AnswersWith result view notes.exit.now (coming notes.entry.now)
+-- What comes of the branches of a tree, where this comes of the statements behind them.
+abbrev pub branches_come : (inside_loop : Bool) → List Branch → Others → At → Told (BranchesForm × At)
+branches_come inside_loop branches others at = branches_told inside_loop (branches_from (map branch_of branches)) others at
 
--- The call answers the branches that come, whatever comes of the statements behind them.
-abbrev pub BranchesCome : Result (Vec BranchOf) NameFault → Noting → Texts → (Others → Coming BranchesForm) → Type 0
-BranchesCome result notes texts coming =
-    AnswersBranches result notes.exit.now (length texts.exit.now.items) (λ others. coming others notes.entry.now)
+-- The handlers of a tree.
+abbrev pub handlers_of : List Handler → HandlersTree
+handlers_of handlers = handlers_from (map handler_of handlers)
 
--- What comes of the statements, in a loop or not, behind the texts before them.
-abbrev pub statements_come : Seen → (inside_loop : Bool) → Texts → List Statement → Coming StmtsForm
-statements_come seen inside_loop texts statements notes =
-    statements_told (known seen) inside_loop (texts_before texts) notes (statements_of statements)
-
--- What comes of a statement.
-abbrev pub statement_comes : Seen → (inside_loop : Bool) → Texts → Statement → Coming StmtForm
-statement_comes seen inside_loop texts statement notes =
-    statement_told (known seen) inside_loop (texts_before texts) notes (statement_of statement)
-
--- What comes of a statement with no others in it.
-abbrev pub simple_comes : Seen → (inside_loop : Bool) → Texts → Statement → Coming StmtForm
-simple_comes seen inside_loop texts statement notes =
-    simple_told (known seen) inside_loop (texts_before texts) notes (statement_of statement)
-
--- What comes of branches, where this comes of the statements behind them.
-abbrev pub branches_come : Seen → (inside_loop : Bool) → Texts → List Branch → Others → Coming BranchesForm
-branches_come seen inside_loop texts branches others notes =
-    branches_told (known seen) inside_loop (texts_before texts) notes (branches_from (map branch_of branches)) others
-
--- What comes of one branch.
-abbrev pub branch_comes : Seen → (inside_loop : Bool) → Texts → Branch → Coming (ExpressionForm × StmtsForm)
-branch_comes seen inside_loop texts branch notes =
-    branch_told (known seen) inside_loop (texts_before texts) notes (branch_of branch)
-
--- What comes of the head of a loop, which begins at the spot.
-abbrev pub scheme_comes : Seen → Spot → Scheme → Coming (Option ExpressionForm)
-scheme_comes seen spot scheme notes = scheme_told (known seen) spot (scheme_of scheme) notes
-
--- The texts that branches write, in order.
-abbrev pub branch_texts : List Branch → List (List ℕ)
-branch_texts branches = texts_of_branches (branches_from (map branch_of branches))
-
--- What comes of the choices of a handler, whose `when` stands at the spot.
-abbrev pub choices_come : Seen → Handler → Coming (List ChoiceOf)
-choices_come seen handler notes =
-    choices_told (known seen) handler.spot (map choice_of handler.choices.items) (statements_of handler.statements.items) notes
-
--- What comes of a handler, in a loop or not, behind the texts before it.
-abbrev pub handler_comes : Seen → (inside_loop : Bool) → Texts → Handler → Coming (List ChoiceOf × StmtsForm)
-handler_comes seen inside_loop texts handler notes =
-    handler_told (known seen) inside_loop (texts_before texts) notes handler.spot (map choice_of handler.choices.items)
-    (statements_of handler.statements.items)
-
--- What comes of handlers.
-abbrev pub handlers_come : Seen → (inside_loop : Bool) → Texts → List Handler → Coming HandlersForm
-handlers_come seen inside_loop texts handlers notes =
-    handlers_told (known seen) inside_loop (texts_before texts) notes (handlers_from (map handler_of handlers))
-
--- The texts that handlers write, in order.
-abbrev pub handler_texts : List Handler → List (List ℕ)
-handler_texts handlers = texts_of_handlers (handlers_from (map handler_of handlers))
+-- What is known once the parameter of a loop is declared (5.5).
+abbrev pub with_own_parameter : Identifier → Known → Known
+with_own_parameter name = with_parameter (ident_of name)
 
 -- The outcome of the procedure of a tree, from what the resolver knows before its first declaration.
 abbrev pub procedure_outcome : Resolver → UnitOf → Told ProgramForm
 procedure_outcome resolver unit = procedure_from (unit_of unit) (known_of resolver)
 
--- The outcome of the end of a procedure whose statements are known: its handlers, behind the texts before them, and its name.
-abbrev pub end_outcome : Resolver → UnitOf → Vec Stmt → List Handler → Texts → Noting → Told ProgramForm
-end_outcome resolver unit statements handlers texts notes =
-    end_told (unit_of unit) (handlers_from (map handler_of handlers)) (known_of resolver) (map string_bytes texts.entry.now.items)
-    (statements_in statements, notes.entry.now)
+-- The outcome of the end of a procedure whose statements are known: its handlers, and its name.
+abbrev pub end_outcome : Resolver → UnitOf → Vec Stmt → List Handler → Noting → Told ProgramForm
+end_outcome resolver unit statements handlers notes =
+    end_told (unit_of unit) (handlers_of handlers) (statements_in statements, (known_of resolver, notes.entry.now))
 
--- The program of what the resolver knows, of the texts, and of the statements and their handlers.
-abbrev pub program_in : Resolver → Vec (String Global) → Body → ProgramForm
-program_in resolver texts body =
-    program_of (known_of resolver) (map string_bytes texts.items) (statements_in body.statements) (handlers_in body.handlers)
+-- The program of what the resolver knows, and of the statements and their handlers.
+abbrev pub program_in : Resolver → Body → ProgramForm
+program_in resolver body = program_of (known_of resolver) (statements_in body.statements) (handlers_in body.handlers)

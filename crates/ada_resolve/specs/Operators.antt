@@ -118,6 +118,7 @@ pub data Comparable : Type 0 where
   an_access : Comparable
   the_null : Comparable
 
+-- What a value can be compared with (4.5.2).
 abbrev pub comparable : Meant → Comparable
 comparable unknown = any_value
 comparable null_value = the_null
@@ -138,6 +139,7 @@ compared_with an_integer left_spot an_integer right_spot = fine
 compared_with a_boolean left_spot a_boolean right_spot = fine
 compared_with left left_spot right right_spot = wrong right_spot WrongType
 
+-- What is wrong with the operands of an equality: they are of one type (4.5.2).
 abbrev pub equal_wanted : Meant → Spot → Meant → Spot → Remark
 equal_wanted left left_spot right right_spot = compared_with (comparable left) left_spot (comparable right) right_spot
 

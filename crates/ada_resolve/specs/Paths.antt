@@ -137,6 +137,7 @@ variable_meant known x spot (variable.Access t) (s ∷ ss) = selection_meant kno
 -- What a name stands for, with what is selected from it.
 abbrev pub entity_meant : Known → Option Entity → Spot → List SelectorTree → Meant
 entity_meant known (Some (entity.Variable x kind)) spot selectors = variable_meant known x spot kind selectors
+entity_meant known (Some (entity.Parameter x)) spot selectors = variable_meant known x spot variable.Integer selectors
 entity_meant known (Some (entity.Number n)) spot [] = integer_value (integer n)
 entity_meant known (Some (entity.Truth b)) spot [] = boolean_value (boolean b)
 entity_meant known other spot selectors = unknown
@@ -183,6 +184,7 @@ variable_path_remark known spot (variable.Access t) (s ∷ ss) = selection_remar
 -- A value is wanted: another thing of that name is of the wrong kind (8.6).
 abbrev pub value_wanted : Known → Option Entity → Ident → List SelectorTree → Remark
 value_wanted known (Some (entity.Variable x kind)) name selectors = variable_path_remark known name.spot kind selectors
+value_wanted known (Some (entity.Parameter x)) name selectors = variable_path_remark known name.spot variable.Integer selectors
 value_wanted known (Some (entity.Number n)) name [] = fine
 value_wanted known (Some (entity.Truth b)) name [] = fine
 value_wanted known (Some other) name selectors = wrong name.spot WrongType

@@ -1,25 +1,26 @@
--- A program read back: what its tree says at each place, name by name. Nothing here asks what is visible where; a name in the tree and
--- what the program has there have to agree.
+-- A program read back: what its tree says at each place, name by name. A name in the tree and what the program has there have to agree, where
+-- an inner declaration hides the outer ones (8.3).
 
-use Rattle.std.specs.Prelude.{◌≡◌, ◌⊎◌, ℕ, ◌+◌, ◌<◌, Bool, true, false, ◌==◌, ◌||◌, ◌&&◌, not, List, [], ◌∷◌, ◌++◌, map, length, Option, Some, None, slice_get, codes, ℤ}
+use Rattle.std.specs.Prelude.{◌≡◌, ◌⊎◌, ℕ, ◌+◌, ◌<◌, Bool, true, false, ◌==◌, ◌||◌, ◌&&◌, not, nat_le, nat_lt, List, [], ◌∷◌, ◌++◌, map, length, Option, Some, None, slice_get, codes, ℤ}
 use Rattle.ada_text.specs.declared.spot.Spot.{Spot}
 use Rattle.ada_values.specs.declared.operator.BinaryOperator.{BinaryOperator}
 use Rattle.ada_values.specs.declared.operator.BinaryOperator.TheVariants as binary
 use Rattle.ada_tree.specs.Names.{Ident, NameTree, SelectorTree, component, dereference, PathTree}
 use Rattle.ada_tree.specs.Expressions.{ExpressionTree, number_expression, null_expression, path_expression, aggregate_expression, enclosed_expression, unary_expression, binary_expression, ItemsTree, an_item, RightTree, expression_right, allocator_right, creation_right, ArgumentTree, expression_argument, text_argument, attribute_argument}
+use Rattle.ada_tree.specs.Records.{StaticTree}
 use Rattle.ada_tree.specs.Declarations.{ChoiceTree, named_choice, others_choice}
-use Rattle.ada_tree.specs.Statements.{DeclarationTree, exception_declaration, constant_declaration, object_declaration, incomplete_type, access_type, record_type, instance, DeclarationsTree, no_declarations, a_declaration, SchemeTree, endless, while_scheme, StatementTree, null_statement, assignment, call, if_statement, loop_statement, exit_statement, return_statement, raise_statement, StatementsTree, no_statements, a_statement, BranchesTree, no_branches, a_branch, HandlersTree, no_handlers, a_handler, SequenceTree, a_sequence, UnitTree}
+use Rattle.ada_tree.specs.Statements.{DeclarationTree, exception_declaration, constant_declaration, object_declaration, incomplete_type, access_type, record_type, instance, DeclarationsTree, no_declarations, a_declaration, SchemeTree, endless, while_scheme, for_scheme, StatementTree, null_statement, assignment, call, if_statement, loop_statement, exit_statement, return_statement, raise_statement, block, declare_block, StatementsTree, no_statements, a_statement, BranchesTree, no_branches, a_branch, HandlersTree, no_handlers, a_handler, SequenceTree, a_sequence, UnitTree}
 use Rattle.ada_program.specs.declared.program.Choice.{Choice}
 use Rattle.ada_program.specs.declared.program.Choice.TheVariants as choice
 use Rattle.ada_program.specs.declared.program.VariableKind.{VariableKind}
 use Rattle.ada_program.specs.declared.program.VariableKind.TheVariants as variable
-use Rattle.ada_program.specs.Form.{DeclarationForm, collects, declares, PathForm, ExpressionForm, integer, boolean, reads, is_null, applied_to, ItemForm, null_item, item_of_value, RightForm, nothing, value_of, allocates, computes, StmtForm, skips, assigns, frees, gets, writes, writes_text, chooses, repeats, exits, returns, raises, StmtsForm, no_stmts, a_stmt, BranchesForm, otherwise, HandlersForm}
+use Rattle.ada_program.specs.Form.{DeclarationForm, collects, declares, PathForm, ExpressionForm, integer, boolean, reads, is_null, applied_to, ItemForm, null_item, item_of_value, RightForm, nothing, value_of, allocates, computes, StmtForm, skips, assigns, frees, gets, writes, writes_text, chooses, repeats, counts, exits, returns, raises, encloses, StmtsForm, no_stmts, a_stmt, BranchesForm, otherwise, HandlersForm}
 use Rattle.ada_program.specs.Form as form
-use Rattle.ada_program.specs.ProgramForm.{ComponentForm, TypeForm, record_of, access_to, ProgramForm}
+use Rattle.ada_program.specs.ProgramForm.{ComponentForm, TypeForm, record_of, ProgramForm}
 use Rattle.ada_program.specs.WellFormed as fits
 use Rattle.ada_resolve.specs.Library.{library_name}
 use Rattle.ada_resolve.specs.declared.library.LibraryName.TheVariants.{PutLine, Get}
-use Rattle.ada_resolve.specs.Naming.{Tables, IsAmong, IsDeclaredException, IsExceptionNamed, IsNumberNamed, IsVariableNamed, IsTypeRead, IsInstanceRead, IsInstanceNamed, IsKindNamed, exceptions_of, truth_name}
+use Rattle.ada_resolve.specs.Naming.{Context, Place, Meaning, an_incomplete_type, a_type, a_number, an_exception, an_instance, a_variable, meaning_among, IsExceptionNamed, IsNumberNamed, IsVariableNamed, IsStaticRead, IsTypeRead, IsInstanceRead, IsInstanceNamed, IsKindNamed, truth_name}
 use Rattle.ada_resolve.specs.Known.{parts_of}
 use Rattle.ada_resolve.specs.Operators.{joined}
 use Rattle.ada_resolve.specs.Statics.{at_most_greatest, integer_of}
@@ -30,13 +31,13 @@ components_behind types None = None
 components_behind types (Some access) = fits.reached_components types access
 
 -- The component of a number behind a value has the name (4.1.3).
-abbrev pub IsComponentNamed : Tables → Option VariableKind → List ℕ → ℕ → Type 0
+abbrev pub IsComponentNamed : Context → Option VariableKind → List ℕ → ℕ → Type 0
 IsComponentNamed p kind text c =
     (components : List ComponentForm) × (d : ComponentForm) ×
     (components_behind p.types (fits.access_of kind) ≡ Some components) × (slice_get components c ≡ Some d) × (d.name ≡ text)
 
 -- The components that are selected have these names, one behind the other; `all` stands before a component alone, and selects none itself (4.1).
-abbrev pub AreSelectorsRead : Tables → Option VariableKind → List SelectorTree → List ℕ → Type 0
+abbrev pub AreSelectorsRead : Context → Option VariableKind → List SelectorTree → List ℕ → Type 0
 AreSelectorsRead p kind [] [] = Unit {0}
 AreSelectorsRead p kind [] (c ∷ cs) = ⊥
 AreSelectorsRead p kind (dereference spot ∷ []) cs = ⊥
@@ -49,16 +50,16 @@ AreSelectorsRead p kind (component i ∷ selectors) (c ∷ cs) =
     IsComponentNamed p kind i.text c × AreSelectorsRead p (fits.selected_kind p.types kind c) selectors cs
 
 -- A path (4.1): its variable has the name that is written, so have its components, and it stands where its first name does.
-pub record IsPathRead (p : Tables) (tree : PathTree) (path : PathForm) : Type 0 where
+pub record IsPathRead (p : Context) (tree : PathTree) (path : PathForm) : Type 0 where
   pub root : IsVariableNamed p tree.root.text path.root
   pub selectors : AreSelectorsRead p (fits.variable_kind p.variables path.root) tree.selectors path.selectors
   pub spot : path.spot ≡ tree.root.spot
 
 -- A path where a value is wanted (4.1): a variable or a component is read; a lone name may also be that of a number declaration, whose
 -- value it has (3.3.2), or True or False (3.5.3).
-pub data IsValueRead (p : Tables) (tree : PathTree) : ExpressionForm → Type 0 where
+pub data IsValueRead (p : Context) (tree : PathTree) : ExpressionForm → Type 0 where
   read_path : {path : PathForm} → IsPathRead p tree path → IsValueRead p tree (reads path)
-  read_number : {n : ℤ} → tree.selectors ≡ [] → IsNumberNamed p.declared tree.root.text n → IsValueRead p tree (integer n)
+  read_number : {n : ℤ} → tree.selectors ≡ [] → IsNumberNamed p tree.root.text n → IsValueRead p tree (integer n)
   read_truth : {b : Bool} → tree.selectors ≡ [] → tree.root.text ≡ truth_name b → IsValueRead p tree (boolean b)
 
 -- `null`, perhaps in parentheses (4.4).
@@ -68,7 +69,7 @@ IsNull (enclosed_expression spot inner) = IsNull inner
 IsNull other = ⊥
 
 -- An access value that a path names, perhaps in parentheses (4.1).
-abbrev pub IsMoveRead : Tables → ExpressionTree → PathForm → Type 0
+abbrev pub IsMoveRead : Context → ExpressionTree → PathForm → Type 0
 IsMoveRead p (path_expression tree) path = IsPathRead p tree path
 IsMoveRead p (enclosed_expression spot inner) path = IsMoveRead p inner path
 IsMoveRead p other path = ⊥
@@ -80,7 +81,7 @@ AsksEqual binary.NotEqual equal = equal ≡ false
 AsksEqual other equal = ⊥
 
 -- A comparison of the access value of a path with null, which stands on its right or on its left (4.5.2).
-pub data IsNullTest (p : Tables) (operator : BinaryOperator) (left right : ExpressionTree) : ExpressionForm → Type 0 where
+pub data IsNullTest (p : Context) (operator : BinaryOperator) (left right : ExpressionTree) : ExpressionForm → Type 0 where
   null_on_right :
       {equal : Bool} {path : PathForm} →
       AsksEqual operator equal → IsMoveRead p left path → IsNull right → IsNullTest p operator left right (is_null equal path)
@@ -90,7 +91,7 @@ pub data IsNullTest (p : Tables) (operator : BinaryOperator) (left right : Expre
 
 -- An expression (4.4): each literal, name and operator where it is written; parentheses are gone. An operator stands between two operands that
 -- are read, or compares an access value with null.
-abbrev pub IsExpressionRead : Tables → ExpressionTree → ExpressionForm → Type 0
+abbrev pub IsExpressionRead : Context → ExpressionTree → ExpressionForm → Type 0
 IsExpressionRead p (number_expression spot n) form = form ≡ integer (integer_of false (at_most_greatest n))
 IsExpressionRead p (null_expression spot) form = ⊥
 IsExpressionRead p (path_expression path) form = IsValueRead p path form
@@ -103,7 +104,7 @@ IsExpressionRead p (binary_expression operator left right) form =
     IsNullTest p operator left right form
 
 -- What an item gives a component (4.3.1): null, or a value.
-abbrev pub IsItemRead : Tables → ExpressionTree → ItemForm → Type 0
+abbrev pub IsItemRead : Context → ExpressionTree → ItemForm → Type 0
 IsItemRead p e null_item = IsNull e
 IsItemRead p e (item_of_value form) = IsExpressionRead p e form
 
@@ -115,13 +116,13 @@ pub data IsItemFor : ItemsTree → ℕ → ℕ → List ℕ → ExpressionTree �
   further : {label : Option Ident} {e f : ExpressionTree} {rest : ItemsTree} {at c : ℕ} {name : List ℕ} → IsItemFor rest (at + 1) c name f → IsItemFor (an_item label e rest) at c name f
 
 -- Each item of an allocation is what is written for its component (4.3.1).
-abbrev pub AreItemsRead : Tables → List ComponentForm → ItemsTree → List ItemForm → Type 0
+abbrev pub AreItemsRead : Context → List ComponentForm → ItemsTree → List ItemForm → Type 0
 AreItemsRead p components items forms =
     (c : ℕ) (form : ItemForm) → slice_get forms c ≡ Some form →
     (d : ComponentForm) × (e : ExpressionTree) × (slice_get components c ≡ Some d) × IsItemFor items 0 c d.name e × IsItemRead p e form
 
 -- A new object (4.8) is of the type that is named, which the access type designates, and holds its items.
-pub record IsAllocationRead (p : Tables) (type_name : Ident) (items : ItemsTree) (access : ℕ) (forms : List ItemForm) : Type 0 where
+pub record IsAllocationRead (p : Context) (type_name : Ident) (items : ItemsTree) (access : ℕ) (forms : List ItemForm) : Type 0 where
   pub t : ℕ
   pub components : List ComponentForm
   pub designates : fits.designated_type p.types access ≡ Some t
@@ -129,7 +130,7 @@ pub record IsAllocationRead (p : Tables) (type_name : Ident) (items : ItemsTree)
   pub filled : AreItemsRead p components items forms
 
 -- What is assigned (5.2); no allocator has a handle yet (13.11.4).
-abbrev pub IsRightRead : Tables → RightTree → RightForm → Type 0
+abbrev pub IsRightRead : Context → RightTree → RightForm → Type 0
 IsRightRead p (expression_right e) nothing = IsNull e
 IsRightRead p (expression_right e) (value_of path) = IsMoveRead p e path
 IsRightRead p (expression_right e) (computes form) = IsExpressionRead p e form
@@ -152,7 +153,7 @@ IsImage prefix attribute = (prefix.text ≡ codes "INTEGER") × (attribute.text 
 
 -- A call (6.4) of an instance frees what its one actual names, by the access type that the instance is for (13.11.2); a call of Get reads a
 -- number of the input to what its one actual names; a call of Put_Line writes its one actual, a value or a text (A.10.7).
-abbrev pub IsCallRead : Tables → PathTree → List ArgumentTree → StmtForm → Type 0
+abbrev pub IsCallRead : Context → PathTree → List ArgumentTree → StmtForm → Type 0
 IsCallRead p procedure (expression_argument (path_expression tree) ∷ []) (frees access path) =
     (procedure.selectors ≡ []) × IsInstanceNamed p procedure.root.text access × IsPathRead p tree path
 IsCallRead p procedure (expression_argument (path_expression tree) ∷ []) (gets path) = IsGet procedure × IsPathRead p tree path
@@ -162,132 +163,83 @@ IsCallRead p procedure (text_argument spot text ∷ []) (writes_text n) = IsPutL
 IsCallRead p procedure arguments other = ⊥
 
 -- The condition behind `when`, or none where none is written (5.7).
-abbrev pub IsConditionRead : Tables → Option ExpressionTree → Option ExpressionForm → Type 0
+abbrev pub IsConditionRead : Context → Option ExpressionTree → Option ExpressionForm → Type 0
 IsConditionRead p None None = Unit {0}
 IsConditionRead p (Some e) (Some form) = IsExpressionRead p e form
 IsConditionRead p written condition = ⊥
 
 -- How often a loop runs (5.5): for ever, or while the condition is true.
-abbrev pub IsSchemeRead : Tables → SchemeTree → Option ExpressionForm → Type 0
+abbrev pub IsSchemeRead : Context → SchemeTree → Option ExpressionForm → Type 0
 IsSchemeRead p endless None = Unit {0}
 IsSchemeRead p (while_scheme e) (Some form) = IsExpressionRead p e form
 IsSchemeRead p scheme condition = ⊥
 
-abbrev mutual
-  -- A statement (5.1): among others, one that chooses among branches (5.3), one that repeats statements up to where its end stands (5.5), an
-  -- exit (5.7) and a return (6.5), each where it stands, and one that raises the exception of its name (11.3).
-  pub IsStatementRead : Tables → StatementTree → StmtForm → Type 0
-  IsStatementRead p (null_statement spot) skips = Unit {0}
-  IsStatementRead p (assignment target value) (assigns path right) = IsPathRead p target path × IsRightRead p value right
-  IsStatementRead p (call procedure arguments) form = IsCallRead p procedure arguments form
-  IsStatementRead p (if_statement spot branches others last) (chooses forms) = AreBranchesRead p branches others forms
-  IsStatementRead p (loop_statement spot scheme statements last) (repeats condition forms end_spot) =
-      IsSchemeRead p scheme condition × AreStatementsRead p statements forms × (end_spot ≡ last)
-  IsStatementRead p (exit_statement spot written) (exits condition at) = IsConditionRead p written condition × (at ≡ spot)
-  IsStatementRead p (return_statement spot) (returns at) = at ≡ spot
-  IsStatementRead p (raise_statement spot name) (raises e) = IsExceptionNamed p name e
-  IsStatementRead p statement form = ⊥
-
-  -- Statements, one for one (5.1).
-  pub AreStatementsRead : Tables → StatementsTree → StmtsForm → Type 0
-  AreStatementsRead p no_statements no_stmts = Unit {0}
-  AreStatementsRead p no_statements (a_stmt form forms) = ⊥
-  AreStatementsRead p (a_statement s ss) no_stmts = ⊥
-  AreStatementsRead p (a_statement s ss) (a_stmt form forms) = IsStatementRead p s form × AreStatementsRead p ss forms
-
-  -- Branches, one for one, each with its condition and its statements, and behind them what stands behind `else` (5.3).
-  pub AreBranchesRead : Tables → BranchesTree → StatementsTree → BranchesForm → Type 0
-  AreBranchesRead p no_branches others (otherwise forms) = AreStatementsRead p others forms
-  AreBranchesRead p no_branches others (form.a_branch condition forms more) = ⊥
-  AreBranchesRead p (a_branch e ss bs) others (otherwise forms) = ⊥
-  AreBranchesRead p (a_branch e ss bs) others (form.a_branch condition forms more) =
-      IsExpressionRead p e condition × AreStatementsRead p ss forms × AreBranchesRead p bs others more
-
 -- A choice of a handler (11.2): the exception of its name, or all of them.
-abbrev pub IsChoiceRead : Tables → ChoiceTree → Choice → Type 0
+abbrev pub IsChoiceRead : Context → ChoiceTree → Choice → Type 0
 IsChoiceRead p (named_choice name) (choice.Exception e) = IsExceptionNamed p name e
 IsChoiceRead p (named_choice name) choice.Others = ⊥
 IsChoiceRead p (others_choice spot) (choice.Exception e) = ⊥
 IsChoiceRead p (others_choice spot) choice.Others = Unit {0}
 
 -- Choices, one for one.
-abbrev pub AreChoicesRead : Tables → List ChoiceTree → List Choice → Type 0
+abbrev pub AreChoicesRead : Context → List ChoiceTree → List Choice → Type 0
 AreChoicesRead p [] [] = Unit {0}
 AreChoicesRead p [] (c ∷ cs) = ⊥
 AreChoicesRead p (written ∷ rest) [] = ⊥
 AreChoicesRead p (written ∷ rest) (c ∷ cs) = IsChoiceRead p written c × AreChoicesRead p rest cs
 
--- Handlers, one for one, each with its choices and its statements (11.2).
-abbrev pub AreHandlersRead : Tables → HandlersTree → HandlersForm → Type 0
-AreHandlersRead p no_handlers form.no_handlers = Unit {0}
-AreHandlersRead p no_handlers (form.a_handler cs forms more) = ⊥
-AreHandlersRead p (a_handler spot choices ss hs) form.no_handlers = ⊥
-AreHandlersRead p (a_handler spot choices ss hs) (form.a_handler cs forms more) =
-    AreChoicesRead p choices cs × AreStatementsRead p ss forms × AreHandlersRead p hs more
+-- The tables of a program, read from another place.
+abbrev pub read_at : Place → Context → Context
+read_at place p = record p { place = place }
 
--- The name of a type (3.2.1).
-abbrev pub name_of_type : TypeForm → List ℕ
-name_of_type (record_of name components) = name
-name_of_type (access_to name designated) = name
+-- Where an inner declarative part begins (8.1): it has bound nothing yet.
+abbrev pub inside : Place → Place
+inside place = record place { here = []; outer = place.here ++ place.outer; first_type = place.types }
 
--- The type of a number has the name.
-abbrev pub IsTypeNamed : Tables → List ℕ → ℕ → Type 0
-IsTypeNamed p text t = (form : TypeForm) × (slice_get p.types t ≡ Some form) × (name_of_type form ≡ text)
+-- The place behind an inner part, whose end this is: what it has bound is hidden again, and its types, variables and exceptions keep their
+-- numbers (8.2).
+abbrev pub behind : Place → (end : Place) → Place
+behind place end = record end { here = place.here; outer = place.outer; first_type = place.first_type }
 
--- A declaration of no type (3.1).
-abbrev pub IsNoType : DeclarationTree → Type 0
-IsNoType (exception_declaration name) = Unit {0}
-IsNoType (constant_declaration name value) = Unit {0}
-IsNoType (instance spot name generic object access) = Unit {0}
-IsNoType (object_declaration name type_name initial) = Unit {0}
-IsNoType other = ⊥
+-- The place once the name is bound to this too.
+abbrev pub with_binding : Ident → Meaning → Place → Place
+with_binding name meaning place = record place { here = record { text = name.text; meaning = meaning } ∷ place.here }
 
--- A declaration whose elaboration creates nothing (3.11): of a number, of an exception, or of a type; its collection is another matter.
-abbrev pub CreatesNothing : DeclarationTree → Type 0
-CreatesNothing (exception_declaration name) = Unit {0}
-CreatesNothing (constant_declaration name value) = Unit {0}
-CreatesNothing (incomplete_type spot name) = Unit {0}
-CreatesNothing (access_type spot name designated aspect) = Unit {0}
-CreatesNothing (record_type spot name definition) = Unit {0}
-CreatesNothing other = ⊥
+-- The place once the next type has the name, and is to be completed.
+abbrev pub with_incomplete_type : Ident → Place → Place
+with_incomplete_type name place = record (with_binding name (an_incomplete_type place.types) place) { types = place.types + 1 }
 
--- The types of declarations, before which so many types are declared (3.11): an incomplete type has the next number, and its name (3.10.1); a
--- full type declaration declares the next type, or completes one before it; other declarations declare none.
-pub data AreTypesRead (p : Tables) : ℕ → DeclarationsTree → Type 0 where
-  types_are_all :
-      AreTypesRead p (length p.types) no_declarations
-  type_to_complete :
-      {n : ℕ} {spot : Spot} {name : Ident} {ds : DeclarationsTree} →
-      IsTypeNamed p name.text n → AreTypesRead p (n + 1) ds → AreTypesRead p n (a_declaration (incomplete_type spot name) ds)
-  type_next :
-      {n : ℕ} {d : DeclarationTree} {ds : DeclarationsTree} →
-      IsTypeRead p d n → AreTypesRead p (n + 1) ds → AreTypesRead p n (a_declaration d ds)
-  type_completed :
-      {n t : ℕ} {d : DeclarationTree} {ds : DeclarationsTree} →
-      t < n → IsTypeRead p d t → AreTypesRead p n ds → AreTypesRead p n (a_declaration d ds)
-  no_type :
-      {n : ℕ} {d : DeclarationTree} {ds : DeclarationsTree} →
-      IsNoType d → AreTypesRead p n ds → AreTypesRead p n (a_declaration d ds)
+-- The place once the next type has the name.
+abbrev pub with_new_type : Ident → Place → Place
+with_new_type name place = record (with_binding name (a_type place.types) place) { types = place.types + 1 }
+
+-- The place once the next exception has the name.
+abbrev pub with_new_exception : Ident → Place → Place
+with_new_exception name place = record (with_binding name (an_exception place.exceptions) place) { exceptions = place.exceptions + 1 }
+
+-- The place once the next variable has the name.
+abbrev pub with_new_variable : Ident → Place → Place
+with_new_variable name place = record (with_binding name (a_variable place.variables) place) { variables = place.variables + 1 }
 
 -- The initial value of a variable (3.3.1): what is written; an access value is null where nothing is (3.10).
-abbrev pub IsInitialRead : Tables → VariableKind → Option RightTree → RightForm → Type 0
+abbrev pub IsInitialRead : Context → VariableKind → Option RightTree → RightForm → Type 0
 IsInitialRead p kind (Some right) form = IsRightRead p right form
 IsInitialRead p (variable.Access t) None nothing = Unit {0}
 IsInitialRead p kind None form = ⊥
 
 -- A variable of a number, by its declaration (3.3.1): its name, its type, and its initial value.
-pub record IsObjectRead (p : Tables) (name : Ident) (type_name : NameTree) (initial : Option RightTree) (x : ℕ) (form : RightForm) : Type 0 where
+pub record IsObjectRead (p : Context) (name : Ident) (type_name : NameTree) (initial : Option RightTree) (x : ℕ) (form : RightForm) : Type 0 where
   pub kind : VariableKind
   pub there : slice_get p.variables x ≡ Some (record { name = name.text; kind = kind })
   pub kind_named : IsKindNamed p type_name kind
   pub starts : IsInitialRead p kind initial form
 
--- Objects, one for one, from a number on (3.11): each variable is one of them, and nothing else follows.
-abbrev pub AreObjectsRead : Tables → ℕ → DeclarationsTree → List DeclarationForm → Type 0
-AreObjectsRead p x no_declarations [] = x ≡ length p.variables
-AreObjectsRead p x (a_declaration (object_declaration name type_name initial) ds) (declares y form ∷ forms) =
-    (y ≡ x) × IsObjectRead p name type_name initial x form × AreObjectsRead p (x + 1) ds forms
-AreObjectsRead p x ds forms = ⊥
+-- Objects, one for one (3.11), up to the end of a part: each is the next variable, and nothing else follows.
+abbrev pub AreObjectsRead : Context → DeclarationsTree → List DeclarationForm → (end : Place) → Type 0
+AreObjectsRead p no_declarations [] end = end ≡ p.place
+AreObjectsRead p (a_declaration (object_declaration name type_name initial) ds) (declares x form ∷ forms) end =
+    (x ≡ p.place.variables) × IsObjectRead p name type_name initial x form × AreObjectsRead (read_at (with_new_variable name p.place) p) ds forms end
+AreObjectsRead p ds forms end = ⊥
 
 -- Whether a number is one of these.
 abbrev pub is_one_of : ℕ → List ℕ → Bool
@@ -300,34 +252,130 @@ Rise [] = Unit {0}
 Rise (t ∷ []) = Unit {0}
 Rise (t ∷ (u ∷ us)) = (t < u) × Rise (u ∷ us)
 
--- The access types that are not among these, in the order of their declarations.
-pub record AreOthers (types : List TypeForm) (these others : List ℕ) : Type 0 where
-  pub each : (t : ℕ) → is_one_of t others ≡ (fits.is_access types t && not (is_one_of t these))
+-- A number is that of an access type of the innermost part.
+abbrev pub is_own_access : Context → ℕ → Bool
+is_own_access p t = nat_le p.place.first_type t && nat_lt t p.place.types && fits.is_access p.types t
+
+-- The access types of the part that are not among these, in the order of their declarations.
+pub record AreOthers (p : Context) (these others : List ℕ) : Type 0 where
+  pub each : (t : ℕ) → is_one_of t others ≡ (is_own_access p t && not (is_one_of t these))
   pub in_order : Rise others
 
--- The rest of a declarative part, where the collections of these access types are created before (3.11, 7.6.1): an instance creates that of its
--- access type; those of the others are created where the types end, and then each object in order; a type, a number or an exception creates
--- nothing.
-pub data IsPartRead (p : Tables) : List ℕ → DeclarationsTree → List DeclarationForm → Type 0 where
+-- No name of the part is still bound to a type that is to be completed (3.10.1).
+abbrev pub AreCompleted : Place → Type 0
+AreCompleted place = (text : List ℕ) (t : ℕ) → meaning_among text place.here ≡ Some (an_incomplete_type t) → ⊥
+
+-- The name of the type that a full type declaration declares (3.2.1).
+abbrev pub declared_type : DeclarationTree → Option Ident
+declared_type (access_type spot name designated aspect) = Some name
+declared_type (record_type spot name definition) = Some name
+declared_type other = None
+
+-- The rest of a declarative part, up to its end (3.11), where the collections of these access types are created before (7.6.1). Each name is
+-- bound behind its declaration. An incomplete type is the next type, and a full type declaration of its name in the same part completes it; any
+-- other one declares the next type. An instance creates the collection of its access type; those of the others are created where the types end,
+-- by when all are completed, and then each object in order; a type, a number or an exception creates nothing.
+pub data IsPartRead : Context → List ℕ → DeclarationsTree → List DeclarationForm → (end : Place) → Type 0 where
+  part_incomplete_type :
+      {p : Context} {made : List ℕ} {spot : Spot} {name : Ident} {ds : DeclarationsTree} {forms : List DeclarationForm} {end : Place} →
+      IsPartRead (read_at (with_incomplete_type name p.place) p) made ds forms end →
+      IsPartRead p made (a_declaration (incomplete_type spot name) ds) forms end
+  part_completion :
+      {p : Context} {made : List ℕ} {t : ℕ} {name : Ident} {d : DeclarationTree} {ds : DeclarationsTree} {forms : List DeclarationForm} {end : Place} →
+      declared_type d ≡ Some name → meaning_among name.text p.place.here ≡ Some (an_incomplete_type t) → IsTypeRead p d t →
+      IsPartRead (read_at (with_binding name (a_type t) p.place) p) made ds forms end → IsPartRead p made (a_declaration d ds) forms end
+  part_new_type :
+      {p : Context} {made : List ℕ} {name : Ident} {d : DeclarationTree} {ds : DeclarationsTree} {forms : List DeclarationForm} {end : Place} →
+      declared_type d ≡ Some name → meaning_among name.text p.place.here ≡ None → IsTypeRead p d p.place.types →
+      IsPartRead (read_at (with_new_type name p.place) p) made ds forms end → IsPartRead p made (a_declaration d ds) forms end
+  part_number :
+      {p : Context} {made : List ℕ} {name : Ident} {value : StaticTree} {n : ℤ} {ds : DeclarationsTree} {forms : List DeclarationForm} {end : Place} →
+      IsStaticRead p value n → IsPartRead (read_at (with_binding name (a_number n) p.place) p) made ds forms end →
+      IsPartRead p made (a_declaration (constant_declaration name value) ds) forms end
+  part_exception :
+      {p : Context} {made : List ℕ} {name : Ident} {ds : DeclarationsTree} {forms : List DeclarationForm} {end : Place} →
+      slice_get p.exceptions p.place.exceptions ≡ Some name.text → IsPartRead (read_at (with_new_exception name p.place) p) made ds forms end →
+      IsPartRead p made (a_declaration (exception_declaration name) ds) forms end
   part_instance :
-      {made : List ℕ} {spot : Spot} {name object access : Ident} {generic : NameTree} {t : ℕ} {ds : DeclarationsTree} {forms : List DeclarationForm} →
-      IsInstanceRead p generic object access t → IsPartRead p (t ∷ made) ds forms →
-      IsPartRead p made (a_declaration (instance spot name generic object access) ds) (collects t ∷ forms)
-  part_type :
-      {made : List ℕ} {d : DeclarationTree} {ds : DeclarationsTree} {forms : List DeclarationForm} →
-      CreatesNothing d → IsPartRead p made ds forms → IsPartRead p made (a_declaration d ds) forms
+      {p : Context} {made : List ℕ} {spot : Spot} {name object access : Ident} {generic : NameTree} {t : ℕ} {ds : DeclarationsTree} {forms : List DeclarationForm} {end : Place} →
+      IsInstanceRead p generic object access t →
+      IsPartRead (read_at (with_binding name (an_instance t) p.place) p) (t ∷ made) ds forms end →
+      IsPartRead p made (a_declaration (instance spot name generic object access) ds) (collects t ∷ forms) end
   part_objects :
-      {made : List ℕ} {ds : DeclarationsTree} (others : List ℕ) (forms : List DeclarationForm) →
-      AreOthers p.types made others → AreObjectsRead p 0 ds forms → IsPartRead p made ds (map collects others ++ forms)
+      {p : Context} {made : List ℕ} {ds : DeclarationsTree} {end : Place} (others : List ℕ) (forms : List DeclarationForm) →
+      AreCompleted p.place → AreOthers p made others → AreObjectsRead p ds forms end → IsPartRead p made ds (map collects others ++ forms) end
 
--- The exceptions of these names are those that the declarations declare, one for one, in order (11.1).
-abbrev pub AreExceptionsRead : DeclarationsTree → List (List ℕ) → Type 0
-AreExceptionsRead ds names = names ≡ exceptions_of ds
+-- A statement with no others in it (5.1): among others, an exit (5.7) and a return (6.5), each where it stands, and one that raises the
+-- exception of its name (11.3).
+abbrev pub IsSimpleRead : Context → StatementTree → StmtForm → Type 0
+IsSimpleRead p (null_statement spot) skips = Unit {0}
+IsSimpleRead p (assignment target value) (assigns path right) = IsPathRead p target path × IsRightRead p value right
+IsSimpleRead p (call procedure arguments) form = IsCallRead p procedure arguments form
+IsSimpleRead p (exit_statement spot written) (exits condition at) = IsConditionRead p written condition × (at ≡ spot)
+IsSimpleRead p (return_statement spot) (returns at) = at ≡ spot
+IsSimpleRead p (raise_statement spot name) (raises e) = IsExceptionNamed p name e
+IsSimpleRead p statement form = ⊥
 
--- The declarations of a tree, with the tables of a program.
-abbrev pub tables_of : UnitTree → ProgramForm → Tables
-tables_of tree program = record {
-  declared = tree.declarations;
+-- A loop parameter is the next variable, an Integer of the name, and its bounds are what is written (5.5).
+abbrev pub IsRangeRead : Context → Ident → (low high : ExpressionTree) → (x : ℕ) → (from to : ExpressionForm) → Type 0
+IsRangeRead p name low high x from to =
+    (x ≡ p.place.variables) × (slice_get p.variables x ≡ Some (record { name = name.text; kind = variable.Integer })) ×
+    IsExpressionRead p low from × IsExpressionRead p high to
+
+-- The declarative part of a block (5.6), up to its end: an inner part.
+abbrev pub BeginsInside : Context → DeclarationsTree → List DeclarationForm → (end : Place) → Type 0
+BeginsInside p ds elaborated end = IsPartRead (read_at (inside p.place) p) [] ds elaborated end
+
+abbrev mutual
+  -- A statement, and the place behind it (5.1): among others, one that chooses among branches (5.3), one that repeats statements up to where
+  -- its end stands, for ever, while a condition is true, or for each value of a parameter (5.5), and a block (5.6).
+  pub IsStatementRead : Context → StatementTree → StmtForm → (end : Place) → Type 0
+  IsStatementRead p (if_statement spot branches others last) (chooses forms) end = AreBranchesRead p branches others forms end
+  IsStatementRead p (loop_statement spot (for_scheme name low high) ss last) (counts x from to forms end_spot) end =
+      IsRangeRead p name low high x from to × (end_spot ≡ last) ×
+      (done : Place) × AreStatementsRead (read_at (with_new_variable name (inside p.place)) p) ss forms done × (end ≡ behind p.place done)
+  IsStatementRead p (loop_statement spot scheme ss last) (repeats condition forms end_spot) end =
+      IsSchemeRead p scheme condition × (end_spot ≡ last) × AreStatementsRead p ss forms end
+  IsStatementRead p (block (a_sequence start ss hs last)) (encloses elaborated forms handled) end =
+      (declared done ended : Place) × BeginsInside p no_declarations elaborated declared × AreStatementsRead (read_at declared p) ss forms done ×
+      AreHandlersRead (read_at done p) hs handled ended × (end ≡ behind p.place ended)
+  IsStatementRead p (declare_block spot ds (a_sequence start ss hs last)) (encloses elaborated forms handled) end =
+      (declared done ended : Place) × BeginsInside p ds elaborated declared × AreStatementsRead (read_at declared p) ss forms done ×
+      AreHandlersRead (read_at done p) hs handled ended × (end ≡ behind p.place ended)
+  IsStatementRead p statement form end = IsSimpleRead p statement form × (end ≡ p.place)
+
+  -- Statements, one for one (5.1).
+  pub AreStatementsRead : Context → StatementsTree → StmtsForm → (end : Place) → Type 0
+  AreStatementsRead p no_statements no_stmts end = end ≡ p.place
+  AreStatementsRead p no_statements (a_stmt form forms) end = ⊥
+  AreStatementsRead p (a_statement s ss) no_stmts end = ⊥
+  AreStatementsRead p (a_statement s ss) (a_stmt form forms) end =
+      (next : Place) × IsStatementRead p s form next × AreStatementsRead (read_at next p) ss forms end
+
+  -- Branches, one for one, each with its condition and its statements, and behind them what stands behind `else` (5.3).
+  pub AreBranchesRead : Context → BranchesTree → StatementsTree → BranchesForm → (end : Place) → Type 0
+  AreBranchesRead p no_branches others (otherwise forms) end = AreStatementsRead p others forms end
+  AreBranchesRead p no_branches others (form.a_branch condition forms more) end = ⊥
+  AreBranchesRead p (a_branch e ss bs) others (otherwise forms) end = ⊥
+  AreBranchesRead p (a_branch e ss bs) others (form.a_branch condition forms more) end =
+      IsExpressionRead p e condition × (next : Place) × AreStatementsRead p ss forms next × AreBranchesRead (read_at next p) bs others more end
+
+  -- Handlers, one for one, each with its choices and its statements (11.2).
+  pub AreHandlersRead : Context → HandlersTree → HandlersForm → (end : Place) → Type 0
+  AreHandlersRead p no_handlers form.no_handlers end = end ≡ p.place
+  AreHandlersRead p no_handlers (form.a_handler cs forms more) end = ⊥
+  AreHandlersRead p (a_handler spot choices ss hs) form.no_handlers end = ⊥
+  AreHandlersRead p (a_handler spot choices ss hs) (form.a_handler cs forms more) end =
+      AreChoicesRead p choices cs × (next : Place) × AreStatementsRead p ss forms next × AreHandlersRead (read_at next p) hs more end
+
+-- The place before the first declaration of a tree.
+abbrev pub first_place : Place
+first_place = record { here = []; outer = []; first_type = 0; types = 0; variables = 0; exceptions = 0 }
+
+-- A tree is read from there, by the tables of a program.
+abbrev pub first_context : ProgramForm → Context
+first_context program = record {
+  place = first_place;
   types = program.types;
   variables = program.variables;
   texts = program.texts;
@@ -342,20 +390,20 @@ statements_in (a_sequence start ss hs last) = ss
 abbrev pub handlers_in : SequenceTree → HandlersTree
 handlers_in (a_sequence start ss hs last) = hs
 
--- No name is that of two numbers (8.3).
-abbrev pub NumbersOnce : (List ℕ → ℕ → Type 0) → Type 0
-NumbersOnce is_named = (text : List ℕ) (t u : ℕ) → is_named text t → is_named text u → t ≡ u
+-- The program has as many types, variables and exceptions as the text up to the place declares.
+pub record AreCounted (program : ProgramForm) (end : Place) : Type 0 where
+  pub types : length program.types ≡ end.types
+  pub variables : length program.variables ≡ end.variables
+  pub exceptions : length program.exceptions ≡ end.exceptions
 
 -- Each declaration and each statement of the program is what the tree says there: nothing is left out, put in or filled up in silence, and each
--- name, literal, operator and text is the one that is written. No type is left incomplete (3.10.1), no two types, no two variables and no two
--- exceptions have one name (8.3), and each handler is there with its choices and its statements (11.2).
+-- name, literal, operator and text is the one that is written. Types, variables and exceptions are numbered in the order of the text, each has a
+-- number of its own, and a name stands for what its innermost declaration declares (8.3).
 pub record IsReadAs (tree : UnitTree) (program : ProgramForm) : Type 0 where
-  pub types : AreTypesRead (tables_of tree program) 0 tree.declarations
-  pub completed : (t : ℕ) → t < length program.types → (d : DeclarationTree) × IsAmong d tree.declarations × IsTypeRead (tables_of tree program) d t
-  pub one_type : NumbersOnce (IsTypeNamed (tables_of tree program))
-  pub one_variable : NumbersOnce (IsVariableNamed (tables_of tree program))
-  pub exceptions : AreExceptionsRead tree.declarations program.exceptions
-  pub one_exception : NumbersOnce (IsDeclaredException (tables_of tree program))
-  pub elaborated : IsPartRead (tables_of tree program) [] tree.declarations program.declarations
-  pub statements : AreStatementsRead (tables_of tree program) (statements_in tree.body) program.statements
-  pub handlers : AreHandlersRead (tables_of tree program) (handlers_in tree.body) program.handlers
+  pub declared : Place
+  pub done : Place
+  pub end : Place
+  pub elaborated : IsPartRead (first_context program) [] tree.declarations program.declarations declared
+  pub statements : AreStatementsRead (read_at declared (first_context program)) (statements_in tree.body) program.statements done
+  pub handlers : AreHandlersRead (read_at done (first_context program)) (handlers_in tree.body) program.handlers end
+  pub counted : AreCounted program end

@@ -1,15 +1,16 @@
 -- The program of a tree, or its first fault.
 
-use Rattle.std.specs.Prelude.{◌≡◌, ℕ, ◌+◌, Bool, true, false, ◌||◌, if◌then◌else◌, List, [], ◌∷◌, ◌++◌, length, map, Option, Some, None, bytes_eq}
+use Rattle.std.specs.Prelude.{◌≡◌, ℕ, Bool, true, false, ◌||◌, if◌then◌else◌, List, [], ◌∷◌, length, map, Option, Some, None, bytes_eq}
 use Rattle.ada_text.specs.declared.spot.Spot.{Spot}
 use Rattle.ada_tree.specs.Expressions.{ExpressionTree}
 use Rattle.ada_tree.specs.Names.{Ident, NameTree}
 use Rattle.ada_tree.specs.Declarations.{ChoiceTree, ClauseTree}
-use Rattle.ada_tree.specs.Statements.{DeclarationTree, exception_declaration, constant_declaration, incomplete_type, access_type, record_type, instance, object_declaration, DeclarationsTree, no_declarations, a_declaration, SchemeTree, endless, while_scheme, for_scheme, StatementTree, if_statement, loop_statement, StatementsTree, no_statements, a_statement, BranchesTree, no_branches, a_branch, BranchTree, HandlersTree, no_handlers, a_handler, SequenceTree, a_sequence, begin_of, UnitTree}
-use Rattle.ada_program.specs.Form.{ExpressionForm, StmtForm, chooses, repeats, StmtsForm, no_stmts, a_stmt, BranchesForm, otherwise, HandlersForm}
+use Rattle.ada_tree.specs.Statements.{DeclarationTree, exception_declaration, constant_declaration, incomplete_type, access_type, record_type, instance, object_declaration, DeclarationsTree, no_declarations, a_declaration, SchemeTree, endless, while_scheme, for_scheme, StatementTree, if_statement, loop_statement, block, declare_block, StatementsTree, no_statements, a_statement, BranchesTree, no_branches, a_branch, BranchTree, HandlersTree, no_handlers, a_handler, HandlerTree, SequenceTree, a_sequence, begin_of, UnitTree}
+use Rattle.ada_program.specs.Form.{ExpressionForm, StmtForm, chooses, counts, encloses, repeats, StmtsForm, no_stmts, a_stmt, BranchesForm, otherwise, HandlersForm}
 use Rattle.ada_program.specs.Form as form
 use Rattle.ada_program.specs.declared.program.Choice.{Choice}
 use Rattle.ada_program.specs.ProgramForm.{ProgramForm}
+use Rattle.ada_program.specs.declared.program.VariableKind.TheVariants as variable
 use Rattle.ada_resolve.specs.declared.fault.NameRule.{NameRule}
 use Rattle.ada_resolve.specs.declared.fault.NameRule.TheVariants.{UnknownName, DeclaredTwice, NotInProfile, BodyMissing}
 use Rattle.ada_resolve.specs.declared.library.LibraryName.{LibraryName}
@@ -18,15 +19,15 @@ use Rattle.ada_resolve.specs.declared.library.Withs.{Withs}
 use Rattle.ada_resolve.specs.declared.notes.Notes.{Notes}
 use Rattle.ada_resolve.specs.declared.scope.Entity.{Entity}
 use Rattle.ada_resolve.specs.declared.scope.Entity.TheVariants as entity
-use Rattle.ada_resolve.specs.Known.{Known, Named, part_from}
+use Rattle.ada_resolve.specs.Known.{Known, Named, declared, part_from, with_part, without_part}
 use Rattle.ada_resolve.specs.Library.{is_taken, is_primitive, library_name}
 use Rattle.ada_resolve.specs.Remark.{Remark, fine, wrong, node, ◌also◌, wrong_if, noted}
 use Rattle.ada_resolve.specs.Spots.{declaration_spot}
 use Rattle.ada_resolve.specs.Exceptions.{choices_meant, choices_remark, exception_known, exception_remark}
 use Rattle.ada_resolve.specs.Instances.{instance_known, instance_remark}
-use Rattle.ada_resolve.specs.Objects.{after_types, object_known, object_remark}
+use Rattle.ada_resolve.specs.Objects.{after_types, next_variable, object_known, object_remark, with_variable}
 use Rattle.ada_resolve.specs.Records.{record_type_known, record_type_remark}
-use Rattle.ada_resolve.specs.Statements.{condition_meant, condition_remark, statement_meant, statement_remark, texts_in, texts_of, texts_of_handlers}
+use Rattle.ada_resolve.specs.Statements.{bound_meant, bound_remark, condition_meant, condition_remark, simple_texts, statement_meant, statement_remark, with_texts}
 use Rattle.ada_resolve.specs.Statics.{constant_known, constant_remark}
 use Rattle.ada_resolve.specs.Types.{access_known, access_remark, incomplete_known, incomplete_remark}
 
@@ -48,6 +49,10 @@ unless_wrong notes None x = gives (x, notes)
 -- The outcome of a part that has noted all its faults: the first of them, or the value.
 abbrev pub settled : {X : Type 0} → Notes → X → Told (X × Notes)
 settled notes x = unless_wrong notes notes.fault x
+
+-- What is known and what is noted at a place.
+abbrev pub At : Type 0
+At = Known × Notes
 
 -- The library units of the with clauses (10.1.2): each is one that is in use, else it is not in the profile.
 abbrev pub with_unit : LibraryName → Spot → Withs → Told Withs
@@ -78,9 +83,10 @@ abbrev pub clauses_told : List ClauseTree → Withs → Told Withs
 clauses_told [] withs = gives withs
 clauses_told (clause ∷ clauses) withs = and_then (clause_told clause withs) (clauses_told clauses)
 
--- The procedure's name is neither predefined nor that of a primitive of controlled types.
-abbrev pub procedure_remark : Ident → Spot → Remark
-procedure_remark name spot = wrong_if (is_taken name.text) name.spot DeclaredTwice also wrong_if (is_primitive name.text) spot NotInProfile
+-- What is wrong with a name that no other one of its part can be, in a construct that begins at the spot: it is neither predefined nor that of
+-- a primitive of controlled types.
+abbrev pub alone_remark : Ident → Spot → Remark
+alone_remark name spot = wrong_if (is_taken name.text) name.spot DeclaredTwice also wrong_if (is_primitive name.text) spot NotInProfile
 
 -- What is known before the first declaration.
 abbrev pub known_first : Withs → List ℕ → Known
@@ -92,6 +98,7 @@ known_first withs procedure = record {
   types = [];
   variables = [];
   exceptions = [];
+  texts = [];
 }
 
 -- Nothing is noted yet.
@@ -130,15 +137,15 @@ declaration_known known (object_declaration name type_name initial) = object_kno
 declaration_known known other = known
 
 -- A declaration where it stands: the first of the rules that it breaks, or what is known after it.
-abbrev pub told_of : DeclarationTree → Known × Notes → Told (Known × Notes)
+abbrev pub told_of : DeclarationTree → At → Told At
 told_of declaration at = settled (noted (declaration_remark at.0 declaration) at.1) (declaration_known at.0 declaration)
 
 -- What a declaration gives, behind those before it: the types end before an object.
-abbrev pub declaration_told : DeclarationTree → Known × Notes → Told (Known × Notes)
+abbrev pub declaration_told : DeclarationTree → At → Told At
 declaration_told declaration at = told_of declaration (known_at at.0 declaration, at.1)
 
 -- The declarations, in order (3.11).
-abbrev pub declarations_told : DeclarationsTree → Known × Notes → Told (Known × Notes)
+abbrev pub declarations_told : DeclarationsTree → At → Told At
 declarations_told no_declarations at = gives at
 declarations_told (a_declaration declaration declarations) at = and_then (declaration_told declaration at) (declarations_told declarations)
 
@@ -161,133 +168,191 @@ abbrev pub begin_remark : Known → Spot → Remark
 begin_remark known spot = wrong_if (some_incomplete (map entity_in known.here.names)) spot BodyMissing
 
 -- The outcome of `begin`: a type is incomplete there, or what is known once the types end.
-abbrev pub at_begin : Spot → Known × Notes → Told (Known × Notes)
+abbrev pub at_begin : Spot → At → Told At
 at_begin spot at = settled (noted (begin_remark at.0 spot) at.1) (after_types at.0)
 
 -- What comes of a part, made into something else.
-abbrev pub made_into : {X Y : Type 0} → (X → Y) → Told (X × Notes) → Told (Y × Notes)
+abbrev pub made_into : {X Y S : Type 0} → (X → Y) → Told (X × S) → Told (Y × S)
 made_into make (broken spot rule) = broken spot rule
 made_into make (gives done) = gives (make done.0, done.1)
 
--- What comes of a condition: the first of the rules that it breaks, or what it means.
-abbrev pub condition_told : Known → ExpressionTree → Notes → Told (ExpressionForm × Notes)
-condition_told known e notes = settled (noted (condition_remark known e) notes) (condition_meant known e)
+-- What comes of a part behind which this is known.
+abbrev pub knowing : {X : Type 0} → Known → Told (X × Notes) → Told (X × At)
+knowing known (broken spot rule) = broken spot rule
+knowing known (gives done) = gives (done.0, (known, done.1))
 
--- What comes of the head of a loop (5.5), which begins at the spot: its condition, where there is one; no loop over a range is in the profile
--- yet.
-abbrev pub scheme_told : Known → Spot → SchemeTree → Notes → Told (Option ExpressionForm × Notes)
-scheme_told known spot endless notes = settled (noted (node spot) notes) None
-scheme_told known spot (while_scheme e) notes = settled (noted (node spot also condition_remark known e) notes) (Some (condition_meant known e))
-scheme_told known spot (for_scheme name first last) notes = settled (noted (wrong spot NotInProfile) notes) None
+-- A node of the source, behind which this is known.
+abbrev pub node_told : Spot → Known → Notes → Told At
+node_told spot known notes = settled (noted (node spot) notes) known
+
+-- What comes of a condition: the first of the rules that it breaks, or what it means.
+abbrev pub condition_told : ExpressionTree → At → Told (ExpressionForm × At)
+condition_told e at = knowing at.0 (settled (noted (condition_remark at.0 e) at.1) (condition_meant at.0 e))
+
+-- The head of a loop (5.5): a condition, where there is one; or the parameter's number and the bounds of its range.
+pub data LoopHead : Type 0 where
+  on_condition : (condition : Option ExpressionForm) → LoopHead
+  over_range : (parameter : ℕ) → (low high : ExpressionForm) → LoopHead
+
+-- What is wrong with a parameter and the bounds of its range, in a loop that begins at the spot (5.5): it has no predefined name, and they are
+-- Integers, in which the parameter isn't visible yet.
+abbrev pub range_remark : Known → Spot → Ident → ExpressionTree → ExpressionTree → Remark
+range_remark known spot name low high =
+    node spot also alone_remark name name.spot also bound_remark known low also bound_remark known high
+
+-- What is known where the statements of such a loop begin: the parameter, an Integer, is declared in a part of its own (5.5, 8.1).
+abbrev pub with_parameter : Ident → Known → Known
+with_parameter name known =
+    declared (with_variable (record { name = name.text; kind = variable.Integer }) (with_part known)) name.text (entity.Parameter (next_variable known))
+
+-- What comes of the head of a loop, which begins at the spot: the rules that it breaks are told with those noted before.
+abbrev pub head_told : Spot → SchemeTree → At → Told (LoopHead × At)
+head_told spot endless at = knowing at.0 (settled (noted (node spot) at.1) (on_condition None))
+head_told spot (while_scheme e) at =
+    knowing at.0 (settled (noted (node spot also condition_remark at.0 e) at.1) (on_condition (Some (condition_meant at.0 e))))
+head_told spot (for_scheme name low high) at =
+    knowing (with_parameter name at.0)
+    (settled (noted (range_remark at.0 spot name low high) at.1)
+    (over_range (length at.0.variables) (bound_meant at.0 low) (bound_meant at.0 high)))
+
+-- The loop of a head and of statements, whose `end` stands at the spot.
+abbrev pub loop_of : LoopHead → StmtsForm → Spot → StmtForm
+loop_of (on_condition condition) forms last = repeats condition forms last
+loop_of (over_range x low high) forms last = counts x low high forms last
+
+-- What is known behind the loop: the part of a parameter ends.
+abbrev pub behind_loop : LoopHead → Known → Known
+behind_loop (on_condition condition) known = known
+behind_loop (over_range x low high) known = without_part known
+
+-- A loop ends behind its statements.
+abbrev pub ended_loop : LoopHead → Spot → Told (StmtsForm × At) → Told (StmtForm × At)
+ended_loop head last (broken spot rule) = broken spot rule
+ended_loop head last (gives done) = gives (loop_of head done.0 last, (behind_loop head done.1.0, done.1.1))
+
+-- A block ends behind its handlers (5.6): it elaborates what its part does, and the part ends.
+abbrev pub ended_block : StmtsForm → Told (HandlersForm × At) → Told (StmtForm × At)
+ended_block forms (broken spot rule) = broken spot rule
+ended_block forms (gives done) = gives (encloses done.1.0.here.elaborated forms done.0, (without_part done.1.0, done.1.1))
 
 -- What is wrong with the statements of a loop or of a handler, which begins at the spot: there is one (5.1).
 abbrev pub body_remark : Spot → StatementsTree → Remark
 body_remark spot no_statements = wrong spot NotInProfile
 body_remark spot (a_statement s ss) = fine
 
--- What comes of a statement with no others in it.
-abbrev pub simple_told : Known → (inside_loop : Bool) → (texts : ℕ) → Notes → StatementTree → Told (StmtForm × Notes)
-simple_told known inside_loop texts notes statement =
-    settled (noted (statement_remark known inside_loop statement) notes) (statement_meant known texts statement)
-
--- What comes of branches whose last statements come so, where so many texts come before.
-abbrev pub Others : Type 0
-Others = (texts : ℕ) → Notes → Told (StmtsForm × Notes)
-
-abbrev mutual
-  -- What comes of a statement, in a loop or not, where so many texts come before: the first of the rules that it breaks, or what it does.
-  pub statement_told : Known → (inside_loop : Bool) → (texts : ℕ) → Notes → StatementTree → Told (StmtForm × Notes)
-  statement_told known inside_loop texts notes (if_statement spot branches others last) =
-      and_then (settled (noted (node spot) notes) spot)
-      (λ at. made_into chooses
-      (branches_told known inside_loop texts at.1 branches (λ more. λ behind. statements_told known inside_loop more behind others)))
-  statement_told known inside_loop texts notes (loop_statement spot scheme statements last) =
-      and_then (scheme_told known spot scheme (noted (body_remark spot statements) notes))
-      (λ at. made_into (λ forms. repeats at.0 forms last) (statements_told known true texts at.1 statements))
-  statement_told known inside_loop texts notes simple = simple_told known inside_loop texts notes simple
-
-  -- The statements, in order (5.1).
-  pub statements_told : Known → (inside_loop : Bool) → (texts : ℕ) → Notes → StatementsTree → Told (StmtsForm × Notes)
-  statements_told known inside_loop texts notes no_statements = gives (no_stmts, notes)
-  statements_told known inside_loop texts notes (a_statement statement statements) =
-      and_then (statement_told known inside_loop texts notes statement)
-      (λ done. made_into (a_stmt done.0) (statements_told known inside_loop (texts + length (texts_in statement)) done.1 statements))
-
-  -- The branches of an `if`, in order (5.3): each condition before its statements.
-  pub branches_told : Known → (inside_loop : Bool) → (texts : ℕ) → Notes → BranchesTree → Others → Told (BranchesForm × Notes)
-  branches_told known inside_loop texts notes no_branches others = made_into otherwise (others texts notes)
-  branches_told known inside_loop texts notes (a_branch e statements branches) others =
-      and_then (condition_told known e notes)
-      (λ at. and_then (statements_told known inside_loop texts at.1 statements)
-      (λ done. made_into (form.a_branch at.0 done.0)
-      (branches_told known inside_loop (texts + length (texts_of statements)) done.1 branches others)))
-
--- One branch: its condition, then its statements.
-abbrev pub branch_told : Known → (inside_loop : Bool) → (texts : ℕ) → Notes → BranchTree → Told ((ExpressionForm × StmtsForm) × Notes)
-branch_told known inside_loop texts notes branch =
-    and_then (condition_told known branch.condition notes)
-    (λ at. made_into (λ forms. (at.0, forms)) (statements_told known inside_loop texts at.1 branch.statements))
+-- What comes of a statement with no others in it: a text that it writes is known behind it.
+abbrev pub simple_told : (inside_loop : Bool) → StatementTree → At → Told (StmtForm × At)
+simple_told inside_loop statement at =
+    knowing (with_texts (simple_texts statement) at.0)
+    (settled (noted (statement_remark at.0 inside_loop statement) at.1) (statement_meant at.0 statement))
 
 -- What comes of the head of a handler (11.2), whose `when` stands at the spot: a node of the source, with a statement behind it; its choices
 -- are what they stand for.
-abbrev pub choices_told : Known → Spot → List ChoiceTree → StatementsTree → Notes → Told (List Choice × Notes)
-choices_told known spot choices statements notes =
-    settled (noted (body_remark spot statements also node spot also choices_remark known choices) notes) (choices_meant known choices)
+abbrev pub choices_told : Spot → List ChoiceTree → StatementsTree → At → Told (List Choice × At)
+choices_told spot choices statements at =
+    knowing at.0
+    (settled (noted (body_remark spot statements also node spot also choices_remark at.0 choices) at.1) (choices_meant at.0 choices))
 
--- What comes of a handler, in a loop or not: its choices, then its statements.
-abbrev pub handler_told :
-    Known → (inside_loop : Bool) → (texts : ℕ) → Notes → Spot → List ChoiceTree → StatementsTree → Told ((List Choice × StmtsForm) × Notes)
-handler_told known inside_loop texts notes spot choices statements =
-    and_then (choices_told known spot choices statements notes)
-    (λ at. made_into (λ forms. (at.0, forms)) (statements_told known inside_loop texts at.1 statements))
+-- What comes of the statements behind branches.
+abbrev pub Others : Type 0
+Others = At → Told (StmtsForm × At)
 
--- The handlers, in order (11.2).
-abbrev pub handlers_told : Known → (inside_loop : Bool) → (texts : ℕ) → Notes → HandlersTree → Told (HandlersForm × Notes)
-handlers_told known inside_loop texts notes no_handlers = gives (form.no_handlers, notes)
-handlers_told known inside_loop texts notes (a_handler spot choices statements rest) =
-    and_then (handler_told known inside_loop texts notes spot choices statements)
-    (λ done. made_into (form.a_handler done.0.0 done.0.1)
-    (handlers_told known inside_loop (texts + length (texts_of statements)) done.1 rest))
+abbrev mutual
+  -- What comes of a statement, in a loop or not: the first of the rules that it breaks, or what it does, and what is known behind it.
+  pub statement_told : (inside_loop : Bool) → StatementTree → At → Told (StmtForm × At)
+  statement_told inside_loop (if_statement spot branches others last) at =
+      and_then (node_told spot at.0 at.1)
+      (λ begun. made_into chooses (branches_told inside_loop branches (λ behind. statements_told inside_loop others behind) begun))
+  statement_told inside_loop (loop_statement spot scheme statements last) at =
+      and_then (head_told spot scheme (at.0, noted (body_remark spot statements) at.1))
+      (λ begun. ended_loop begun.0 last (statements_told true statements begun.1))
+  statement_told inside_loop (block body) at =
+      and_then (node_told (begin_of body) (with_part at.0) at.1) (λ inner. block_told inside_loop body inner)
+  statement_told inside_loop (declare_block spot declarations body) at =
+      and_then (node_told spot (with_part at.0) at.1)
+      (λ inner. and_then (declarations_told declarations inner) (λ behind. block_told inside_loop body behind))
+  statement_told inside_loop simple at = simple_told inside_loop simple at
+
+  -- A block whose declarations are known (5.6): no type is incomplete at its `begin`; its statements, and their handlers.
+  pub block_told : (inside_loop : Bool) → SequenceTree → At → Told (StmtForm × At)
+  block_told inside_loop (a_sequence start statements handlers last) at =
+      and_then (at_begin start at)
+      (λ ready. and_then (statements_told inside_loop statements ready)
+      (λ done. ended_block done.0 (handlers_told inside_loop handlers done.1)))
+
+  -- The statements, in order (5.1).
+  pub statements_told : (inside_loop : Bool) → StatementsTree → At → Told (StmtsForm × At)
+  statements_told inside_loop no_statements at = gives (no_stmts, at)
+  statements_told inside_loop (a_statement statement statements) at =
+      and_then (statement_told inside_loop statement at)
+      (λ done. made_into (a_stmt done.0) (statements_told inside_loop statements done.1))
+
+  -- The branches of an `if`, in order (5.3): each condition before its statements.
+  pub branches_told : (inside_loop : Bool) → BranchesTree → Others → At → Told (BranchesForm × At)
+  branches_told inside_loop no_branches others at = made_into otherwise (others at)
+  branches_told inside_loop (a_branch e statements branches) others at =
+      and_then (condition_told e at)
+      (λ begun. and_then (statements_told inside_loop statements begun.1)
+      (λ done. made_into (form.a_branch begun.0 done.0) (branches_told inside_loop branches others done.1)))
+
+  -- The handlers, in order (11.2): the choices of each before its statements.
+  pub handlers_told : (inside_loop : Bool) → HandlersTree → At → Told (HandlersForm × At)
+  handlers_told inside_loop no_handlers at = gives (form.no_handlers, at)
+  handlers_told inside_loop (a_handler spot choices statements rest) at =
+      and_then (choices_told spot choices statements at)
+      (λ begun. and_then (statements_told inside_loop statements begun.1)
+      (λ done. made_into (form.a_handler begun.0 done.0) (handlers_told inside_loop rest done.1)))
+
+-- One branch: its condition, then its statements.
+abbrev pub branch_told : (inside_loop : Bool) → BranchTree → At → Told ((ExpressionForm × StmtsForm) × At)
+branch_told inside_loop branch at =
+    and_then (condition_told branch.condition at)
+    (λ begun. made_into (λ forms. (begun.0, forms)) (statements_told inside_loop branch.statements begun.1))
+
+-- One handler: its choices, then its statements.
+abbrev pub handler_told : (inside_loop : Bool) → HandlerTree → At → Told ((List Choice × StmtsForm) × At)
+handler_told inside_loop handler at =
+    and_then (choices_told handler.spot handler.choices handler.statements at)
+    (λ begun. made_into (λ forms. (begun.0, forms)) (statements_told inside_loop handler.statements begun.1))
 
 -- The name after `end` is the procedure's own, where one is written (6.3).
 abbrev pub same_name : {X : Type 0} → List ℕ → Option Ident → X → Told X
 same_name procedure (Some name) x = if bytes_eq name.text procedure then gives x else broken name.spot UnknownName
 same_name procedure None x = gives x
 
--- The program of what is known, of the texts, of what the statements do, and of what handles their exceptions.
-abbrev pub program_of : Known → List (List ℕ) → StmtsForm → HandlersForm → ProgramForm
-program_of known texts forms handled = record {
+-- The program of what is known, of what the statements do, and of what handles their exceptions.
+abbrev pub program_of : Known → StmtsForm → HandlersForm → ProgramForm
+program_of known forms handled = record {
   types = known.types;
   variables = known.variables;
-  texts = texts;
+  texts = known.texts;
   exceptions = known.exceptions;
   declarations = known.here.elaborated;
   statements = forms;
   handlers = handled;
 }
 
--- The end of a tree whose statements are known, and write these texts: its handlers, and its name.
-abbrev pub end_told : UnitTree → HandlersTree → Known → List (List ℕ) → StmtsForm × Notes → Told ProgramForm
-end_told tree handlers known texts done =
-    and_then (handlers_told known false (length texts) done.1 handlers)
-    (λ handled. same_name tree.name.text tree.end_name (program_of known (texts ++ texts_of_handlers handlers) done.0 handled.0))
+-- The end of a tree whose statements are known: its handlers, and its name.
+abbrev pub end_told : UnitTree → HandlersTree → StmtsForm × At → Told ProgramForm
+end_told tree handlers done =
+    and_then (handlers_told false handlers done.1)
+    (λ handled. same_name tree.name.text tree.end_name (program_of handled.1.0 done.0 handled.0))
 
 -- The statements of a tree whose declarations are known, and what follows.
-abbrev pub statements_part : UnitTree → SequenceTree → Known × Notes → Told ProgramForm
-statements_part tree (a_sequence start statements handlers last) at =
-    and_then (statements_told at.0 false 0 at.1 statements) (end_told tree handlers at.0 (texts_of statements))
+abbrev pub statements_part : UnitTree → SequenceTree → At → Told ProgramForm
+statements_part tree (a_sequence start statements handlers last) at = and_then (statements_told false statements at) (end_told tree handlers)
 
 -- The body of a tree whose declarations are looked at: no type is incomplete at its `begin`, and what follows.
-abbrev pub begin_told : UnitTree → Known × Notes → Told ProgramForm
+abbrev pub begin_told : UnitTree → At → Told ProgramForm
 begin_told tree at = and_then (at_begin (begin_of tree.body) at) (statements_part tree tree.body)
 
 -- The declarations of a tree, and what follows.
-abbrev pub part_told : UnitTree → Known × Notes → Told ProgramForm
+abbrev pub part_told : UnitTree → At → Told ProgramForm
 part_told tree at = and_then (declarations_told tree.declarations at) (begin_told tree)
 
 -- The procedure of a tree, where this is known before its first declaration: its name, and what follows.
 abbrev pub procedure_from : UnitTree → Known → Told ProgramForm
-procedure_from tree known = and_then (settled (noted (procedure_remark tree.name tree.spot) no_notes) known) (part_told tree)
+procedure_from tree known = and_then (settled (noted (alone_remark tree.name tree.spot) no_notes) known) (part_told tree)
 
 -- The procedure of a tree, with the library units of its clauses.
 abbrev pub procedure_told : UnitTree → Withs → Told ProgramForm

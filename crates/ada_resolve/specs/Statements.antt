@@ -1,10 +1,10 @@
 -- Statements: what is wrong with each, and what it does.
 
-use Rattle.std.specs.Prelude.{ℕ, Bool, not, if◌then◌else◌, List, [], ◌∷◌, ◌++◌, Option, Some, None}
+use Rattle.std.specs.Prelude.{ℕ, Bool, not, if◌then◌else◌, List, [], ◌∷◌, ◌++◌, length, Option, Some, None}
 use Rattle.ada_text.specs.declared.spot.Spot.{Spot}
 use Rattle.ada_tree.specs.Names.{Ident, PathTree}
 use Rattle.ada_tree.specs.Expressions.{ExpressionTree, RightTree, ArgumentTree, expression_argument, text_argument, attribute_argument}
-use Rattle.ada_tree.specs.Statements.{StatementTree, null_statement, assignment, call, if_statement, loop_statement, exit_statement, return_statement, raise_statement, block, declare_block, StatementsTree, no_statements, a_statement, BranchesTree, no_branches, a_branch, HandlersTree, no_handlers, a_handler}
+use Rattle.ada_tree.specs.Statements.{StatementTree, null_statement, assignment, call, exit_statement, return_statement, raise_statement}
 use Rattle.ada_program.specs.Form.{ExpressionForm, RightForm, StmtForm, skips, assigns, exits, returns}
 use Rattle.ada_program.specs.declared.program.VariableKind.{VariableKind}
 use Rattle.ada_program.specs.declared.program.VariableNo.{VariableNo}
@@ -16,7 +16,7 @@ use Rattle.ada_resolve.specs.Paths.{variable_path}
 use Rattle.ada_resolve.specs.Remark.{Remark, fine, wrong, node, ◌also◌, wrong_if}
 use Rattle.ada_resolve.specs.Spots.{expression_spot, statement_spot}
 use Rattle.ada_resolve.specs.Expressions.{expression_meant, expression_remark}
-use Rattle.ada_resolve.specs.Operators.{boolean_in, boolean_wanted}
+use Rattle.ada_resolve.specs.Operators.{boolean_in, boolean_wanted, integer_in, integer_wanted}
 use Rattle.ada_resolve.specs.Calls.{call_found, call_remark}
 use Rattle.ada_resolve.specs.Exceptions.{raise_found, raise_remark}
 use Rattle.ada_resolve.specs.Rights.{right_found, right_remark}
@@ -83,11 +83,20 @@ condition_remark known e = expression_remark known e also boolean_wanted (expres
 abbrev pub condition_meant : Known → ExpressionTree → ExpressionForm
 condition_meant known e = boolean_in (expression_meant known e)
 
--- The same of a condition that may be left out (5.7).
+-- What is wrong with a bound of a range (5.5): it is an Integer.
+abbrev pub bound_remark : Known → ExpressionTree → Remark
+bound_remark known e = expression_remark known e also integer_wanted (expression_meant known e) (expression_spot e)
+
+-- What a bound means; 0 where something is wrong.
+abbrev pub bound_meant : Known → ExpressionTree → ExpressionForm
+bound_meant known e = integer_in (expression_meant known e)
+
+-- What is wrong with a condition that may be left out (5.7).
 abbrev pub optional_condition_remark : Known → Option ExpressionTree → Remark
 optional_condition_remark known None = fine
 optional_condition_remark known (Some e) = condition_remark known e
 
+-- What a condition means that may be left out.
 abbrev pub optional_condition_meant : Known → Option ExpressionTree → Option ExpressionForm
 optional_condition_meant known None = None
 optional_condition_meant known (Some e) = Some (condition_meant known e)
@@ -111,15 +120,15 @@ statement_remark known inside_loop other = wrong (statement_spot other) NotInPro
 abbrev pub exit_found : Known → Spot → Option ExpressionTree → Option StmtForm
 exit_found known spot condition = Some (exits (optional_condition_meant known condition) spot)
 
--- What such a statement does, where so many texts come before; none where something is wrong.
-abbrev pub statement_found : Known → ℕ → StatementTree → Option StmtForm
-statement_found known texts (null_statement spot) = Some skips
-statement_found known texts (assignment target value) = assignment_found known target value
-statement_found known texts (call procedure arguments) = call_found known texts procedure arguments
-statement_found known texts (exit_statement spot condition) = exit_found known spot condition
-statement_found known texts (return_statement spot) = Some (returns spot)
-statement_found known texts (raise_statement spot name) = raise_found known name
-statement_found known texts other = None
+-- What such a statement does; none where something is wrong.
+abbrev pub statement_found : Known → StatementTree → Option StmtForm
+statement_found known (null_statement spot) = Some skips
+statement_found known (assignment target value) = assignment_found known target value
+statement_found known (call procedure arguments) = call_found known (length known.texts) procedure arguments
+statement_found known (exit_statement spot condition) = exit_found known spot condition
+statement_found known (return_statement spot) = Some (returns spot)
+statement_found known (raise_statement spot name) = raise_found known name
+statement_found known other = None
 
 -- The text that the first argument of a call is, if it is one.
 abbrev pub text_in : List ArgumentTree → List (List ℕ)
@@ -133,34 +142,9 @@ abbrev pub simple_texts : StatementTree → List (List ℕ)
 simple_texts (call procedure arguments) = text_in arguments
 simple_texts other = []
 
-abbrev mutual
-  -- The texts that a statement writes, and those in it.
-  pub texts_in : StatementTree → List (List ℕ)
-  texts_in (null_statement spot) = []
-  texts_in (assignment target value) = []
-  texts_in (call procedure arguments) = text_in arguments
-  texts_in (if_statement spot branches others last) = texts_of_branches branches ++ texts_of others
-  texts_in (loop_statement spot scheme statements last) = texts_of statements
-  texts_in (exit_statement spot condition) = []
-  texts_in (return_statement spot) = []
-  texts_in (raise_statement spot name) = []
-  texts_in (block body) = []
-  texts_in (declare_block spot _ body) = []
-
-  -- The texts that statements write, in order.
-  pub texts_of : StatementsTree → List (List ℕ)
-  texts_of no_statements = []
-  texts_of (a_statement statement statements) = texts_in statement ++ texts_of statements
-
-  -- The texts that the statements of branches write, in order.
-  pub texts_of_branches : BranchesTree → List (List ℕ)
-  texts_of_branches no_branches = []
-  texts_of_branches (a_branch condition statements branches) = texts_of statements ++ texts_of_branches branches
-
--- The texts that the statements of handlers write, in order.
-abbrev pub texts_of_handlers : HandlersTree → List (List ℕ)
-texts_of_handlers no_handlers = []
-texts_of_handlers (a_handler spot choices statements rest) = texts_of statements ++ texts_of_handlers rest
+-- What is known once there are these texts too.
+abbrev pub with_texts : List (List ℕ) → Known → Known
+with_texts texts known = record known { texts = known.texts ++ texts }
 
 -- A statement; nothing is done where something is wrong.
 abbrev pub form_or_null : Option StmtForm → StmtForm
@@ -168,5 +152,5 @@ form_or_null (Some form) = form
 form_or_null None = skips
 
 -- What a statement does, where nothing is wrong with it.
-abbrev pub statement_meant : Known → ℕ → StatementTree → StmtForm
-statement_meant known texts statement = form_or_null (statement_found known texts statement)
+abbrev pub statement_meant : Known → StatementTree → StmtForm
+statement_meant known statement = form_or_null (statement_found known statement)

@@ -10,14 +10,12 @@ use Rattle.ada_program.specs.declared.program.Right.{Right}
 use Rattle.ada_program.specs.declared.program.Branch.{Branch}
 use Rattle.ada_program.specs.declared.program.Choice.{Choice}
 use Rattle.ada_program.specs.declared.program.Handler.{Handler}
-use Rattle.ada_program.specs.declared.program.Expression.{Expression}
 use Rattle.ada_program.specs.declared.program.Stmt.{Stmt}
 use Rattle.ada_program.specs.declared.program.TypeNo.{TypeNo}
 use Rattle.ada_text.specs.declared.spot.Spot.{Spot}
 use Rattle.ada_resolve.specs.declared.fault.NameFault.{NameFault}
 use Rattle.ada_resolve.specs.declared.fault.NameFault.TheVariants.{Broken, NoMemory}
 use Rattle.ada_resolve.specs.declared.fault.NameRule.{NameRule}
-use Rattle.ada_resolve.specs.declared.notes.Notes.{Notes}
 use Rattle.ada_resolve.specs.declared.resolver.Resolver.{Resolver}
 use Rattle.ada_resolve.specs.declared.scope.Entity.{Entity}
 use Rattle.ada_resolve.specs.declared.meant.Meant.{Meant as MeantOf}
@@ -35,7 +33,9 @@ use Rattle.std.specs.Global.{Vec}
 use Rattle.std.specs.String.{string_bytes}
 use denote.Ref.{Bor}
 use Rattle.ada_resolve.specs.Paths.{Meant, boolean_value, integer_value, null_value, other_access, unknown, access_variable}
-use Rattle.ada_resolve.specs.Resolution.{IsFirstNameFault, Others, Told, broken, gives, made_into}
+use Rattle.ada_resolve.specs.Resolution.{At, IsFirstNameFault, LoopHead, on_condition, over_range, Others, Told, broken, gives, made_into}
+use Rattle.ada_resolve.specs.declared.loops.Head.{Head}
+use Rattle.ada_resolve.specs.declared.loops.Head.TheVariants as head
 
 -- An entry of the names.
 abbrev pub named_of : Bor (List ℕ) × Entity → Named
@@ -60,6 +60,7 @@ known_of r = record {
   types = map known_type_form r.types.items;
   variables = map variable_form r.variables.items;
   exceptions = map string_bytes r.exceptions.items;
+  texts = map string_bytes r.texts.items;
 }
 
 -- What an expression means, as the code keeps it.
@@ -131,21 +132,23 @@ abbrev pub Answers : {X Y : Type 0} → Result X NameFault → (X → Y) → Tol
 Answers (Ok x) view told = told ≡ gives (view x)
 Answers (Err e) view told = Refuses e told
 
--- The answer and the notes after the call are exactly the outcome, out of memory aside.
-abbrev pub AnswersWith : {X Y : Type 0} → Result X NameFault → (X → Y) → Notes → Told (Y × Notes) → Type 0
-AnswersWith (Ok x) view notes told = told ≡ gives (view x, notes)
-AnswersWith (Err e) view notes told = Refuses e told
+-- The answer and what is so after the call are exactly the outcome, out of memory aside.
+abbrev pub AnswersWith : {X Y S : Type 0} → Result X NameFault → (X → Y) → S → Told (Y × S) → Type 0
+AnswersWith (Ok x) view after told = told ≡ gives (view x, after)
+AnswersWith (Err e) view after told = Refuses e told
 
 -- What the statements do.
 abbrev pub statements_in : Vec Stmt → StmtsForm
 statements_in statements = stmts_form statements.items
 
--- A branch, and the condition of a loop where there is one.
+-- A branch.
 abbrev pub branch_form : Branch → ExpressionForm × StmtsForm
 branch_form b = (expression_form b.condition, stmts_form b.statements.items)
 
-abbrev pub condition_in : Option Expression → Option ExpressionForm
-condition_in condition = condition_form condition
+-- The head of a loop, as the code keeps it.
+abbrev pub head_in : Head → LoopHead
+head_in (head.Condition condition) = on_condition (condition_form condition)
+head_in (head.Range parameter first last) = over_range parameter.0 (expression_form first) (expression_form last)
 
 -- What the handlers do.
 abbrev pub handlers_in : Vec Handler → HandlersForm
@@ -155,13 +158,14 @@ handlers_in handlers = handlers_form handlers.items
 abbrev pub choices_in : Vec Choice → List Choice
 choices_in choices = choices.items
 
+-- A handler, as the program keeps it: its choices and its statements.
 abbrev pub handler_form : Handler → List Choice × StmtsForm
 handler_form h = (h.choices.items, stmts_form h.statements.items)
 
 -- The branches of an `if` are answered: whatever comes of the other statements behind them, they come first.
-abbrev pub AnswersBranches : Result (Vec Branch) NameFault → Notes → (texts : ℕ) → (Others → Told (BranchesForm × Notes)) → Type 0
-AnswersBranches (Ok made) notes texts told = (others : Others) → told others ≡ made_into (branches_form made.items) (others texts notes)
-AnswersBranches (Err e) notes texts told = (others : Others) → Refuses e (told others)
+abbrev pub AnswersBranches : Result (Vec Branch) NameFault → At → (Others → Told (BranchesForm × At)) → Type 0
+AnswersBranches (Ok made) at told = (others : Others) → told others ≡ made_into (branches_form made.items) (others at)
+AnswersBranches (Err e) at told = (others : Others) → Refuses e (told others)
 
 -- A value as it is.
 abbrev pub itself : {X : Type 0} → X → X

@@ -3,9 +3,9 @@
 ghost use Rattle.std.specs.Prelude.{◌≡◌, IfErr};
 ghost use Rattle.ada_tree.specs.ExpressionView.{expression_of};
 ghost use Rattle.ada_program.specs.Form.{expression_form};
-ghost use Rattle.ada_resolve.specs.Calls.{actual_wanted, freed_wanted, freeing, getting, got_wanted, no_path_remark, taking};
+ghost use Rattle.ada_resolve.specs.Calls.{actual_wanted, freed_wanted, freeing, getting, got_wanted, no_path_remark, taking, written_wanted};
 ghost use Rattle.ada_resolve.specs.Look.{Looks, actual_look, call_look, library_call_look, named_call_look, actual_value_look, taker_look};
-ghost use Rattle.ada_resolve.specs.Method.{known, IsNoted, Remarks};
+ghost use Rattle.ada_resolve.specs.Method.{known, entity_of, IsNoted, Remarks};
 ghost use Rattle.ada_resolve.specs.Paths.{integer_value};
 ghost use Rattle.ada_resolve.specs.View.{stmt_in, meant_of};
 
@@ -154,7 +154,9 @@ impl<'t> Resolver<'t> {
                 let spot = path.root.spot;
                 notes.node(spot);
                 let meant = self.path(path, notes)?;
-                Ok(taking(callee, meant, spot, notes))
+                let done = taking(callee, meant, spot, notes);
+                self.written(path.root, notes);
+                Ok(done)
             }
             Expression::Chain { first, links } if links.is_empty() => {
                 self.actual_value(callee, first, notes)
@@ -168,6 +170,15 @@ impl<'t> Resolver<'t> {
                 self.no_path(value, notes)?;
                 Ok(None)
             }
+        }
+    }
+
+    /// What is written to is no constant.
+    fn written(&self, name: Identifier<'t>, notes: &mut Notes)
+        ensures { IsNoted notes (written_wanted (entity_of self name.entry) name.entry.spot) }
+    {
+        if let Some(Entity::Parameter(_)) = self.visible(name.text) {
+            notes.note(name.spot, NameRule::WrongType);
         }
     }
 

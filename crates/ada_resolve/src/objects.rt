@@ -60,9 +60,9 @@ impl<'t> Resolver<'t> {
         self.declare(name.text, Entity::Variable { variable, kind })
     }
 
-    /// One more object.
+    /// One more variable.
     #[tactic(auto, unfolding(crate::specs::View::known_of), using(crate::proofs::Names::map_snoc))]
-    fn add_variable(
+    pub(crate) fn add_variable(
         &mut self,
         name: Identifier<'t>,
         kind: VariableKind,

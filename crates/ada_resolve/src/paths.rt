@@ -53,6 +53,15 @@ impl<'t> Resolver<'t> {
             (Some(Entity::Variable { variable, kind }), _) => {
                 self.variable_value(variable, name.spot, kind, selectors, notes)
             }
+            (Some(Entity::Parameter(parameter)), _) => {
+                self.variable_value(
+                    parameter,
+                    name.spot,
+                    VariableKind::Integer,
+                    selectors,
+                    notes,
+                )
+            }
             (Some(Entity::Number(value)), []) => Ok(Meant::Integer(Expression::Integer(value))),
             (Some(Entity::Truth(value)), []) => Ok(Meant::Boolean(Expression::Boolean(value))),
             (Some(_), _) => {

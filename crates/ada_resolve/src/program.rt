@@ -1,13 +1,13 @@
 //! From the tree to the program: what each name stands for, and whether each form has the types that it wants.
 
-ghost use Rattle.std.specs.Prelude.{◌≡◌, [], map, IfOk, IfErr};
+ghost use Rattle.std.specs.Prelude.{◌≡◌, map, IfOk, IfErr};
 ghost use Rattle.ada_tree.specs.Declarations.{clause_of};
 ghost use Rattle.ada_tree.specs.Names.{ident_of, optional_ident_of, name_of};
 ghost use Rattle.ada_tree.specs.StatementView.{unit_of};
 ghost use Rattle.ada_program.specs.ProgramForm.{program_form};
 ghost use Rattle.ada_program.specs.WellFormed.{IsWellFormed};
 ghost use Rattle.ada_resolve.specs.Method.{Finds, IsNoted, end_outcome, program_in, procedure_outcome};
-ghost use Rattle.ada_resolve.specs.Resolution.{units_of, clause_told, clauses_told, procedure_remark, same_name, Resolves, no_units, unit_told};
+ghost use Rattle.ada_resolve.specs.Resolution.{units_of, clause_told, clauses_told, alone_remark, same_name, Resolves, no_units, unit_told};
 ghost use Rattle.ada_resolve.specs.View.{same_units, Answers, Tells, Faults, done};
 
 use crate::components::definitions;
@@ -45,9 +45,8 @@ fn whole_program(alloc: Global, unit: &Unit<'_>) -> Result<Program, NameFault>
 {
     let withs = library_units(&unit.clauses)?;
     let mut resolver = Resolver::new(alloc, withs, unit.name.text);
-    let mut texts = Vec::new(alloc);
-    let body = procedure(&mut resolver, unit, &mut texts)?;
-    assemble(resolver, texts, body)
+    let body = procedure(&mut resolver, unit)?;
+    assemble(resolver, body)
 }
 
 /// What the procedure does: its statements, and what handles their exceptions (11.2).
@@ -57,45 +56,31 @@ struct Body {
     handlers: Vec<Handler>,
 }
 
-/// The body of the procedure, behind its name and its declarations; and its end. The texts that it writes are added.
+/// The body of the procedure, behind its name and its declarations; and its end.
 #[tactic(auto, using(crate::proofs::Views::body_view, crate::proofs::Views::begin_view))]
-fn procedure<'t>(
-    resolver: &mut Resolver<'t>,
-    unit: &Unit<'t>,
-    texts: &mut Vec<String>,
-) -> Result<Body, NameFault>
-    requires { texts.old.items ≡ [] }
-    ensures { Answers result (program_in resolver.new texts.new) (procedure_outcome resolver.old unit.now) }
+fn procedure<'t>(resolver: &mut Resolver<'t>, unit: &Unit<'t>) -> Result<Body, NameFault>
+    ensures { Answers result (program_in resolver.new) (procedure_outcome resolver.old unit.now) }
 {
     let mut notes = Notes::new();
-    procedure_name(unit.name, unit.spot, &mut notes);
+    alone(unit.name, unit.spot, &mut notes);
     notes.settle()?;
     resolver.declarations(&unit.declarations, &mut notes)?;
     resolver.begin(unit.body.begin, &mut notes)?;
-    let statements = resolver.statements(&unit.body.statements, false, texts, &mut notes)?;
-    procedure_end(
-        resolver,
-        unit,
-        statements,
-        &unit.body.handlers,
-        texts,
-        &mut notes,
-    )
+    let statements = resolver.statements(&unit.body.statements, false, &mut notes)?;
+    procedure_end(resolver, unit, statements, &unit.body.handlers, &mut notes)
 }
 
-/// The end of the procedure, behind its statements: its handlers, and its name. The texts that the handlers write are added.
-#[tactic(auto, using(crate::proofs::Names::mapped_length))]
+/// The end of the procedure, behind its statements: its handlers, and its name.
 fn procedure_end<'t>(
-    resolver: &Resolver<'t>,
+    resolver: &mut Resolver<'t>,
     unit: &Unit<'t>,
     statements: Vec<Stmt>,
     handlers: &[WrittenHandler<'t>],
-    texts: &mut Vec<String>,
     notes: &mut Notes,
 ) -> Result<Body, NameFault>
-    ensures { Answers result (program_in resolver.now texts.new) (end_outcome resolver.now unit.now statements handlers.now texts notes) }
+    ensures { Answers result (program_in resolver.new) (end_outcome resolver.old unit.now statements handlers.now notes) }
 {
-    let handlers = resolver.handlers(handlers, false, texts, notes)?;
+    let handlers = resolver.handlers(handlers, false, notes)?;
     same_name(unit.name, unit.end_name)?;
     Ok(Body {
         statements,
@@ -161,9 +146,9 @@ fn with_unit(name: &Name<'_>, units: Withs) -> Result<Withs, NameFault>
     }
 }
 
-/// What is wrong with the procedure's name.
-fn procedure_name(name: Identifier<'_>, spot: Spot, notes: &mut Notes)
-    ensures { IsNoted notes (procedure_remark (ident_of name.entry) spot) }
+/// What is wrong with a name that no other one of its part can be, in a construct that begins at the spot.
+pub(crate) fn alone(name: Identifier<'_>, spot: Spot, notes: &mut Notes)
+    ensures { IsNoted notes (alone_remark (ident_of name.entry) spot) }
 {
     notes.note_if(is_taken(name.text), name.spot, NameRule::DeclaredTwice);
     notes.note_if(is_primitive(name.text), spot, NameRule::NotInProfile);
@@ -184,8 +169,8 @@ fn same_name(name: Identifier<'_>, last: Option<Identifier<'_>>) -> Result<(), N
 
 /// The program of what is resolved.
 #[tactic(auto, unfolding(crate::specs::View::known_of))]
-fn assemble(resolver: Resolver<'_>, texts: Vec<String>, body: Body) -> Result<Program, NameFault>
-    ensures program { Finds program_form result (program_in resolver.entry texts body) }
+fn assemble(resolver: Resolver<'_>, body: Body) -> Result<Program, NameFault>
+    ensures program { Finds program_form result (program_in resolver.entry body) }
     ensures memory { IfErr result (λ e. e ≡ NameFault.NoMemory) }
 {
     let types = definitions(resolver.alloc, &resolver.types)?;
@@ -198,6 +183,7 @@ fn assemble(resolver: Resolver<'_>, texts: Vec<String>, body: Body) -> Result<Pr
         types: _,
         variables,
         exceptions,
+        texts,
     } = resolver;
     Ok(Program {
         types,

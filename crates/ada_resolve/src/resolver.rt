@@ -39,6 +39,8 @@ pub(crate) struct Resolver<'t> {
     pub(crate) variables: Vec<Variable>,
     /// The names of the declared exceptions, in upper case.
     pub(crate) exceptions: Vec<String>,
+    /// The texts that the statements so far write.
+    pub(crate) texts: Vec<String>,
 }
 
 impl<'t> Resolver<'t> {
@@ -56,6 +58,7 @@ impl<'t> Resolver<'t> {
             types: Vec::new(alloc),
             variables: Vec::new(alloc),
             exceptions: Vec::new(alloc),
+            texts: Vec::new(alloc),
         }
     }
 

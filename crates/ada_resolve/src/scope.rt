@@ -35,6 +35,8 @@ pub(crate) enum Entity {
         variable: VariableNo,
         kind: VariableKind,
     },
+    /// A loop parameter: an Integer, and a constant (5.5).
+    Parameter(VariableNo),
 }
 
 /// What a predefined name stands for.

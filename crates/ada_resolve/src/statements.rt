@@ -1,61 +1,60 @@
 //! Resolution of statements (5.1).
 
-ghost use Rattle.std.specs.Prelude.{◌≡◌, map, OnOk, IfErr};
+ghost use Rattle.std.specs.Prelude.{◌≡◌, length, map, OnOk, IfErr};
 ghost use Rattle.ada_tree.specs.ExpressionView.{argument_of};
 ghost use Rattle.ada_tree.specs.Names.{ident_of};
-ghost use Rattle.ada_tree.specs.StatementView.{branch_of, statement_of, statements_of};
+ghost use Rattle.ada_tree.specs.StatementView.{branch_of, handler_of, sequence_of, statement_of, statements_of};
 ghost use Rattle.ada_program.specs.Form.{expression_form, stmt_form};
+ghost use Rattle.ada_resolve.specs.Known.{with_part};
 ghost use Rattle.ada_resolve.specs.Look.{Looks, assignment_look, condition_look, exit_look, named_assignment_look, statement_look};
-ghost use Rattle.ada_resolve.specs.Method.{known, IsNoted, AddsTexts, BranchesCome, Comes, branch_comes, branch_texts, branches_come, scheme_comes, simple_comes, statement_comes, statements_come};
-ghost use Rattle.ada_resolve.specs.Resolution.{body_remark};
-ghost use Rattle.ada_resolve.specs.Statements.{simple_texts, target_found, target_remark, form_or_null, text_in, texts_in, texts_of};
-ghost use Rattle.ada_resolve.specs.View.{branch_form, condition_in, stmt_in, statements_in};
+ghost use Rattle.ada_resolve.specs.Method.{known, IsNoted, Changes, Does, DoesBranches, Takes, branches_come, handlers_of};
+ghost use Rattle.ada_resolve.specs.Resolution.{block_told, body_remark, branch_told, handler_told, handlers_told, node_told, simple_told, statement_told, statements_told};
+ghost use Rattle.ada_resolve.specs.Statements.{simple_texts, target_found, target_remark, form_or_null, text_in, with_texts};
+ghost use Rattle.ada_resolve.specs.View.{branch_form, handler_form, handlers_in, stmt_in, statements_in};
 
 use crate::fault::{NameFault, NameRule};
 use crate::notes::Notes;
 use crate::resolver::Resolver;
 use crate::scope::Entity;
 use crate::spots::{expression_spot, statement_spot};
-use ada_program::program::{self, Branch, Expression, Stmt, TextNo, VariableKind};
+use ada_program::program::{self, Branch, Handler, Stmt, TextNo, VariableKind};
 use ada_program::{Spot, VariableNo};
 use ada_tree::expressions::{Argument, Expression as Written, Right};
 use ada_tree::names::{Identifier, Path};
-use ada_tree::statements::{Branch as WrittenBranch, Scheme, Statement};
+use ada_tree::statements::{
+    Branch as WrittenBranch, Handler as WrittenHandler, Sequence, Statement,
+};
 
 impl<'t> Resolver<'t> {
-    /// The statements, in order, in a loop or not; the texts that they write are added.
+    /// The statements, in order, in a loop or not.
     #[cycle(statements)]
-    #[tactic(auto, using(std::proofs::lemmas::Grind::common_steps, crate::proofs::Told::after_none, crate::proofs::Told::after_fault, crate::proofs::Told::statement_done, crate::proofs::Told::after_end, crate::proofs::Names::length_added))]
+    #[tactic(auto, using(std::proofs::lemmas::Grind::common_steps, crate::proofs::Told::after_none, crate::proofs::Told::after_fault, crate::proofs::Told::statement_done, crate::proofs::Told::after_end))]
     pub(crate) fn statements(
-        &self,
+        &mut self,
         statements: &[Statement<'t>],
         inside_loop: bool,
-        texts: &mut Vec<String>,
         notes: &mut Notes,
     ) -> Result<Vec<Stmt>, NameFault>
-        ensures done { Comes result statements_in notes (statements_come self inside_loop texts statements.now) }
-        ensures texts { OnOk result (AddsTexts texts (texts_of (statements_of statements.now))) }
+        ensures { Does result statements_in self notes (statements_told inside_loop (statements_of statements.now)) }
     {
         let mut made = Vec::new(self.alloc);
         'statements: for one in statements {
-            let next = self.statement(one, inside_loop, texts, notes)?;
+            let next = self.statement(one, inside_loop, notes)?;
             made.push(next)?;
         }
         Ok(made)
     }
 
-    /// One statement, with those in it; the texts that they write are added.
+    /// One statement, with those in it.
     #[cycle(statements)]
-    #[tactic(auto, using(std::proofs::lemmas::Grind::common_steps, ada_tree::specs::StatementView::statement_rules, ada_program::specs::Form::statement_rules))]
+    #[tactic(auto, using(std::proofs::lemmas::Grind::common_steps, ada_tree::specs::StatementView::statement_rules, ada_program::specs::Form::statement_rules, crate::proofs::Views::begin_view))]
     fn statement(
-        &self,
+        &mut self,
         statement: &Statement<'t>,
         inside_loop: bool,
-        texts: &mut Vec<String>,
         notes: &mut Notes,
     ) -> Result<Stmt, NameFault>
-        ensures done { Comes result stmt_form notes (statement_comes self inside_loop texts statement.now) }
-        ensures texts { OnOk result (AddsTexts texts (texts_in (statement_of statement.now))) }
+        ensures { Does result stmt_form self notes (statement_told inside_loop (statement_of statement.now)) }
     {
         match statement {
             Statement::If {
@@ -66,8 +65,8 @@ impl<'t> Resolver<'t> {
             } => {
                 notes.node(*spot);
                 notes.settle()?;
-                let branches = self.branches(branches, inside_loop, texts, notes)?;
-                let otherwise = self.statements(otherwise, inside_loop, texts, notes)?;
+                let branches = self.branches(branches, inside_loop, notes)?;
+                let otherwise = self.statements(otherwise, inside_loop, notes)?;
                 Ok(Stmt::If {
                     branches,
                     otherwise,
@@ -80,43 +79,67 @@ impl<'t> Resolver<'t> {
                 end,
             } => {
                 note_body(*spot, statements, notes);
-                let condition = self.scheme(*spot, scheme, notes)?;
-                let statements = self.statements(statements, true, texts, notes)?;
-                Ok(Stmt::Loop {
-                    condition,
-                    statements,
-                    end: *end,
-                })
+                let head = self.loop_head(*spot, scheme, notes)?;
+                let statements = self.statements(statements, true, notes)?;
+                Ok(self.end_of_loop(head, statements, *end))
+            }
+            Statement::Block(body) => {
+                self.begin_block(body.begin, notes)?;
+                self.block(body, inside_loop, notes)
+            }
+            Statement::DeclareBlock {
+                spot,
+                declarations,
+                body,
+            } => {
+                self.begin_block(*spot, notes)?;
+                self.declarations(declarations, notes)?;
+                self.block(body, inside_loop, notes)
             }
             Statement::Null(_)
             | Statement::Assignment { .. }
             | Statement::Call { .. }
             | Statement::Exit { .. }
             | Statement::Return(_)
-            | Statement::Raise { .. }
-            | Statement::Block(_)
-            | Statement::DeclareBlock { .. } => {
-                self.simple_statement(statement, inside_loop, texts, notes)
-            }
+            | Statement::Raise { .. } => self.simple_statement(statement, inside_loop, notes),
         }
+    }
+
+    /// A block whose declarations are known (5.6): its statements, and their handlers. Its part ends behind them.
+    #[cycle(statements)]
+    #[tactic(auto, using(std::proofs::lemmas::Grind::common_steps, ada_program::specs::Form::statement_rules, crate::proofs::Views::body_view))]
+    fn block(
+        &mut self,
+        body: &Sequence<'t>,
+        inside_loop: bool,
+        notes: &mut Notes,
+    ) -> Result<Stmt, NameFault>
+        ensures { Does result stmt_form self notes (block_told inside_loop (sequence_of body.now)) }
+    {
+        self.begin(body.begin, notes)?;
+        let statements = self.statements(&body.statements, inside_loop, notes)?;
+        let handlers = self.handlers(&body.handlers, inside_loop, notes)?;
+        Ok(Stmt::Block {
+            declarations: self.leave_part(),
+            statements,
+            handlers,
+        })
     }
 
     /// The branches of an `if`, in order: each condition before its statements.
     #[cycle(statements)]
-    #[tactic(auto, using(std::proofs::lemmas::Grind::common_steps, crate::proofs::Told::after_no_branch, crate::proofs::Told::after_last_branch, crate::proofs::Names::length_added))]
+    #[tactic(auto, using(std::proofs::lemmas::Grind::common_steps, crate::proofs::Told::after_no_branch, crate::proofs::Told::after_last_branch))]
     fn branches(
-        &self,
+        &mut self,
         branches: &[WrittenBranch<'t>],
         inside_loop: bool,
-        texts: &mut Vec<String>,
         notes: &mut Notes,
     ) -> Result<Vec<Branch>, NameFault>
-        ensures done { BranchesCome result notes texts (branches_come self inside_loop texts branches.now) }
-        ensures texts { OnOk result (AddsTexts texts (branch_texts branches.now)) }
+        ensures { DoesBranches result self notes (branches_come inside_loop branches.now) }
     {
         let mut made = Vec::new(self.alloc);
         'branches: for branch in branches {
-            let next = self.branch(branch, inside_loop, texts, notes)?;
+            let next = self.branch(branch, inside_loop, notes)?;
             made.push(next)?;
         }
         Ok(made)
@@ -125,53 +148,77 @@ impl<'t> Resolver<'t> {
     /// One branch: its condition, then its statements.
     #[cycle(statements)]
     fn branch(
-        &self,
+        &mut self,
         branch: &WrittenBranch<'t>,
         inside_loop: bool,
-        texts: &mut Vec<String>,
         notes: &mut Notes,
     ) -> Result<Branch, NameFault>
-        ensures done { Comes result branch_form notes (branch_comes self inside_loop texts branch.now) }
-        ensures texts { OnOk result (AddsTexts texts (texts_of (branch_of branch.now).statements)) }
+        ensures { Does result branch_form self notes (branch_told inside_loop (branch_of branch.now)) }
     {
         let condition = self.condition(&branch.condition, notes)?;
         notes.settle()?;
-        let statements = self.statements(&branch.statements, inside_loop, texts, notes)?;
+        let statements = self.statements(&branch.statements, inside_loop, notes)?;
         Ok(Branch {
             condition,
             statements,
         })
     }
 
-    /// The head of a loop, which begins at the spot: its condition, where there is one.
-    fn scheme(
-        &self,
-        spot: Spot,
-        scheme: &Scheme<'t>,
+    /// The handlers, in order, in a loop or not (11.2).
+    #[cycle(statements)]
+    #[tactic(auto, using(std::proofs::lemmas::Grind::common_steps, crate::proofs::Handled::after_none, crate::proofs::Handled::after_end))]
+    pub(crate) fn handlers(
+        &mut self,
+        handlers: &[WrittenHandler<'t>],
+        inside_loop: bool,
         notes: &mut Notes,
-    ) -> Result<Option<Expression>, NameFault>
-        ensures done { Comes result condition_in notes (scheme_comes self spot scheme.now) }
+    ) -> Result<Vec<Handler>, NameFault>
+        ensures { Does result handlers_in self notes (handlers_told inside_loop (handlers_of handlers.now)) }
     {
-        let condition = match scheme {
-            Scheme::Endless => {
-                notes.node(spot);
-                None
-            }
-            Scheme::While(condition) => {
-                notes.node(spot);
-                Some(self.condition(condition, notes)?)
-            }
-            Scheme::For { .. } => {
-                notes.note(spot, NameRule::NotInProfile);
-                None
-            }
-        };
+        let mut made = Vec::new(self.alloc);
+        'handlers: for one in handlers {
+            let next = self.handler(one, inside_loop, notes)?;
+            made.push(next)?;
+        }
+        Ok(made)
+    }
+
+    /// One handler: its choices, then its statements.
+    #[cycle(statements)]
+    fn handler(
+        &mut self,
+        handler: &WrittenHandler<'t>,
+        inside_loop: bool,
+        notes: &mut Notes,
+    ) -> Result<Handler, NameFault>
+        ensures { Does result handler_form self notes (handler_told inside_loop (handler_of handler.now)) }
+    {
+        note_body(handler.spot, &handler.statements, notes);
+        notes.node(handler.spot);
+        let choices = self.choices(&handler.choices, notes)?;
         notes.settle()?;
-        Ok(condition)
+        let statements = self.statements(&handler.statements, inside_loop, notes)?;
+        Ok(Handler {
+            choices,
+            statements,
+        })
+    }
+
+    /// A block begins at the spot (5.6): it is a node of the source, and has a part of its own.
+    fn begin_block(&mut self, spot: Spot, notes: &mut Notes) -> Result<(), NameFault>
+        ensures { Takes result self notes (λ at. node_told spot (with_part at.0) at.1) }
+    {
+        notes.node(spot);
+        notes.settle()?;
+        self.enter_part()
     }
 
     /// A condition (5.3): False where something is wrong.
-    fn condition(&self, condition: &Written<'t>, notes: &mut Notes) -> Result<Expression, NameFault>
+    pub(crate) fn condition(
+        &self,
+        condition: &Written<'t>,
+        notes: &mut Notes,
+    ) -> Result<program::Expression, NameFault>
         ensures { Looks expression_form result notes (condition_look self condition.now) }
     {
         let meant = self.expression(condition, notes)?;
@@ -181,18 +228,16 @@ impl<'t> Resolver<'t> {
 
     /// A statement with no others in it; a text that it writes is added.
     fn simple_statement(
-        &self,
+        &mut self,
         statement: &Statement<'t>,
         inside_loop: bool,
-        texts: &mut Vec<String>,
         notes: &mut Notes,
     ) -> Result<Stmt, NameFault>
-        ensures done { Comes result stmt_form notes (simple_comes self inside_loop texts statement.now) }
-        ensures texts { OnOk result (AddsTexts texts (simple_texts (statement_of statement.now))) }
+        ensures { Does result stmt_form self notes (simple_told inside_loop (statement_of statement.now)) }
     {
-        let found = self.meaning(statement, inside_loop, TextNo(texts.len()), notes)?;
+        let found = self.meaning(statement, inside_loop, notes)?;
         notes.settle()?;
-        self.add_text(statement, texts)?;
+        self.add_text(statement)?;
         Ok(or_null(found))
     }
 
@@ -216,16 +261,15 @@ impl<'t> Resolver<'t> {
         Ok(Some(Stmt::Exit { condition, spot }))
     }
 
-    /// What a statement does, where nothing is wrong with it. A text that it writes has this number.
+    /// What a statement does, where nothing is wrong with it. A text that it writes has the next number.
     #[tactic(auto, using(std::proofs::lemmas::Grind::common_steps, ada_tree::specs::StatementView::statement_rules, ada_program::specs::Form::statement_rules))]
     fn meaning(
         &self,
         statement: &Statement<'t>,
         inside_loop: bool,
-        text: TextNo,
         notes: &mut Notes,
     ) -> Result<Option<Stmt>, NameFault>
-        ensures { Looks stmt_in result notes (statement_look self inside_loop text.0 statement.now) }
+        ensures { Looks stmt_in result notes (statement_look self inside_loop statement.now) }
     {
         match statement {
             Statement::Null(spot) => {
@@ -236,7 +280,7 @@ impl<'t> Resolver<'t> {
             Statement::Call {
                 procedure,
                 arguments,
-            } => self.call(procedure, arguments, text, notes),
+            } => self.call(procedure, arguments, self.next_text(), notes),
             Statement::Exit { spot, condition } => self.exit(*spot, condition, inside_loop, notes),
             Statement::Return(spot) => {
                 notes.node(*spot);
@@ -253,14 +297,22 @@ impl<'t> Resolver<'t> {
         }
     }
 
+    /// The number of the next text.
+    #[tactic(auto, unfolding(crate::specs::View::known_of))]
+    fn next_text(&self) -> TextNo
+        ensures { result.0 ≡ length (known self).texts }
+    {
+        TextNo(self.texts.len())
+    }
+
     /// The text that a statement writes is added, if it writes one.
     #[tactic(auto, using(std::proofs::lemmas::Grind::common_steps, ada_tree::specs::StatementView::statement_rules))]
-    fn add_text(&self, statement: &Statement<'t>, texts: &mut Vec<String>) -> Result<(), NameFault>
-        ensures texts { OnOk result (AddsTexts texts (simple_texts (statement_of statement.now))) }
+    fn add_text(&mut self, statement: &Statement<'t>) -> Result<(), NameFault>
+        ensures known { OnOk result (Changes self (with_texts (simple_texts (statement_of statement.now)))) }
         ensures memory { IfErr result (λ e. e ≡ NameFault.NoMemory) }
     {
         match statement {
-            Statement::Call { arguments, .. } => self.add_first_text(arguments, texts),
+            Statement::Call { arguments, .. } => self.add_first_text(arguments),
             Statement::Null(_)
             | Statement::Assignment { .. }
             | Statement::If { .. }
@@ -274,17 +326,13 @@ impl<'t> Resolver<'t> {
     }
 
     /// The text that the first argument of a call is, is added, if it is one.
-    #[tactic(auto, using(crate::proofs::Names::map_snoc))]
-    fn add_first_text(
-        &self,
-        arguments: &[Argument<'t>],
-        texts: &mut Vec<String>,
-    ) -> Result<(), NameFault>
-        ensures texts { OnOk result (AddsTexts texts (text_in (map argument_of arguments.now))) }
+    #[tactic(auto, unfolding(crate::specs::View::known_of), using(crate::proofs::Names::map_snoc))]
+    fn add_first_text(&mut self, arguments: &[Argument<'t>]) -> Result<(), NameFault>
+        ensures known { OnOk result (Changes self (with_texts (text_in (map argument_of arguments.now)))) }
         ensures memory { IfErr result (λ e. e ≡ NameFault.NoMemory) }
     {
         if let Some(Argument::Text { text, .. }) = arguments.first() {
-            texts.push(String::from_str(self.alloc, text)?)?;
+            self.texts.push(String::from_str(self.alloc, text)?)?;
         }
         Ok(())
     }
@@ -367,7 +415,7 @@ fn or_null(found: Option<Stmt>) -> Stmt
 
 /// A loop or a handler has a statement (5.5, 11.2).
 #[tactic(auto, using(std::proofs::lemmas::Grind::common_steps, ada_tree::specs::StatementView::statement_rules))]
-pub(crate) fn note_body(spot: Spot, statements: &[Statement<'_>], notes: &mut Notes)
+fn note_body(spot: Spot, statements: &[Statement<'_>], notes: &mut Notes)
     ensures { IsNoted notes (body_remark spot (statements_of statements.now)) }
 {
     if statements.first().is_none() {

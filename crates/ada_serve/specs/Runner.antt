@@ -70,6 +70,7 @@ end_text exceptions (Erroneous why) = erroneous_text
 end_text exceptions Stuck = erroneous_text
 end_text exceptions Memory = []
 
+-- The status of a run that has halted.
 abbrev pub status_of : Halt → Status
 status_of Finished = status.Finished
 status_of (Unhandled e) = status.Unhandled

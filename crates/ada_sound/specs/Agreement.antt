@@ -89,7 +89,7 @@ mutual
         → ComesInside variables (in_block (collected ds) around) (frame.Does fs ∷ outer) ds body hs holds way place at
         → Comes variables around outer (a_stmt (encloses ds body hs) fs) holds (into ∷ way) place at
 
-  -- The same from the branches of an `if` on.
+  -- Flow comes to a place from the branches of an `if` on.
   pub data ComesBy (variables : List VariableForm) : Around → (outer : Place) → BranchesForm → Holds → List Turning → Place → Holds → Type 0 where
     in_others : {around : Around} {outer place : Place} {fs : StmtsForm} {holds at : Holds} {way : List Turning}
         → Comes variables around outer fs holds way place at → ComesBy variables around outer (otherwise fs) holds (into ∷ way) place at
@@ -102,14 +102,14 @@ mutual
         (mid : Holds) → computed e holds ≡ goes (Some mid) raising → ComesBy variables around outer branches mid way place at
         → ComesBy variables around outer (a_branch e fs branches) holds (past ∷ way) place at
 
-  -- The same from handlers on, which begin with these holds (11.4).
+  -- Flow comes to a place from handlers on, which begin with these holds (11.4).
   pub data ComesTo (variables : List VariableForm) : Around → (outer : Place) → HandlersForm → Holds → List Turning → Place → Holds → Type 0 where
     to_this : {around : Around} {outer place : Place} {choices : List Choice} {fs : StmtsForm} {hs : HandlersForm} {holds at : Holds} {way : List Turning}
         → Comes variables around outer fs holds way place at → ComesTo variables around outer (a_handler choices fs hs) holds (into ∷ way) place at
     to_next : {around : Around} {outer place : Place} {choices : List Choice} {fs : StmtsForm} {hs : HandlersForm} {holds at : Holds} {way : List Turning}
         → ComesTo variables around outer hs holds way place at → ComesTo variables around outer (a_handler choices fs hs) holds (past ∷ way) place at
 
-  -- The same from the declarations of a master on: into its statements, or, from where these raise an exception, into their handlers.
+  -- Flow comes to a place from the declarations of a master on: into its statements, or, from where these raise an exception, into their handlers.
   pub data ComesInside (variables : List VariableForm) : Around → (outer : Place) → List DeclarationForm → StmtsForm → HandlersForm → Holds → List Turning → Place → Holds → Type 0 where
     in_statements : {around : Around} {raising : Option Holds} {outer place : Place}
         {ds : List DeclarationForm} {body : StmtsForm} {hs : HandlersForm} {holds at : Holds} {way : List Turning}

@@ -22,7 +22,7 @@ use Rattle.ada_sound.specs.Agreement.{Agrees, Turning, IsFlowAt}
 abbrev pub InEveryRun : Program → (List Event → State → Type 0) → Type 0
 InEveryRun program P = (input : List ℤ) (events : List Event) (last : State) → Run program (first_state program input) events last → P events last
 
--- The same in every run of each program that obeys the rules.
+-- It holds in every run of each program that obeys the rules.
 abbrev pub InEveryObedientRun : (List Event → State → Type 0) → Type 0
 InEveryObedientRun P = (program : Program) → ObeysRules program → InEveryRun program P
 
@@ -51,6 +51,7 @@ BacksGoHome events last = All (IsBackHome last.heap) events
 abbrev pub ItemNumbersFall : List Event → State → Type 0
 ItemNumbersFall events last = AllPairs Falls (items_of last.masters)
 
+-- The numbers of masters fall from the innermost one out.
 abbrev pub MasterNumbersFall : List Event → State → Type 0
 MasterNumbersFall events last = AllPairs MastersFall last.masters
 

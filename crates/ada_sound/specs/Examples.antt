@@ -29,6 +29,7 @@ example_events =
 abbrev pub example_spot : Spot
 example_spot = record { line = 1; column = 1 }
 
+-- A path of the examples: a variable, and components behind it.
 abbrev pub example_path : ℕ → List ℕ → PathForm
 example_path x cs = record { root = x; selectors = cs; spot = example_spot }
 
@@ -39,12 +40,15 @@ repeating_else =
     (a_stmt (frees 1 (example_path 0 []))
     (a_stmt (exits None example_spot) no_stmts))
 
+-- X := new Cell'(Value => 7); and what is behind it.
 abbrev pub seven_to_x : StmtsForm → StmtsForm
 seven_to_x behind = a_stmt (assigns (example_path 0 []) (allocates 1 (item_of_value (integer (pos 7)) ∷ []))) behind
 
+-- The body of the loop.
 abbrev pub repeating_body : StmtsForm
 repeating_body = a_stmt (chooses (a_branch (is_null true (example_path 0 [])) (seven_to_x no_stmts) (otherwise repeating_else))) no_stmts
 
+-- The loop.
 abbrev pub repeating_stmts : StmtsForm
 repeating_stmts = a_stmt (repeats None repeating_body example_spot) no_stmts
 
@@ -61,6 +65,7 @@ repeating_events =
 abbrev pub returning_body : StmtsForm
 returning_body = a_stmt (frees 1 (example_path 0 [])) (a_stmt (exits (Some (is_null false (example_path 0 []))) example_spot) no_stmts)
 
+-- The statements of the program.
 abbrev pub returning_stmts : StmtsForm
 returning_stmts =
     seven_to_x
@@ -73,9 +78,11 @@ returning_events = Back (Names (record { 0 = 0 })) 1 1 0 None (Freeing 1) ∷ Le
 
 -- The words of an example with three variables: X and Y have numbers 0 and 1, and N : Integer := 0 has number 2.
 
+-- What N holds.
 abbrev pub n_now : ExpressionForm
 n_now = reads (example_path 2 [])
 
+-- The component Value of the object of a variable.
 abbrev pub value_at : ℕ → ExpressionForm
 value_at x = reads (example_path x (0 ∷ []))
 
@@ -83,6 +90,7 @@ value_at x = reads (example_path x (0 ∷ []))
 abbrev pub with_number : BinaryOperator → ℕ → ExpressionForm → ExpressionForm
 with_number operator n e = chained e (a_link operator (integer (pos n)) no_more_links)
 
+-- new Cell'(Value => n)
 abbrev pub new_cell_with : ℕ → RightForm
 new_cell_with n = allocates 1 (item_of_value (integer (pos n)) ∷ [])
 
@@ -100,17 +108,20 @@ counting_loop =
 abbrev pub first_is_made : StmtsForm
 first_is_made = a_stmt (assigns (example_path 1 []) (new_cell_with 7)) no_stmts
 
+-- What is done in the second turn.
 abbrev pub second_is_made : StmtsForm
 second_is_made =
     a_stmt (assigns (example_path 0 []) (value_of (example_path 1 [])))
     (a_stmt (assigns (example_path 1 []) (new_cell_with 8)) no_stmts)
 
+-- What is done in the last turn.
 abbrev pub all_is_over : StmtsForm
 all_is_over =
     a_stmt (writes (value_at 1))
     (a_stmt (assigns (example_path 0 []) (value_of (example_path 1 [])))
     (a_stmt (returns example_spot) no_stmts))
 
+-- The choice among the turns.
 abbrev pub making_if : StmtForm
 making_if =
     chooses (a_branch (is_null true (example_path 1 [])) first_is_made
@@ -166,6 +177,7 @@ losing_body =
     (a_stmt (assigns (example_path 1 []) (value_of (example_path 0 [])))
     (a_stmt (frees 1 (example_path 1 [])) no_stmts))
 
+-- An object, and the loop that loses it.
 abbrev pub losing_stmts : StmtsForm
 losing_stmts = seven_to_x (a_stmt (repeats None losing_body example_spot) no_stmts)
 
@@ -184,6 +196,7 @@ leaving_body =
     (a_stmt (frees 1 (example_path 1 []))
     (a_stmt (exits None example_spot) no_stmts))
 
+-- An object, the loop that is left, and what follows it.
 abbrev pub leaving_stmts : StmtsForm
 leaving_stmts = seven_to_x (a_stmt (repeats None leaving_body example_spot) (a_stmt (writes (reads (example_path 0 (0 ∷ [])))) no_stmts))
 
@@ -197,6 +210,7 @@ handling_body =
     a_stmt (chooses (a_branch (is_null false (example_path 0 [])) (a_stmt (raises full) no_stmts) (otherwise no_stmts)))
     (seven_to_x no_stmts)
 
+-- The loop that raises.
 abbrev pub handling_stmts : StmtsForm
 handling_stmts = a_stmt (repeats None handling_body example_spot) no_stmts
 
@@ -204,7 +218,7 @@ handling_stmts = a_stmt (repeats None handling_body example_spot) no_stmts
 abbrev pub other_handlers : HandlersForm → HandlersForm
 other_handlers behind = a_handler (choice.Exception ConstraintError ∷ []) (a_stmt (writes (integer (pos 0))) no_stmts) behind
 
--- The same, and when Full => Put_Line (Integer'Image (X.Value)); Free (X);
+-- These handlers, and when Full => Put_Line (Integer'Image (X.Value)); Free (X);
 abbrev pub handling_handlers : HandlersForm
 handling_handlers =
     other_handlers
@@ -221,6 +235,7 @@ handling_events =
 
 -- The words of examples of blocks: X : Link and Y : Inner have numbers 0 and 1, and a block declares the access type Inner, of number 2.
 
+-- Y := new Inner'(Value => 8);
 abbrev pub inner_object : StmtForm
 inner_object = assigns (example_path 1 []) (allocates 2 (item_of_value (integer (pos 8)) ∷ []))
 
@@ -228,6 +243,7 @@ inner_object = assigns (example_path 1 []) (allocates 2 (item_of_value (integer 
 abbrev pub enclosed_declarations : List DeclarationForm
 enclosed_declarations = collects 2 ∷ declares 1 nothing ∷ []
 
+-- The statements inside the block.
 abbrev pub enclosed_stmts : StmtsForm
 enclosed_stmts =
     a_stmt inner_object
@@ -289,6 +305,7 @@ counting_body =
     (a_stmt (writes (chained (value_at 0) (a_link binary.Add n_now no_more_links)))
     (a_stmt (frees 1 (example_path 0 [])) no_stmts)))
 
+-- The `for` loop.
 abbrev pub counting_stmts : StmtsForm
 counting_stmts = a_stmt (counts 3 (integer (pos 1)) (integer (pos 3)) counting_body example_spot) no_stmts
 
@@ -352,11 +369,12 @@ outliving_stmts =
 abbrev pub outliving_events : List Event
 outliving_events = Back (Names (record { 0 = 0 })) 2 1 0 None (Leaving 1 3) ∷ Left 1 ∷ []
 
--- The same with an exit out of the block:
+-- That block with an exit out of it:
 -- loop declare type Inner is access Cell; begin Y := new Cell'(Value => 8); exit; end; end loop; Put_Line (Integer'Image (Y.Value));
 abbrev pub escaping_block : StmtForm
 escaping_block = encloses (collects 2 ∷ []) (a_stmt inner_object (a_stmt (exits None example_spot) no_stmts)) no_handlers
 
+-- The loop around the block, and what follows it.
 abbrev pub escaping_stmts : StmtsForm
 escaping_stmts = a_stmt (repeats None (a_stmt escaping_block no_stmts) example_spot) (a_stmt (writes (value_at 1)) no_stmts)
 
@@ -368,6 +386,7 @@ mistyping_block =
     (a_stmt inner_object (a_stmt (assigns (example_path 0 []) (value_of (example_path 1 []))) no_stmts))
     no_handlers
 
+-- The block, and what follows it.
 abbrev pub mistyping_stmts : StmtsForm
 mistyping_stmts = a_stmt mistyping_block (a_stmt (writes (value_at 0)) no_stmts)
 

@@ -25,6 +25,7 @@ abbrev pub OnlyOwnersAreFreed : Type 0
 OnlyOwnersAreFreed =
     (access : ℕ) (variable : PathForm) (holds : Holds) → IsLetThrough (frees access variable) holds → IsOwner (hold_at holds variable.root)
 
+-- A variable that was freed owns nothing.
 abbrev pub FreedOwnsNothing : Type 0
 FreedOwnsNothing =
     (access : ℕ) (variable : PathForm) (holds after : Holds) → EndsWith (frees access variable) holds after → OwnsNothing after variable.root
@@ -34,6 +35,7 @@ abbrev pub OnlyOwnersAreMoved : Type 0
 OnlyOwnersAreMoved =
     (target path : PathForm) (holds : Holds) → IsLetThrough (assigns target (value_of path)) holds → IsOwner (hold_at holds path.root)
 
+-- A variable whose value was moved owns nothing.
 abbrev pub MovedOwnsNothing : Type 0
 MovedOwnsNothing =
     (target path : PathForm) (holds after : Holds) → path.root ≢ target.root

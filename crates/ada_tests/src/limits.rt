@@ -118,15 +118,15 @@ fn limits_are_kept(rt: HostRuntime) -> Result<(), Fail> {
             " is begin null; end;",
             "refused 1:11 F05 identifier-form\n",
         ),
-        // 64 levels of nesting, and one more; blocks are not in use yet
-        blocks(64, "null;", "refused 2:1 F23 not-in-profile\n"),
+        // 64 levels of nesting, and one more
+        blocks(64, "null;", "finished\n"),
         blocks(65, "null;", "refused 2:385 F11 too-deep\n"),
         blocks(64, "P (X);", "refused 2:387 F11 too-deep\n"),
         // a body opens its level at its first word, and a specification at its parenthesis
         blocks(
             63,
             "declare procedure Q; begin null; end;",
-            "refused 2:1 F23 not-in-profile\n",
+            "refused 2:387 F23 not-in-profile\n",
         ),
         blocks(
             63,
@@ -151,12 +151,12 @@ fn limits_are_kept(rt: HostRuntime) -> Result<(), Fail> {
         blocks(
             62,
             "declare procedure Q is begin null; end; begin null; end;",
-            "refused 2:1 F23 not-in-profile\n",
+            "refused 2:381 F23 not-in-profile\n",
         ),
         blocks(
             62,
             "declare procedure Q (X : T); begin null; end;",
-            "refused 2:1 F23 not-in-profile\n",
+            "refused 2:381 F23 not-in-profile\n",
         ),
         blocks(
             62,
@@ -166,7 +166,7 @@ fn limits_are_kept(rt: HostRuntime) -> Result<(), Fail> {
         blocks(
             61,
             "declare procedure Q (X : T) is begin null; end; begin null; end;",
-            "refused 2:1 F23 not-in-profile\n",
+            "refused 2:375 F23 not-in-profile\n",
         ),
         blocks(
             63,

@@ -35,6 +35,7 @@ delimiters =
     LeftParenthesis ∷ RightParenthesis ∷ Comma ∷ Semicolon ∷ Colon ∷ Dot ∷ Tick ∷
     Plus ∷ Minus ∷ Star ∷ Slash ∷ Equal ∷ Less ∷ Greater ∷ Bar ∷ []
 
+-- Whether a text begins with the spelling of a delimiter.
 abbrev pub begins_with_delimiter : List ℕ → Delimiter → Bool
 begins_with_delimiter text d = starts_with nat_eq text (spelling d)
 

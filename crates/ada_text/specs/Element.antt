@@ -55,6 +55,7 @@ abbrev pub string_element : Option (List ℕ × ℕ) → Element
 string_element (Some found) = token (string found.0) (1 + found.1)
 string_element None = flaw OpenString
 
+-- The element of a delimiter, where a text begins with one.
 abbrev pub delimiter_element : Option Delimiter → Element
 delimiter_element (Some d) = token (delimiter d) (length (spelling d))
 delimiter_element None = flaw ByteNotAllowed

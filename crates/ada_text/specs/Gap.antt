@@ -16,7 +16,7 @@ unfoldable mutual
       else (if is_separator b then 1 + gap_len bs
       else 0)
 
-  -- The same from inside a comment, which runs to the line's end, whichever bytes it holds.
+  -- How far the gap goes on from inside a comment, which runs to the line's end, whichever bytes it holds.
   pub comment_len : List ℕ → ℕ
   comment_len [] = 0
   comment_len (b ∷ bs) = if ends_line b then 1 + gap_len bs else 1 + comment_len bs

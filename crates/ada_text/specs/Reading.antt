@@ -33,6 +33,7 @@ pub data Ending : Type 0 where
   complete : Ending
   broken : Spot → Flaw → Ending
 
+-- Whether a source ends at a place as it is told to: it is read to its end, or a fault stands there.
 abbrev pub EndsAt : List ℕ → ℕ → Ending → Type 0
 EndsAt source i complete = drop i source ≡ []
 EndsAt source i (broken spot f) = IsFlawAt source i spot f

@@ -104,6 +104,7 @@ reserved_words =
     Xor ∷
     []
 
+-- Whether letters spell a reserved word.
 abbrev pub is_spelled : List ℕ → Word → Bool
 is_spelled letters word = bytes_eq letters (spelling word)
 

@@ -13,6 +13,7 @@ unfoldable pub written : List ℕ → List Lexeme → List ℕ
 written source [] = []
 written source (t ∷ ts) = bytes_of source t ++ blank ∷ written source ts
 
+-- The kind of a token.
 abbrev pub kind_in : Lexeme → Kind
 kind_in t = t.kind
 

@@ -64,6 +64,7 @@ IsFilled types cells cell = (components : List ComponentForm) × (reached_compon
 abbrev pub cell_of : Object → Cell Value
 cell_of object = object.cell
 
+-- The cells of objects.
 abbrev pub cells_of : List Object → Cells
 cells_of objects = map cell_of objects
 

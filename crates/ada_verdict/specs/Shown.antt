@@ -9,5 +9,6 @@ use Rattle.ada_verdict.specs.Refusal.{Told}
 abbrev pub shown : Lent → Told
 shown refusal = record { line = refusal.spot.line; column = refusal.spot.column; name = refusal.name.now }
 
+-- What is shown of a refusal, where there is one.
 abbrev pub shown_if : Option Lent → Option Told
 shown_if refusal = option_map shown refusal

@@ -120,7 +120,7 @@ impl<T> Cells<T> {
         unsafe { slice::from_raw_parts(base.ptr.add(from), len) }
     }
 
-    /// The same, to be written.
+    /// Lends a run of the slots, to be written.
     pub(crate) fn slice_mut(&mut self, base: Base<T>, from: usize, len: usize) -> &mut [T]
         requires { (base.ptr ≡ self.old.at) × IsRun self.old.slots from len }
         ensures* writes_back { sem 𝓛 (lends_run T.row self.entry from len result) }

@@ -94,7 +94,7 @@ impl Region {
         self.cells.slice(self.base, place, n)
     }
 
-    /// The same, to be written.
+    /// Lends the words of a part of the region, to be written.
     pub fn view_mut(&mut self, place: usize, n: usize) -> &mut [u64]
         requires { place + n ≤ length self.old }
         ensures* writes_back { sem 𝓛 (LendsPart self.entry place n result) }

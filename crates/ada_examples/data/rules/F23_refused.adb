@@ -1,1 +1,1 @@
-procedure Main is begin begin null; end; end Main;
+procedure Main is begin exit; end Main;

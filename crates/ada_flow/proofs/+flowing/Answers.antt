@@ -224,9 +224,9 @@ statements::statement-returns-in-Block t c =
     (stmts_form c.in-Block.statements.items) (stmts_form c.deref-in-Block-6.result.now) (stmts_form c.deref-in-Block-8.result.now)
     (handlers_form c.in-Block.handlers.items) (handlers_form c.deref-in-Block-5.result.now) (handlers_form c.deref-in-Block-7.result.now)
     c.args.holds.items c.deref_mut-in-Block.result.now c.declare.new.holds (take c.args.holds.len (c.declare.new.holds ++ drop (length c.declare.new.holds) c.args.holds.items))
-    (held c.in_ok-end-in-Block.end) (held c.in_ok-end-in-Block-2.end) (held c.leave_end.result)
+    (held c.in_ok-end-in-Block.end) (held c.in_ok-end-in-Block-2.end) (held c.in_ok-leave_end-in-Block.field-0)
     form types_is c.emptied-own.ensures (ap (map declaration_form) c.deref-in-Block-4.ensures.value) c.deref_mut-in-Block.ensures.value c.in_ok-declare-in-Block.ensures
     (stands_in (map type_number c.in_ok-types-in-Block.types.items) (map type_number c.deref-in-Block-3.result.now) (around_of c.args.around.now) inside_is)
     c.with_handlers-inner.ensures (ap handlers_form c.deref-in-Block-5.ensures.value) (ap stmts_form c.deref-in-Block-6.ensures.value) (written_back c.args.holds.len c.declare.new.holds c.args.holds.items long) c.in_ok-end-in-Block.ensures
     (ap stmts_form c.deref-in-Block-8.ensures.value) (ap handlers_form c.deref-in-Block-7.ensures.value) c.in_ok-end-in-Block-2.ensures
-    (ap (map type_number) c.deref-in-Block-9.ensures.value) c.add_behind.ensures (ap (map type_number) c.deref-in-Block-10.ensures.value) c.leave_end.ensures
+    (ap (map type_number) c.deref-in-Block-9.ensures.value) c.in_ok-add_behind-in-Block.ensures (ap (map type_number) c.deref-in-Block-10.ensures.value) c.in_ok-leave_end-in-Block.ensures

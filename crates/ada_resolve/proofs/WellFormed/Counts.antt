@@ -10,7 +10,8 @@ use Rattle.ada_program.specs.WellFormed as fits
 use Rattle.ada_resolve.specs.Instances.{is_collected}
 use Rattle.ada_resolve.specs.Objects.{collections_of}
 use Rattle.ada_resolve.proofs.Names.{map_append}
-use Rattle.ada_resolve.proofs.WellFormed.Tables.{left_fails, right_fails, both_parts, first_part, second_part}
+use Rattle.ada_resolve.proofs.WellFormed.Created.{accesses}
+use Rattle.ada_resolve.proofs.WellFormed.Tables.{left_fails, right_fails}
 
 -- how many collections of an access type these create
 abbrev pub count : ℕ → List DeclarationForm → ℕ
@@ -65,7 +66,7 @@ either_zero : (b : Bool) → cond {A = ℕ} b 0 0 ≡ 0
 either_zero true = refl
 either_zero false = refl
 
-later_none : (ts : List TypeForm) (k a : ℕ) (es : List DeclarationForm) → a < k → count a (collections_of k ts es) ≡ 0
+pub later_none : (ts : List TypeForm) (k a : ℕ) (es : List DeclarationForm) → a < k → count a (collections_of k ts es) ≡ 0
 later_none [] k a es less = refl
 later_none (record_of name cs ∷ ts) k a es less = later_none ts (k + 1) a es (omega arith)
 later_none (access_to name d ∷ ts) k a es less =
@@ -73,25 +74,30 @@ later_none (access_to name d ∷ ts) k a es less =
     let other : eqb k a ≡ false = ne_eqb k a (omega arith) in
     made_first (is_collected k es) k a (collections_of (k + 1) ts es) ∙ (rw (other, rest, either_zero (is_collected k es)) (omega arith))
 
-pub one_made : (ts : List TypeForm) (k i : ℕ) (es : List DeclarationForm) → fits.is_access ts i ≡ true → count (k + i) (collections_of k ts es) ≡ cond (is_collected (k + i) es) 0 1
-one_made [] k i es e = absurd (cc e)
-one_made (record_of name cs ∷ ts) k zero es e = absurd (cc e)
-one_made (access_to name d ∷ ts) k zero es e =
+pub made : (ts : List TypeForm) (k i : ℕ) (es : List DeclarationForm) → count (k + i) (collections_of k ts es) ≡ cond (is_collected (k + i) es) 0 (accesses ts i)
+made [] k i es = sym (either_zero (is_collected (k + i) es))
+made (record_of name cs ∷ ts) k zero es =
+    let here : k + 0 ≡ k = omega arith in
+    let rest : count k (collections_of (k + 1) ts es) ≡ 0 = later_none ts (k + 1) k es (omega arith) in
+    rw here (rest ∙ sym (either_zero (is_collected k es)))
+made (access_to name d ∷ ts) k zero es =
     let here : k + 0 ≡ k = omega arith in
     let rest : count k (collections_of (k + 1) ts es) ≡ 0 = later_none ts (k + 1) k es (omega arith) in
     let own : eqb k k ≡ true = eq-eqb k k refl in
     rw here (made_first (is_collected k es) k k (collections_of (k + 1) ts es) ∙ (rw (own, rest) (omega arith)))
-one_made (record_of name cs ∷ ts) k (suc i) es e =
-    let next : k + suc i ≡ (k + 1) + i = omega arith in rw next (one_made ts (k + 1) i es e)
-one_made (access_to name d ∷ ts) k (suc i) es e =
+made (record_of name cs ∷ ts) k (suc i) es =
+    let next : k + suc i ≡ (k + 1) + i = omega arith in rw next (made ts (k + 1) i es)
+made (access_to name d ∷ ts) k (suc i) es =
     let next : k + suc i ≡ (k + 1) + i = omega arith in
     let other : eqb k ((k + 1) + i) ≡ false = ne_eqb k ((k + 1) + i) (omega arith) in
-    rw next (made_first (is_collected k es) k ((k + 1) + i) (collections_of (k + 1) ts es) ∙ (rw (other, either_zero (is_collected k es)) (omega (arith, one_made ts (k + 1) i es e))))
+    rw next (made_first (is_collected k es) k ((k + 1) + i) (collections_of (k + 1) ts es) ∙
+    (rw (other, either_zero (is_collected k es)) (omega (arith, made ts (k + 1) i es))))
 
 pub at_most_made : (ts : List TypeForm) (k a : ℕ) (es : List DeclarationForm) → count a (collections_of k ts es) ≤ cond (is_collected a es) 0 1
 at_most_made [] k a es = omega arith
 at_most_made (record_of name cs ∷ ts) k a es = at_most_made ts (k + 1) a es
-at_most_made (access_to name d ∷ ts) k a es = rw (made_first (is_collected k es) k a (collections_of (k + 1) ts es)) (made_at (at_most_made ts (k + 1) a es) (eqb k a) refl)
+at_most_made (access_to name d ∷ ts) k a es =
+    rw (made_first (is_collected k es) k a (collections_of (k + 1) ts es)) (made_at (at_most_made ts (k + 1) a es) (eqb k a) refl)
   where
     made_at : count a (collections_of (k + 1) ts es) ≤ cond (is_collected a es) 0 1 → (b : Bool) → eqb k a ≡ b → cond (is_collected k es) 0 (cond b 1 0) + count a (collections_of (k + 1) ts es) ≤ cond (is_collected a es) 0 1
     made_at more true on =
@@ -99,21 +105,3 @@ at_most_made (access_to name d ∷ ts) k a es = rw (made_first (is_collected k e
         let rest : count a (collections_of (k + 1) ts es) ≡ 0 = later_none ts (k + 1) a es (omega arith) in
         rw (rest, same) (omega arith)
     made_at more false off = rw (either_zero (is_collected k es)) (omega arith)
-
--- one collection each, from a number on
-pub has_from_counts : (es : List DeclarationForm) (ts : List TypeForm) (k : ℕ) → ((i : ℕ) → fits.is_access ts i ≡ true → count (k + i) es ≡ 1) → fits.has_collections (map fits.creation es) k ts ≡ true
-has_from_counts es [] k w = refl
-has_from_counts es (record_of name cs ∷ ts) k w = has_from_counts es ts (k + 1) (λ i e. let next : (k + 1) + i ≡ k + suc i = omega arith in rw next (w (suc i) e))
-has_from_counts es (access_to name d ∷ ts) k w =
-    let here : count k es ≡ 1 = let at : k ≡ k + 0 = omega arith in rw at (w 0 refl) in
-    both_parts (eqb (count k es) 1) (fits.has_collections (map fits.creation es) (k + 1) ts) (eq-eqb (count k es) 1 here)
-    (has_from_counts es ts (k + 1) (λ i e. let next : (k + 1) + i ≡ k + suc i = omega arith in rw next (w (suc i) e)))
-
--- what counts alike has one collection each alike
-pub has_alike : (es fs : List DeclarationForm) (ts : List TypeForm) (k : ℕ) → ((a : ℕ) → count a es ≡ count a fs) → fits.has_collections (map fits.creation es) k ts ≡ true → fits.has_collections (map fits.creation fs) k ts ≡ true
-has_alike es fs [] k w e = refl
-has_alike es fs (record_of name cs ∷ ts) k w e = has_alike es fs ts (k + 1) w e
-has_alike es fs (access_to name d ∷ ts) k w e =
-    both_parts (eqb (count k fs) 1) (fits.has_collections (map fits.creation fs) (k + 1) ts)
-    (let own : eqb (count k es) 1 ≡ true = first_part (eqb (count k es) 1) (fits.has_collections (map fits.creation es) (k + 1) ts) e in rw (sym (w k)) own)
-    (has_alike es fs ts (k + 1) w (second_part (eqb (count k es) 1) (fits.has_collections (map fits.creation es) (k + 1) ts) e))

@@ -56,7 +56,7 @@ more_raised : (exceptions : List (List ℕ)) (name text : List ℕ) (e : Entity)
 more_raised exceptions name text (entity.Exception e) f = more_exceptions exceptions name text e f
 more_raised exceptions name text e f = tt
 
-raised_outer : (exceptions : List (List ℕ)) (name : List ℕ) (ps : List Part) → PartsRaised exceptions ps → PartsRaised (exceptions ++ name ∷ []) ps
+pub raised_outer : (exceptions : List (List ℕ)) (name : List ℕ) (ps : List Part) → PartsRaised exceptions ps → PartsRaised (exceptions ++ name ∷ []) ps
 raised_outer exceptions name [] f = tt
 raised_outer exceptions name (p ∷ ps) f = (λ t x is. more_raised exceptions name t x (f.0 t x is), raised_outer exceptions name ps f.1)
 

@@ -9,6 +9,7 @@ use Rattle.ada_program.specs.ProgramForm.{ComponentForm, TypeForm, record_of, ac
 use Rattle.ada_program.specs.WellFormed as fits
 use Rattle.ada_program.specs.declared.program.Exception.TheVariants.{ConstraintError, ProgramError, StorageError}
 use Rattle.ada_program.specs.declared.program.VariableKind.{VariableKind}
+use Rattle.ada_program.specs.declared.program.VariableKind.TheVariants as variable
 use Rattle.ada_resolve.specs.declared.scope.Entity.{Entity}
 use Rattle.ada_resolve.specs.declared.scope.Entity.TheVariants as entity
 use Rattle.ada_resolve.specs.Naming.{truth_name}
@@ -28,6 +29,7 @@ EntityFits types variables text (entity.Record t) = (cs : List ComponentForm) ×
 EntityFits types variables text (entity.Access t) = (d : ℕ) × (slice_get types t.0 ≡ Some (access_to text d))
 EntityFits types variables text (entity.Instance t) = fits.is_access types t.0 ≡ true
 EntityFits types variables text (entity.Variable x kind) = (slice_get variables x.0 ≡ Some (record { name = text; kind = kind })) × (fits.variable_kind_fits types kind ≡ true)
+EntityFits types variables text (entity.Parameter x) = slice_get variables x.0 ≡ Some (record { name = text; kind = variable.Integer })
 
 abbrev pub NamesFit : List TypeForm → List VariableForm → List Named → Type 0
 NamesFit types variables names = (text : List ℕ) (e : Entity) → named text names ≡ Some e → EntityFits types variables text e
@@ -36,13 +38,6 @@ NamesFit types variables names = (text : List ℕ) (e : Entity) → named text n
 abbrev pub PartsFit : List TypeForm → List VariableForm → List Part → Type 0
 PartsFit types variables [] = Unit {0}
 PartsFit types variables (part ∷ outer) = NamesFit types variables part.names × PartsFit types variables outer
-
--- no part is around this one, which has the first type and the first variable
-abbrev pub IsOnly : Known → Type 0
-IsOnly k = (k.outer ≡ []) × (k.here.first_type ≡ 0) × (k.here.first_variable ≡ 0)
-
-pub no_outer : (types : List TypeForm) (variables : List VariableForm) (k : Known) → IsOnly k → PartsFit types variables k.outer
-no_outer types variables k only = rw only.0 tt
 
 -- two texts are the same, or are not
 pub text_same : (a b : List ℕ) → bytes_eq a b ≡ true → a ≡ b

@@ -1,6 +1,6 @@
 -- A statement with which nothing is wrong has the types that it wants.
 
-use Rattle.std.proofs.Common.{◌≡◌, ℕ, ◌+◌, ◌≤◌, Bool, true, false, List, [], ◌∷◌, length, refl, arith, cond, eqb, eq-eqb, eqb-true}
+use Rattle.std.proofs.Common.{◌≡◌, ℕ, ◌+◌, ◌≤◌, Bool, true, false, List, [], ◌∷◌, ◌++◌, length, length-append, refl, arith, cond, eqb, eq-eqb, eqb-true}
 use Rattle.std.specs.Prelude.{Option, Some, None, is_some}
 use Rattle.std.proofs.lemmas.Bool.{lt-ltb}
 use Rattle.ada_text.specs.declared.spot.Spot.{Spot}
@@ -34,7 +34,7 @@ use Rattle.ada_resolve.specs.Paths.{Meant, access_variable, integer_value, path_
 use Rattle.ada_resolve.specs.Rights.{right_found, right_remark}
 use Rattle.ada_resolve.specs.Remark.{Remark, wrong, node, ◌also◌}
 use Rattle.ada_resolve.specs.Spots.{expression_spot}
-use Rattle.ada_resolve.specs.Statements.{target_found, target_remark, kind_of_target, assignment_remark, assignment_of, assignment_found, condition_remark, condition_meant, optional_condition_remark, optional_condition_meant, exit_remark, exit_found, statement_remark, statement_found, text_in, texts_in, form_or_null, statement_meant}
+use Rattle.ada_resolve.specs.Statements.{target_found, target_remark, kind_of_target, assignment_remark, assignment_of, assignment_found, bound_remark, bound_meant, condition_remark, condition_meant, optional_condition_remark, optional_condition_meant, exit_remark, exit_found, statement_remark, statement_found, text_in, simple_texts, form_or_null, statement_meant}
 use Rattle.ada_resolve.proofs.WellFormed.Remarks.{Quiet, quiet_unless}
 use Rattle.ada_resolve.proofs.WellFormed.Names.{EntityFits, PartsFit, visible_fits}
 use Rattle.ada_resolve.proofs.WellFormed.Exceptions.{PartsRaised, FoundIs, found_is}
@@ -100,7 +100,7 @@ taking_fits k texts inside callee.Get m spot a h q = getting_fits k texts inside
 
 actual_fits : (k : Known) (texts : List (List ℕ)) (inside : Bool) (taker : Callee) (argument : ArgumentTree) → PartsFit k.types k.variables (parts k) → Takes k taker → Quiet (actual_remark k taker argument) → FormFits k texts inside (actual_found k taker argument)
 unfolding expression_remark
-actual_fits k texts inside taker (expression_argument (path_expression path)) w a q = taking_fits k texts inside taker (path_meant k path) path.root.spot a (path_fits k path w q.0.1) q.1
+actual_fits k texts inside taker (expression_argument (path_expression path)) w a q = taking_fits k texts inside taker (path_meant k path) path.root.spot a (path_fits k path w q.0.1) q.1.0
 actual_fits k texts inside taker argument w a q = tt
 
 taker_fits : (k : Known) (texts : List (List ℕ)) (inside : Bool) (taker : Callee) (called : Spot) (arguments : List ArgumentTree) → PartsFit k.types k.variables (parts k) → Takes k taker → Quiet (taker_remark k taker called arguments) → FormFits k texts inside (taker_found k taker arguments)
@@ -144,6 +144,12 @@ call_fits_at k texts inside n procedure arguments true first w room q = library_
 call_fits_at k texts inside n procedure arguments false first w room q =
     own_call_fits k texts inside procedure.root.text (visible k procedure.root.text) (is_empty procedure.selectors) procedure.root arguments w (visible_fits k w procedure.root.text) q
 
+-- a bound of a range is an Integer
+pub bound_is : (k : Known) (e : ExpressionTree) → PartsFit k.types k.variables (parts k) → Quiet (bound_remark k e) → fits.has_type k.types k.variables Integer (bound_meant k e) ≡ true
+bound_is k e w q =
+    is_of_type Integer (fits.type_of k.types k.variables (bound_meant k e))
+    (integer_is k.types k.variables (expression_meant k e) (expression_spot e) (expression_fits k e w q.0) q.1)
+
 -- a condition is a Boolean
 pub condition_is : (k : Known) (e : ExpressionTree) → PartsFit k.types k.variables (parts k) → Quiet (condition_remark k e) → fits.has_type k.types k.variables Boolean (condition_meant k e) ≡ true
 condition_is k e w q =
@@ -164,20 +170,23 @@ raising_fits : (k : Known) (texts : List (List ℕ)) (inside : Bool) (o : Option
 raising_fits k texts inside (Some e) f = (f, refl)
 raising_fits k texts inside None f = tt
 
-found_fits : (k : Known) (texts : List (List ℕ)) (inside : Bool) (n : ℕ) (statement : StatementTree) → PartsFit k.types k.variables (parts k) → PartsRaised k.exceptions (parts k) → n + length (texts_in statement) ≤ length texts → Quiet (statement_remark k inside statement) → FormFits k texts inside (statement_found k n statement)
-found_fits k texts inside n (null_statement spot) w r room q = (refl, refl)
-found_fits k texts inside n (assignment target value) w r room q = assignment_fits k texts inside target value w q
-found_fits k texts inside n (call procedure arguments) w r room q =
-    call_fits_at k texts inside n procedure arguments (is_library_root procedure.root.text) _ w room q.1
-found_fits k texts inside n (exit_statement spot condition) w r room q = exit_fits k texts inside spot condition w q
-found_fits k texts inside n (return_statement spot) w r room q = (refl, refl)
-found_fits k texts inside n (raise_statement spot name) w r room q = raising_fits k texts inside (exception_found k name) (found_is k name r)
-found_fits k texts inside n statement w r room q = tt
+found_fits : (k : Known) (texts : List (List ℕ)) (inside : Bool) (statement : StatementTree) → PartsFit k.types k.variables (parts k) → PartsRaised k.exceptions (parts k) → length k.texts + length (simple_texts statement) ≤ length texts → Quiet (statement_remark k inside statement) → FormFits k texts inside (statement_found k statement)
+found_fits k texts inside (null_statement spot) w r room q = (refl, refl)
+found_fits k texts inside (assignment target value) w r room q = assignment_fits k texts inside target value w q
+found_fits k texts inside (call procedure arguments) w r room q =
+    call_fits_at k texts inside (length k.texts) procedure arguments (is_library_root procedure.root.text) _ w room q.1
+found_fits k texts inside (exit_statement spot condition) w r room q = exit_fits k texts inside spot condition w q
+found_fits k texts inside (return_statement spot) w r room q = (refl, refl)
+found_fits k texts inside (raise_statement spot name) w r room q = raising_fits k texts inside (exception_found k name) (found_is k name r)
+found_fits k texts inside statement w r room q = tt
 
 form_fits : (k : Known) (texts : List (List ℕ)) (inside : Bool) (o : Option StmtForm) → FormFits k texts inside o → FormFits k texts inside (Some (form_or_null o))
 form_fits k texts inside None h = (refl, refl)
 form_fits k texts inside (Some f) h = h
 
--- where so many texts inside come before, and those of the statement still have room among all
-pub meant_fits : (k : Known) (texts : List (List ℕ)) (inside : Bool) (n : ℕ) (statement : StatementTree) → PartsFit k.types k.variables (parts k) → PartsRaised k.exceptions (parts k) → n + length (texts_in statement) ≤ length texts → Quiet (statement_remark k inside statement) → FormFits k texts inside (Some (statement_meant k n statement))
-meant_fits k texts inside n statement w r room q = form_fits k texts inside (statement_found k n statement) (found_fits k texts inside n statement w r room q)
+-- what a statement does, where its texts are known behind it
+pub meant_fits : (k : Known) (inside : Bool) (statement : StatementTree) → PartsFit k.types k.variables (parts k) → PartsRaised k.exceptions (parts k) → Quiet (statement_remark k inside statement) → FormFits k (k.texts ++ simple_texts statement) inside (Some (statement_meant k statement))
+meant_fits k inside statement w r q =
+    let texts = k.texts ++ simple_texts statement in
+    let parts : length texts ≡ length k.texts + length (simple_texts statement) = length-append k.texts (simple_texts statement) in
+    form_fits k texts inside (statement_found k statement) (found_fits k texts inside statement w r (omega (arith, parts)) q)

@@ -1,6 +1,6 @@
 -- The types of expressions, and the variables that they name.
 
-use Rattle.std.proofs.Common.{◌≡◌, ◌∙◌, ℕ, ◌<◌, Bool, true, false, cond, List, [], ◌∷◌, ◌++◌, length, refl, sym, subst, zero, suc, arith}
+use Rattle.std.proofs.Common.{◌≡◌, ◌∙◌, ℕ, ◌<◌, Bool, true, false, cond, List, [], ◌∷◌, length, refl, sym, zero, suc, arith}
 use Rattle.std.specs.Prelude.{Option, Some, None, ◌&&◌, is_some, nat_lt}
 use Rattle.std.proofs.lemmas.Bool.{lt-ltb}
 use Rattle.ada_values.specs.declared.operator.UnaryOperator.{UnaryOperator}
@@ -70,49 +70,37 @@ operands_typed s (Some left) (Some right) t e = ((left, refl), (right, refl))
 binary_typed : (o : BinaryOperator) (left right : Option ScalarType) (t : ScalarType) → fits.binary_type o left right ≡ Some t → IsTyped left × IsTyped right
 binary_typed o left right t e = operands_typed (signature_of o) left right t (sym (typed_by o left right) ∙ e)
 
-unary_typed : (o : UnaryOperator) (operand : Option ScalarType) (t : ScalarType) → fits.unary_type o operand ≡ Some t → IsTyped operand
+pub unary_typed : (o : UnaryOperator) (operand : Option ScalarType) (t : ScalarType) → fits.unary_type o operand ≡ Some t → IsTyped operand
 unary_typed o (Some s) t e = (s, refl)
 unary_typed unary.Plus None t e = absurd (cc e)
 unary_typed unary.Minus None t e = absurd (cc e)
 unary_typed unary.Not None t e = absurd (cc e)
 
 -- what stands before links has a type
-left_typed : (types : List TypeForm) (variables : List VariableForm) (links : LinksForm) (left : Option ScalarType) (t : ScalarType) → fits.chain_type types variables left links ≡ Some t → IsTyped left
+pub left_typed : (types : List TypeForm) (variables : List VariableForm) (links : LinksForm) (left : Option ScalarType) (t : ScalarType) → fits.chain_type types variables left links ≡ Some t → IsTyped left
 left_typed types variables no_more_links left t e = (t, e)
 left_typed types variables (a_link o right links) left t e =
     let more = left_typed types variables links (fits.binary_type o left (fits.type_of types variables right)) t e in
     (binary_typed o left (fits.type_of types variables right) more.0 more.1).0
 
 -- and so has the first operand of links
-operand_typed : (types : List TypeForm) (variables : List VariableForm) (o : BinaryOperator) (right : ExpressionForm) (links : LinksForm) (left : Option ScalarType) (t : ScalarType) → fits.chain_type types variables left (a_link o right links) ≡ Some t → IsTyped (fits.type_of types variables right)
+pub operand_typed : (types : List TypeForm) (variables : List VariableForm) (o : BinaryOperator) (right : ExpressionForm) (links : LinksForm) (left : Option ScalarType) (t : ScalarType) → fits.chain_type types variables left (a_link o right links) ≡ Some t → IsTyped (fits.type_of types variables right)
 operand_typed types variables o right links left t e =
     let more = left_typed types variables links (fits.binary_type o left (fits.type_of types variables right)) t e in
     (binary_typed o left (fits.type_of types variables right) more.0 more.1).1
 
--- an object that is declared stays
-pub kind_stays : (variables : List VariableForm) (o : VariableForm) (x : ℕ) (k : VariableKind) → fits.variable_kind variables x ≡ Some k → fits.variable_kind (variables ++ o ∷ []) x ≡ Some k
-kind_stays [] o x k e = absurd (cc e)
-kind_stays (y ∷ variables) o zero k e = e
-kind_stays (y ∷ variables) o (suc x) k e = kind_stays variables o x k e
-
-pub kind_within : (variables : List VariableForm) (x : ℕ) (k : VariableKind) → fits.variable_kind variables x ≡ Some k → x < length variables
+-- an object that holds something is declared
+kind_within : (variables : List VariableForm) (x : ℕ) (k : VariableKind) → fits.variable_kind variables x ≡ Some k → x < length variables
 kind_within [] x k e = absurd (cc e)
 kind_within (y ∷ variables) zero k e = omega arith
 kind_within (y ∷ variables) (suc x) k e = let h = kind_within variables x k e in omega arith
 
 -- nothing is selected behind nothing
-nowhere : (types : List TypeForm) (cs : List ℕ) → fits.selectors_kind types None cs ≡ None
+pub nowhere : (types : List TypeForm) (cs : List ℕ) → fits.selectors_kind types None cs ≡ None
 nowhere types [] = refl
 nowhere types (c ∷ cs) = nowhere types cs
 
--- where a path leads somewhere, it leads there as one more variable is declared, and its root is declared
-pub path_stays : (types : List TypeForm) (variables : List VariableForm) (o : VariableForm) (path : PathForm) (k : VariableKind) → fits.path_kind types variables path ≡ Some k → fits.path_kind types (variables ++ o ∷ []) path ≡ Some k
-path_stays types variables o path k h = root_stays (fits.variable_kind variables path.root) refl h
-  where
-    root_stays : (found : Option VariableKind) → fits.variable_kind variables path.root ≡ found → fits.selectors_kind types found path.selectors ≡ Some k → fits.path_kind types (variables ++ o ∷ []) path ≡ Some k
-    root_stays None is e = absurd (cc (nowhere types path.selectors, e))
-    root_stays (Some j) is e = rw (kind_stays variables o path.root j is) e
-
+-- where a path leads somewhere, its root is declared
 pub path_before : (types : List TypeForm) (variables : List VariableForm) (path : PathForm) (k : VariableKind) → fits.path_kind types variables path ≡ Some k → nat_lt path.root (length variables) ≡ true
 path_before types variables path k h = root_before (fits.variable_kind variables path.root) refl h
   where
@@ -121,14 +109,6 @@ path_before types variables path k h = root_before (fits.variable_kind variables
     root_before (Some j) is e = lt-ltb path.root (length variables) (kind_within variables path.root j is)
 
 -- what is read
-read_stays : (types : List TypeForm) (variables : List VariableForm) (o : VariableForm) (path : PathForm) (t : ScalarType) → fits.read_type types variables path ≡ Some t → fits.read_type types (variables ++ o ∷ []) path ≡ Some t
-read_stays types variables o path t h = by_length (fits.follows_at_most_one path) (fits.path_kind types variables path) refl h
-  where
-    by_length : (b : Bool) (found : Option VariableKind) → fits.path_kind types variables path ≡ found → cond b (fits.scalar_of found) None ≡ Some t → cond b (fits.scalar_of (fits.path_kind types (variables ++ o ∷ []) path)) None ≡ Some t
-    by_length true None is e = absurd (cc e)
-    by_length true (Some k) is e = rw (path_stays types variables o path k is) e
-    by_length false found is e = absurd (cc e)
-
 read_before : (types : List TypeForm) (variables : List VariableForm) (path : PathForm) (t : ScalarType) → fits.read_type types variables path ≡ Some t → nat_lt path.root (length variables) ≡ true
 read_before types variables path t h = by_length (fits.follows_at_most_one path) (fits.path_kind types variables path) refl h
   where
@@ -138,14 +118,6 @@ read_before types variables path t h = by_length (fits.follows_at_most_one path)
     by_length false found is e = absurd (cc e)
 
 -- what is compared with null
-null_test_stays : (types : List TypeForm) (variables : List VariableForm) (o : VariableForm) (path : PathForm) (t : ScalarType) → fits.null_test_type types variables path ≡ Some t → fits.null_test_type types (variables ++ o ∷ []) path ≡ Some t
-null_test_stays types variables o path t h = by_length (fits.follows_at_most_one path) (fits.path_kind types variables path) refl h
-  where
-    by_length : (b : Bool) (found : Option VariableKind) → fits.path_kind types variables path ≡ found → cond (b && is_some (fits.access_of found)) (Some Boolean) None ≡ Some t → cond (b && is_some (fits.path_access types (variables ++ o ∷ []) path)) (Some Boolean) None ≡ Some t
-    by_length true None is e = absurd (cc e)
-    by_length true (Some k) is e = rw (path_stays types variables o path k is) e
-    by_length false found is e = absurd (cc e)
-
 null_test_before : (types : List TypeForm) (variables : List VariableForm) (path : PathForm) (t : ScalarType) → fits.null_test_type types variables path ≡ Some t → nat_lt path.root (length variables) ≡ true
 null_test_before types variables path t h = by_length (fits.follows_at_most_one path) (fits.path_kind types variables path) refl h
   where
@@ -153,29 +125,6 @@ null_test_before types variables path t h = by_length (fits.follows_at_most_one 
     by_length true None is e = absurd (cc e)
     by_length true (Some k) is e = path_before types variables path k is
     by_length false found is e = absurd (cc e)
-
--- the type of an expression stays as one more object is declared
-mutual
-  pub type_stays : (types : List TypeForm) (variables : List VariableForm) (o : VariableForm) (e : ExpressionForm) (t : ScalarType) → fits.type_of types variables e ≡ Some t → fits.type_of types (variables ++ o ∷ []) e ≡ Some t
-  type_stays types variables o (integer n) t h = h
-  type_stays types variables o (boolean b) t h = h
-  type_stays types variables o (reads path) t h = read_stays types variables o path t h
-  type_stays types variables o (is_null equal path) t h = null_test_stays types variables o path t h
-  type_stays types variables o (applied_to operator e) t h =
-      let there = unary_typed operator (fits.type_of types variables e) t h in
-      rw (type_stays types variables o e there.0 there.1) (subst (λ v. fits.unary_type operator v ≡ Some t) there.1 h)
-  type_stays types variables o (chained e links) t h =
-      let there = left_typed types variables links (fits.type_of types variables e) t h in
-      rw (type_stays types variables o e there.0 there.1)
-      (links_stay types variables o links (Some there.0) t (subst (λ v. fits.chain_type types variables v links ≡ Some t) there.1 h))
-
-  links_stay : (types : List TypeForm) (variables : List VariableForm) (o : VariableForm) (links : LinksForm) (left : Option ScalarType) (t : ScalarType) → fits.chain_type types variables left links ≡ Some t → fits.chain_type types (variables ++ o ∷ []) left links ≡ Some t
-  links_stay types variables o no_more_links left t h = h
-  links_stay types variables o (a_link operator e links) left t h =
-      let there = operand_typed types variables operator e links left t h in
-      rw (type_stays types variables o e there.0 there.1)
-      (links_stay types variables o links (fits.binary_type operator left (Some there.0)) t
-      (subst (λ v. fits.chain_type types variables (fits.binary_type operator left v) links ≡ Some t) there.1 h))
 
 -- an expression with a type names declared objects
 mutual

@@ -10,53 +10,29 @@ use Rattle.ada_program.specs.declared.program.VariableNo.{VariableNo}
 use Rattle.ada_program.specs.declared.program.ScalarType.TheVariants.{Integer, Boolean}
 use Rattle.ada_program.specs.declared.program.TypeNo.{TypeNo}
 use Rattle.ada_program.specs.Form.{RightForm}
-use Rattle.ada_tree.specs.Names.{Ident, NameTree}
+use Rattle.ada_tree.specs.Names.{Ident}
 use Rattle.ada_tree.specs.Expressions.{ItemsTree, RightTree, expression_right, allocator_right, creation_right}
 use Rattle.ada_program.specs.ProgramForm.{ComponentForm, TypeForm, record_of, access_to, VariableForm}
 use Rattle.ada_program.specs.WellFormed as fits
 use Rattle.ada_resolve.specs.declared.fault.NameRule.TheVariants.{WrongType, NotInProfile}
 use Rattle.ada_resolve.specs.declared.scope.Entity.{Entity}
 use Rattle.ada_resolve.specs.declared.scope.Entity.TheVariants as entity
-use Rattle.ada_resolve.specs.Known.{Known, visible, is_empty, parts}
-use Rattle.ada_resolve.specs.Library.{is_library_root}
+use Rattle.ada_resolve.specs.Known.{Known, visible, parts}
 use Rattle.ada_resolve.specs.Types.{is_access_to, designates}
 use Rattle.ada_resolve.specs.Paths.{Meant, unknown, null_value, access_variable, integer_value, boolean_value, components_of}
 use Rattle.ada_resolve.specs.Items.{items_remark, first_filling, names_component, count_remark, item_or_null, filling_of}
 use Rattle.ada_resolve.specs.Allocators.{allocated_wanted, allocated_remark, complete_in, allocated_found, filled_components, aggregate_remark, allocation, aggregate_found, is_in_use, allocator_remark, allocator_found}
 use Rattle.ada_resolve.specs.Expressions.{expression_meant}
 use Rattle.ada_resolve.specs.Rights.{assigned_wanted, assigned, right_remark, right_found}
-use Rattle.ada_resolve.specs.Objects.{type_in, object_type_found, kind_of}
 use Rattle.ada_resolve.specs.Statements.{variable_in, target_found}
 use Rattle.ada_resolve.specs.Remark.{wrong}
 use Rattle.ada_resolve.specs.Spots.{expression_spot}
 use Rattle.ada_resolve.proofs.WellFormed.Remarks.{Quiet, quiet_unless}
 use Rattle.ada_resolve.proofs.WellFormed.Tables.{both_parts}
 use Rattle.ada_resolve.proofs.WellFormed.Names.{EntityFits, PartsFit, visible_fits, kind_there}
-use Rattle.ada_resolve.proofs.WellFormed.Types.{access_is}
 use Rattle.ada_resolve.proofs.WellFormed.Typing.{is_of_type}
 use Rattle.ada_resolve.proofs.WellFormed.Meanings.{MeantFits, expression_fits}
 use Rattle.ada_resolve.proofs.WellFormed.Items.{items_fit}
-
--- what the object of a declaration holds is there
-abbrev pub IsKindIn : List TypeForm → Option VariableKind → Type 0
-IsKindIn types None = Unit {0}
-IsKindIn types (Some kind) = fits.variable_kind_fits types kind ≡ true
-
-type_one : (types : List TypeForm) (variables : List VariableForm) (text : List ℕ) (e : Entity) → EntityFits types variables text e → IsKindIn types (kind_of (type_in (Some e)))
-type_one types variables text entity.Integer f = refl
-type_one types variables text entity.Boolean f = refl
-type_one types variables text (entity.Access t) f = access_is types t.0 text f.0 f.1
-type_one types variables text e f = tt
-
-type_named : (types : List TypeForm) (variables : List VariableForm) (text : List ℕ) (b c : Bool) (o : Option Entity) → ((e : Entity) → o ≡ Some e → EntityFits types variables text e) → IsKindIn types (kind_of (cond b None (cond c (type_in o) None)))
-type_named types variables text true c o w = tt
-type_named types variables text false false o w = tt
-type_named types variables text false true None w = tt
-type_named types variables text false true (Some e) w = type_one types variables text e (w e refl)
-
-pub found_type : (k : Known) (name : NameTree) → PartsFit k.types k.variables (parts k) → IsKindIn k.types (kind_of (object_type_found k name))
-unfolding object_type_found
-found_type k name w = type_named k.types k.variables name.first.text (is_library_root name.first.text) (is_empty name.rest) (visible k name.first.text) (visible_fits k w name.first.text)
 
 -- an object that is assigned to is there, with what it holds
 abbrev pub IsTargetIn : List VariableForm → Option (VariableNo × VariableKind) → Type 0

@@ -1,4 +1,4 @@
--- What is known stays sound from declaration to declaration.
+-- What is known stays in order from declaration to declaration and from statement to statement.
 use Rattle.ada_resolve.proofs.WellFormed as known
 use Rattle.ada_resolve.proofs.laws.programs_are_well_formed.Goals as goal
 

@@ -1,0 +1,8 @@
+procedure Main is
+begin
+   declare
+      type T;
+   begin
+      null;
+   end;
+end Main;

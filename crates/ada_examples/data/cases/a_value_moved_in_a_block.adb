@@ -1,0 +1,17 @@
+with Ada.Text_IO; with Ada.Unchecked_Deallocation;
+procedure Main is
+   type Node is record
+      Value : Integer := 0;
+      Count : Integer := 0;
+   end record;
+   type Link is access Node;
+   procedure Free is new Ada.Unchecked_Deallocation (Node, Link);
+   A : Link := new Node'(1, 2);
+begin
+   declare
+      B : Link := A;
+   begin
+      Free (B);
+   end;
+   Ada.Text_IO.Put_Line (Integer'Image (A.Value));
+end Main;

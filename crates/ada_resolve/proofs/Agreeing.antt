@@ -1,0 +1,208 @@
+-- What is known at a place, and what the place has bound: each name is bound to what it stands for.
+
+use Rattle.std.proofs.Common.{◌≡◌, ◌∙◌, ℕ, ◌+◌, Bool, true, false, cond, List, [], ◌∷◌, ◌++◌, length, length-append, refl, sym, ap, subst}
+use Rattle.std.specs.Prelude.{Option, Some, None, bytes_eq, codes}
+use Rattle.std.specs.List.{slice_get}
+use Rattle.ada_tree.specs.Names.{Ident}
+use Rattle.ada_program.specs.declared.program.Exception.TheVariants as exception
+use Rattle.ada_program.specs.declared.program.VariableKind.TheVariants as variable
+use Rattle.ada_program.specs.ProgramForm.{TypeForm, VariableForm}
+use Rattle.ada_resolve.specs.declared.scope.Entity.{Entity}
+use Rattle.ada_resolve.specs.declared.scope.Entity.TheVariants as entity
+use Rattle.ada_resolve.specs.Known.{Known, Named, Part, named, entered, first_named, named_in, inner_first, visible, parts, with_part}
+use Rattle.ada_resolve.specs.Library.{predefined}
+use Rattle.ada_resolve.specs.Objects.{next_variable}
+use Rattle.ada_resolve.specs.Resolution.{with_parameter}
+use Rattle.ada_resolve.specs.Naming.{Context, Place, Binding, Meaning, an_incomplete_type, a_type, a_number, an_exception, an_instance, a_variable, meaning_among, meaning_at, IsBound, truth_name}
+use Rattle.ada_resolve.specs.Reading.{inside, behind, with_new_variable}
+use Rattle.ada_resolve.proofs.WellFormed.Names.{PartsFit, named_entered, text_same}
+
+-- what the name of a declared entity is bound to
+abbrev pub bound_to : Entity → Option Meaning
+bound_to (entity.Incomplete t) = Some (an_incomplete_type t.0)
+bound_to (entity.Record t) = Some (a_type t.0)
+bound_to (entity.Access t) = Some (a_type t.0)
+bound_to (entity.Number n) = Some (a_number n)
+bound_to (entity.Exception (exception.Declared n)) = Some (an_exception n.0)
+bound_to (entity.Instance t) = Some (an_instance t.0)
+bound_to (entity.Variable x kind) = Some (a_variable x.0)
+bound_to (entity.Parameter x) = Some (a_variable x.0)
+bound_to e = None
+
+-- a name is bound to what it stands for
+abbrev pub Stands : Option Entity → Option Meaning → Type 0
+Stands None m = m ≡ None
+Stands (Some e) m = (meaning : Meaning) × (bound_to e ≡ Some meaning) × (m ≡ Some meaning)
+
+-- what is known, and what is bound
+pub record Agrees (k : Known) (place : Place) : Type 0 where
+  pub here : (text : List ℕ) → Stands (named text k.here.names) (meaning_among text place.here)
+  pub outer : (text : List ℕ) → Stands (named_in text k.outer) (meaning_among text place.outer)
+  pub first_type : place.first_type ≡ k.here.first_type
+  pub types : place.types ≡ length k.types
+  pub variables : place.variables ≡ length k.variables
+  pub exceptions : place.exceptions ≡ length k.exceptions
+
+-- the tables of what is known are beginnings of those of the program
+pub record Ahead (k : Known) (p : Context) : Type 0 where
+  pub types : (t : ℕ) (form : TypeForm) → slice_get k.types t ≡ Some form → slice_get p.types t ≡ Some form
+  pub variables : (x : ℕ) (v : VariableForm) → slice_get k.variables x ≡ Some v → slice_get p.variables x ≡ Some v
+  pub exceptions : (e : ℕ) (text : List ℕ) → slice_get k.exceptions e ≡ Some text → slice_get p.exceptions e ≡ Some text
+  pub texts : (n : ℕ) (text : List ℕ) → slice_get k.texts n ≡ Some text → slice_get p.texts n ≡ Some text
+
+-- what names are read by behind the types of a part
+pub record Readable (k : Known) (p : Context) : Type 0 where
+  pub fits : PartsFit k.types k.variables (parts k)
+  pub agrees : Agrees k p.place
+  pub ahead : Ahead k p
+
+-- what is bound first among two lists
+abbrev first_bound : Option Meaning → Option Meaning → Option Meaning
+first_bound (Some m) other = Some m
+first_bound None other = other
+
+first_if : (b : Bool) (m : Meaning) (x y : Option Meaning) → cond b (Some m) (first_bound x y) ≡ first_bound (cond b (Some m) x) y
+first_if true m x y = refl
+first_if false m x y = refl
+
+among_both : (text : List ℕ) (a b : List Binding) → meaning_among text (a ++ b) ≡ first_bound (meaning_among text a) (meaning_among text b)
+among_both text [] b = refl
+among_both text (x ∷ a) b =
+    ap (λ (o : Option Meaning). cond (bytes_eq text x.text) (Some x.meaning) o) (among_both text a b) ∙
+    first_if (bytes_eq text x.text) x.meaning (meaning_among text a) (meaning_among text b)
+
+stands_first : (own outer : Option Entity) (m n : Option Meaning) → Stands own m → Stands outer n → Stands (first_named own outer) (first_bound m n)
+stands_first None outer m n s t = subst (λ (o : Option Meaning). Stands outer (first_bound o n)) (sym s) t
+stands_first (Some e) outer m n s t = (s.0, s.1, ap (λ (o : Option Meaning). first_bound o n) s.2)
+
+stands_among : (k : Known) (place : Place) → Agrees k place → (text : List ℕ) → Stands (named_in text (parts k)) (meaning_among text (place.here ++ place.outer))
+stands_among k place w text =
+    subst (λ (m : Option Meaning). Stands (named_in text (parts k)) m) (sym (among_both text place.here place.outer))
+    (stands_first (named text k.here.names) (named_in text k.outer) (meaning_among text place.here) (meaning_among text place.outer) (w.here text) (w.outer text))
+
+-- what is read of a name that stands for something
+abbrev pub EntityRead : Context → List ℕ → Entity → Type 0
+EntityRead p text entity.Integer = text ≡ codes "INTEGER"
+EntityRead p text entity.Boolean = text ≡ codes "BOOLEAN"
+EntityRead p text (entity.Truth b) = text ≡ truth_name b
+EntityRead p text (entity.Number n) = IsBound p text (a_number n)
+EntityRead p text (entity.Exception exception.ConstraintError) = text ≡ codes "CONSTRAINT_ERROR"
+EntityRead p text (entity.Exception exception.ProgramError) = text ≡ codes "PROGRAM_ERROR"
+EntityRead p text (entity.Exception exception.StorageError) = text ≡ codes "STORAGE_ERROR"
+EntityRead p text (entity.Exception exception.EndError) = ⊥
+EntityRead p text (entity.Exception (exception.Declared n)) = IsBound p text (an_exception n.0)
+EntityRead p text entity.Procedure = Unit {0}
+EntityRead p text (entity.Incomplete t) = IsBound p text (an_incomplete_type t.0)
+EntityRead p text (entity.Record t) = IsBound p text (a_type t.0)
+EntityRead p text (entity.Access t) = IsBound p text (a_type t.0)
+EntityRead p text (entity.Instance t) = IsBound p text (an_instance t.0)
+EntityRead p text (entity.Variable x kind) = IsBound p text (a_variable x.0)
+EntityRead p text (entity.Parameter x) = IsBound p text (a_variable x.0)
+
+-- what is predefined has its own name
+standard_read : (p : Context) (text : List ℕ) (x : Entity) (a b c d f g h : Bool) → (a ≡ true → text ≡ codes "INTEGER") → (b ≡ true → text ≡ codes "BOOLEAN") → (c ≡ true → text ≡ codes "TRUE") → (d ≡ true → text ≡ codes "FALSE") → (f ≡ true → text ≡ codes "CONSTRAINT_ERROR") → (g ≡ true → text ≡ codes "PROGRAM_ERROR") → (h ≡ true → text ≡ codes "STORAGE_ERROR") → cond a (Some entity.Integer) (cond b (Some entity.Boolean) (cond c (Some (entity.Truth true)) (cond d (Some (entity.Truth false)) (cond f (Some (entity.Exception exception.ConstraintError)) (cond g (Some (entity.Exception exception.ProgramError)) (cond h (Some (entity.Exception exception.StorageError)) None)))))) ≡ Some x → EntityRead p text x
+standard_read p text x true b c d f g h i j m n q r s e = let is : entity.Integer ≡ x = cc e in subst (λ (y : Entity). EntityRead p text y) is (i refl)
+standard_read p text x false true c d f g h i j m n q r s e = let is : entity.Boolean ≡ x = cc e in subst (λ (y : Entity). EntityRead p text y) is (j refl)
+standard_read p text x false false true d f g h i j m n q r s e = let is : entity.Truth true ≡ x = cc e in subst (λ (y : Entity). EntityRead p text y) is (m refl)
+standard_read p text x false false false true f g h i j m n q r s e = let is : entity.Truth false ≡ x = cc e in subst (λ (y : Entity). EntityRead p text y) is (n refl)
+standard_read p text x false false false false true g h i j m n q r s e = let is : entity.Exception exception.ConstraintError ≡ x = cc e in subst (λ (y : Entity). EntityRead p text y) is (q refl)
+standard_read p text x false false false false false true h i j m n q r s e = let is : entity.Exception exception.ProgramError ≡ x = cc e in subst (λ (y : Entity). EntityRead p text y) is (r refl)
+standard_read p text x false false false false false false true i j m n q r s e = let is : entity.Exception exception.StorageError ≡ x = cc e in subst (λ (y : Entity). EntityRead p text y) is (s refl)
+standard_read p text x false false false false false false false i j m n q r s e = absurd (cc e)
+
+predefined_read : (p : Context) (text : List ℕ) (x : Entity) → predefined text ≡ Some x → EntityRead p text x
+unfolding predefined
+predefined_read p text x e =
+    standard_read p text x (bytes_eq text (codes "INTEGER")) (bytes_eq text (codes "BOOLEAN")) (bytes_eq text (codes "TRUE")) (bytes_eq text (codes "FALSE"))
+    (bytes_eq text (codes "CONSTRAINT_ERROR")) (bytes_eq text (codes "PROGRAM_ERROR")) (bytes_eq text (codes "STORAGE_ERROR"))
+    (text_same text (codes "INTEGER")) (text_same text (codes "BOOLEAN")) (text_same text (codes "TRUE")) (text_same text (codes "FALSE"))
+    (text_same text (codes "CONSTRAINT_ERROR")) (text_same text (codes "PROGRAM_ERROR")) (text_same text (codes "STORAGE_ERROR")) e
+
+-- what is declared is bound
+bound_so : (p : Context) (text : List ℕ) (a b : Meaning) → Some a ≡ Some b → meaning_at p.place text ≡ Some b → IsBound p text a
+bound_so p text a b same is = is ∙ sym same
+
+declared_read : (p : Context) (text : List ℕ) (e : Entity) (m : Meaning) → bound_to e ≡ Some m → meaning_at p.place text ≡ Some m → EntityRead p text e
+declared_read p text (entity.Incomplete t) m same is = bound_so p text (an_incomplete_type t.0) m same is
+declared_read p text (entity.Record t) m same is = bound_so p text (a_type t.0) m same is
+declared_read p text (entity.Access t) m same is = bound_so p text (a_type t.0) m same is
+declared_read p text (entity.Number n) m same is = bound_so p text (a_number n) m same is
+declared_read p text (entity.Exception (exception.Declared n)) m same is = bound_so p text (an_exception n.0) m same is
+declared_read p text (entity.Exception exception.ConstraintError) m same is = absurd (cc same)
+declared_read p text (entity.Exception exception.ProgramError) m same is = absurd (cc same)
+declared_read p text (entity.Exception exception.StorageError) m same is = absurd (cc same)
+declared_read p text (entity.Exception exception.EndError) m same is = absurd (cc same)
+declared_read p text (entity.Instance t) m same is = bound_so p text (an_instance t.0) m same is
+declared_read p text (entity.Variable x kind) m same is = bound_so p text (a_variable x.0) m same is
+declared_read p text (entity.Parameter x) m same is = bound_so p text (a_variable x.0) m same is
+declared_read p text entity.Integer m same is = absurd (cc same)
+declared_read p text entity.Boolean m same is = absurd (cc same)
+declared_read p text (entity.Truth b) m same is = absurd (cc same)
+declared_read p text entity.Procedure m same is = absurd (cc same)
+
+stands_read : (p : Context) (text : List ℕ) (e : Entity) → Stands (Some e) (meaning_at p.place text) → EntityRead p text e
+stands_read p text e s = declared_read p text e s.0 s.1 s.2
+
+inner_read : (p : Context) (text : List ℕ) (x : Entity) (own : Option Entity) (b : Bool) → Stands own (meaning_at p.place text) → inner_first own b (predefined text) ≡ Some x → EntityRead p text x
+inner_read p text x (Some y) b s e = let is : y ≡ x = cc e in subst (λ (z : Entity). EntityRead p text z) is (stands_read p text y s)
+inner_read p text x None true s e = let is : entity.Procedure ≡ x = cc e in subst (λ (z : Entity). EntityRead p text z) is tt
+inner_read p text x None false s e = predefined_read p text x e
+
+-- what is visible is read
+pub visible_read : (k : Known) (p : Context) → Agrees k p.place → (text : List ℕ) (x : Entity) → visible k text ≡ Some x → EntityRead p text x
+unfolding visible
+visible_read k p w text x e = inner_read p text x (named_in text (parts k)) (bytes_eq text k.procedure) (stands_among k p.place w text) e
+
+-- one more name
+stands_more : (b : Bool) (e : Entity) (meaning : Meaning) (o : Option Entity) (m : Option Meaning) → bound_to e ≡ Some meaning → Stands o m → Stands (cond b (Some e) o) (cond b (Some meaning) m)
+stands_more true e meaning o m own old = (meaning, own, refl)
+stands_more false e meaning o m own old = old
+
+pub stands_entered : (ns : List Named) (bs : List Binding) (name : Ident) (e : Entity) (meaning : Meaning) → bound_to e ≡ Some meaning → ((text : List ℕ) → Stands (named text ns) (meaning_among text bs)) → (text : List ℕ) → Stands (named text (entered name.text e ns)) (meaning_among text (record { text = name.text; meaning = meaning } ∷ bs))
+stands_entered ns bs name e meaning own old text =
+    subst (λ (o : Option Entity). Stands o (meaning_among text (record { text = name.text; meaning = meaning } ∷ bs))) (sym (named_entered ns name.text text e))
+    (stands_more (bytes_eq text name.text) e meaning (named text ns) (meaning_among text bs) own (old text))
+
+-- what a part elaborates is no name
+pub agrees_same : (k m : Known) (place : Place) → m.here.names ≡ k.here.names → m.here.first_type ≡ k.here.first_type → m.outer ≡ k.outer → length m.types ≡ length k.types → length m.variables ≡ length k.variables → length m.exceptions ≡ length k.exceptions → Agrees k place → Agrees m place
+agrees_same k m place names first outer types variables exceptions w = record {
+  here = λ text. subst (λ (ns : List Named). Stands (named text ns) (meaning_among text place.here)) (sym names) (w.here text);
+  outer = λ text. subst (λ (ps : List Part). Stands (named_in text ps) (meaning_among text place.outer)) (sym outer) (w.outer text);
+  first_type = w.first_type ∙ sym first;
+  types = w.types ∙ sym types;
+  variables = w.variables ∙ sym variables;
+  exceptions = w.exceptions ∙ sym exceptions;
+}
+
+-- an inner part begins
+pub agrees_inside : (k : Known) (place : Place) → Agrees k place → Agrees (with_part k) (inside place)
+agrees_inside k place w = record {
+  here = λ text. refl;
+  outer = stands_among k place w;
+  first_type = w.types;
+  types = w.types;
+  variables = w.variables;
+  exceptions = w.exceptions;
+}
+
+-- the part of a loop parameter
+pub agrees_parameter : (k : Known) (place : Place) (name : Ident) → Agrees k place → Agrees (with_parameter name k) (with_new_variable name (inside place))
+agrees_parameter k place name w = record {
+  here = stands_entered [] [] name (entity.Parameter (next_variable k)) (a_variable place.variables) (ap (λ (n : ℕ). Some (a_variable n)) (sym w.variables)) (λ text. refl);
+  outer = stands_among k place w;
+  first_type = w.types;
+  types = w.types;
+  variables = ap (λ (n : ℕ). n + 1) w.variables ∙ sym (length-append k.variables (record { name = name.text; kind = variable.Integer } ∷ []));
+  exceptions = w.exceptions;
+}
+
+-- an inner part ends
+pub agrees_behind : (k m z : Known) (place end : Place) → z.here.names ≡ k.here.names → z.here.first_type ≡ k.here.first_type → z.outer ≡ k.outer → length z.types ≡ length m.types → length z.variables ≡ length m.variables → length z.exceptions ≡ length m.exceptions → Agrees k place → Agrees m end → Agrees z (behind place end)
+agrees_behind k m z place end names first outer types variables exceptions w v = record {
+  here = λ text. subst (λ (ns : List Named). Stands (named text ns) (meaning_among text place.here)) (sym names) (w.here text);
+  outer = λ text. subst (λ (ps : List Part). Stands (named_in text ps) (meaning_among text place.outer)) (sym outer) (w.outer text);
+  first_type = w.first_type ∙ sym first;
+  types = v.types ∙ sym types;
+  variables = v.variables ∙ sym variables;
+  exceptions = v.exceptions ∙ sym exceptions;
+}

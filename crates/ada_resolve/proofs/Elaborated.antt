@@ -1,0 +1,559 @@
+-- A declarative part is read as it is written: its types, its names and its objects.
+
+use Rattle.std.proofs.Common.{◌≡◌, ◌∙◌, ℕ, ◌+◌, ◌≤◌, Bool, true, false, cond, ◌||◌, List, [], ◌∷◌, ◌++◌, length, length-append, append_assoc, refl, sym, ap, subst, arith, eqb, eq-eqb}
+use Rattle.std.specs.Prelude.{Option, Some, None, bytes_eq, map, ◌==◌}
+use Rattle.std.specs.List.{slice_get, slice_set, list_all}
+use Rattle.std.proofs.lemmas.List.{append-nil, length-set}
+use Rattle.std.proofs.lemmas.Bool.{ne_eqb, both_ways}
+use Rattle.ada_text.specs.declared.spot.Spot.{Spot}
+use Rattle.ada_tree.specs.Names.{Ident, NameTree}
+use Rattle.ada_tree.specs.Records.{RecordTree}
+use Rattle.ada_tree.specs.Declarations.{AspectTree}
+use Rattle.ada_tree.specs.Expressions.{RightTree}
+use Rattle.ada_tree.specs.Statements.{DeclarationTree, exception_declaration, constant_declaration, incomplete_type, access_type, record_type, instance, object_declaration, DeclarationsTree, no_declarations, a_declaration}
+use Rattle.ada_program.specs.declared.program.Exception.TheVariants as exception
+use Rattle.ada_program.specs.declared.program.TypeNo.{TypeNo}
+use Rattle.ada_program.specs.declared.program.VariableKind.{VariableKind}
+use Rattle.ada_program.specs.Form.{RightForm, DeclarationForm, collects, declares}
+use Rattle.ada_program.specs.ProgramForm.{TypeForm, record_of, access_to, VariableForm}
+use Rattle.ada_program.specs.WellFormed as well
+use Rattle.ada_resolve.specs.declared.fault.NameRule.TheVariants.{Layout}
+use Rattle.ada_resolve.specs.declared.scope.Entity.{Entity}
+use Rattle.ada_resolve.specs.declared.scope.Entity.TheVariants as entity
+use Rattle.ada_resolve.specs.Known.{Known, Named, named, declared, type_begins, no_variable_yet}
+use Rattle.ada_resolve.specs.Types.{completed_type, defined, number_of, record_found, access_defined, aspect_remark}
+use Rattle.ada_resolve.specs.Exceptions.{next_exception}
+use Rattle.ada_resolve.specs.Statics.{static_value}
+use Rattle.ada_resolve.specs.Records.{component_meant, components_written, record_type_remark, record_type_known}
+use Rattle.ada_resolve.specs.Instances.{freed_found, generic_remark, is_collected, instance_of, with_elaborated}
+use Rattle.ada_resolve.specs.Objects.{missing_collections, ends_types, after_types, next_variable, object_remark, object_created, object_known, kind_of, object_type_found, initial_found, initial_source}
+use Rattle.ada_resolve.specs.Resolution.{gives, At, known_at, declaration_remark, declaration_known, declarations_told}
+use Rattle.ada_resolve.specs.Naming.{Context, Place, Meaning, an_incomplete_type, a_type, a_number, an_exception, an_instance, a_variable, meaning_among, IsTypeRead, IsInstanceRead, IsKindNamed}
+use Rattle.ada_resolve.specs.Reading.{read_at, with_binding, with_incomplete_type, with_new_type, with_new_exception, with_new_variable, IsInitialRead, AreObjectsRead, is_one_of, AreCompleted, declared_type, IsPartRead, part_incomplete_type, part_completion, part_new_type, part_number, part_exception, part_instance, part_objects}
+use Rattle.ada_resolve.proofs.WellFormed.Remarks.{Quiet, quiet_unless}
+use Rattle.ada_resolve.proofs.WellFormed.Names.{named_entered, same_text}
+use Rattle.ada_resolve.proofs.WellFormed.Tables.{get_last}
+use Rattle.ada_resolve.proofs.Standing.{Sound, Complete, Grows, Keeps, complete_grows, longer, declaration_sound, declaration_keeps, ended_sound, declarations_done, declarations_keep, IsSlot, new_slot, slot_of, old_name, defined_there}
+use Rattle.ada_resolve.proofs.Agreeing.{bound_to, Stands, Agrees, Ahead, Readable, stands_entered, agrees_same}
+use Rattle.ada_resolve.proofs.Keeping.{Lasts, lasts_ahead, lasts_on}
+use Rattle.ada_resolve.proofs.Written.{Legible, static_read, components_read, FoundRecord, record_read, designated_read, FoundAccess, access_read, generic_read, object_read, object_kind}
+use Rattle.ada_resolve.proofs.Others.{others_of}
+
+-- tables that are ahead of longer ones
+pub ahead_on : (k m : Known) (p : Context) → Grows k m → Ahead m p → Ahead k p
+ahead_on k m p g w = record {
+  types = λ t x is. w.types t x (g.types t x is);
+  variables = λ t x is. w.variables t x (g.variables t x is);
+  exceptions = λ t x is. w.exceptions t x (g.exceptions t x is);
+  texts = λ t x is. w.texts t x (g.texts t x is);
+}
+
+-- and at another place
+pub ahead_at : (k : Known) (p : Context) (place : Place) → Ahead k p → Ahead k (read_at place p)
+ahead_at k p place w = record { types = w.types; variables = w.variables; exceptions = w.exceptions; texts = w.texts }
+
+-- where the types end, the tables stay, and so do the names
+pub after_ahead : (k : Known) (p : Context) → Ahead k p → Ahead (after_types k) p
+unfolding after_types
+after_ahead k p w = by_end (no_variable_yet k)
+  where
+    by_end : (b : Bool) → Ahead (ends_types b k) p
+    by_end true = record { types = w.types; variables = w.variables; exceptions = w.exceptions; texts = w.texts }
+    by_end false = w
+
+pub ahead_before : (k : Known) (p : Context) → Ahead (after_types k) p → Ahead k p
+unfolding after_types
+ahead_before k p w = by_end (no_variable_yet k) w
+  where
+    by_end : (b : Bool) → Ahead (ends_types b k) p → Ahead k p
+    by_end true w = record { types = w.types; variables = w.variables; exceptions = w.exceptions; texts = w.texts }
+    by_end false w = w
+
+pub after_agrees : (k : Known) (place : Place) → Agrees k place → Agrees (after_types k) place
+unfolding after_types
+after_agrees k place w = by_end (no_variable_yet k)
+  where
+    by_end : (b : Bool) → Agrees (ends_types b k) place
+    by_end true = agrees_same k (ends_types true k) place refl refl refl refl refl refl w
+    by_end false = w
+
+after_full : (k : Known) → no_variable_yet k ≡ false → after_types k ≡ k
+unfolding after_types
+after_full k off = ap (λ (b : Bool). ends_types b k) off
+
+after_none : (k : Known) → no_variable_yet k ≡ true → after_types k ≡ with_elaborated (missing_collections k) k
+unfolding after_types
+after_none k on = ap (λ (b : Bool). ends_types b k) on
+
+after_names : (k : Known) → (after_types k).here.names ≡ k.here.names
+unfolding after_types
+after_names k = by_end (no_variable_yet k)
+  where
+    by_end : (b : Bool) → (ends_types b k).here.names ≡ k.here.names
+    by_end true = refl
+    by_end false = refl
+
+-- a name is declared, and tables grow
+agrees_declared : (k : Known) (place : Place) (name : Ident) (e : Entity) (meaning : Meaning) (types : List TypeForm) (variables : List VariableForm) (exceptions : List (List ℕ)) (elaborated : List DeclarationForm) (nt nv ne : ℕ) → bound_to e ≡ Some meaning → nt ≡ length types → nv ≡ length variables → ne ≡ length exceptions → Agrees k place → Agrees (declared (record k { types = types; variables = variables; exceptions = exceptions; here = record k.here { elaborated = elaborated } }) name.text e) (record (with_binding name meaning place) { types = nt; variables = nv; exceptions = ne })
+agrees_declared k place name e meaning types variables exceptions elaborated nt nv ne own t v x w = record {
+  here = stands_entered k.here.names place.here name e meaning own w.here;
+  outer = w.outer;
+  first_type = w.first_type;
+  types = t;
+  variables = v;
+  exceptions = x;
+}
+
+one_longer : {X : Type 0} (xs : List X) (x : X) (n : ℕ) → n ≡ length xs → n + 1 ≡ length (xs ++ x ∷ [])
+one_longer xs x n is = ap (λ (m : ℕ). m + 1) is ∙ sym (length-append xs (x ∷ []))
+
+-- no name of a complete part is bound to an incomplete type
+completed_place : (k : Known) (place : Place) → Agrees k place → Complete k → AreCompleted place
+completed_place k place w c text t is = by_name (named text k.here.names) refl (w.here text)
+  where
+    by_entity : (e : Entity) → named text k.here.names ≡ Some e → bound_to e ≡ Some (an_incomplete_type t) → ⊥
+    by_entity (entity.Incomplete u) there so = c text u there
+    by_entity (entity.Record u) there so = cc so
+    by_entity (entity.Access u) there so = cc so
+    by_entity (entity.Number n) there so = cc so
+    by_entity (entity.Exception (exception.Declared n)) there so = cc so
+    by_entity (entity.Exception exception.ConstraintError) there so = cc so
+    by_entity (entity.Exception exception.ProgramError) there so = cc so
+    by_entity (entity.Exception exception.StorageError) there so = cc so
+    by_entity (entity.Exception exception.EndError) there so = cc so
+    by_entity (entity.Instance u) there so = cc so
+    by_entity (entity.Variable x kind) there so = cc so
+    by_entity (entity.Parameter x) there so = cc so
+    by_entity entity.Integer there so = cc so
+    by_entity entity.Boolean there so = cc so
+    by_entity (entity.Truth b) there so = cc so
+    by_entity entity.Procedure there so = cc so
+
+    by_name : (o : Option Entity) → named text k.here.names ≡ o → Stands o (meaning_among text place.here) → ⊥
+    by_name None there s = let no : None ≡ Some (an_incomplete_type t) = sym s ∙ is in cc no
+    by_name (Some e) there s = by_entity e there (s.1 ∙ (sym s.2 ∙ is))
+
+-- what a name of the part is bound to
+bound_here : (k : Known) (place : Place) (text : List ℕ) (e : Entity) (meaning : Meaning) → Agrees k place → named text k.here.names ≡ Some e → bound_to e ≡ Some meaning → meaning_among text place.here ≡ Some meaning
+bound_here k place text e meaning w there own =
+    let s : Stands (Some e) (meaning_among text place.here) = subst (λ (o : Option Entity). Stands o (meaning_among text place.here)) there (w.here text) in
+    s.2 ∙ (sym s.1 ∙ own)
+
+not_bound : (k : Known) (place : Place) (text : List ℕ) → Agrees k place → named text k.here.names ≡ None → meaning_among text place.here ≡ None
+not_bound k place text w there = subst (λ (o : Option Entity). Stands o (meaning_among text place.here)) there (w.here text)
+
+-- variables that are there stay
+full_on : (k m : Known) → Sound k → Keeps k m → no_variable_yet k ≡ false → no_variable_yet m ≡ false
+full_on k m s f off =
+    let more = longer k.variables m.variables f.variables in
+    let least = s.bounds.first_variable in
+    let same = f.first_variable in
+    ne_eqb (length m.variables) m.here.first_variable (apart more least same)
+  where
+    not_equal : length k.variables ≡ k.here.first_variable → ⊥
+    not_equal is = let on : (length k.variables == k.here.first_variable) ≡ true = eq-eqb (length k.variables) k.here.first_variable is in cc (on, off)
+
+    apart : length k.variables ≤ length m.variables → k.here.first_variable ≤ length k.variables → m.here.first_variable ≡ k.here.first_variable → length m.variables ≡ m.here.first_variable → ⊥
+    apart more least same is = not_equal (omega (arith, more, least, same, is))
+
+-- no type follows a variable
+no_types : (k : Known) (spot : Spot) → no_variable_yet k ≡ false → Quiet (type_begins k spot) → ⊥
+no_types k spot e q = both_ways (no_variable_yet k) e (quiet_unless (no_variable_yet k) spot Layout q.1)
+
+-- an object
+record Made (name : Ident) (type_name : NameTree) (initial : Option RightTree) (k m : Known) : Type 0 where
+  of : VariableKind
+  kind_is : kind_of (object_type_found k type_name) ≡ Some of
+  is : m ≡ object_created k name (Some of) (initial_found k (Some of) initial)
+
+made_of : (name : Ident) (type_name : NameTree) (initial : Option RightTree) (k m : Known) → Quiet (object_remark k name type_name initial) → m ≡ object_known k name type_name initial → Made name type_name initial k m
+made_of name type_name initial k m q is =
+    let kind = object_kind k name type_name initial q.1.1.0 q.1.1.1.1 in
+    record { of = kind.0; kind_is = kind.1; is = is ∙ ap (λ (o : Option VariableKind). object_created k name o (initial_found k o initial)) kind.1 }
+
+made_full : (name : Ident) (type_name : NameTree) (initial : Option RightTree) (k m : Known) → k.here.first_variable ≤ length k.variables → Made name type_name initial k m → no_variable_yet m ≡ false
+made_full name type_name initial k m le r =
+    let v : VariableForm = record { name = name.text; kind = r.of } in
+    let more = length-append k.variables (v ∷ []) in
+    let off : (length (k.variables ++ v ∷ []) == k.here.first_variable) ≡ false = ne_eqb (length (k.variables ++ v ∷ [])) k.here.first_variable (omega (arith, more, le)) in
+    ap (λ (z : Known). no_variable_yet z) r.is ∙ off
+
+made_open : (name : Ident) (type_name : NameTree) (initial : Option RightTree) (k m : Known) → named name.text k.here.names ≡ None → Made name type_name initial k m → Complete m → Complete k
+made_open name type_name initial k m none r c text u is =
+    let there = old_name k.here.names name.text text (entity.Variable (next_variable k) r.of) (entity.Incomplete u) none is in
+    c text u (ap (λ (z : Known). named text z.here.names) r.is ∙ there)
+
+complete_before : (k : Known) → Complete (after_types k) → Complete k
+complete_before k c text u is = c text u (ap (λ (ns : List Named). named text ns) (after_names k) ∙ is)
+
+-- one declaration, and what is known at the rest
+record Next (d : DeclarationTree) (ds : DeclarationsTree) (at after : At) : Type 0 where
+  quiet : Quiet (declaration_remark (known_at at.0 d) d)
+  then : At
+  is : then.0 ≡ declaration_known (known_at at.0 d) d
+  sound : Sound then.0
+  keeps : Keeps at.0 then.0
+  rest : declarations_told ds then ≡ gives after
+  to_end : Keeps then.0 after.0
+
+next_of : (d : DeclarationTree) (ds : DeclarationsTree) (at after : At) → Sound at.0 → declarations_told (a_declaration d ds) at ≡ gives after → Next d ds at after
+next_of d ds at after s e =
+    let next = declarations_done d ds at after e in
+    let sound : Sound next.next.0 = subst Sound (sym next.next_known) (declaration_sound at.0 d s next.quiet) in
+    record {
+      quiet = next.quiet;
+      then = next.next;
+      is = next.next_known;
+      sound = sound;
+      keeps = subst (λ m. Keeps at.0 m) (sym next.next_known) (declaration_keeps at.0 d s next.quiet);
+      rest = next.told;
+      to_end = declarations_keep ds next.next after sound next.told;
+    }
+
+gives_same : {X : Type 0} (x y : X) → gives x ≡ gives y → x ≡ y
+gives_same x y e = cc e
+
+-- where no type is incomplete behind the objects, none is before them
+object_back : (name : Ident) (type_name : NameTree) (initial : Option RightTree) (k m : Known) → Quiet (object_remark (after_types k) name type_name initial) → m ≡ object_known (after_types k) name type_name initial → Complete m → Complete k
+object_back name type_name initial k m q is c =
+    complete_before k (made_open name type_name initial (after_types k) m (new_slot (after_types k) name name.spot q.1.0) (made_of name type_name initial (after_types k) m q is) c)
+
+complete_back : (ds : DeclarationsTree) (at after : At) → Sound at.0 → no_variable_yet at.0 ≡ false → declarations_told ds at ≡ gives after → Complete after.0 → Complete at.0
+complete_back no_declarations at after s full e c = subst (λ (v : At). Complete v.0) (sym (gives_same at after e)) c
+complete_back (a_declaration (object_declaration name type_name initial) ds) at after s full e c =
+    let next = next_of (object_declaration name type_name initial) ds at after s e in
+    object_back name type_name initial at.0 next.then.0 next.quiet next.is (complete_back ds next.then after next.sound (full_on at.0 next.then.0 s next.keeps full) next.rest c)
+complete_back (a_declaration (incomplete_type spot name) ds) at after s full e c = absurd (no_types at.0 spot full (next_of (incomplete_type spot name) ds at after s e).quiet.0)
+complete_back (a_declaration (access_type spot name designated aspect) ds) at after s full e c = absurd (no_types at.0 spot full (next_of (access_type spot name designated aspect) ds at after s e).quiet.0)
+complete_back (a_declaration (record_type spot name definition) ds) at after s full e c = absurd (no_types at.0 spot full (next_of (record_type spot name definition) ds at after s e).quiet.0)
+complete_back (a_declaration (instance spot name generic object access) ds) at after s full e c = absurd (no_types at.0 spot full (next_of (instance spot name generic object access) ds at after s e).quiet.0)
+complete_back (a_declaration (constant_declaration name value) ds) at after s full e c = absurd (no_types at.0 name.spot full (next_of (constant_declaration name value) ds at after s e).quiet.0)
+complete_back (a_declaration (exception_declaration name) ds) at after s full e c = absurd (no_types at.0 name.spot full (next_of (exception_declaration name) ds at after s e).quiet.0)
+complete_back (a_declaration d ds) at after s full e c = absurd (next_of d ds at after s e).quiet
+
+-- objects behind an object
+record ObjectsRead (p : Context) (ds : DeclarationsTree) (k z : Known) : Type 0 where
+  forms : List DeclarationForm
+  end : Place
+  elaborated : z.here.elaborated ≡ k.here.elaborated ++ forms
+  full : no_variable_yet z ≡ false
+  read : AreObjectsRead p ds forms end
+  agrees : Agrees z end
+
+-- an object is read
+object_says : (k : Known) (p : Context) (name : Ident) (type_name : NameTree) (initial : Option RightTree) (of : VariableKind) → Readable k p → Quiet (object_remark k name type_name initial) → kind_of (object_type_found k type_name) ≡ Some of → IsKindNamed p type_name of × IsInitialRead p of initial (initial_source (initial_found k (Some of) initial))
+object_says k p name type_name initial of w q is =
+    let r = object_read k p name type_name initial w q.1.1.0 q.1.1.1.0 q.1.1.1.1 in
+    let kinds : Some r.of ≡ Some of = sym r.is ∙ is in
+    let same : r.of ≡ of = cc kinds in
+    let starts = subst (λ (o : Option VariableKind). IsInitialRead p r.of initial (initial_source (initial_found k o initial))) is r.starts in
+    (subst (λ (v : VariableKind). IsKindNamed p type_name v) same r.kind_named, subst (λ (v : VariableKind). IsInitialRead p v initial (initial_source (initial_found k (Some of) initial))) same starts)
+
+behind_one : {X : Type 0} (xs zs forms : List X) (x : X) → zs ≡ (xs ++ x ∷ []) ++ forms → zs ≡ xs ++ (x ∷ forms)
+behind_one xs zs forms x all = all ∙ append_assoc xs (x ∷ []) forms
+
+-- an object, and those behind it
+object_first : (k : Known) (p : Context) (name : Ident) (type_name : NameTree) (initial : Option RightTree) (ds : DeclarationsTree) (m z : Known) → Readable k p → Quiet (object_remark k name type_name initial) → (r : Made name type_name initial k m) → Ahead m p → ObjectsRead (read_at (with_new_variable name p.place) p) ds m z → ObjectsRead p (a_declaration (object_declaration name type_name initial) ds) k z
+object_first k p name type_name initial ds m z w q r ahead on = record {
+  forms = declares (length k.variables) source ∷ on.forms;
+  end = on.end;
+  elaborated = behind_one k.here.elaborated z.here.elaborated on.forms (declares (length k.variables) source)
+      (on.elaborated ∙ ap (λ (u : Known). u.here.elaborated ++ on.forms) r.is);
+  full = on.full;
+  read = (sym w.agrees.variables, record { kind = r.of; there = there; kind_named = said.0; starts = said.1 }, on.read);
+  agrees = on.agrees;
+}
+  where
+    source : RightForm
+    source = initial_source (initial_found k (Some r.of) initial)
+
+    said : IsKindNamed p type_name r.of × IsInitialRead p r.of initial source
+    said = object_says k p name type_name initial r.of w q r.kind_is
+
+    v : VariableForm
+    v = record { name = name.text; kind = r.of }
+
+    there : slice_get p.variables (length k.variables) ≡ Some v
+    there = ahead.variables (length k.variables) v (ap (λ (u : Known). slice_get u.variables (length k.variables)) r.is ∙ get_last k.variables v)
+
+made_agrees : (k : Known) (place : Place) (name : Ident) (type_name : NameTree) (initial : Option RightTree) (m : Known) → Agrees k place → Made name type_name initial k m → Agrees m (with_new_variable name place)
+made_agrees k place name type_name initial m w r =
+    let v : VariableForm = record { name = name.text; kind = r.of } in
+    subst (λ u. Agrees u (with_new_variable name place)) (sym r.is)
+    (agrees_declared k place name (entity.Variable (next_variable k) r.of) (a_variable place.variables) k.types (k.variables ++ v ∷ []) k.exceptions
+    (k.here.elaborated ++ declares (length k.variables) (initial_source (initial_found k (Some r.of) initial)) ∷ [])
+    place.types (place.variables + 1) place.exceptions (ap (λ (n : ℕ). Some (a_variable n)) (sym w.variables)) w.types (one_longer k.variables v place.variables w.variables) w.exceptions w)
+
+-- at an object no type is incomplete, if none is at the end
+readable_at : (k : Known) (p : Context) (z : Known) → Sound k → Agrees k p.place → Complete k → Keeps k z → Ahead z p → Readable (after_types k) p
+readable_at k p z s w c f ahead = record {
+  fits = (ended_sound k s).names;
+  agrees = after_agrees k p.place w;
+  ahead = after_ahead k p (ahead_on k z p (complete_grows k z c f) ahead);
+}
+
+objects_read : (p : Context) (ds : DeclarationsTree) (at after : At) → Sound at.0 → Agrees at.0 p.place → no_variable_yet at.0 ≡ false → Complete after.0 → Ahead after.0 p → declarations_told ds at ≡ gives after → ObjectsRead p ds at.0 after.0
+objects_read p no_declarations at after s w full c ahead e =
+    subst (λ (v : At). ObjectsRead p no_declarations at.0 v.0) (gives_same at after e) (record {
+      forms = [];
+      end = p.place;
+      elaborated = sym (append-nil at.0.here.elaborated);
+      full = full;
+      read = refl;
+      agrees = w;
+    })
+objects_read p (a_declaration (object_declaration name type_name initial) ds) at after s w full c ahead e =
+    let next = next_of (object_declaration name type_name initial) ds at after s e in
+    let filled = full_on at.0 next.then.0 s next.keeps full in
+    let inner = complete_back ds next.then after next.sound filled next.rest c in
+    let open_so = object_back name type_name initial at.0 next.then.0 next.quiet next.is inner in
+    let k = after_types at.0 in
+    let r = made_of name type_name initial k next.then.0 next.quiet next.is in
+    let readable = readable_at at.0 p after.0 s w open_so (declarations_keep (a_declaration (object_declaration name type_name initial) ds) at after s e) ahead in
+    let q = read_at (with_new_variable name p.place) p in
+    let on = objects_read q ds next.then after next.sound (made_agrees k p.place name type_name initial next.then.0 readable.agrees r) filled c (ahead_at after.0 p (with_new_variable name p.place) ahead) next.rest in
+    subst (λ u. ObjectsRead p (a_declaration (object_declaration name type_name initial) ds) u after.0) (after_full at.0 full)
+    (object_first k p name type_name initial ds next.then.0 after.0 readable next.quiet r (ahead_on next.then.0 after.0 p (complete_grows next.then.0 after.0 inner next.to_end) ahead) on)
+objects_read p (a_declaration (incomplete_type spot name) ds) at after s w full c ahead e = absurd (no_types at.0 spot full (next_of (incomplete_type spot name) ds at after s e).quiet.0)
+objects_read p (a_declaration (access_type spot name designated aspect) ds) at after s w full c ahead e = absurd (no_types at.0 spot full (next_of (access_type spot name designated aspect) ds at after s e).quiet.0)
+objects_read p (a_declaration (record_type spot name definition) ds) at after s w full c ahead e = absurd (no_types at.0 spot full (next_of (record_type spot name definition) ds at after s e).quiet.0)
+objects_read p (a_declaration (instance spot name generic object access) ds) at after s w full c ahead e = absurd (no_types at.0 spot full (next_of (instance spot name generic object access) ds at after s e).quiet.0)
+objects_read p (a_declaration (constant_declaration name value) ds) at after s w full c ahead e = absurd (no_types at.0 name.spot full (next_of (constant_declaration name value) ds at after s e).quiet.0)
+objects_read p (a_declaration (exception_declaration name) ds) at after s w full c ahead e = absurd (no_types at.0 name.spot full (next_of (exception_declaration name) ds at after s e).quiet.0)
+objects_read p (a_declaration d ds) at after s w full c ahead e = absurd (next_of d ds at after s e).quiet
+
+-- a declarative part, up to its end
+pub record PartRead (p : Context) (ds : DeclarationsTree) (k z : Known) : Type 0 where
+  pub forms : List DeclarationForm
+  pub end : Place
+  pub elaborated : (after_types z).here.elaborated ≡ k.here.elaborated ++ forms
+  pub read : (made : List ℕ) → ((t : ℕ) → is_one_of t made ≡ is_collected t k.here.elaborated) → IsPartRead p made ds forms end
+  pub agrees : Agrees z end
+
+-- the others, and the objects
+ends_read : (k : Known) (p : Context) (ds : DeclarationsTree) (objects : List DeclarationForm) (end : Place) → Agrees k p.place → Complete k → Ahead k p → AreObjectsRead p ds objects end → (made : List ℕ) → ((t : ℕ) → is_one_of t made ≡ is_collected t k.here.elaborated) → IsPartRead p made ds (missing_collections k ++ objects) end
+ends_read k p ds objects end w c ahead r made collected =
+    let o = others_of k p made w.first_type w.types ahead.types collected in
+    subst (λ (forms : List DeclarationForm). IsPartRead p made ds (forms ++ objects) end) (sym o.these) (part_objects o.others objects (completed_place k p.place w c) o.so r)
+
+nothing_left : (k : Known) (p : Context) → Agrees k p.place → no_variable_yet k ≡ true → Complete k → Ahead k p → PartRead p no_declarations k k
+nothing_left k p w none c ahead = record {
+  forms = missing_collections k ++ [];
+  end = p.place;
+  elaborated = ap (λ (v : Known). v.here.elaborated) (after_none k none) ∙ ap (λ forms. k.here.elaborated ++ forms) (sym (append-nil (missing_collections k)));
+  read = ends_read k p no_declarations [] p.place w c ahead refl;
+  agrees = w;
+}
+
+objects_left : (k z : Known) (p : Context) (ds : DeclarationsTree) → Agrees k p.place → no_variable_yet k ≡ true → Complete k → Ahead k p → ObjectsRead p ds (after_types k) z → PartRead p ds k z
+objects_left k z p ds w none c ahead on = record {
+  forms = missing_collections k ++ on.forms;
+  end = on.end;
+  elaborated = ap (λ (v : Known). v.here.elaborated) (after_full z on.full) ∙
+      (on.elaborated ∙ (ap (λ (v : Known). v.here.elaborated ++ on.forms) (after_none k none) ∙ append_assoc k.here.elaborated (missing_collections k) on.forms));
+  read = ends_read k p ds on.forms on.end w c ahead on.read;
+  agrees = on.agrees;
+}
+
+-- a declaration that elaborates nothing
+plain_first : (k m z : Known) (p q : Context) (d : DeclarationTree) (ds : DeclarationsTree) → m.here.elaborated ≡ k.here.elaborated → (on : PartRead q ds m z) → ((made : List ℕ) → IsPartRead q made ds on.forms on.end → IsPartRead p made (a_declaration d ds) on.forms on.end) → PartRead p (a_declaration d ds) k z
+plain_first k m z p q d ds same on more = record {
+  forms = on.forms;
+  end = on.end;
+  elaborated = on.elaborated ∙ ap (λ es. es ++ on.forms) same;
+  read = λ made w. more made (on.read made (λ t. w t ∙ ap (λ es. is_collected t es) (sym same)));
+  agrees = on.agrees;
+}
+
+-- the place behind a full type declaration
+abbrev type_place : Option TypeNo → Ident → Place → Place
+type_place (Some t) name place = with_binding name (a_type t.0) place
+type_place None name place = with_new_type name place
+
+abbrev defining : Known → Ident → Option TypeNo → TypeForm → Entity → Known
+defining k name c form e = declared (record k { types = defined c form k.types }) name.text e
+
+agrees_type : (k : Known) (place : Place) (name : Ident) (c : Option TypeNo) (form : TypeForm) (e : Entity) → bound_to e ≡ Some (a_type (number_of c k.types).0) → Agrees k place → Agrees (defining k name c form e) (type_place c name place)
+agrees_type k place name (Some t) form e own w =
+    agrees_declared k place name e (a_type t.0) (slice_set k.types t.0 form) k.variables k.exceptions k.here.elaborated place.types place.variables place.exceptions
+    own (w.types ∙ sym (length-set k.types t.0 form)) w.variables w.exceptions w
+agrees_type k place name None form e own w =
+    agrees_declared k place name e (a_type place.types) (k.types ++ form ∷ []) k.variables k.exceptions k.here.elaborated (place.types + 1) place.variables place.exceptions
+    (own ∙ ap (λ (n : ℕ). Some (a_type n)) (sym w.types)) (one_longer k.types form place.types w.types) w.variables w.exceptions w
+
+-- a full type declaration completes a type, or declares the next
+type_first : (k : Known) (p : Context) (name : Ident) (c : Option TypeNo) (d : DeclarationTree) (ds : DeclarationsTree) (forms : List DeclarationForm) (end : Place) (made : List ℕ) → Agrees k p.place → IsSlot k name.text c → declared_type d ≡ Some name → IsTypeRead p d (number_of c k.types).0 → IsPartRead (read_at (type_place c name p.place) p) made ds forms end → IsPartRead p made (a_declaration d ds) forms end
+type_first k p name (Some t) d ds forms end made w slot is r on = part_completion is (bound_here k p.place name.text (entity.Incomplete t) (an_incomplete_type t.0) w slot refl) r on
+type_first k p name None d ds forms end made w slot is r on =
+    part_new_type is (not_bound k p.place name.text w slot) (subst (λ (n : ℕ). IsTypeRead p d n) (sym w.types) r) on
+
+-- what declarations are read by
+legible_at : (k z : Known) (p : Context) → Sound k → Agrees k p.place → Keeps k z → Ahead z p → Legible k p
+legible_at k z p s w f ahead = record { sound = s; agrees = w; lasts = lasts_on k z p s f (lasts_ahead z p ahead) }
+
+-- `type A is access T;`
+no_aspect : (aspect : Option AspectTree) → Quiet (aspect_remark aspect) → aspect ≡ None
+no_aspect None q = refl
+no_aspect (Some aspect) q = absurd q
+
+-- what an access type leaves
+record AccessDone (k m : Known) (p : Context) (name designated : Ident) : Type 0 where
+  r : TypeNo
+  is : m ≡ defining k name (completed_type k name) (access_to name.text r.0) (entity.Access (number_of (completed_type k name) k.types))
+  found : FoundRecord k p designated (Some r)
+
+access_done : (k m : Known) (p : Context) (name designated : Ident) (o : Option TypeNo) → FoundRecord k p designated o → m ≡ access_defined k name (completed_type k name) o → AccessDone k m p name designated
+access_done k m p name designated None found is = absurd found
+access_done k m p name designated (Some r) found is = record { r = r; is = is; found = found }
+
+access_type_read : (k m : Known) (p : Context) (spot : Spot) (name designated : Ident) (aspect : Option AspectTree) → Legible k p → Lasts m p → IsSlot k name.text (completed_type k name) → list_all (well.type_fits p.types) p.types ≡ true → aspect ≡ None → AccessDone k m p name designated → IsTypeRead p (access_type spot name designated aspect) (number_of (completed_type k name) k.types).0
+access_type_read k m p spot name designated aspect w lasts slot fit none r =
+    let c = completed_type k name in
+    let t = (number_of c k.types).0 in
+    let form = access_to name.text r.r.0 in
+    let there : slice_get m.types t ≡ Some form = ap (λ (v : Known). slice_get v.types t) r.is ∙ defined_there k name.text c form w.sound slot in
+    let last = lasts.accesses t name.text r.r.0 there in
+    (none, r.r.0, last, designated_read p name.text designated.text t r.r.0 fit last (w.lasts.type_names r.r.0 designated.text r.found.0) r.found.1)
+
+-- `type T is record .. end record;`
+record_type_read : (k m : Known) (p : Context) (spot : Spot) (name : Ident) (definition : RecordTree) → Legible k p → Lasts m p → IsSlot k name.text (completed_type k name) → m ≡ record_type_known k name definition → Quiet (record_type_remark k spot name definition) → IsTypeRead p (record_type spot name definition) (number_of (completed_type k name) k.types).0
+record_type_read k m p spot name definition w lasts slot is q =
+    let c = completed_type k name in
+    let n = number_of c k.types in
+    let cs = map (component_meant k) (components_written definition) in
+    let form = record_of name.text cs in
+    let there : slice_get m.types n.0 ≡ Some form = ap (λ (v : Known). slice_get v.types n.0) is ∙ defined_there k name.text c form w.sound slot in
+    let on : bytes_eq name.text name.text ≡ true = same_text name.text name.text refl in
+    let mine : named name.text m.here.names ≡ Some (entity.Record n) =
+    ap (λ (v : Known). named name.text v.here.names) is ∙ (named_entered k.here.names name.text name.text (entity.Record n) ∙ ap (λ (b : Bool). cond b (Some (entity.Record n)) (named name.text k.here.names)) on) in
+    (cs, lasts.records name.text n form mine there, components_read k p [] 0 (components_written definition) w q.1.1)
+
+-- `procedure Free is new Ada.Unchecked_Deallocation (T, A);`
+record Freed (k m : Known) (p : Context) (name object access : Ident) : Type 0 where
+  t : TypeNo
+  is : m ≡ declared (with_elaborated (collects t.0 ∷ []) k) name.text (entity.Instance t)
+  found : FoundAccess k p access object (Some t)
+
+freed_at : (k m : Known) (p : Context) (name object access : Ident) (o : Option TypeNo) → FoundAccess k p access object o → m ≡ instance_of k name o → Freed k m p name object access
+freed_at k m p name object access None found is = absurd found
+freed_at k m p name object access (Some t) found is = record { t = t; is = is; found = found }
+
+collected_more : (es : List DeclarationForm) (t u : ℕ) → is_collected u (es ++ collects t ∷ []) ≡ (eqb t u || is_collected u es)
+collected_more [] t u = refl
+collected_more (collects s ∷ es) t u = rw (collected_more es t u) (turn (eqb s u) (eqb t u) (is_collected u es))
+  where
+    turn : (a b c : Bool) → (a || (b || c)) ≡ (b || (a || c))
+    turn true true c = refl
+    turn true false c = refl
+    turn false b c = refl
+collected_more (declares x value ∷ es) t u = collected_more es t u
+
+instance_first : (k m z : Known) (p : Context) (spot : Spot) (name : Ident) (generic : NameTree) (object access : Ident) (ds : DeclarationsTree) (r : Freed k m p name object access) → IsInstanceRead p generic object access r.t.0 → PartRead (read_at (with_binding name (an_instance r.t.0) p.place) p) ds m z → PartRead p (a_declaration (instance spot name generic object access) ds) k z
+instance_first k m z p spot name generic object access ds r own on = record {
+  forms = collects r.t.0 ∷ on.forms;
+  end = on.end;
+  elaborated = behind_one k.here.elaborated (after_types z).here.elaborated on.forms (collects r.t.0) (on.elaborated ∙ ap (λ (u : Known). u.here.elaborated ++ on.forms) r.is);
+  read = λ made w. part_instance own (on.read (r.t.0 ∷ made) (λ u. ap (λ b. eqb r.t.0 u || b) (w u) ∙ (sym (collected_more k.here.elaborated r.t.0 u) ∙ ap (λ (v : Known). is_collected u v.here.elaborated) (sym r.is))));
+  agrees = on.agrees;
+}
+
+instance_read : (k : Known) (p : Context) (generic : NameTree) (object access : Ident) (t : TypeNo) → Legible k p → list_all (well.type_fits p.types) p.types ≡ true → Quiet (generic_remark k generic) → FoundAccess k p access object (Some t) → IsInstanceRead p generic object access t.0
+instance_read k p generic object access t w fit q (named_so, d, there, form, typed) =
+    let last = w.lasts.accesses t.0 access.text d there in
+    (generic_read k generic q, (named_so, d, last, designated_read p access.text object.text t.0 d fit last (w.lasts.type_names d object.text form) typed))
+
+-- the declarations, from one on where no object stands before it
+pub part_read : (p : Context) (ds : DeclarationsTree) (at after : At) → Sound at.0 → Agrees at.0 p.place → no_variable_yet at.0 ≡ true → Complete after.0 → Ahead after.0 p → list_all (well.type_fits p.types) p.types ≡ true → declarations_told ds at ≡ gives after → PartRead p ds at.0 after.0
+part_read p no_declarations at after s w none c ahead fit e =
+    let same = gives_same at after e in
+    subst (λ (v : At). PartRead p no_declarations at.0 v.0) same
+    (nothing_left at.0 p w none (subst (λ (v : At). Complete v.0) (sym same) c) (subst (λ (v : At). Ahead v.0 p) (sym same) ahead))
+part_read p (a_declaration (incomplete_type spot name) ds) at after s w none c ahead fit e =
+    let next = next_of (incomplete_type spot name) ds at after s e in
+    let place = with_incomplete_type name p.place in
+    let form = record_of name.text [] in
+    let agrees : Agrees next.then.0 place = subst (λ u. Agrees u place) (sym next.is)
+    (agrees_declared at.0 p.place name (entity.Incomplete (record { 0 = length at.0.types })) (an_incomplete_type p.place.types) (at.0.types ++ form ∷ []) at.0.variables at.0.exceptions at.0.here.elaborated
+    (p.place.types + 1) p.place.variables p.place.exceptions (ap (λ (n : ℕ). Some (an_incomplete_type n)) (sym w.types)) (one_longer at.0.types form p.place.types w.types) w.variables w.exceptions w) in
+    let on = part_read (read_at place p) ds next.then after next.sound agrees (ap (λ (v : Known). no_variable_yet v) next.is ∙ none) c (ahead_at after.0 p place ahead) fit next.rest in
+    plain_first at.0 next.then.0 after.0 p (read_at place p) (incomplete_type spot name) ds (ap (λ (v : Known). v.here.elaborated) next.is) on (λ made r. part_incomplete_type r)
+part_read p (a_declaration (access_type spot name designated aspect) ds) at after s w none c ahead fit e =
+    let d = access_type spot name designated aspect in
+    let next = next_of d ds at after s e in
+    let k = at.0 in
+    let q = next.quiet in
+    let completes = completed_type k name in
+    let r = access_done k next.then.0 p name designated (record_found k designated) (record_read k p designated s.names w q.1.1.1.0) next.is in
+    let slot = slot_of k name spot q.1.1.0 in
+    let place = type_place completes name p.place in
+    let agrees : Agrees next.then.0 place = subst (λ u. Agrees u place) (sym r.is)
+    (agrees_type k p.place name completes (access_to name.text r.r.0) (entity.Access (number_of completes k.types)) refl w) in
+    let on = part_read (read_at place p) ds next.then after next.sound agrees (ap (λ (v : Known). no_variable_yet v) r.is ∙ none) c (ahead_at after.0 p place ahead) fit next.rest in
+    let legible = legible_at k after.0 p s w (declarations_keep (a_declaration d ds) at after s e) ahead in
+    let lasts = lasts_on next.then.0 after.0 p next.sound next.to_end (lasts_ahead after.0 p ahead) in
+    let own = access_type_read k next.then.0 p spot name designated aspect legible lasts slot fit (no_aspect aspect q.1.1.1.1) r in
+    plain_first k next.then.0 after.0 p (read_at place p) d ds (ap (λ (v : Known). v.here.elaborated) r.is) on
+    (λ made m. type_first k p name completes d ds on.forms on.end made w slot refl own m)
+part_read p (a_declaration (record_type spot name definition) ds) at after s w none c ahead fit e =
+    let d = record_type spot name definition in
+    let next = next_of d ds at after s e in
+    let k = at.0 in
+    let completes = completed_type k name in
+    let slot = slot_of k name spot next.quiet.1.0 in
+    let place = type_place completes name p.place in
+    let agrees : Agrees next.then.0 place = subst (λ u. Agrees u place) (sym next.is)
+    (agrees_type k p.place name completes (record_of name.text (map (component_meant k) (components_written definition))) (entity.Record (number_of completes k.types)) refl w) in
+    let on = part_read (read_at place p) ds next.then after next.sound agrees (ap (λ (v : Known). no_variable_yet v) next.is ∙ none) c (ahead_at after.0 p place ahead) fit next.rest in
+    let legible = legible_at k after.0 p s w (declarations_keep (a_declaration d ds) at after s e) ahead in
+    let lasts = lasts_on next.then.0 after.0 p next.sound next.to_end (lasts_ahead after.0 p ahead) in
+    let own = record_type_read k next.then.0 p spot name definition legible lasts slot next.is next.quiet in
+    plain_first k next.then.0 after.0 p (read_at place p) d ds (ap (λ (v : Known). v.here.elaborated) next.is) on
+    (λ made m. type_first k p name completes d ds on.forms on.end made w slot refl own m)
+part_read p (a_declaration (constant_declaration name value) ds) at after s w none c ahead fit e =
+    let next = next_of (constant_declaration name value) ds at after s e in
+    let n = static_value at.0 value in
+    let place = with_binding name (a_number n) p.place in
+    let agrees : Agrees next.then.0 place = subst (λ u. Agrees u place) (sym next.is)
+    (agrees_declared at.0 p.place name (entity.Number n) (a_number n) at.0.types at.0.variables at.0.exceptions at.0.here.elaborated p.place.types p.place.variables p.place.exceptions refl w.types w.variables w.exceptions w) in
+    let on = part_read (read_at place p) ds next.then after next.sound agrees (ap (λ (v : Known). no_variable_yet v) next.is ∙ none) c (ahead_at after.0 p place ahead) fit next.rest in
+    let own = static_read at.0 p value w next.quiet.1.1 in
+    plain_first at.0 next.then.0 after.0 p (read_at place p) (constant_declaration name value) ds (ap (λ (v : Known). v.here.elaborated) next.is) on (λ made r. part_number own r)
+part_read p (a_declaration (exception_declaration name) ds) at after s w none c ahead fit e =
+    let next = next_of (exception_declaration name) ds at after s e in
+    let k = at.0 in
+    let place = with_new_exception name p.place in
+    let agrees : Agrees next.then.0 place = subst (λ u. Agrees u place) (sym next.is)
+    (agrees_declared k p.place name (entity.Exception (exception.Declared (next_exception k))) (an_exception p.place.exceptions) k.types k.variables (k.exceptions ++ name.text ∷ []) k.here.elaborated
+    p.place.types p.place.variables (p.place.exceptions + 1) (ap (λ (n : ℕ). Some (an_exception n)) (sym w.exceptions)) w.types w.variables (one_longer k.exceptions name.text p.place.exceptions w.exceptions) w) in
+    let on = part_read (read_at place p) ds next.then after next.sound agrees (ap (λ (v : Known). no_variable_yet v) next.is ∙ none) c (ahead_at after.0 p place ahead) fit next.rest in
+    let there : slice_get next.then.0.exceptions (length k.exceptions) ≡ Some name.text =
+    ap (λ (v : Known). slice_get v.exceptions (length k.exceptions)) next.is ∙ get_last k.exceptions name.text in
+    let last = ahead.exceptions (length k.exceptions) name.text (next.to_end.exceptions (length k.exceptions) name.text there) in
+    let own : slice_get p.exceptions p.place.exceptions ≡ Some name.text = ap (λ (n : ℕ). slice_get p.exceptions n) w.exceptions ∙ last in
+    plain_first k next.then.0 after.0 p (read_at place p) (exception_declaration name) ds (ap (λ (v : Known). v.here.elaborated) next.is) on (λ made r. part_exception own r)
+part_read p (a_declaration (instance spot name generic object access) ds) at after s w none c ahead fit e =
+    let d = instance spot name generic object access in
+    let next = next_of d ds at after s e in
+    let k = at.0 in
+    let q = next.quiet in
+    let found = access_read k p access object (record_found k object) s.names w (record_read k p object s.names w q.1.1.1.0) q.1.1.1.1.1.0 in
+    let r = freed_at k next.then.0 p name object access (freed_found k access (record_found k object)) found next.is in
+    let place = with_binding name (an_instance r.t.0) p.place in
+    let agrees : Agrees next.then.0 place = subst (λ u. Agrees u place) (sym r.is)
+    (agrees_declared k p.place name (entity.Instance r.t) (an_instance r.t.0) k.types k.variables k.exceptions (k.here.elaborated ++ collects r.t.0 ∷ []) p.place.types p.place.variables p.place.exceptions refl w.types w.variables w.exceptions w) in
+    let on = part_read (read_at place p) ds next.then after next.sound agrees (ap (λ (v : Known). no_variable_yet v) r.is ∙ none) c (ahead_at after.0 p place ahead) fit next.rest in
+    let legible = legible_at k after.0 p s w (declarations_keep (a_declaration d ds) at after s e) ahead in
+    instance_first k next.then.0 after.0 p spot name generic object access ds r (instance_read k p generic object access r.t legible fit q.1.1.0 r.found) on
+part_read p (a_declaration (object_declaration name type_name initial) ds) at after s w none c ahead fit e =
+    let next = next_of (object_declaration name type_name initial) ds at after s e in
+    let k = after_types at.0 in
+    let r = made_of name type_name initial k next.then.0 next.quiet next.is in
+    let filled = made_full name type_name initial k next.then.0 (ended_sound at.0 s).bounds.first_variable r in
+    let inner = complete_back ds next.then after next.sound filled next.rest c in
+    let open_so = object_back name type_name initial at.0 next.then.0 next.quiet next.is inner in
+    let keeps = declarations_keep (a_declaration (object_declaration name type_name initial) ds) at after s e in
+    let readable = readable_at at.0 p after.0 s w open_so keeps ahead in
+    let on = objects_read (read_at (with_new_variable name p.place) p) ds next.then after next.sound (made_agrees k p.place name type_name initial next.then.0 readable.agrees r) filled c (ahead_at after.0 p (with_new_variable name p.place) ahead) next.rest in
+    objects_left at.0 after.0 p (a_declaration (object_declaration name type_name initial) ds) w none open_so (ahead_on at.0 after.0 p (complete_grows at.0 after.0 open_so keeps) ahead)
+    (object_first k p name type_name initial ds next.then.0 after.0 readable next.quiet r (ahead_on next.then.0 after.0 p (complete_grows next.then.0 after.0 inner next.to_end) ahead) on)
+part_read p (a_declaration d ds) at after s w none c ahead fit e = absurd (next_of d ds at after s e).quiet

@@ -1,0 +1,185 @@
+-- A declaration leaves what is known in order, and what stays.
+
+use Rattle.std.proofs.Common.{◌≡◌, ℕ, ◌≤◌, Bool, true, false, List, [], ◌∷◌, ◌++◌, length, refl, arith}
+use Rattle.std.specs.Prelude.{Option, Some, None, map}
+use Rattle.ada_text.specs.declared.spot.Spot.{Spot}
+use Rattle.ada_program.specs.declared.program.Exception.TheVariants as exception
+use Rattle.ada_program.specs.declared.program.TypeNo.{TypeNo}
+use Rattle.ada_program.specs.declared.program.VariableKind.{VariableKind}
+use Rattle.ada_program.specs.Form.{DeclarationForm, collects, declares, RightForm}
+use Rattle.ada_program.specs.ProgramForm.{TypeForm, record_of, access_to, VariableForm}
+use Rattle.ada_program.specs.WellFormed as fits
+use Rattle.ada_tree.specs.Declarations.{AspectTree}
+use Rattle.ada_tree.specs.Names.{Ident}
+use Rattle.ada_tree.specs.Records.{RecordTree}
+use Rattle.ada_tree.specs.Statements.{DeclarationTree, exception_declaration, constant_declaration, incomplete_type, access_type, record_type, instance, object_declaration}
+use Rattle.ada_resolve.specs.declared.scope.Entity.{Entity}
+use Rattle.ada_resolve.specs.declared.scope.Entity.TheVariants as entity
+use Rattle.ada_resolve.specs.Exceptions.{next_exception, with_exception, exception_known}
+use Rattle.ada_resolve.specs.Instances.{freed_found, with_elaborated, instance_of}
+use Rattle.ada_resolve.specs.Known.{Known, Part, parts, no_variable_yet}
+use Rattle.ada_resolve.specs.Objects.{object_type_found, kind_of, initial_found, initial_source, missing_collections, ends_types, after_types, next_variable, with_variable, object_created, object_known}
+use Rattle.ada_resolve.specs.Records.{component_meant, components_written, record_type_known, record_type_remark}
+use Rattle.ada_resolve.specs.Resolution.{known_at, declaration_remark, declaration_known}
+use Rattle.ada_resolve.specs.Statics.{static_value}
+use Rattle.ada_resolve.specs.Types.{completed_type, record_found, number_of, incomplete_known, incomplete_remark, access_remark, access_defined, access_known}
+use Rattle.ada_resolve.proofs.WellFormed.Exceptions.{raised_outer}
+use Rattle.ada_resolve.proofs.WellFormed.Names.{EntityFits, PartsFit}
+use Rattle.ada_resolve.proofs.WellFormed.Remarks.{Quiet}
+use Rattle.ada_resolve.proofs.WellFormed.Tables.{all_more, both_parts, get_more, get_last}
+use Rattle.ada_resolve.proofs.WellFormed.Types.{IsAccessIn, found_access, IsKindIn, found_type}
+use Rattle.ada_resolve.proofs.Standing.Order.{Sound, Keeps, keeps_same, keeps_on}
+use Rattle.ada_resolve.proofs.Standing.Types.{name_sound, incomplete_sound, record_sound, access_sound, one_longer}
+use Rattle.ada_resolve.proofs.Standing.Kept.{IsSlot, new_slot, slot_of, keeps_new, keeps_name, keeps_defined, keeps_elaborated, keeps_variable, keeps_exception}
+
+-- only what is elaborated changes
+pub elaborated_sound : (es : List DeclarationForm) (k : Known) → Sound k → Sound (with_elaborated es k)
+elaborated_sound es k w = record {
+  types_fit = w.types_fit;
+  variables_fit = w.variables_fit;
+  names = w.names;
+  exceptions = w.exceptions;
+  bounds = record { first = w.bounds.first; first_variable = w.bounds.first_variable; open_own = w.bounds.open_own; outer_before = w.bounds.outer_before };
+}
+
+-- one more variable
+entity_stays : (types : List TypeForm) (variables : List VariableForm) (v : VariableForm) (text : List ℕ) (e : Entity) → EntityFits types variables text e → EntityFits types (variables ++ v ∷ []) text e
+entity_stays types variables v text (entity.Variable x kind) f = (get_more variables v x.0 _ f.0, f.1)
+entity_stays types variables v text (entity.Parameter x) f = get_more variables v x.0 _ f
+entity_stays types variables v text e f = f
+
+parts_stay : (types : List TypeForm) (variables : List VariableForm) (v : VariableForm) (ps : List Part) → PartsFit types variables ps → PartsFit types (variables ++ v ∷ []) ps
+parts_stay types variables v [] f = tt
+parts_stay types variables v (p ∷ ps) f = (λ t x is. entity_stays types variables v t x (f.0 t x is), parts_stay types variables v ps f.1)
+
+longer_by : (variables : List VariableForm) (v : VariableForm) → length variables ≤ length (variables ++ v ∷ [])
+longer_by [] v = omega arith
+longer_by (x ∷ variables) v = let h = longer_by variables v in omega arith
+
+pub variable_sound : (v : VariableForm) (k : Known) → Sound k → fits.variable_kind_fits k.types v.kind ≡ true → Sound (with_variable v k)
+variable_sound v k w fit = record {
+  types_fit = w.types_fit;
+  variables_fit = all_more (fits.variable_fits k.types) k.variables (v ∷ []) w.variables_fit (both_parts (fits.variable_kind_fits k.types v.kind) true fit refl);
+  names = parts_stay k.types k.variables v (parts k) w.names;
+  exceptions = w.exceptions;
+  bounds = record {
+    first = w.bounds.first;
+    first_variable = let a = w.bounds.first_variable in let b = longer_by k.variables v in omega arith;
+    open_own = w.bounds.open_own;
+    outer_before = w.bounds.outer_before;
+  };
+}
+
+-- one more exception
+raised_sound : (name : List ℕ) (k : Known) → Sound k → Sound (with_exception name k)
+raised_sound name k w = record {
+  types_fit = w.types_fit;
+  variables_fit = w.variables_fit;
+  names = w.names;
+  exceptions = raised_outer k.exceptions name (parts k) w.exceptions;
+  bounds = record { first = w.bounds.first; first_variable = w.bounds.first_variable; open_own = w.bounds.open_own; outer_before = w.bounds.outer_before };
+}
+
+-- `type T;`
+incomplete_keeps : (k : Known) (spot : Spot) (name : Ident) → Quiet (incomplete_remark k spot name) → Keeps k (incomplete_known k name)
+incomplete_keeps k spot name q =
+    keeps_new k name.text (entity.Incomplete (record { 0 = length k.types })) (k.types ++ record_of name.text [] ∷ []) (new_slot k name spot q.1)
+    (λ t form is. get_more k.types (record_of name.text []) t form is) (one_longer k.types (record_of name.text [])) (omega arith)
+
+-- `type A is access T;`
+access_keeps_at : (k : Known) (name : Ident) (o : Option TypeNo) → Sound k → IsSlot k name.text (completed_type k name) → Keeps k (access_defined k name (completed_type k name) o)
+access_keeps_at k name None w slot = keeps_same k
+access_keeps_at k name (Some d) w slot = keeps_defined k name.text (entity.Access (number_of (completed_type k name) k.types)) (completed_type k name) (access_to name.text d.0) w slot refl tt
+
+access_keeps : (k : Known) (spot : Spot) (name designated : Ident) (aspect : Option AspectTree) → Sound k → Quiet (access_remark k spot name designated aspect) → Keeps k (access_known k name designated)
+access_keeps k spot name designated aspect w q = access_keeps_at k name (record_found k designated) w (slot_of k name spot q.1.1.0)
+
+-- `type T is record .. end record;`
+record_keeps : (k : Known) (spot : Spot) (name : Ident) (definition : RecordTree) → Sound k → Quiet (record_type_remark k spot name definition) → Keeps k (record_type_known k name definition)
+record_keeps k spot name definition w q =
+    keeps_defined k name.text (entity.Record (number_of (completed_type k name) k.types)) (completed_type k name)
+    (record_of name.text (map (component_meant k) (components_written definition))) w (slot_of k name spot q.1.0) refl tt
+
+-- `procedure Free is new Ada.Unchecked_Deallocation (T, A);`
+instance_sound_at : (k : Known) (name : Ident) (o : Option TypeNo) → Sound k → IsAccessIn k.types o → Sound (instance_of k name o)
+instance_sound_at k name None w f = w
+instance_sound_at k name (Some t) w f = let e = elaborated_sound (collects t.0 ∷ []) k w in name_sound (with_elaborated (collects t.0 ∷ []) k) name.text (entity.Instance t) e f tt tt
+
+instance_keeps_at : (k : Known) (name : Ident) (o : Option TypeNo) → IsSlot k name.text None → Keeps k (instance_of k name o)
+instance_keeps_at k name None slot = keeps_same k
+instance_keeps_at k name (Some t) slot =
+    let m = with_elaborated (collects t.0 ∷ []) k in
+    keeps_on k m (instance_of k name (Some t)) (keeps_elaborated (collects t.0 ∷ []) k) (keeps_name m name.text (entity.Instance t) slot tt)
+
+-- `E : exception;`
+exception_sound : (k : Known) (name : Ident) → Sound k → Sound (exception_known k name)
+exception_sound k name w =
+    name_sound (with_exception name.text k) name.text (entity.Exception (exception.Declared (next_exception k))) (raised_sound name.text k w) tt (get_last k.exceptions name.text) tt
+
+exception_keeps : (k : Known) (name : Ident) → IsSlot k name.text None → Keeps k (exception_known k name)
+exception_keeps k name slot =
+    let m = with_exception name.text k in
+    keeps_on k m (exception_known k name) (keeps_exception name.text k) (keeps_name m name.text (entity.Exception (exception.Declared (next_exception k))) slot tt)
+
+-- `X : T := ..;`
+created_sound : (k : Known) (name : Ident) (kind : Option VariableKind) (value : Option RightForm) → Sound k → IsKindIn k.types kind → Sound (object_created k name kind value)
+created_sound k name None value w f = w
+created_sound k name (Some kind) value w f =
+    let v : VariableForm = record { name = name.text; kind = kind } in
+    let es : List DeclarationForm = declares (length k.variables) (initial_source value) ∷ [] in
+    let m = with_elaborated es (with_variable v k) in
+    name_sound m name.text (entity.Variable (next_variable k) kind) (elaborated_sound es (with_variable v k) (variable_sound v k w f)) (get_last k.variables v, f) tt tt
+
+created_keeps : (k : Known) (name : Ident) (kind : Option VariableKind) (value : Option RightForm) → IsSlot k name.text None → Keeps k (object_created k name kind value)
+created_keeps k name None value slot = keeps_same k
+created_keeps k name (Some kind) value slot =
+    let v : VariableForm = record { name = name.text; kind = kind } in
+    let es : List DeclarationForm = declares (length k.variables) (initial_source value) ∷ [] in
+    let m = with_elaborated es (with_variable v k) in
+    keeps_on k m (object_created k name (Some kind) value)
+    (keeps_on k (with_variable v k) m (keeps_variable v k) (keeps_elaborated es (with_variable v k)))
+    (keeps_name m name.text (entity.Variable (next_variable k) kind) slot tt)
+
+-- where the types end, only what is elaborated changes
+ends_sound : (b : Bool) (k : Known) → Sound k → Sound (ends_types b k)
+ends_sound true k w = elaborated_sound (missing_collections k) k w
+ends_sound false k w = w
+
+pub ended_sound : (k : Known) → Sound k → Sound (after_types k)
+unfolding after_types
+ended_sound k w = ends_sound (no_variable_yet k) k w
+
+ends_keeps : (b : Bool) (k : Known) → Keeps k (ends_types b k)
+ends_keeps true k = keeps_elaborated (missing_collections k) k
+ends_keeps false k = keeps_same k
+
+pub ended_keeps : (k : Known) → Keeps k (after_types k)
+unfolding after_types
+ended_keeps k = ends_keeps (no_variable_yet k) k
+
+-- a declaration
+pub declaration_sound : (k : Known) (d : DeclarationTree) → Sound k → Quiet (declaration_remark (known_at k d) d) → Sound (declaration_known (known_at k d) d)
+declaration_sound k (incomplete_type spot name) w q = incomplete_sound k name w
+declaration_sound k (access_type spot name designated aspect) w q = access_sound k name designated w q.1.0
+declaration_sound k (record_type spot name definition) w q = record_sound k name definition w
+declaration_sound k (instance spot name generic object access) w q = instance_sound_at k name (freed_found k access (record_found k object)) w (found_access k access (record_found k object) w.names)
+declaration_sound k (constant_declaration name value) w q = name_sound k name.text (entity.Number (static_value k value)) w tt tt tt
+declaration_sound k (exception_declaration name) w q = exception_sound k name w
+declaration_sound k (object_declaration name type_name initial) w q =
+    let m = after_types k in
+    let s : Sound m = ended_sound k w in
+    created_sound m name (kind_of (object_type_found m type_name)) (initial_found m (kind_of (object_type_found m type_name)) initial) s (found_type m type_name s.names)
+declaration_sound k d w q = absurd q
+
+pub declaration_keeps : (k : Known) (d : DeclarationTree) → Sound k → Quiet (declaration_remark (known_at k d) d) → Keeps k (declaration_known (known_at k d) d)
+declaration_keeps k (incomplete_type spot name) w q = incomplete_keeps k spot name q
+declaration_keeps k (access_type spot name designated aspect) w q = access_keeps k spot name designated aspect w q
+declaration_keeps k (record_type spot name definition) w q = record_keeps k spot name definition w q
+declaration_keeps k (instance spot name generic object access) w q = instance_keeps_at k name (freed_found k access (record_found k object)) (new_slot k name spot q.1.0)
+declaration_keeps k (constant_declaration name value) w q = keeps_name k name.text (entity.Number (static_value k value)) (new_slot k name name.spot q.1.0) tt
+declaration_keeps k (exception_declaration name) w q = exception_keeps k name (new_slot k name name.spot q.1)
+declaration_keeps k (object_declaration name type_name initial) w q =
+    let m = after_types k in
+    keeps_on k m (object_known m name type_name initial) (ended_keeps k)
+    (created_keeps m name (kind_of (object_type_found m type_name)) (initial_found m (kind_of (object_type_found m type_name)) initial) (new_slot m name name.spot q.1.0))
+declaration_keeps k d w q = absurd q

@@ -1,0 +1,213 @@
+-- What of the tables stays where a name is declared, or completed.
+
+use Rattle.std.proofs.Common.{◌≡◌, ◌∙◌, ℕ, ◌<◌, ◌≤◌, Bool, true, false, cond, List, [], ◌∷◌, ◌++◌, length, refl, sym, ap, subst, eqb, eqb-true, eq-eqb, arith}
+use Rattle.std.specs.Prelude.{Option, Some, None, bytes_eq, is_some}
+use Rattle.std.specs.List.{slice_get, slice_set}
+use Rattle.ada_text.specs.declared.spot.Spot.{Spot}
+use Rattle.ada_tree.specs.Names.{Ident}
+use Rattle.ada_program.specs.declared.program.TypeNo.{TypeNo}
+use Rattle.ada_program.specs.Form.{DeclarationForm}
+use Rattle.ada_program.specs.ProgramForm.{TypeForm, record_of, access_to, VariableForm}
+use Rattle.ada_resolve.specs.declared.fault.NameRule.TheVariants.{DeclaredTwice}
+use Rattle.ada_resolve.specs.declared.scope.Entity.{Entity}
+use Rattle.ada_resolve.specs.declared.scope.Entity.TheVariants as entity
+use Rattle.ada_resolve.specs.Exceptions.{with_exception}
+use Rattle.ada_resolve.specs.Instances.{with_elaborated}
+use Rattle.ada_resolve.specs.Known.{Known, Named, named, entered, declared, new_name_remark}
+use Rattle.ada_resolve.specs.Objects.{with_variable}
+use Rattle.ada_resolve.specs.Paths.{name_of_type}
+use Rattle.ada_resolve.specs.Types.{incomplete_of, completed_type, new_unless, defined, number_of}
+use Rattle.ada_resolve.proofs.WellFormed.Remarks.{Quiet, quiet_if}
+use Rattle.ada_resolve.proofs.WellFormed.Names.{all_entered, named_entered, text_same}
+use Rattle.ada_resolve.proofs.WellFormed.Tables.{get_more, get_last, get_set, get_other, get_within}
+use Rattle.ada_resolve.proofs.Standing.Order.{IsSettledEntity, Keeps, Sound}
+use Rattle.ada_resolve.proofs.Standing.Types.{IsOwn, length_set, one_longer}
+
+-- a name that is new, or that of an incomplete type that is completed
+abbrev pub IsSlot : Known → List ℕ → Option TypeNo → Type 0
+IsSlot k text None = named text k.here.names ≡ None
+IsSlot k text (Some t) = named text k.here.names ≡ Some (entity.Incomplete t)
+
+pub new_slot : (k : Known) (name : Ident) (spot : Spot) → Quiet (new_name_remark k name spot) → named name.text k.here.names ≡ None
+new_slot k name spot q = by_name (named name.text k.here.names) refl (quiet_if (is_some (named name.text k.here.names)) name.spot DeclaredTwice q.1.0)
+  where
+    by_name : (o : Option Entity) → named name.text k.here.names ≡ o → is_some (named name.text k.here.names) ≡ false → named name.text k.here.names ≡ None
+    by_name None is off = is
+    by_name (Some e) is off = let on : is_some (named name.text k.here.names) ≡ true = rw is refl in absurd (cc (on, off))
+
+pub slot_of : (k : Known) (name : Ident) (spot : Spot) → Quiet (new_unless (completed_type k name) (new_name_remark k name spot)) → IsSlot k name.text (completed_type k name)
+unfolding completed_type
+slot_of k name spot q = by_name (named name.text k.here.names) refl q
+  where
+    by_name : (o : Option Entity) → named name.text k.here.names ≡ o → Quiet (new_unless (incomplete_of o) (new_name_remark k name spot)) → IsSlot k name.text (incomplete_of o)
+    by_name None is q = is
+    by_name (Some (entity.Incomplete t)) is q = is
+    by_name (Some e) is q = new_slot k name spot q
+
+-- a name that stands for something is another than a new one
+pub old_name : (ns : List Named) (text t : List ℕ) (e x : Entity) → named text ns ≡ None → named t ns ≡ Some x → named t (entered text e ns) ≡ Some x
+old_name ns text t e x none is = named_entered ns text t e ∙ by_text (bytes_eq t text) refl
+  where
+    by_text : (b : Bool) → bytes_eq t text ≡ b → cond b (Some e) (named t ns) ≡ Some x
+    by_text false off = is
+    by_text true on = absurd (gone (subst (λ (u : List ℕ). named u ns ≡ Some x) (text_same t text on) is))
+      where
+        gone : named text ns ≡ Some x → ⊥
+        gone there = cc (none, there)
+
+-- another thing than this incomplete type
+abbrev IsOther : ℕ → Entity → Type 0
+IsOther t (entity.Incomplete u) = u.0 ≡ t → ⊥
+IsOther t e = Unit {0}
+
+other_of : (t : ℕ) (x : Entity) → ((u : TypeNo) → x ≡ entity.Incomplete u → u.0 ≡ t → ⊥) → IsOther t x
+other_of t (entity.Incomplete u) w = w u refl
+other_of t x w = tt
+
+other_own : (t n : ℕ) (x : Entity) → t < n → IsOwn n x → IsOther t x
+other_own t n (entity.Incomplete u) b own = λ same. omega (arith, b, own, same)
+other_own t n x b own = tt
+
+settled_entered : (ns : List Named) (text : List ℕ) (e : Entity) (t : ℕ) → IsOther t e → ((other : List ℕ) (u : TypeNo) → named other ns ≡ Some (entity.Incomplete u) → u.0 ≡ t → ⊥) → (other : List ℕ) (u : TypeNo) → named other (entered text e ns) ≡ Some (entity.Incomplete u) → u.0 ≡ t → ⊥
+settled_entered ns text e t own old other u is =
+    all_entered (λ v x. IsOther t x) ns text e own (λ v x ne there. other_of t x (λ w same. old v w (there ∙ ap (λ y. Some y) same))) other (entity.Incomplete u) is
+
+-- a new name, with types that only grow; it stands for no incomplete type, or for a new one
+pub keeps_new : (k : Known) (text : List ℕ) (e : Entity) (types : List TypeForm) → named text k.here.names ≡ None → ((t : ℕ) (form : TypeForm) → slice_get k.types t ≡ Some form → slice_get types t ≡ Some form) → length k.types ≤ length types → IsOwn (length k.types) e → Keeps k (declared (record k { types = types }) text e)
+keeps_new k text e types none grow long own = record {
+  types = λ t form is settled. (grow t form is, settled_entered k.here.names text e t (other_own t (length k.types) e (get_within k.types t form is) own) settled);
+  accesses = λ t name d is. grow t (access_to name d) is;
+  type_names = λ t name is. named_type t name (slice_get k.types t) refl is;
+  names = λ other x s is. old_name k.here.names text other e x none is;
+  more = long;
+  variables = λ x v is. is;
+  exceptions = λ x v is. is;
+  texts = refl;
+  first_type = refl;
+  first_variable = refl;
+  outer = refl;
+  withs = refl;
+  procedure = refl;
+}
+  where
+    named_type : (t : ℕ) (name : List ℕ) (o : Option TypeForm) → slice_get k.types t ≡ o → name_of_type o ≡ Some name → name_of_type (slice_get types t) ≡ Some name
+    named_type t name None is so = absurd (cc so)
+    named_type t name (Some form) is so = ap (λ v. name_of_type v) (grow t form is) ∙ so
+
+-- a new name alone
+pub keeps_name : (k : Known) (text : List ℕ) (e : Entity) → named text k.here.names ≡ None → IsOwn (length k.types) e → Keeps k (declared k text e)
+keeps_name k text e none own = keeps_new k text e k.types none (λ t form is. is) (omega arith) own
+
+-- a completed name
+pub keeps_full : (k : Known) (text : List ℕ) (e : Entity) (t : TypeNo) (form : TypeForm) → Sound k → named text k.here.names ≡ Some (entity.Incomplete t) → name_of_type (Some form) ≡ Some text → IsSettledEntity e → Keeps k (declared (record k { types = slice_set k.types t.0 form }) text e)
+keeps_full k text e t form w there own done = record {
+  types = λ u x is settled. (get_other k.types t.0 u form (λ same. settled text t there same) ∙ is, settled_entered k.here.names text e u (no_other u e done) settled);
+  accesses = λ u name d is. get_other k.types t.0 u form (λ same. no_access name d (subst (λ (n : ℕ). slice_get k.types n ≡ Some (access_to name d)) (sym same) is)) ∙ is;
+  type_names = λ u name is. by_number u name is (eqb t.0 u) refl;
+  names = λ other x s is. named_entered k.here.names text other e ∙ by_text other x s is (bytes_eq other text) refl;
+  more = let h = length_set k.types t.0 form in omega arith;
+  variables = λ x v is. is;
+  exceptions = λ x v is. is;
+  texts = refl;
+  first_type = refl;
+  first_variable = refl;
+  outer = refl;
+  withs = refl;
+  procedure = refl;
+}
+  where
+    old : slice_get k.types t.0 ≡ Some (record_of text [])
+    old = w.names.0 text (entity.Incomplete t) there
+
+    no_other : (u : ℕ) (x : Entity) → IsSettledEntity x → IsOther u x
+    no_other u (entity.Incomplete v) s = absurd s
+    no_other u x s = tt
+
+    no_access : (name : List ℕ) (d : ℕ) → slice_get k.types t.0 ≡ Some (access_to name d) → ⊥
+    no_access name d is = let same : Some (access_to name d) ≡ Some (record_of text []) = sym is ∙ old in cc same
+
+    by_number : (u : ℕ) (name : List ℕ) → name_of_type (slice_get k.types u) ≡ Some name → (b : Bool) → eqb t.0 u ≡ b → name_of_type (slice_get (slice_set k.types t.0 form) u) ≡ Some name
+    by_number u name is true on =
+        let same : t.0 ≡ u = eqb-true t.0 u on in
+        let before : Some text ≡ Some name = sym (ap (λ o. name_of_type o) (sym (ap (λ n. slice_get k.types n) same) ∙ old)) ∙ is in
+        ap (λ o. name_of_type o) (subst (λ (n : ℕ). slice_get (slice_set k.types t.0 form) n ≡ Some form) same (get_set k.types t.0 (record_of text []) form old)) ∙ (own ∙ before)
+    by_number u name is false off = ap (λ o. name_of_type o) (get_other k.types t.0 u form (λ same. apart (eq-eqb t.0 u same))) ∙ is
+      where
+        apart : eqb t.0 u ≡ true → ⊥
+        apart on = cc (on, off)
+
+    by_text : (other : List ℕ) (x : Entity) → IsSettledEntity x → named other k.here.names ≡ Some x → (b : Bool) → bytes_eq other text ≡ b → cond b (Some e) (named other k.here.names) ≡ Some x
+    by_text other x s is false off = is
+    by_text other x s is true on = absurd (unsettled x s (sym (subst (λ (n : List ℕ). named n k.here.names ≡ Some x) (text_same other text on) is) ∙ there))
+      where
+        unsettled : (x : Entity) → IsSettledEntity x → Some x ≡ Some (entity.Incomplete t) → ⊥
+        unsettled (entity.Incomplete u) s same = s
+        unsettled x s same = cc same
+
+-- a type that is declared
+pub keeps_defined : (k : Known) (text : List ℕ) (e : Entity) (c : Option TypeNo) (form : TypeForm) → Sound k → IsSlot k text c → name_of_type (Some form) ≡ Some text → IsSettledEntity e → Keeps k (declared (record k { types = defined c form k.types }) text e)
+keeps_defined k text e None form w slot own done = keeps_new k text e (k.types ++ form ∷ []) slot (λ t x is. get_more k.types form t x is) (one_longer k.types form) (own_settled e done)
+  where
+    own_settled : (x : Entity) → IsSettledEntity x → IsOwn (length k.types) x
+    own_settled (entity.Incomplete u) s = absurd s
+    own_settled x s = tt
+keeps_defined k text e (Some t) form w slot own done = keeps_full k text e t form w slot own done
+
+-- it is there
+pub defined_there : (k : Known) (text : List ℕ) (c : Option TypeNo) (form : TypeForm) → Sound k → IsSlot k text c → slice_get (defined c form k.types) (number_of c k.types).0 ≡ Some form
+defined_there k text None form w slot = get_last k.types form
+defined_there k text (Some t) form w slot = get_set k.types t.0 (record_of text []) form (w.names.0 text (entity.Incomplete t) slot)
+
+-- only what is elaborated changes
+pub keeps_elaborated : (es : List DeclarationForm) (k : Known) → Keeps k (with_elaborated es k)
+keeps_elaborated es k = record {
+  types = λ t x is settled. (is, settled);
+  accesses = λ t name d is. is;
+  type_names = λ t name is. is;
+  names = λ text e settled is. is;
+  more = omega arith;
+  variables = λ t x is. is;
+  exceptions = λ t x is. is;
+  texts = refl;
+  first_type = refl;
+  first_variable = refl;
+  outer = refl;
+  withs = refl;
+  procedure = refl;
+}
+
+-- one more variable
+pub keeps_variable : (v : VariableForm) (k : Known) → Keeps k (with_variable v k)
+keeps_variable v k = record {
+  types = λ t x is settled. (is, settled);
+  accesses = λ t name d is. is;
+  type_names = λ t name is. is;
+  names = λ text e settled is. is;
+  more = omega arith;
+  variables = λ t x is. get_more k.variables v t x is;
+  exceptions = λ t x is. is;
+  texts = refl;
+  first_type = refl;
+  first_variable = refl;
+  outer = refl;
+  withs = refl;
+  procedure = refl;
+}
+
+-- one more exception
+pub keeps_exception : (name : List ℕ) (k : Known) → Keeps k (with_exception name k)
+keeps_exception name k = record {
+  types = λ t x is settled. (is, settled);
+  accesses = λ t name d is. is;
+  type_names = λ t name is. is;
+  names = λ text e settled is. is;
+  more = omega arith;
+  variables = λ t x is. is;
+  exceptions = λ t x is. get_more k.exceptions name t x is;
+  texts = refl;
+  first_type = refl;
+  first_variable = refl;
+  outer = refl;
+  withs = refl;
+  procedure = refl;
+}

@@ -1,0 +1,215 @@
+-- What is known is in order, and what of it stays as more is declared.
+
+use Rattle.std.proofs.Common.{◌≡◌, ◌∙◌, ℕ, ◌<◌, ◌≤◌, true, List, [], ◌∷◌, length, refl, sym, ap, subst, suc, arith}
+use Rattle.std.specs.Prelude.{Some, None}
+use Rattle.std.specs.List.{list_all, slice_get}
+use Rattle.ada_program.specs.declared.program.TypeNo.{TypeNo}
+use Rattle.ada_program.specs.ProgramForm.{TypeForm, record_of, access_to, VariableForm}
+use Rattle.ada_program.specs.WellFormed as fits
+use Rattle.ada_resolve.specs.declared.library.Withs.{Withs}
+use Rattle.ada_resolve.specs.declared.scope.Entity.{Entity}
+use Rattle.ada_resolve.specs.declared.scope.Entity.TheVariants as entity
+use Rattle.ada_resolve.specs.Known.{Known, Named, Part, named, parts}
+use Rattle.ada_resolve.specs.Paths.{name_of_type}
+use Rattle.ada_resolve.specs.Resolution.{known_first}
+use Rattle.ada_resolve.proofs.WellFormed.Names.{PartsFit}
+use Rattle.ada_resolve.proofs.WellFormed.Exceptions.{PartsRaised}
+
+-- what a name of a complete part stands for, whose types have lower numbers than this
+abbrev pub IsBefore : ℕ → Entity → Type 0
+IsBefore n (entity.Incomplete t) = ⊥
+IsBefore n (entity.Record t) = t.0 < n
+IsBefore n (entity.Access t) = t.0 < n
+IsBefore n (entity.Instance t) = t.0 < n
+IsBefore n e = Unit {0}
+
+abbrev pub AllBefore : ℕ → List Named → Type 0
+AllBefore n names = (text : List ℕ) (e : Entity) → named text names ≡ Some e → IsBefore n e
+
+-- and so in each part
+abbrev pub PartsBefore : ℕ → List Part → Type 0
+PartsBefore n [] = Unit {0}
+PartsBefore n (part ∷ outer) = AllBefore n part.names × PartsBefore n outer
+
+-- the types of the innermost part come behind all others, and the parts around it are complete
+pub record IsBounded (k : Known) : Type 0 where
+  pub first : k.here.first_type ≤ length k.types
+  pub first_variable : k.here.first_variable ≤ length k.variables
+  pub open_own : (text : List ℕ) (t : TypeNo) → named text k.here.names ≡ Some (entity.Incomplete t) → k.here.first_type ≤ t.0
+  pub outer_before : PartsBefore k.here.first_type k.outer
+
+-- what is known is in order, at any place
+pub record Sound (k : Known) : Type 0 where
+  pub types_fit : list_all (fits.type_fits k.types) k.types ≡ true
+  pub variables_fit : list_all (fits.variable_fits k.types) k.variables ≡ true
+  pub names : PartsFit k.types k.variables (parts k)
+  pub exceptions : PartsRaised k.exceptions (parts k)
+  pub bounds : IsBounded k
+
+-- no name of the innermost part stands for an incomplete type
+abbrev pub Complete : Known → Type 0
+Complete k = (text : List ℕ) (t : TypeNo) → named text k.here.names ≡ Some (entity.Incomplete t) → ⊥
+
+-- tables only grow: what is there stays
+pub record Grows (k m : Known) : Type 0 where
+  pub types : (t : ℕ) (form : TypeForm) → slice_get k.types t ≡ Some form → slice_get m.types t ≡ Some form
+  pub variables : (x : ℕ) (v : VariableForm) → slice_get k.variables x ≡ Some v → slice_get m.variables x ≡ Some v
+  pub exceptions : (n : ℕ) (name : List ℕ) → slice_get k.exceptions n ≡ Some name → slice_get m.exceptions n ≡ Some name
+  pub texts : (n : ℕ) (text : List ℕ) → slice_get k.texts n ≡ Some text → slice_get m.texts n ≡ Some text
+
+-- no name of the innermost part stands for this type, incomplete
+abbrev pub IsSettled : Known → ℕ → Type 0
+IsSettled k t = (text : List ℕ) (u : TypeNo) → named text k.here.names ≡ Some (entity.Incomplete u) → u.0 ≡ t → ⊥
+
+-- a name that stands for the same from now on
+abbrev pub IsSettledEntity : Entity → Type 0
+IsSettledEntity (entity.Incomplete t) = ⊥
+IsSettledEntity e = Unit {0}
+
+-- what stays within the declarations of a part: a type, unless a name of the part stands for it, incomplete; each access type; the
+-- name of each type; what a name stands for, unless that is incomplete; all variables, exceptions and texts
+pub record Keeps (k m : Known) : Type 0 where
+  pub types : (t : ℕ) (form : TypeForm) → slice_get k.types t ≡ Some form → IsSettled k t → (slice_get m.types t ≡ Some form) × IsSettled m t
+  pub accesses : (t : ℕ) (name : List ℕ) (d : ℕ) → slice_get k.types t ≡ Some (access_to name d) → slice_get m.types t ≡ Some (access_to name d)
+  pub type_names : (t : ℕ) (name : List ℕ) → name_of_type (slice_get k.types t) ≡ Some name → name_of_type (slice_get m.types t) ≡ Some name
+  pub names : (text : List ℕ) (e : Entity) → IsSettledEntity e → named text k.here.names ≡ Some e → named text m.here.names ≡ Some e
+  pub more : length k.types ≤ length m.types
+  pub variables : (x : ℕ) (v : VariableForm) → slice_get k.variables x ≡ Some v → slice_get m.variables x ≡ Some v
+  pub exceptions : (n : ℕ) (name : List ℕ) → slice_get k.exceptions n ≡ Some name → slice_get m.exceptions n ≡ Some name
+  pub texts : m.texts ≡ k.texts
+  pub first_type : m.here.first_type ≡ k.here.first_type
+  pub first_variable : m.here.first_variable ≡ k.here.first_variable
+  pub outer : m.outer ≡ k.outer
+  pub withs : m.withs ≡ k.withs
+  pub procedure : m.procedure ≡ k.procedure
+
+-- what statements leave: the parts as they were, and tables that only grow
+pub record Stays (k m : Known) : Type 0 where
+  pub sound : Sound m
+  pub complete : Complete m
+  pub here : m.here ≡ k.here
+  pub outer : m.outer ≡ k.outer
+  pub withs : m.withs ≡ k.withs
+  pub procedure : m.procedure ≡ k.procedure
+  pub grows : Grows k m
+
+-- a place in a part right within the innermost part of another place, behind it
+pub record Inside (k m : Known) : Type 0 where
+  pub sound : Sound m
+  pub outer : m.outer ≡ parts k
+  pub withs : m.withs ≡ k.withs
+  pub procedure : m.procedure ≡ k.procedure
+  pub grows : Grows k m
+
+-- tables that grow are no shorter
+pub longer : {X : Type 0} (xs ys : List X) → ((i : ℕ) (x : X) → slice_get xs i ≡ Some x → slice_get ys i ≡ Some x) → length xs ≤ length ys
+longer [] ys w = omega arith
+longer (x ∷ xs) [] w = let no : None ≡ Some x = w 0 x refl in absurd (cc no)
+longer (x ∷ xs) (y ∷ ys) w = let h = longer xs ys (λ i. w (suc i)) in omega arith
+
+pub more_types : (k m : Known) → Grows k m → length k.types ≤ length m.types
+more_types k m g = longer k.types m.types g.types
+
+pub more_variables : (k m : Known) → Grows k m → length k.variables ≤ length m.variables
+more_variables k m g = longer k.variables m.variables g.variables
+
+pub grows_same : (k : Known) → Grows k k
+grows_same k = record { types = λ t x is. is; variables = λ t x is. is; exceptions = λ t x is. is; texts = λ t x is. is }
+
+pub grows_on : (k m z : Known) → Grows k m → Grows m z → Grows k z
+grows_on k m z f g = record {
+  types = λ t x is. g.types t x (f.types t x is);
+  variables = λ t x is. g.variables t x (f.variables t x is);
+  exceptions = λ t x is. g.exceptions t x (f.exceptions t x is);
+  texts = λ t x is. g.texts t x (f.texts t x is);
+}
+
+pub keeps_same : (k : Known) → Keeps k k
+keeps_same k = record {
+  types = λ t x is settled. (is, settled);
+  accesses = λ t name d is. is;
+  type_names = λ t name is. is;
+  names = λ text e settled is. is;
+  more = omega arith;
+  variables = λ t x is. is;
+  exceptions = λ t x is. is;
+  texts = refl;
+  first_type = refl;
+  first_variable = refl;
+  outer = refl;
+  withs = refl;
+  procedure = refl;
+}
+
+pub keeps_on : (k m z : Known) → Keeps k m → Keeps m z → Keeps k z
+keeps_on k m z f g = record {
+  types = λ t x is settled. let so = f.types t x is settled in g.types t x so.0 so.1;
+  accesses = λ t name d is. g.accesses t name d (f.accesses t name d is);
+  type_names = λ t name is. g.type_names t name (f.type_names t name is);
+  names = λ text e settled is. g.names text e settled (f.names text e settled is);
+  more = let a = f.more in let b = g.more in omega arith;
+  variables = λ t x is. g.variables t x (f.variables t x is);
+  exceptions = λ t x is. g.exceptions t x (f.exceptions t x is);
+  texts = g.texts ∙ f.texts;
+  first_type = g.first_type ∙ f.first_type;
+  first_variable = g.first_variable ∙ f.first_variable;
+  outer = g.outer ∙ f.outer;
+  withs = g.withs ∙ f.withs;
+  procedure = g.procedure ∙ f.procedure;
+}
+
+pub stays_same : (k : Known) → Sound k → Complete k → Stays k k
+stays_same k s c = record { sound = s; complete = c; here = refl; outer = refl; withs = refl; procedure = refl; grows = grows_same k }
+
+pub stays_on : (k m z : Known) → Stays k m → Stays m z → Stays k z
+stays_on k m z f g = record {
+  sound = g.sound;
+  complete = g.complete;
+  here = g.here ∙ f.here;
+  outer = g.outer ∙ f.outer;
+  withs = g.withs ∙ f.withs;
+  procedure = g.procedure ∙ f.procedure;
+  grows = grows_on k m z f.grows g.grows;
+}
+
+-- where no type is incomplete, all types stay
+pub complete_grows : (k m : Known) → Complete k → Keeps k m → Grows k m
+complete_grows k m c f = record {
+  types = λ t x is. (f.types t x is (λ text u there same. c text u there)).0;
+  variables = f.variables;
+  exceptions = f.exceptions;
+  texts = λ n text is. subst (λ (texts : List (List ℕ)). slice_get texts n ≡ Some text) (sym f.texts) is;
+}
+
+-- a type of a part around is settled
+pub outer_settled : (k : Known) (t : ℕ) → Sound k → t < k.here.first_type → IsSettled k t
+outer_settled k t s before text u there same = let own = s.bounds.open_own text u there in let no : ⊥ = omega (arith, own, same, before) in no
+
+-- so is one that a name of the part stands for, complete
+pub record_settled : (k : Known) (text : List ℕ) (t : TypeNo) → Sound k → named text k.here.names ≡ Some (entity.Record t) → IsSettled k t.0
+record_settled k text t s is other u there same =
+    let mine = s.names.0 text (entity.Record t) is in
+    let both_forms : Some (record_of text mine.0) ≡ Some (record_of other []) = sym mine.1 ∙ (ap (λ n. slice_get k.types n) (sym same) ∙ s.names.0 other (entity.Incomplete u) there) in
+    let text_is : text ≡ other = cc both_forms in
+    two_of (subst (λ (n : List ℕ). named n k.here.names ≡ Some (entity.Record t)) text_is is)
+  where
+    two_of : named other k.here.names ≡ Some (entity.Record t) → ⊥
+    two_of so = let both_names : Some (entity.Record t) ≡ Some (entity.Incomplete u) = sym so ∙ there in cc both_names
+
+-- and one that is no record type
+pub known_settled : (k : Known) (t : ℕ) (name : List ℕ) (d : ℕ) → Sound k → slice_get k.types t ≡ Some (access_to name d) → IsSettled k t
+known_settled k t name d s is other u there same =
+    let both_forms : Some (access_to name d) ≡ Some (record_of other []) = sym is ∙ (ap (λ n. slice_get k.types n) (sym same) ∙ s.names.0 other (entity.Incomplete u) there) in cc both_forms
+
+-- nothing is declared at first
+pub first_sound : (withs : Withs) (procedure : List ℕ) → Sound (known_first withs procedure)
+first_sound withs procedure = record {
+  types_fit = refl;
+  variables_fit = refl;
+  names = (λ t x e. absurd (cc e), tt);
+  exceptions = (λ t x e. absurd (cc e), tt);
+  bounds = record { first = omega arith; first_variable = omega arith; open_own = λ text t e. absurd (cc e); outer_before = tt };
+}
+
+pub first_complete : (withs : Withs) (procedure : List ℕ) → Complete (known_first withs procedure)
+first_complete withs procedure text t e = absurd (cc e)

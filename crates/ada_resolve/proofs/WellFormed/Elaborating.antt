@@ -1,0 +1,121 @@
+-- Each declaration leaves what its part elaborates in order.
+
+use Rattle.std.proofs.Common.{◌≡◌, ◌∙◌, ℕ, ◌≤◌, Bool, true, false, List, [], ◌∷◌, refl, sym, subst, arith, eqb}
+use Rattle.std.specs.Prelude.{Option, Some, None, nat_lt, is_some}
+use Rattle.std.specs.List.{slice_get}
+use Rattle.std.proofs.lemmas.Bool.{ltb-false, ne_eqb}
+use Rattle.ada_text.specs.declared.spot.Spot.{Spot}
+use Rattle.ada_tree.specs.Names.{Ident, NameTree}
+use Rattle.ada_tree.specs.Statements.{DeclarationTree, exception_declaration, constant_declaration, incomplete_type, access_type, record_type, instance, object_declaration, DeclarationsTree, no_declarations, a_declaration}
+use Rattle.ada_program.specs.declared.program.TypeNo.{TypeNo}
+use Rattle.ada_program.specs.Form.{DeclarationForm, collects, declares}
+use Rattle.ada_program.specs.ProgramForm.{TypeForm, record_of, access_to}
+use Rattle.ada_program.specs.WellFormed as fits
+use Rattle.ada_resolve.specs.declared.fault.NameRule.TheVariants.{Layout}
+use Rattle.ada_resolve.specs.declared.scope.Entity.{Entity}
+use Rattle.ada_resolve.specs.declared.scope.Entity.TheVariants as entity
+use Rattle.ada_resolve.specs.Known.{Known, declared, no_variable_yet, visible}
+use Rattle.ada_resolve.specs.Instances.{access_type_in, access_if, access_in, designates_if_known, freed_found, is_collected, one_instance, own_type, instance_remark, instance_of, instance_known}
+use Rattle.ada_resolve.specs.Objects.{after_types}
+use Rattle.ada_resolve.specs.Resolution.{gives, At, known_at, declaration_remark, declaration_known, declarations_told}
+use Rattle.ada_resolve.specs.Types.{record_found, access_defined, completed_type}
+use Rattle.ada_resolve.proofs.Standing.{Sound, ended_sound, declaration_sound, declaration_keeps, DeclarationsDone, declarations_done}
+use Rattle.ada_resolve.proofs.Standing as standing
+use Rattle.ada_resolve.proofs.WellFormed.Remarks.{Quiet, quiet_if}
+use Rattle.ada_resolve.proofs.WellFormed.Tables.{Keeps, all_more, all_weaker, both_parts}
+use Rattle.ada_resolve.proofs.WellFormed.Types.{IsAccessIn, found_access, one_of_those}
+use Rattle.ada_resolve.proofs.WellFormed.Counts.{count_more, one_more}
+use Rattle.ada_resolve.proofs.WellFormed.Elaborated.{is_first, Early, InOrder, early, early_of, none_yet_of, after_late, after_order}
+use Rattle.ada_resolve.proofs.WellFormed.Objects.{object_order}
+
+-- each access type stays one
+accesses_kept : (k m : Known) → standing.Keeps k m → Keeps k.types m.types
+accesses_kept k m w t e = found (slice_get k.types t) refl e
+  where
+    found : (o : Option TypeForm) → slice_get k.types t ≡ o → is_some (fits.designated_in o) ≡ true → fits.is_access m.types t ≡ true
+    found None is e = absurd (cc e)
+    found (Some (record_of name cs)) is e = absurd (cc e)
+    found (Some (access_to name d)) is e = rw (w.accesses t name d is) refl
+
+collection_kept : (types more : List TypeForm) → Keeps types more → (e : DeclarationForm) → fits.collection_fits types e ≡ true → fits.collection_fits more e ≡ true
+collection_kept types more w (collects t) e = w t e
+collection_kept types more w (declares x source) e = refl
+
+-- more types, and one more name
+early_types : (k : Known) (more : List TypeForm) (text : List ℕ) (e : Entity) → Early k → Keeps k.types more → Early (declared (record k { types = more }) text e)
+early_types k more text e w g = record {
+  collections_fit = all_weaker (fits.collection_fits k.types) (fits.collection_fits more) (collection_kept k.types more g) k.here.elaborated w.collections_fit;
+  only_collections = w.only_collections;
+  at_most_one = w.at_most_one;
+  own = w.own;
+}
+
+-- `type A is access T;`
+access_order : (k : Known) (name : Ident) (c o : Option TypeNo) → Early k → no_variable_yet k ≡ true → Keeps k.types (access_defined k name c o).types → InOrder (access_defined k name c o)
+access_order k name c None w none g = early w none
+access_order k name c (Some d) w none g = early (early_types k _ name.text _ w g) none
+
+-- an instance frees objects of an access type of its part
+own_of_those : (types : List TypeForm) (o : Option Entity) (r : Option TypeNo) (first : ℕ) (spot : Spot) → Quiet (own_type (access_type_in o) first spot) → Quiet (own_type (access_in o types r) first spot)
+own_of_those types None r first spot q = tt
+own_of_those types (Some (entity.Access t)) r first spot q = by_test (designates_if_known types t.0 r) q
+  where
+    by_test : (b : Bool) → Quiet (own_type (Some t) first spot) → Quiet (own_type (access_if b t) first spot)
+    by_test true q = q
+    by_test false q = tt
+own_of_those types (Some e) r first spot q = tt
+
+-- `procedure Free is new Ada.Unchecked_Deallocation (T, A);`
+instance_at : (k : Known) (spot : Spot) (name : Ident) (o : Option TypeNo) → Early k → no_variable_yet k ≡ true → IsAccessIn k.types o → Quiet (one_instance o k.here.elaborated spot) → Quiet (own_type o k.here.first_type spot) → InOrder (instance_of k name o)
+instance_at k spot name None w none f q r = early w none
+instance_at k spot name (Some t) w none f q r =
+    let es = k.here.elaborated in
+    let first : k.here.first_type ≤ t.0 = ltb-false t.0 k.here.first_type (quiet_if (nat_lt t.0 k.here.first_type) spot Layout r) in
+    early (record {
+      collections_fit = all_more (fits.collection_fits k.types) es (collects t.0 ∷ []) w.collections_fit (both_parts (fits.is_access k.types t.0) true f refl);
+      only_collections = all_more is_first es (collects t.0 ∷ []) w.only_collections refl;
+      at_most_one = λ a. one_more a t.0 es (w.at_most_one a) (quiet_if (is_collected t.0 es) spot Layout q);
+      own = λ a less.
+          let other : eqb t.0 a ≡ false = ne_eqb t.0 a (omega arith) in
+          count_more a es (collects t.0 ∷ []) ∙ (rw (w.own a less, other) (omega arith));
+    }) none
+
+instance_order : (k : Known) (spot : Spot) (name : Ident) (generic : NameTree) (object access : Ident) → Sound k → InOrder k → Quiet (instance_remark k spot name generic object access) → InOrder (instance_known k name object access)
+unfolding freed_found
+instance_order k spot name generic object access s o q =
+    instance_at k spot name (freed_found k access (record_found k object)) (early_of k spot o q.0) (none_yet_of k spot q.0)
+    (found_access k access (record_found k object) s.names)
+    (one_of_those k.types (visible k access.text) (record_found k object) k.here.elaborated spot q.1.1.1.1.1.1.0)
+    (own_of_those k.types (visible k access.text) (record_found k object) k.here.first_type spot q.1.1.1.1.1.1.1)
+
+-- a declaration
+pub declaration_order : (k : Known) (d : DeclarationTree) → Sound k → InOrder k → Quiet (declaration_remark (known_at k d) d) → InOrder (declaration_known (known_at k d) d)
+declaration_order k (incomplete_type spot name) s o q =
+    early (early_types k _ name.text _ (early_of k spot o q.0) (accesses_kept k _ (declaration_keeps k (incomplete_type spot name) s q)))
+    (none_yet_of k spot q.0)
+declaration_order k (access_type spot name designated aspect) s o q =
+    access_order k name (completed_type k name) (record_found k designated) (early_of k spot o q.0) (none_yet_of k spot q.0)
+    (accesses_kept k _ (declaration_keeps k (access_type spot name designated aspect) s q))
+declaration_order k (record_type spot name definition) s o q =
+    early (early_types k _ name.text _ (early_of k spot o q.0) (accesses_kept k _ (declaration_keeps k (record_type spot name definition) s q)))
+    (none_yet_of k spot q.0)
+declaration_order k (instance spot name generic object_name access) s o q = instance_order k spot name generic object_name access s o q
+declaration_order k (constant_declaration name value) s o q =
+    early (early_types k k.types name.text _ (early_of k name.spot o q.0) (λ t e. e)) (none_yet_of k name.spot q.0)
+declaration_order k (exception_declaration name) s o q =
+    let w = early_of k name.spot o q.0 in
+    early (record { collections_fit = w.collections_fit; only_collections = w.only_collections; at_most_one = w.at_most_one; own = w.own })
+    (none_yet_of k name.spot q.0)
+declaration_order k (object_declaration name type_name initial) s o q =
+    let ended = ended_sound k s in
+    object_order (after_types k) name type_name initial ended.names ended.bounds.first_variable (after_order k o) (after_late k o) q
+declaration_order k d s o q = absurd q
+
+-- declarations, one behind another
+pub declarations_order : (ds : DeclarationsTree) (at after : At) → Sound at.0 → InOrder at.0 → declarations_told ds at ≡ gives after → InOrder after.0
+declarations_order no_declarations at after s o e = let same : at ≡ after = cc e in subst (λ (v : At). InOrder v.0) same o
+declarations_order (a_declaration d ds) at after s o e =
+    let done = declarations_done d ds at after e in
+    declarations_order ds done.next after
+    (subst Sound (sym done.next_known) (declaration_sound at.0 d s done.quiet))
+    (subst InOrder (sym done.next_known) (declaration_order at.0 d s o done.quiet)) done.told

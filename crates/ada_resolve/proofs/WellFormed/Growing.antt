@@ -1,0 +1,368 @@
+-- What fits stays so as types, variables, exceptions and texts are added behind those that are there.
+
+use Rattle.std.proofs.Common.{◌≡◌, ℕ, ◌<◌, ◌≤◌, Bool, true, false, cond, List, [], ◌∷◌, length, refl, subst, arith, eqb}
+use Rattle.std.specs.Prelude.{Option, Some, None, ◌&&◌, is_some}
+use Rattle.std.specs.List.{list_all, slice_get}
+use Rattle.std.proofs.lemmas.Bool.{lt-ltb, ltb-true}
+use Rattle.ada_program.specs.declared.program.Choice.{Choice}
+use Rattle.ada_program.specs.declared.program.Choice.TheVariants as choice
+use Rattle.ada_program.specs.declared.program.ComponentKind.{ComponentKind}
+use Rattle.ada_program.specs.declared.program.ComponentKind.TheVariants as component
+use Rattle.ada_program.specs.declared.program.Exception.{Exception}
+use Rattle.ada_program.specs.declared.program.Exception.TheVariants as exception
+use Rattle.ada_program.specs.declared.program.VariableKind.{VariableKind}
+use Rattle.ada_program.specs.declared.program.VariableKind.TheVariants as variable
+use Rattle.ada_program.specs.declared.program.ScalarType.{ScalarType}
+use Rattle.ada_program.specs.declared.program.ScalarType.TheVariants.{Integer, Boolean}
+use Rattle.ada_program.specs.Form.{PathForm, ExpressionForm, integer, boolean, reads, is_null, applied_to, chained, LinksForm, no_more_links, a_link, ItemForm, null_item, item_of_value, RightForm, nothing, value_of, allocates, computes, StmtForm, skips, assigns, frees, gets, writes, writes_text, chooses, repeats, counts, exits, returns, raises, encloses, StmtsForm, no_stmts, a_stmt, BranchesForm, otherwise, a_branch, HandlersForm, no_handlers, a_handler, DeclarationForm, collects, declares}
+use Rattle.ada_program.specs.ProgramForm.{ComponentForm, TypeForm, VariableForm}
+use Rattle.ada_program.specs.WellFormed as fits
+use Rattle.ada_resolve.proofs.WellFormed.Tables.{both_parts, first_part, second_part, all_weaker}
+use Rattle.ada_resolve.proofs.WellFormed.Typing.{nowhere, unary_typed, left_typed, operand_typed, of_type, is_of_type}
+
+-- each element is there, with its number
+abbrev pub AreIn : {X : Type 0} → List X → List X → Type 0
+AreIn {X} xs ys = (i : ℕ) (x : X) → slice_get xs i ≡ Some x → slice_get ys i ≡ Some x
+
+-- as types and variables are added
+module _ (types more : List TypeForm) (variables others : List VariableForm) (ts : AreIn types more) (vs : AreIn variables others) where
+  -- what an access type designates, and what a record type has
+  designated_stays : (t d : ℕ) → fits.designated_type types t ≡ Some d → fits.designated_type more t ≡ Some d
+  designated_stays t d e = found_stays (slice_get types t) refl e
+    where
+      found_stays : (o : Option TypeForm) → slice_get types t ≡ o → fits.designated_in o ≡ Some d → fits.designated_type more t ≡ Some d
+      found_stays None is e = absurd (cc e)
+      found_stays (Some x) is e = rw (ts t x is) e
+
+  components_stay : (t : ℕ) (cs : List ComponentForm) → fits.record_components types t ≡ Some cs → fits.record_components more t ≡ Some cs
+  components_stay t cs e = found_stays (slice_get types t) refl e
+    where
+      found_stays : (o : Option TypeForm) → slice_get types t ≡ o → fits.components_in o ≡ Some cs → fits.record_components more t ≡ Some cs
+      found_stays None is e = absurd (cc e)
+      found_stays (Some x) is e = rw (ts t x is) e
+
+  reached_stay : (access : ℕ) (cs : List ComponentForm) → fits.reached_components types access ≡ Some cs → fits.reached_components more access ≡ Some cs
+  reached_stay access cs e = found_stay (fits.designated_type types access) refl e
+    where
+      found_stay : (o : Option ℕ) → fits.designated_type types access ≡ o → fits.components_reached types o ≡ Some cs → fits.reached_components more access ≡ Some cs
+      found_stay None is e = absurd (cc e)
+      found_stay (Some t) is e = rw (designated_stays access t is) (components_stay t cs e)
+
+  access_stays : (t : ℕ) → fits.is_access types t ≡ true → fits.is_access more t ≡ true
+  access_stays t e = found_stays (fits.designated_type types t) refl e
+    where
+      found_stays : (o : Option ℕ) → fits.designated_type types t ≡ o → is_some o ≡ true → fits.is_access more t ≡ true
+      found_stays None is e = absurd (cc e)
+      found_stays (Some d) is e = rw (designated_stays t d is) refl
+
+  -- what a variable holds, and where a path leads
+  kind_stays : (x : ℕ) (k : VariableKind) → fits.variable_kind variables x ≡ Some k → fits.variable_kind others x ≡ Some k
+  kind_stays x k e = found_stays (slice_get variables x) refl e
+    where
+      found_stays : (o : Option VariableForm) → slice_get variables x ≡ o → fits.kind_in o ≡ Some k → fits.variable_kind others x ≡ Some k
+      found_stays None is e = absurd (cc e)
+      found_stays (Some v) is e = rw (vs x v is) e
+
+  behind_stays : (access : Option ℕ) (c : ℕ) (k : VariableKind) → fits.kind_behind types access c ≡ Some k → fits.kind_behind more access c ≡ Some k
+  behind_stays None c k e = absurd (cc e)
+  behind_stays (Some access) c k e = found_stays (fits.reached_components types access) refl e
+    where
+      found_stays : (o : Option (List ComponentForm)) → fits.reached_components types access ≡ o → fits.kind_among o c ≡ Some k → fits.kind_behind more (Some access) c ≡ Some k
+      found_stays None is e = absurd (cc e)
+      found_stays (Some cs) is e = rw (reached_stay access cs is) e
+
+  selectors_stay : (cs : List ℕ) (kind : Option VariableKind) (k : VariableKind) → fits.selectors_kind types kind cs ≡ Some k → fits.selectors_kind more kind cs ≡ Some k
+  selectors_stay [] kind k e = e
+  selectors_stay (c ∷ cs) kind k e = found_stays (fits.selected_kind types kind c) (λ o h. selectors_stay cs o k h) refl e
+    where
+      found_stays : (o : Option VariableKind) → ((p : Option VariableKind) → fits.selectors_kind types p cs ≡ Some k → fits.selectors_kind more p cs ≡ Some k) → fits.selected_kind types kind c ≡ o → fits.selectors_kind types o cs ≡ Some k → fits.selectors_kind more kind (c ∷ cs) ≡ Some k
+      found_stays None rest is e = absurd (cc (nowhere types cs, e))
+      found_stays (Some j) rest is e = rw (behind_stays (fits.access_of kind) c j is) (rest (Some j) e)
+
+  path_stays : (path : PathForm) (k : VariableKind) → fits.path_kind types variables path ≡ Some k → fits.path_kind more others path ≡ Some k
+  path_stays path k e = root_stays (fits.variable_kind variables path.root) refl e
+    where
+      root_stays : (o : Option VariableKind) → fits.variable_kind variables path.root ≡ o → fits.selectors_kind types o path.selectors ≡ Some k → fits.path_kind more others path ≡ Some k
+      root_stays None is e = absurd (cc (nowhere types path.selectors, e))
+      root_stays (Some j) is e = rw (kind_stays path.root j is) (selectors_stay path.selectors (Some j) k e)
+
+  -- what is read, and what is compared with null
+  read_stays : (path : PathForm) (t : ScalarType) → fits.read_type types variables path ≡ Some t → fits.read_type more others path ≡ Some t
+  read_stays path t e = by_length (fits.follows_at_most_one path) (fits.path_kind types variables path) refl e
+    where
+      by_length : (b : Bool) (o : Option VariableKind) → fits.path_kind types variables path ≡ o → cond b (fits.scalar_of o) None ≡ Some t → cond b (fits.scalar_of (fits.path_kind more others path)) None ≡ Some t
+      by_length true None is e = absurd (cc e)
+      by_length true (Some k) is e = rw (path_stays path k is) e
+      by_length false o is e = absurd (cc e)
+
+  null_test_stays : (path : PathForm) (t : ScalarType) → fits.null_test_type types variables path ≡ Some t → fits.null_test_type more others path ≡ Some t
+  null_test_stays path t e = by_length (fits.follows_at_most_one path) (fits.path_kind types variables path) refl e
+    where
+      by_length : (b : Bool) (o : Option VariableKind) → fits.path_kind types variables path ≡ o → cond (b && is_some (fits.access_of o)) (Some Boolean) None ≡ Some t → cond (b && is_some (fits.path_access more others path)) (Some Boolean) None ≡ Some t
+      by_length true None is e = absurd (cc e)
+      by_length true (Some k) is e = rw (path_stays path k is) e
+      by_length false o is e = absurd (cc e)
+
+  -- the type of an expression
+  mutual
+    type_stays : (e : ExpressionForm) (t : ScalarType) → fits.type_of types variables e ≡ Some t → fits.type_of more others e ≡ Some t
+    type_stays (integer n) t h = h
+    type_stays (boolean b) t h = h
+    type_stays (reads path) t h = read_stays path t h
+    type_stays (is_null equal path) t h = null_test_stays path t h
+    type_stays (applied_to operator e) t h =
+        let there = unary_typed operator (fits.type_of types variables e) t h in
+        rw (type_stays e there.0 there.1) (subst (λ v. fits.unary_type operator v ≡ Some t) there.1 h)
+    type_stays (chained e links) t h =
+        let there = left_typed types variables links (fits.type_of types variables e) t h in
+        rw (type_stays e there.0 there.1) (links_stay links (Some there.0) t (subst (λ v. fits.chain_type types variables v links ≡ Some t) there.1 h))
+
+    links_stay : (links : LinksForm) (left : Option ScalarType) (t : ScalarType) → fits.chain_type types variables left links ≡ Some t → fits.chain_type more others left links ≡ Some t
+    links_stay no_more_links left t h = h
+    links_stay (a_link operator e links) left t h =
+        let there = operand_typed types variables operator e links left t h in
+        rw (type_stays e there.0 there.1)
+        (links_stay links (fits.binary_type operator left (Some there.0)) t
+        (subst (λ v. fits.chain_type types variables (fits.binary_type operator left v) links ≡ Some t) there.1 h))
+
+  pub has_type_stays : (t : ScalarType) (e : ExpressionForm) → fits.has_type types variables t e ≡ true → fits.has_type more others t e ≡ true
+  has_type_stays t e h = is_of_type t (fits.type_of more others e) (type_stays e t (of_type t (fits.type_of types variables e) h))
+
+  -- the items of aggregates
+  item_stays : (k : ComponentKind) (i : ItemForm) → fits.item_fits types variables k i ≡ true → fits.item_fits more others k i ≡ true
+  item_stays (component.Integer initial) null_item h = absurd (cc h)
+  item_stays (component.Integer initial) (item_of_value e) h = has_type_stays Integer e h
+  item_stays (component.Boolean initial) null_item h = absurd (cc h)
+  item_stays (component.Boolean initial) (item_of_value e) h = has_type_stays Boolean e h
+  item_stays (component.Access t) null_item h = refl
+  item_stays (component.Access t) (item_of_value e) h = absurd (cc h)
+
+  items_stay : (cs : List ComponentForm) (items : List ItemForm) → fits.items_fit types variables cs items ≡ true → fits.items_fit more others cs items ≡ true
+  items_stay [] [] h = refl
+  items_stay [] (i ∷ items) h = absurd (cc h)
+  items_stay (c ∷ cs) [] h = absurd (cc h)
+  items_stay (c ∷ cs) (i ∷ items) h =
+      both_parts (fits.item_fits more others c.kind i) (fits.items_fit more others cs items)
+      (item_stays c.kind i (first_part (fits.item_fits types variables c.kind i) (fits.items_fit types variables cs items) h))
+      (items_stay cs items (second_part (fits.item_fits types variables c.kind i) (fits.items_fit types variables cs items) h))
+
+  filled_stays : (access : ℕ) (items : List ItemForm) → fits.is_filled types variables (fits.reached_components types access) items ≡ true → fits.is_filled more others (fits.reached_components more access) items ≡ true
+  filled_stays access items h = by_components (fits.reached_components types access) refl h
+    where
+      by_components : (o : Option (List ComponentForm)) → fits.reached_components types access ≡ o → fits.is_filled types variables o items ≡ true → fits.is_filled more others (fits.reached_components more access) items ≡ true
+      by_components None is h = absurd (cc h)
+      by_components (Some cs) is h = rw (reached_stay access cs is) (items_stay cs items h)
+
+  -- what is assigned
+  moved_stays : (path : PathForm) (access : ℕ) → fits.is_this access (fits.path_access types variables path) ≡ true → fits.is_this access (fits.path_access more others path) ≡ true
+  moved_stays path access h = by_kind (fits.path_kind types variables path) refl h
+    where
+      by_kind : (o : Option VariableKind) → fits.path_kind types variables path ≡ o → fits.is_this access (fits.access_of o) ≡ true → fits.is_this access (fits.path_access more others path) ≡ true
+      by_kind None is h = absurd (cc h)
+      by_kind (Some k) is h = rw (path_stays path k is) h
+
+  access_right_stays : (access : ℕ) (s : RightForm) → fits.access_fits types variables access s ≡ true → fits.access_fits more others access s ≡ true
+  access_right_stays access nothing h = refl
+  access_right_stays access (value_of path) h =
+      both_parts (fits.names_variable path) (fits.is_this access (fits.path_access more others path))
+      (first_part (fits.names_variable path) (fits.is_this access (fits.path_access types variables path)) h)
+      (moved_stays path access (second_part (fits.names_variable path) (fits.is_this access (fits.path_access types variables path)) h))
+  access_right_stays access (allocates t items) h =
+      both_parts (eqb t access) (fits.is_filled more others (fits.reached_components more access) items)
+      (first_part (eqb t access) (fits.is_filled types variables (fits.reached_components types access) items) h)
+      (filled_stays access items (second_part (eqb t access) (fits.is_filled types variables (fits.reached_components types access) items) h))
+  access_right_stays access (computes e) h = absurd (cc h)
+
+  scalar_right_stays : (t : ScalarType) (s : RightForm) → fits.scalar_fits types variables t s ≡ true → fits.scalar_fits more others t s ≡ true
+  scalar_right_stays t nothing h = absurd (cc h)
+  scalar_right_stays t (value_of path) h = absurd (cc h)
+  scalar_right_stays t (allocates a items) h = absurd (cc h)
+  scalar_right_stays t (computes e) h = has_type_stays t e h
+
+  pub taken_stays : (kind : VariableKind) (s : RightForm) → fits.kind_takes types variables kind s ≡ true → fits.kind_takes more others kind s ≡ true
+  taken_stays variable.Integer s h = scalar_right_stays Integer s h
+  taken_stays variable.Boolean s h = scalar_right_stays Boolean s h
+  taken_stays (variable.Access access) s h = access_right_stays access.0 s h
+
+  right_at : (o : Option VariableKind) (found : Option VariableKind) (s : RightForm) → ((k : VariableKind) → o ≡ Some k → found ≡ Some k) → fits.right_fits types variables o s ≡ true → fits.right_fits more others found s ≡ true
+  right_at None found s w h = absurd (cc h)
+  right_at (Some k) found s w h = rw (w k refl) (taken_stays k s h)
+
+  assigned_stays : (path : PathForm) (s : RightForm) → fits.right_fits types variables (fits.path_kind types variables path) s ≡ true → fits.right_fits more others (fits.path_kind more others path) s ≡ true
+  assigned_stays path s h = right_at (fits.path_kind types variables path) (fits.path_kind more others path) s (λ k e. path_stays path k e) h
+
+  -- declarations
+  collection_stays : (d : DeclarationForm) → fits.collection_fits types d ≡ true → fits.collection_fits more d ≡ true
+  collection_stays (collects access) h = access_stays access h
+  collection_stays (declares x s) h = refl
+
+  initial_stays : (d : DeclarationForm) → fits.initial_fits types variables d ≡ true → fits.initial_fits more others d ≡ true
+  initial_stays (collects access) h = refl
+  initial_stays (declares x s) h =
+      both_parts (fits.names_before x s) (fits.right_fits more others (fits.variable_kind others x) s)
+      (first_part (fits.names_before x s) (fits.right_fits types variables (fits.variable_kind variables x) s) h)
+      (right_at (fits.variable_kind variables x) (fits.variable_kind others x) s (λ k e. kind_stays x k e)
+      (second_part (fits.names_before x s) (fits.right_fits types variables (fits.variable_kind variables x) s) h))
+
+  collections_stay : (ds : List DeclarationForm) → list_all (fits.collection_fits types) ds ≡ true → list_all (fits.collection_fits more) ds ≡ true
+  collections_stay ds h = all_weaker (fits.collection_fits types) (fits.collection_fits more) collection_stays ds h
+
+  pub initials_stay : (ds : List DeclarationForm) → list_all (fits.initial_fits types variables) ds ≡ true → list_all (fits.initial_fits more others) ds ≡ true
+  initials_stay ds h = all_weaker (fits.initial_fits types variables) (fits.initial_fits more others) initial_stays ds h
+
+  pub declarations_stay : (ds : List DeclarationForm) → fits.declarations_fit types variables ds ≡ true → fits.declarations_fit more others ds ≡ true
+  declarations_stay ds h =
+      let last = list_all (fits.initial_fits types variables) ds in
+      let front = fits.collections_first ds && list_all (fits.collection_fits types) ds in
+      let both : front ≡ true = first_part front last h in
+      both_parts (fits.collections_first ds && list_all (fits.collection_fits more) ds) (list_all (fits.initial_fits more others) ds)
+      (both_parts (fits.collections_first ds) (list_all (fits.collection_fits more) ds)
+      (first_part (fits.collections_first ds) (list_all (fits.collection_fits types) ds) both)
+      (collections_stay ds (second_part (fits.collections_first ds) (list_all (fits.collection_fits types) ds) both)))
+      (initials_stay ds (second_part front last h))
+
+  -- what is freed
+  freed_at : (access : ℕ) (own : Option ℕ) → fits.is_freed_by types access own ≡ true → fits.is_freed_by more access own ≡ true
+  freed_at access None h = absurd (cc h)
+  freed_at access (Some own) h = by_designated (fits.designated_type types access) (fits.designated_type types own) refl refl h
+    where
+      by_designated : (o p : Option ℕ) → fits.designated_type types access ≡ o → fits.designated_type types own ≡ p → fits.same_record o p ≡ true → fits.same_record (fits.designated_type more access) (fits.designated_type more own) ≡ true
+      by_designated None p is other h = absurd (cc h)
+      by_designated (Some t) None is other h = absurd (cc h)
+      by_designated (Some t) (Some u) is other h = rw (designated_stays access t is, designated_stays own u other) h
+
+  freed_stays : (access : ℕ) (path : PathForm) → fits.is_freed_by types access (fits.path_access types variables path) ≡ true → fits.is_freed_by more access (fits.path_access more others path) ≡ true
+  freed_stays access path h = by_kind (fits.path_kind types variables path) refl h
+    where
+      by_kind : (o : Option VariableKind) → fits.path_kind types variables path ≡ o → fits.is_freed_by types access (fits.access_of o) ≡ true → fits.is_freed_by more access (fits.path_access more others path) ≡ true
+      by_kind None is h = absurd (cc h)
+      by_kind (Some k) is h = rw (path_stays path k is) (freed_at access (fits.access_of (Some k)) h)
+
+  -- an Integer that is held
+  integer_at : (o found : Option VariableKind) → ((k : VariableKind) → o ≡ Some k → found ≡ Some k) → fits.is_type Integer (fits.scalar_of o) ≡ true → fits.is_type Integer (fits.scalar_of found) ≡ true
+  integer_at None found w h = absurd (cc h)
+  integer_at (Some k) found w h = rw (w k refl) h
+
+  condition_stays : (o : Option ExpressionForm) → fits.condition_fits types variables o ≡ true → fits.condition_fits more others o ≡ true
+  condition_stays None h = refl
+  condition_stays (Some e) h = has_type_stays Boolean e h
+
+  -- statements, as texts and exceptions are added too
+  module _ (texts longer exceptions raised : List (List ℕ)) (room : length texts ≤ length longer) (declared : length exceptions ≤ length raised) where
+    exception_stays : (e : Exception) → fits.exception_fits exceptions e ≡ true → fits.exception_fits raised e ≡ true
+    exception_stays exception.ConstraintError h = refl
+    exception_stays exception.ProgramError h = refl
+    exception_stays exception.StorageError h = refl
+    exception_stays exception.EndError h = refl
+    exception_stays (exception.Declared e) h =
+        let there : e.0 < length exceptions = ltb-true e.0 (length exceptions) h in lt-ltb e.0 (length raised) (omega arith)
+
+    choice_stays : (c : Choice) → fits.choice_fits exceptions c ≡ true → fits.choice_fits raised c ≡ true
+    choice_stays (choice.Exception e) h = exception_stays e h
+    choice_stays choice.Others h = refl
+
+    pub choices_stay : (cs : List Choice) → list_all (fits.choice_fits exceptions) cs ≡ true → list_all (fits.choice_fits raised) cs ≡ true
+    choices_stay cs h = all_weaker (fits.choice_fits exceptions) (fits.choice_fits raised) choice_stays cs h
+
+    mutual
+      pub statement_stays : (inside : Bool) (f : StmtForm) → fits.statement_fits types variables texts exceptions inside f ≡ true → fits.statement_fits more others longer raised inside f ≡ true
+      statement_stays inside skips h = refl
+      statement_stays inside (assigns target s) h =
+          both_parts (fits.names_variable target) (fits.right_fits more others (fits.path_kind more others target) s)
+          (first_part (fits.names_variable target) (fits.right_fits types variables (fits.path_kind types variables target) s) h)
+          (assigned_stays target s (second_part (fits.names_variable target) (fits.right_fits types variables (fits.path_kind types variables target) s) h))
+      statement_stays inside (frees access path) h =
+          both_parts (fits.names_variable path) (fits.is_freed_by more access (fits.path_access more others path))
+          (first_part (fits.names_variable path) (fits.is_freed_by types access (fits.path_access types variables path)) h)
+          (freed_stays access path (second_part (fits.names_variable path) (fits.is_freed_by types access (fits.path_access types variables path)) h))
+      statement_stays inside (gets target) h =
+          both_parts (fits.names_variable target) (fits.is_type Integer (fits.scalar_of (fits.path_kind more others target)))
+          (first_part (fits.names_variable target) (fits.is_type Integer (fits.scalar_of (fits.path_kind types variables target))) h)
+          (integer_at (fits.path_kind types variables target) (fits.path_kind more others target) (λ k e. path_stays target k e)
+          (second_part (fits.names_variable target) (fits.is_type Integer (fits.scalar_of (fits.path_kind types variables target))) h))
+      statement_stays inside (writes e) h = has_type_stays Integer e h
+      statement_stays inside (writes_text text) h =
+          let there : text < length texts = ltb-true text (length texts) h in lt-ltb text (length longer) (omega arith)
+      statement_stays inside (chooses branches) h = branches_stay inside branches h
+      statement_stays inside (repeats condition fs end_spot) h =
+          let front = fits.condition_fits types variables condition && fits.has_statement fs in
+          let back = fits.stmts_fit types variables texts exceptions true fs in
+          let both : front ≡ true = first_part front back h in
+          both_parts (fits.condition_fits more others condition && fits.has_statement fs) (fits.stmts_fit more others longer raised true fs)
+          (both_parts (fits.condition_fits more others condition) (fits.has_statement fs)
+          (condition_stays condition (first_part (fits.condition_fits types variables condition) (fits.has_statement fs) both))
+          (second_part (fits.condition_fits types variables condition) (fits.has_statement fs) both))
+          (stmts_stay true fs (second_part front back h))
+      statement_stays inside (counts x low high fs end_spot) h =
+          let held = fits.is_type Integer (fits.scalar_of (fits.variable_kind variables x)) in
+          let low_is = fits.has_type types variables Integer low in
+          let high_is = fits.has_type types variables Integer high in
+          let back = fits.stmts_fit types variables texts exceptions true fs in
+          let four : (held && low_is && high_is && fits.has_statement fs) ≡ true = first_part (held && low_is && high_is && fits.has_statement fs) back h in
+          let three : (held && low_is && high_is) ≡ true = first_part (held && low_is && high_is) (fits.has_statement fs) four in
+          let two : (held && low_is) ≡ true = first_part (held && low_is) high_is three in
+          let held_now = fits.is_type Integer (fits.scalar_of (fits.variable_kind others x)) in
+          let low_now = fits.has_type more others Integer low in
+          let high_now = fits.has_type more others Integer high in
+          both_parts (held_now && low_now && high_now && fits.has_statement fs) (fits.stmts_fit more others longer raised true fs)
+          (both_parts (held_now && low_now && high_now) (fits.has_statement fs)
+          (both_parts (held_now && low_now) high_now
+          (both_parts held_now low_now
+          (integer_at (fits.variable_kind variables x) (fits.variable_kind others x) (λ k e. kind_stays x k e) (first_part held low_is two))
+          (has_type_stays Integer low (second_part held low_is two)))
+          (has_type_stays Integer high (second_part (held && low_is) high_is three)))
+          (second_part (held && low_is && high_is) (fits.has_statement fs) four))
+          (stmts_stay true fs (second_part (held && low_is && high_is && fits.has_statement fs) back h))
+      statement_stays inside (exits condition spot) h =
+          both_parts inside (fits.condition_fits more others condition) (first_part inside (fits.condition_fits types variables condition) h)
+          (condition_stays condition (second_part inside (fits.condition_fits types variables condition) h))
+      statement_stays inside (returns spot) h = refl
+      statement_stays inside (raises e) h = exception_stays e h
+      statement_stays inside (encloses ds fs hs) h =
+          let part = fits.declarations_fit types variables ds in
+          let own = fits.stmts_fit types variables texts exceptions inside fs in
+          let handled = fits.handlers_fit types variables texts exceptions inside hs in
+          let both : (part && own) ≡ true = first_part (part && own) handled h in
+          both_parts (fits.declarations_fit more others ds && fits.stmts_fit more others longer raised inside fs)
+          (fits.handlers_fit more others longer raised inside hs)
+          (both_parts (fits.declarations_fit more others ds) (fits.stmts_fit more others longer raised inside fs)
+          (declarations_stay ds (first_part part own both)) (stmts_stay inside fs (second_part part own both)))
+          (handlers_stay inside hs (second_part (part && own) handled h))
+
+      pub stmts_stay : (inside : Bool) (fs : StmtsForm) → fits.stmts_fit types variables texts exceptions inside fs ≡ true → fits.stmts_fit more others longer raised inside fs ≡ true
+      stmts_stay inside no_stmts h = refl
+      stmts_stay inside (a_stmt f fs) h =
+          let one = fits.statement_fits types variables texts exceptions inside f in
+          let rest = fits.stmts_fit types variables texts exceptions inside fs in
+          both_parts (fits.statement_fits more others longer raised inside f) (fits.stmts_fit more others longer raised inside fs)
+          (statement_stays inside f (first_part one rest h)) (stmts_stay inside fs (second_part one rest h))
+
+      branches_stay : (inside : Bool) (bs : BranchesForm) → fits.branches_fit types variables texts exceptions inside bs ≡ true → fits.branches_fit more others longer raised inside bs ≡ true
+      branches_stay inside (otherwise fs) h = stmts_stay inside fs h
+      branches_stay inside (a_branch e fs bs) h =
+          let condition = fits.has_type types variables Boolean e in
+          let own = fits.stmts_fit types variables texts exceptions inside fs in
+          let rest = fits.branches_fit types variables texts exceptions inside bs in
+          let both : (condition && own) ≡ true = first_part (condition && own) rest h in
+          both_parts (fits.has_type more others Boolean e && fits.stmts_fit more others longer raised inside fs)
+          (fits.branches_fit more others longer raised inside bs)
+          (both_parts (fits.has_type more others Boolean e) (fits.stmts_fit more others longer raised inside fs)
+          (has_type_stays Boolean e (first_part condition own both)) (stmts_stay inside fs (second_part condition own both)))
+          (branches_stay inside bs (second_part (condition && own) rest h))
+
+      handlers_stay : (inside : Bool) (hs : HandlersForm) → fits.handlers_fit types variables texts exceptions inside hs ≡ true → fits.handlers_fit more others longer raised inside hs ≡ true
+      handlers_stay inside no_handlers h = refl
+      handlers_stay inside (a_handler choices fs hs) h =
+          let named = list_all (fits.choice_fits exceptions) choices in
+          let own = fits.stmts_fit types variables texts exceptions inside fs in
+          let rest = fits.handlers_fit types variables texts exceptions inside hs in
+          let three : (named && fits.has_statement fs && own) ≡ true = first_part (named && fits.has_statement fs && own) rest h in
+          let two : (named && fits.has_statement fs) ≡ true = first_part (named && fits.has_statement fs) own three in
+          both_parts (list_all (fits.choice_fits raised) choices && fits.has_statement fs && fits.stmts_fit more others longer raised inside fs)
+          (fits.handlers_fit more others longer raised inside hs)
+          (both_parts (list_all (fits.choice_fits raised) choices && fits.has_statement fs) (fits.stmts_fit more others longer raised inside fs)
+          (both_parts (list_all (fits.choice_fits raised) choices) (fits.has_statement fs)
+          (choices_stay choices (first_part named (fits.has_statement fs) two))
+          (second_part named (fits.has_statement fs) two))
+          (stmts_stay inside fs (second_part (named && fits.has_statement fs) own three)))
+          (handlers_stay inside hs (second_part (named && fits.has_statement fs && own) rest h))
