@@ -67,9 +67,14 @@ declarations_stay p q w (d ∷ ds) h =
 mutual
   stmt_stays : (f : StmtForm) (p q : Exception → Bool) → Within p q → stmt_raises p f ≡ true → stmt_raises q f ≡ true
   stmt_stays skips p q w h = cc
-  stmt_stays (assigns target right) p q w h = right_stays p q w right h
+  stmt_stays (assigns target right) p q w h =
+      let follows = path_raises target.selectors in
+      either (p ConstraintError && follows) (right_raises p right) (q ConstraintError && follows) (right_raises q right)
+      (checked p q w follows) (right_stays p q w right) h
   stmt_stays (frees access variable) p q w h = cc
-  stmt_stays (gets target) p q w h = w EndError h
+  stmt_stays (gets target) p q w h =
+      let follows = path_raises target.selectors in
+      either (p EndError) (p ConstraintError && follows) (q EndError) (q ConstraintError && follows) (w EndError) (checked p q w follows) h
   stmt_stays (writes e) p q w h = checked p q w (expression_raises e) h
   stmt_stays (writes_text text) p q w h = cc
   stmt_stays (chooses branches) p q w h = branches_stay branches p q w h
@@ -156,9 +161,13 @@ one_untaken p hs fs one =
 mutual
   stmt_has_one : (f : StmtForm) (p : Exception → Bool) → stmt_raises p f ≡ true → One p (λ r. stmt_raises r f)
   stmt_has_one skips p h = cc
-  stmt_has_one (assigns target right) p h = right_has_one p right h
+  stmt_has_one (assigns target right) p h =
+      one_of p (λ r. r ConstraintError && path_raises target.selectors) (λ r. right_raises r right)
+      (one_checked p (path_raises target.selectors)) (right_has_one p right) h
   stmt_has_one (frees access variable) p h = cc
-  stmt_has_one (gets target) p h = itself p EndError h
+  stmt_has_one (gets target) p h =
+      one_of p (λ r. r EndError) (λ r. r ConstraintError && path_raises target.selectors)
+      (itself p EndError) (one_checked p (path_raises target.selectors)) h
   stmt_has_one (writes e) p h = one_checked p (expression_raises e) h
   stmt_has_one (writes_text text) p h = cc
   stmt_has_one (chooses branches) p h = branches_have_one branches p h

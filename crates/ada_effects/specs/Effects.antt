@@ -89,9 +89,9 @@ abbrev mutual
   -- May a statement raise one of these exceptions? Handlers take what they name from the statements of their own block alone (11.4).
   pub stmt_raises : (Exception → Bool) → StmtForm → Bool
   stmt_raises among skips = false
-  stmt_raises among (assigns target right) = right_raises among right
+  stmt_raises among (assigns target right) = (among ConstraintError && path_raises target.selectors) || right_raises among right
   stmt_raises among (frees access variable) = false
-  stmt_raises among (gets target) = among EndError
+  stmt_raises among (gets target) = among EndError || (among ConstraintError && path_raises target.selectors)
   stmt_raises among (writes e) = among ConstraintError && expression_raises e
   stmt_raises among (writes_text text) = false
   stmt_raises among (chooses branches) = branches_raise among branches

@@ -18,7 +18,8 @@ use std::alloc::{AllocError, Global};
 /// `AllocError` where memory for the set of the exceptions that are taken was refused.
 #[tactic(auto, using(std::proofs::lemmas::Grind::common_steps, crate::proofs::Raising::passes_steps))]
 pub fn passes(alloc: Global, statements: &[Stmt], handlers: &[Handler]) -> Result<bool, AllocError>
-    ensures { IfOk result (λ answer. answer ≡ rules.passes (stmts_form statements.now) (handlers_form handlers.now)) }
+    ensures { IfOk result
+        (λ answer. answer ≡ rules.passes (stmts_form statements.now) (handlers_form handlers.now)) }
 {
     let mut taken = Taken::new(alloc);
     handled_raise(alloc, statements, handlers, &mut taken)
@@ -50,7 +51,8 @@ fn constraint_error_leaves(taken: &Taken) -> bool
 
 /// Whether a declaration may.
 fn declaration_raises(declaration: &Declaration, taken: &Taken) -> bool
-    ensures { result ≡ rules.declaration_raises (outside (set_of taken.now)) (declaration_form declaration.now) }
+    ensures { result ≡ rules.declaration_raises (outside (set_of taken.now))
+        (declaration_form declaration.now) }
 {
     match declaration {
         Declaration::Variable {
@@ -63,7 +65,8 @@ fn declaration_raises(declaration: &Declaration, taken: &Taken) -> bool
 
 /// Whether declarations may.
 fn declarations_raise(declarations: &[Declaration], taken: &Taken) -> bool
-    ensures { result ≡ rules.declarations_raise (outside (set_of taken.now)) (map declaration_form declarations.now) }
+    ensures { result ≡ rules.declarations_raise (outside (set_of taken.now))
+        (map declaration_form declarations.now) }
 {
     'declarations: for declaration in declarations {
         if declaration_raises(declaration, taken) {
@@ -77,13 +80,19 @@ fn declarations_raise(declarations: &[Declaration], taken: &Taken) -> bool
 #[cycle(raising)]
 #[tactic(auto, using(std::proofs::lemmas::Grind::common_steps, ada_program::specs::Form::statement_rules, crate::proofs::Sets::is_outside))]
 fn stmt_raises(alloc: Global, statement: &Stmt, taken: &mut Taken) -> Result<bool, AllocError>
-    ensures answered { IfOk result (λ answer. answer ≡ rules.stmt_raises (outside (set_of taken.old)) (stmt_form statement.now)) }
+    ensures answered { IfOk result
+        (λ answer. answer ≡ rules.stmt_raises (outside (set_of taken.old)) (stmt_form statement.now)) }
     ensures kept { OnOk result (set_of taken.new ≡ set_of taken.old) }
 {
     match statement {
         Stmt::Null | Stmt::Free { .. } | Stmt::PutText(_) | Stmt::Return(_) => Ok(false),
-        Stmt::Assign { target: _, value } => Ok(right_raises(value, taken)),
-        Stmt::Get(_) => Ok(!taken.contains(Exception::EndError)),
+        Stmt::Assign { target, value } => {
+            Ok(constraint_error_leaves(taken) && path_raises(target) || right_raises(value, taken))
+        }
+        Stmt::Get(target) => Ok(
+            !taken.contains(Exception::EndError)
+                || constraint_error_leaves(taken) && path_raises(target),
+        ),
         Stmt::PutImage(expression) => {
             Ok(constraint_error_leaves(taken) && expression_raises(expression))
         }
@@ -142,7 +151,8 @@ fn stmt_raises(alloc: Global, statement: &Stmt, taken: &mut Taken) -> Result<boo
 /// Whether statements may. The set is the same afterwards.
 #[cycle(raising)]
 fn stmts_raise(alloc: Global, statements: &[Stmt], taken: &mut Taken) -> Result<bool, AllocError>
-    ensures answered { IfOk result (λ answer. answer ≡ rules.stmts_raise (outside (set_of taken.old)) (stmts_form statements.now)) }
+    ensures answered { IfOk result
+        (λ answer. answer ≡ rules.stmts_raise (outside (set_of taken.old)) (stmts_form statements.now)) }
     ensures kept { OnOk result (set_of taken.new ≡ set_of taken.old) }
 {
     'statements: for statement in statements {
@@ -179,7 +189,8 @@ fn handlers_raise(
     handlers: &[Handler],
     taken: &mut Taken,
 ) -> Result<bool, AllocError>
-    ensures answered { IfOk result (λ answer. answer ≡ rules.handlers_raise (outside (set_of taken.old)) (handlers_form handlers.now)) }
+    ensures answered { IfOk result
+        (λ answer. answer ≡ rules.handlers_raise (outside (set_of taken.old)) (handlers_form handlers.now)) }
     ensures kept { OnOk result (set_of taken.new ≡ set_of taken.old) }
 {
     'handlers: for handler in handlers {

@@ -69,8 +69,10 @@ impl Taken {
         alloc: Global,
         handlers: &[Handler],
     ) -> Result<Vec<Exception>, AllocError>
-        ensures joined { OnOk result (set_of self.new ≡ with_handlers (handlers_form handlers.now) (set_of self.old)) }
-        ensures listed { IfOk result (λ joined. without joined.items (set_of self.new) ≡ set_of self.old) }
+        ensures joined { OnOk result
+            (set_of self.new ≡ with_handlers (handlers_form handlers.now) (set_of self.old)) }
+        ensures listed { IfOk result
+            (λ joined. without joined.items (set_of self.new) ≡ set_of self.old) }
     {
         let mut joined = Vec::new(alloc);
         'handlers: for handler in handlers {
@@ -86,8 +88,10 @@ impl Taken {
         choices: &[Choice],
         joined: &mut Vec<Exception>,
     ) -> Result<(), AllocError>
-        ensures joined { OnOk result (set_of self.new ≡ with_choices choices.now (set_of self.old)) }
-        ensures listed { OnOk result (without joined.new.items (set_of self.new) ≡ without joined.old.items (set_of self.old)) }
+        ensures joined { OnOk result
+            (set_of self.new ≡ with_choices choices.now (set_of self.old)) }
+        ensures listed { OnOk result
+            (without joined.new.items (set_of self.new) ≡ without joined.old.items (set_of self.old)) }
     {
         'choices: for choice in choices {
             self.join_choice(*choice, joined)?;
@@ -99,7 +103,8 @@ impl Taken {
     #[tactic(auto, using(std::proofs::lemmas::Grind::common_steps, crate::proofs::Sets::joining))]
     fn join_choice(&mut self, choice: Choice, joined: &mut Vec<Exception>) -> Result<(), AllocError>
         ensures joined { OnOk result (set_of self.new ≡ with_choice choice (set_of self.old)) }
-        ensures listed { OnOk result (without joined.new.items (set_of self.new) ≡ without joined.old.items (set_of self.old)) }
+        ensures listed { OnOk result
+            (without joined.new.items (set_of self.new) ≡ without joined.old.items (set_of self.old)) }
     {
         if let Choice::Exception(exception) = choice {
             if !self.contains(exception) {
@@ -167,7 +172,8 @@ fn insert_number(declared: &mut Vec<bool>, number: ExceptionNo) -> Result<(), Al
 
 /// A declared exception leaves those that are in the set.
 fn remove_number(declared: &mut Vec<bool>, number: ExceptionNo)
-    ensures { (n : ℕ) → slice_index_or declared.new.items n false ≡ (slice_index_or declared.old.items n false && not (n == number.0)) }
+    ensures { (n : ℕ) → slice_index_or declared.new.items n false
+        ≡ (slice_index_or declared.old.items n false && not (n == number.0)) }
 {
     if let Some(is_in) = declared.get_mut(number.0) {
         *is_in = false;

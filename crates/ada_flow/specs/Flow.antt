@@ -207,17 +207,26 @@ released x spot holds (Own r) = ends_with false holds (slice_set holds x Null)
 released x spot holds (Alias r) = faults spot AliasMoved
 released x spot holds Lost = faults spot LostValue
 
--- A target, and what is freed, is a variable: a component is not, before components own what they hold.
+-- What a component is given, which its path names (5.2): an Integer or a Boolean, which changes no variable; the object is found first. No
+-- component is given an access value, before components own what they hold.
+abbrev pub gives_component : PathForm → RightForm → Holds → Outcome
+gives_component path nothing holds = faults path.spot LostValue
+gives_component path (value_of other) holds = faults path.spot LostValue
+gives_component path (allocates access items) holds = faults path.spot LostValue
+gives_component path (computes e) holds = using_paths (reads_it path ∷ uses_in e) holds (ends_with true holds holds)
+
+-- A target: a variable, or a component.
 abbrev pub gives_path : List VariableForm → List ℕ → PathForm → RightForm → Holds → Outcome
 gives_path variables [] path right holds = gives variables path.root right holds
-gives_path variables (c ∷ cs) path right holds = faults path.spot LostValue
+gives_path variables (c ∷ cs) path right holds = gives_component path right holds
 
--- The next number of the input goes to a variable (Run_Input.Get); there may be none.
+-- The next number of the input goes to a variable, or to a component (Run_Input.Get); there may be none.
 abbrev pub gets_path : List ℕ → PathForm → Holds → Outcome
 gets_path [] path holds = ends_with true holds (slice_set holds path.root Lost)
-gets_path (c ∷ cs) path holds = faults path.spot LostValue
+gets_path (c ∷ cs) path holds = using_paths (reads_it path ∷ []) holds (ends_with true holds holds)
 
--- What freeing does that a path names: its variable owns nothing any more.
+-- What freeing does that a path names: its variable owns nothing any more. What is freed is a variable: a component is not, before components
+-- own what they hold.
 abbrev pub frees_path : List ℕ → PathForm → Holds → Outcome
 frees_path [] path holds = released path.root path.spot holds (hold_at holds path.root)
 frees_path (c ∷ cs) path holds = faults path.spot LostValue
@@ -263,11 +272,16 @@ opened_hold Lost = Lost
 abbrev pub opened : ℕ → Holds → Holds
 opened x holds = slice_set holds x (opened_hold (hold_at holds x))
 
+-- What a loop's start holds for a target of its body: a variable is opened, a component opens none.
+abbrev pub opened_target : List ℕ → (root : ℕ) → Holds → Holds
+opened_target [] x holds = opened x holds
+opened_target (c ∷ cs) x holds = holds
+
 abbrev mutual
   -- What a loop's start holds: each variable that a statement of its body assigns, wherever it stands there, is opened (5.2, 5.5).
   pub opened_by : StmtForm → Holds → Holds
   opened_by skips holds = holds
-  opened_by (assigns target right) holds = opened target.root holds
+  opened_by (assigns target right) holds = opened_target target.selectors target.root holds
   opened_by (frees access variable) holds = holds
   opened_by (gets target) holds = holds
   opened_by (writes e) holds = holds

@@ -1,7 +1,7 @@
 //! The flow of values through initial values, assignments and frees, and through a whole program.
 
 ghost use Rattle.std.specs.Prelude.{◌≡◌, map};
-ghost use Rattle.ada_flow.specs.Flow.{gives, moves_path, frees_path, gets_path, declaration_flow, program_flow};
+ghost use Rattle.ada_flow.specs.Flow.{gives, gives_component, moves_path, frees_path, gets_path, declaration_flow, program_flow};
 ghost use Rattle.ada_flow.specs.Told.{Leads, Tells, assignment_of, breach_of, declarations_of, judgement};
 ghost use Rattle.ada_program.specs.Form.{path_form, right_form, declaration_form};
 ghost use Rattle.ada_program.specs.ProgramForm.{variable_form};
@@ -11,7 +11,7 @@ use crate::around::Around;
 use crate::blocks::handled;
 use crate::compute::compute;
 use crate::fault::{Breach, FlowFault};
-use crate::follow::{follow, follow_items};
+use crate::follow::{follow, follow_items, follow_path, follow_target};
 use crate::holds::{hold_of, put};
 use crate::kinds::{held_as, variable_access};
 use crate::raised::Raised;
@@ -70,7 +70,8 @@ fn give(
     target: VariableNo,
     value: &Right,
 ) -> Result<(), FlowFault>
-    ensures { Leads result holds.new raised.old raised.new (gives (map variable_form variables.now) target.0 (right_form value.now) holds.old) }
+    ensures { Leads result holds.new raised.old raised.new
+        (gives (map variable_form variables.now) target.0 (right_form value.now) holds.old) }
 {
     match value {
         Right::Null => put(holds, target, Hold::Null),
@@ -94,7 +95,30 @@ fn give(
     Ok(())
 }
 
-/// An assignment: only a variable is a target.
+/// A component gets a value, and its object is found first; a component gets no access value yet.
+fn give_component(
+    alloc: Global,
+    holds: &[Hold],
+    raised: &mut Raised,
+    target: &Path,
+    value: &Right,
+) -> Result<(), FlowFault>
+    ensures { Leads result holds.now raised.old raised.new
+        (gives_component (path_form target.now) (right_form value.now) holds.now) }
+{
+    match value {
+        Right::Value(expression) => {
+            follow_target(holds, target, expression)?;
+            raised.note(alloc, holds)?;
+            Ok(())
+        }
+        Right::Null | Right::Variable(_) | Right::Allocator { .. } => {
+            Err(broken(target, Rule::LostValue).into())
+        }
+    }
+}
+
+/// An assignment: its target is a variable or a component.
 pub(crate) fn assign(
     alloc: Global,
     variables: &[Variable],
@@ -103,34 +127,40 @@ pub(crate) fn assign(
     target: &Path,
     value: &Right,
 ) -> Result<(), FlowFault>
-    ensures { Leads result holds.new raised.old raised.new (assignment_of variables.now target.now value.now holds.old) }
+    ensures { Leads result holds.new raised.old raised.new
+        (assignment_of variables.now target.now value.now holds.old) }
 {
-    if !target.selectors.is_empty() {
-        return Err(broken(target, Rule::LostValue).into());
+    if target.selectors.is_empty() {
+        give(alloc, variables, holds, raised, target.root, value)
+    } else {
+        give_component(alloc, holds, raised, target, value)
     }
-    give(alloc, variables, holds, raised, target.root, value)
 }
 
-/// `Run_Input.Get (X)`: there may be no number.
+/// `Run_Input.Get (X)`, or with a component, whose object is found first: there may be no number.
 pub(crate) fn get(
     alloc: Global,
     holds: &mut [Hold],
     raised: &mut Raised,
     target: &Path,
 ) -> Result<(), FlowFault>
-    ensures { let read = path_form target.now in Leads result holds.new raised.old raised.new (gets_path read.selectors read holds.old) }
+    ensures { let read = path_form target.now in
+        Leads result holds.new raised.old raised.new (gets_path read.selectors read holds.old) }
 {
-    if !target.selectors.is_empty() {
-        return Err(broken(target, Rule::LostValue).into());
+    if target.selectors.is_empty() {
+        raised.note(alloc, holds)?;
+        put(holds, target.root, Hold::Lost);
+    } else {
+        follow_path(holds, target)?;
+        raised.note(alloc, holds)?;
     }
-    raised.note(alloc, holds)?;
-    put(holds, target.root, Hold::Lost);
     Ok(())
 }
 
 /// `Free (X)`: only an owner frees.
 pub(crate) fn release(holds: &mut [Hold], path: &Path) -> Result<(), Breach>
-    ensures { let freed = path_form path.now in Tells result holds.new (frees_path freed.selectors freed holds.old) }
+    ensures { let freed = path_form path.now in
+        Tells result holds.new (frees_path freed.selectors freed holds.old) }
 {
     if !path.selectors.is_empty() {
         return Err(broken(path, Rule::LostValue));
@@ -153,7 +183,8 @@ fn declaration(
     raised: &mut Raised,
     declaration: &Declaration,
 ) -> Result<(), FlowFault>
-    ensures { Leads result holds.new raised.old raised.new (declaration_flow (map variable_form variables.now) (declaration_form declaration.now) holds.old) }
+    ensures { Leads result holds.new raised.old raised.new
+        (declaration_flow (map variable_form variables.now) (declaration_form declaration.now) holds.old) }
 {
     match declaration {
         Declaration::Collection(_) => Ok(()),
@@ -180,7 +211,8 @@ pub(crate) fn declare(
     raised: &mut Raised,
     declarations: &[Declaration],
 ) -> Result<(), FlowFault>
-    ensures { Leads result holds.new raised.old raised.new (declarations_of variables.now declarations.now holds.old) }
+    ensures { Leads result holds.new raised.old raised.new
+        (declarations_of variables.now declarations.now holds.old) }
 {
     'declarations: for one in declarations {
         declaration(alloc, variables, holds, raised, one)?;

@@ -21,7 +21,8 @@ pub(crate) fn collected(
     alloc: Global,
     declarations: &[Declaration],
 ) -> Result<Vec<TypeNo>, AllocError>
-    ensures { IfOk result (λ types. map type_number types.items ≡ rules.collected (map declaration_form declarations.now)) }
+    ensures { IfOk result
+        (λ types. map type_number types.items ≡ rules.collected (map declaration_form declarations.now)) }
 {
     let mut types = Vec::new(alloc);
     'declarations: for one in declarations {
@@ -38,7 +39,8 @@ pub(crate) fn joined_types(
     types: &[TypeNo],
     others: &[TypeNo],
 ) -> Result<Vec<TypeNo>, AllocError>
-    ensures { IfOk result (λ all. map type_number all.items ≡ map type_number types.now ++ map type_number others.now) }
+    ensures { IfOk result
+        (λ all. map type_number all.items ≡ map type_number types.now ++ map type_number others.now) }
 {
     let mut all = types.to_vec(alloc)?;
     all.extend_from_slice(others)?;
@@ -56,7 +58,8 @@ pub(crate) fn handled(
     handlers: &[Handler],
     statements: &[Stmt],
 ) -> Result<Option<Vec<Hold>>, FlowFault>
-    ensures { Handles result raised.new (handled_in around.now (noted raised.old) statements.now handlers.now (held end) (noted inner)) }
+    ensures { Handles result raised.new
+        (handled_in around.now (noted raised.old) statements.now handlers.now (held end) (noted inner)) }
 {
     let Raised::Wanted(Some(raising)) = inner else {
         return Ok(end);

@@ -20,7 +20,8 @@ pub(crate) fn compute(
     raised: &mut Raised,
     expression: &Expression,
 ) -> Result<(), FlowFault>
-    ensures { Leads result holds.now raised.old raised.new (computed (expression_form expression.now) holds.now) }
+    ensures { Leads result holds.now raised.old raised.new
+        (computed (expression_form expression.now) holds.now) }
 {
     follow(holds, expression)?;
     raised.note_if(expression_raises(expression), alloc, holds)?;
@@ -34,7 +35,8 @@ pub(crate) fn compute_condition(
     raised: &mut Raised,
     condition: &Option<Expression>,
 ) -> Result<(), FlowFault>
-    ensures { Leads result holds.now raised.old raised.new (condition_flow (condition_form condition.now) holds.now) }
+    ensures { Leads result holds.now raised.old raised.new
+        (condition_flow (condition_form condition.now) holds.now) }
 {
     match condition {
         None => Ok(()),

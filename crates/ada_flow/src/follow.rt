@@ -1,6 +1,6 @@
 //! The paths that expressions follow: where one follows a lost value, the leftmost place where that is.
 
-ghost use Rattle.std.specs.Prelude.{◌≡◌, map};
+ghost use Rattle.std.specs.Prelude.{◌≡◌, [], ◌∷◌, map};
 ghost use Rattle.ada_flow.specs.Flow as rules;
 ghost use Rattle.ada_flow.specs.Told.{Follows};
 ghost use Rattle.ada_program.specs.Form.{path_form, expression_form, item_form, links_form};
@@ -16,9 +16,35 @@ use ada_program::{Path, Spot};
 /// # Errors
 /// The leftmost place where a path follows a lost value.
 pub(crate) fn follow(holds: &[Hold], expression: &Expression) -> Result<(), Breach>
-    ensures { Follows result (rules.lost_among holds.now (rules.uses_in (expression_form expression.now))) }
+    ensures { Follows result
+        (rules.lost_among holds.now (rules.uses_in (expression_form expression.now))) }
 {
     unless_lost(lost_in(holds, expression))
+}
+
+/// Follows a path.
+///
+/// # Errors
+/// Where it follows a lost value.
+pub(crate) fn follow_path(holds: &[Hold], path: &Path) -> Result<(), Breach>
+    ensures { Follows result
+        (rules.lost_among holds.now (rules.reads_it (path_form path.now) ∷ [])) }
+{
+    unless_lost(leftmost(lost_in_path(holds, path), None))
+}
+
+/// Follows the path of a component that is assigned to, and the paths of the expression that goes there.
+///
+/// # Errors
+/// The leftmost place where a path follows a lost value.
+pub(crate) fn follow_target(
+    holds: &[Hold],
+    target: &Path,
+    expression: &Expression,
+) -> Result<(), Breach>
+    ensures { Follows result (rules.lost_among holds.now (rules.reads_it (path_form target.now) ∷ rules.uses_in (expression_form expression.now))) }
+{
+    unless_lost(leftmost(lost_in_path(holds, target), lost_in(holds, expression)))
 }
 
 /// Follows the paths of the items of an allocator.
@@ -26,7 +52,8 @@ pub(crate) fn follow(holds: &[Hold], expression: &Expression) -> Result<(), Brea
 /// # Errors
 /// The leftmost place where a path follows a lost value.
 pub(crate) fn follow_items(holds: &[Hold], items: &[Item]) -> Result<(), Breach>
-    ensures { Follows result (rules.lost_among holds.now (rules.uses_in_items (map item_form items.now))) }
+    ensures { Follows result
+        (rules.lost_among holds.now (rules.uses_in_items (map item_form items.now))) }
 {
     unless_lost(lost_in_items(holds, items))
 }

@@ -17,7 +17,8 @@ use std::alloc::{AllocError, Global};
 /// The access type of a variable: none, if it is an Integer or a Boolean.
 #[tactic(auto, using(std::proofs::lemmas::Grind::common_steps, crate::proofs::Behind::kind_steps))]
 pub(crate) fn variable_access(variables: &[Variable], variable: VariableNo) -> Option<TypeNo>
-    ensures { option_map type_number result ≡ rules.variable_access (map variable_form variables.now) variable.0 }
+    ensures { option_map type_number result
+        ≡ rules.variable_access (map variable_form variables.now) variable.0 }
 {
     match variables.get(variable.0) {
         Some(
@@ -37,7 +38,8 @@ pub(crate) fn held_as(
     variable: VariableNo,
     hold: Hold,
 ) -> Hold
-    ensures { result ≡ rules.held_as (map variable_form variables.now) (option_map type_number access) variable.0 hold }
+    ensures { result ≡ rules.held_as (map variable_form variables.now)
+        (option_map type_number access) variable.0 hold }
 {
     match (access, variable_access(variables, variable)) {
         (Some(access), Some(own)) if access == own => hold,
@@ -59,7 +61,8 @@ pub(crate) fn hold_behind(
     holds: &[Hold],
     number: VariableNo,
 ) -> Hold
-    ensures { result ≡ rules.hold_at (left_marked (map variable_form variables.now) marks.now holds.now) number.0 }
+    ensures { result ≡ rules.hold_at
+        (left_marked (map variable_form variables.now) marks.now holds.now) number.0 }
 {
     match variables.get(number.0) {
         Some(variable) => left_hold(marks, variable.kind, hold_of(holds, number)),

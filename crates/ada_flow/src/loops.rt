@@ -2,7 +2,7 @@
 
 ghost use Rattle.std.specs.Prelude.{◌≡◌, ◌||◌, map};
 ghost use Rattle.ada_flow.specs.Flow as rules;
-ghost use Rattle.ada_program.specs.Form.{StmtsForm, stmt_form, stmts_form, branches_form, handlers_form};
+ghost use Rattle.ada_program.specs.Form.{StmtsForm, path_form, stmt_form, stmts_form, branches_form, handlers_form};
 ghost use Rattle.ada_flow.specs.Told.{left_marked};
 ghost use Rattle.ada_program.specs.ProgramForm.{variable_form};
 
@@ -11,7 +11,7 @@ use crate::kinds::hold_behind;
 use crate::marks::Marks;
 use crate::rule::{Hold, Region};
 use ada_program::program::{Branch, Handler, Variable};
-use ada_program::{Stmt, VariableNo};
+use ada_program::{Path, Stmt, VariableNo};
 
 /// What is known of a variable that a loop's body assigns, where each turn begins.
 fn opened_hold(hold: Hold) -> Hold
@@ -31,6 +31,16 @@ fn open(holds: &mut [Hold], variable: VariableNo)
     put(holds, variable, hold);
 }
 
+/// A target that a loop's body assigns is opened, if it is a variable.
+fn open_target(holds: &mut [Hold], target: &Path)
+    ensures { let opened = path_form target.now in
+        holds.new ≡ rules.opened_target opened.selectors opened.root holds.old }
+{
+    if target.selectors.is_empty() {
+        open(holds, target.root);
+    }
+}
+
 /// Each variable that statements of a loop's body assign, wherever they stand in it, is opened.
 #[cycle(opening)]
 pub(crate) fn open_all(holds: &mut [Hold], statements: &[Stmt])
@@ -48,7 +58,7 @@ fn open_by(holds: &mut [Hold], statement: &Stmt)
     ensures { holds.new ≡ rules.opened_by (stmt_form statement.now) holds.old }
 {
     match statement {
-        Stmt::Assign { target, value: _ } => open(holds, target.root),
+        Stmt::Assign { target, value: _ } => open_target(holds, target),
         Stmt::If {
             branches,
             otherwise,
@@ -90,7 +100,8 @@ fn open_by(holds: &mut [Hold], statement: &Stmt)
 /// Each variable that a branch assigns is opened.
 #[cycle(opening)]
 fn open_branches(holds: &mut [Hold], branches: &[Branch])
-    ensures { (others : StmtsForm) → rules.opened_by_branches (branches_form branches.now others) holds.old ≡ rules.opened_by_all others holds.new }
+    ensures { (others : StmtsForm) → rules.opened_by_branches
+        (branches_form branches.now others) holds.old ≡ rules.opened_by_all others holds.new }
 {
     'branches: for branch in branches {
         open_all(holds, &branch.statements);
@@ -153,7 +164,8 @@ fn has_exit(statement: &Stmt) -> bool
 /// Whether a branch has an exit.
 #[cycle(leaving)]
 fn branches_have_exit(branches: &[Branch]) -> bool
-    ensures { (others : StmtsForm) → rules.branches_have_exit (branches_form branches.now others) ≡ (result || rules.have_exit others) }
+    ensures { (others : StmtsForm) → rules.branches_have_exit
+        (branches_form branches.now others) ≡ (result || rules.have_exit others) }
 {
     'branches: for branch in branches {
         if have_exit(&branch.statements) {
@@ -195,7 +207,8 @@ pub(crate) fn are_as_good_behind(
     holds: &[Hold],
     start: &[Hold],
 ) -> bool
-    ensures { result ≡ rules.are_as_good (left_marked (map variable_form variables.now) marks.now holds.now) start.now }
+    ensures { result ≡ rules.are_as_good
+        (left_marked (map variable_form variables.now) marks.now holds.now) start.now }
 {
     for (number, wanted) in start.iter().enumerate() {
         if !is_as_good(

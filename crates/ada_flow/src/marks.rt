@@ -43,7 +43,8 @@ impl Marks {
 
 /// A type is marked besides, among marks that grow as far as its number.
 fn mark(at: &mut Vec<bool>, one: TypeNo) -> Result<(), AllocError>
-    ensures { OnOk result ((t : ℕ) → slice_index_or at.new.items t false ≡ (slice_index_or at.old.items t false || (t == one.0))) }
+    ensures { OnOk result
+        ((t : ℕ) → slice_index_or at.new.items t false ≡ (slice_index_or at.old.items t false || (t == one.0))) }
 {
     match at.get_mut(one.0) {
         Some(is_in) => *is_in = true,

@@ -76,7 +76,8 @@ impl Raised {
         alloc: Global,
         holds: &[Hold],
     ) -> Result<(), AllocError>
-        ensures { OnOk result (noted self.new ≡ also_noted (noted self.old) (raising_if may_raise holds.now)) }
+        ensures { OnOk result
+            (noted self.new ≡ also_noted (noted self.old) (raising_if may_raise holds.now)) }
     {
         if may_raise {
             self.note(alloc, holds)?;

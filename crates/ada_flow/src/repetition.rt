@@ -19,7 +19,8 @@ use std::alloc::Global;
 
 /// A way may lead back to a loop's start only with what is known at that start.
 fn unless_worse(holds: &[Hold], start: &[Hold], spot: Spot) -> Result<(), Breach>
-    ensures { Tells result holds.now (unless_worse start.now holds.now spot (goes (Some holds.now) None)) }
+    ensures { Tells result holds.now
+        (unless_worse start.now holds.now spot (goes (Some holds.now) None)) }
 {
     if are_as_good(holds, start) {
         Ok(())
@@ -40,7 +41,8 @@ pub(crate) fn keeps_start(
     spot: Spot,
 ) -> Result<(), Breach>
     requires { AreMarks inside.now (map type_number around.now.inside.now) }
-    ensures { let place = around_of around.now in Tells result holds.now (exit_begins (variables_in around.now) place.start place.inside spot holds.now) }
+    ensures { let place = around_of around.now in
+        Tells result holds.now (exit_begins (variables_in around.now) place.start place.inside spot holds.now) }
 {
     let Some(start) = around.start else {
         return Ok(());
@@ -66,7 +68,8 @@ pub(crate) fn repeat(
     body: &[Stmt],
     end: Spot,
 ) -> Result<Option<Vec<Hold>>, FlowFault>
-    ensures { Ends result raised.old raised.new (loop_of variables.now condition.now body.now end holds.items) }
+    ensures { Ends result raised.old raised.new
+        (loop_of variables.now condition.now body.now end holds.items) }
 {
     open_all(&mut holds, body);
     let leaves = condition.is_some() || have_exit(body);
@@ -86,7 +89,8 @@ pub(crate) fn count(
     body: &[Stmt],
     end: Spot,
 ) -> Result<Option<Vec<Hold>>, FlowFault>
-    ensures { Ends result raised.old raised.new (for_of variables.now parameter.0 body.now end holds.items) }
+    ensures { Ends result raised.old raised.new
+        (for_of variables.now parameter.0 body.now end holds.items) }
 {
     open_all(&mut holds, body);
     put(&mut holds, parameter, Hold::Lost);
@@ -106,7 +110,8 @@ fn turn(
     end: Spot,
     leaves: bool,
 ) -> Result<Option<Vec<Hold>>, FlowFault>
-    ensures { Ends result raised.old raised.new (turns_of variables.now condition.now leaves body.now end start.items) }
+    ensures { Ends result raised.old raised.new
+        (turns_of variables.now condition.now leaves body.now end start.items) }
 {
     compute_condition(alloc, &start, raised, condition)?;
     let around = Around::in_loop(variables, &start);

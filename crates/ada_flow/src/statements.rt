@@ -29,7 +29,8 @@ fn exit(
     condition: &Option<Expression>,
     spot: Spot,
 ) -> Result<Option<Vec<Hold>>, FlowFault>
-    ensures { Ends result raised.old raised.new (exit_in around.now (condition_form condition.now) spot holds.items) }
+    ensures { Ends result raised.old raised.new
+        (exit_in around.now (condition_form condition.now) spot holds.items) }
 {
     let inside = Marks::of(alloc, around.inside)?;
     keeps_start(around, &inside, &holds, spot)?;
@@ -52,7 +53,8 @@ fn statement(
     raised: &mut Raised,
     statement: &Stmt,
 ) -> Result<Option<Vec<Hold>>, FlowFault>
-    ensures { Ends result raised.old raised.new (stmt_flow (variables_in around.now) (around_of around.now) (stmt_form statement.now) holds.items) }
+    ensures { Ends result raised.old raised.new
+        (stmt_flow (variables_in around.now) (around_of around.now) (stmt_form statement.now) holds.items) }
 {
     match statement {
         Stmt::Null | Stmt::PutText(_) => {}
@@ -147,7 +149,8 @@ pub(crate) fn statements(
     raised: &mut Raised,
     statements: &[Stmt],
 ) -> Result<Option<Vec<Hold>>, FlowFault>
-    ensures { Ends result raised.old raised.new (stmts_flow (variables_in around.now) (around_of around.now) (stmts_form statements.now) holds.items) }
+    ensures { Ends result raised.old raised.new
+        (stmts_flow (variables_in around.now) (around_of around.now) (stmts_form statements.now) holds.items) }
 {
     'statements: for one in statements {
         match statement(alloc, around, holds, raised, one)? {

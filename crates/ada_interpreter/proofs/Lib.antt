@@ -6,3 +6,7 @@ pub mod MemberLemmas
 pub mod MasterLemmas
 -- one element that changes, in what the list is seen as
 pub mod ChangeLemmas
+-- quiet steps, one after another
+pub mod CommonStepLemmas
+-- the last component of a path, and those before it
+pub mod ComponentLemmas

@@ -6,6 +6,8 @@ pub mod Objects
 pub mod Masters
 -- the state of a run in progress, and what a turn of it does
 pub mod Process
+-- the common steps of a run in progress
+pub mod CommonSteps
 -- the machine: steps, with who answers what they leave open
 pub mod Machine
 -- choices that follow a list of answers

@@ -3,7 +3,7 @@
 use Rattle.std.specs.Prelude.{◌≡◌, ℕ, pos, ◌+ℤ◌, List, [], ◌∷◌, map, Result, Ok, Err}
 use Rattle.std.specs.Option.{option_copied}
 use Rattle.std.specs.declared.alloc.AllocError.{AllocError}
-use Rattle.ada_program.specs.Form.{component_number, expression_form, links_form, item_form, initial_form, condition_form, stmts_form, branches_form, handlers_form, declaration_form}
+use Rattle.ada_program.specs.Form.{component_number, expression_form, links_form, item_form, right_form, initial_form, condition_form, stmts_form, branches_form, handlers_form, declaration_form}
 use Rattle.ada_program.specs.declared.program.Exception.TheVariants.{ConstraintError}
 use Rattle.ada_meaning.specs.declared.state.Value.{Value as ValueOf}
 use Rattle.ada_meaning.specs.declared.state.Value.TheVariants.{Names}
@@ -51,6 +51,9 @@ frame_of (held.AppliesAlone operator) = frame.AppliesAlone operator
 frame_of (held.Fills items) = frame.Fills (map item_form items.now)
 frame_of (held.Creates access count) = frame.Creates access.0 count
 frame_of (held.Stores variable) = frame.Stores variable.0
+frame_of (held.Targets component right) = frame.Targets component.0 (right_form right.now)
+frame_of (held.StoresIn object component) = frame.StoresIn object component.0
+frame_of (held.Receives component) = frame.Receives component.0
 frame_of (held.Declares variable) = frame.Declares variable.0
 frame_of held.Writes = frame.Writes
 frame_of (held.Ends object) = frame.Ends object

@@ -17,7 +17,8 @@ impl<'a> Process<'a> {
     /// What comes next; the step is made, up to what it asks.
     #[tactic(auto, unfolding(ada_meaning::specs::Named::next))]
     pub(crate) fn turn(&mut self, program: &Program) -> Result<Turn, AllocError>
-        ensures { Turns (next program.now.types.items (state_of self.old)) (state_of self.old) result (state_of self.new) }
+        ensures { Turns (next program.now.types.items (state_of self.old))
+            (state_of self.old) result (state_of self.new) }
     {
         match self.mode {
             Mode::Running => self.run(program),
@@ -88,12 +89,18 @@ impl<'a> Process<'a> {
             Frame::Computes(expression) => self.compute(expression),
             Frame::Follows(selectors) => self.follow(selectors),
             Frame::TestsNull { equal } => self.test_null(equal),
-            Frame::Continues(links) => self.go_on(links),
+            Frame::Continues(links) => {
+                self.go_on(links)?;
+                Ok(QUIET)
+            }
             Frame::Applies(operator) => self.apply(operator),
             Frame::AppliesAlone(operator) => self.apply_alone(operator),
             Frame::Fills(items) => self.fill(items),
             Frame::Creates { access, count } => Ok(self.ask(program, access, count)),
             Frame::Stores(variable) => Ok(self.store(variable)),
+            Frame::Targets { component, right } => self.target(component, right),
+            Frame::StoresIn { object, component } => Ok(self.store_in(object, component)),
+            Frame::Receives(component) => Ok(self.receive(component)),
             Frame::Declares(variable) => self.create(variable),
             Frame::Writes => Ok(self.write()),
             Frame::Ends(object) => Ok(self.end(object)),

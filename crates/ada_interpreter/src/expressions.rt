@@ -141,7 +141,11 @@ impl<'a> Process<'a> {
     }
 
     /// What comes of the components that are named behind a value.
-    fn reach(&self, value: Value, selectors: &'a [ComponentNo]) -> Result<Outcome<'a>, Halt>
+    pub(crate) fn reach(
+        &self,
+        value: Value,
+        selectors: &'a [ComponentNo],
+    ) -> Result<Outcome<'a>, Halt>
         ensures { (s : State) → s.heap ≡ self.now.objects →
             step.path_next named (map component_number selectors.now) value s ≡ outcome_of result s }
     {

@@ -84,6 +84,19 @@ pub(crate) enum Frame<'a> {
     },
     /// The newest operand goes to a variable (5.2).
     Stores(VariableNo),
+    /// The newest operand gives access to an object, whose component is assigned to: what goes there is evaluated next
+    /// (5.2).
+    Targets {
+        component: ComponentNo,
+        right: &'a Right,
+    },
+    /// The newest operand goes to a component of an object (5.2).
+    StoresIn {
+        object: Value,
+        component: ComponentNo,
+    },
+    /// The newest operand gives access to an object, whose component takes the next number of the input.
+    Receives(ComponentNo),
     /// The newest operand is the initial value of a variable, which then is created (3.3.1).
     Declares(VariableNo),
     /// The newest operand is to be written (A.10.7).

@@ -23,7 +23,8 @@ pub(crate) enum Landing<'a> {
 
 /// An exception goes on in the first of these handlers that takes it (11.4).
 pub(crate) fn landing_among<'a>(exception: Exception, handlers: &'a [Handler]) -> Landing<'a>
-    ensures { landing_of result ≡ handler_landing (handler_of exception (handlers_form handlers.now)) }
+    ensures { landing_of result
+        ≡ handler_landing (handler_of exception (handlers_form handlers.now)) }
 {
     for handler in handlers {
         if some_takes(exception, handler.choices.as_slice()) {

@@ -11,6 +11,9 @@
 mod allocators;
 mod branches;
 mod choices;
+mod common_steps;
+mod common_values;
+mod components;
 mod control;
 mod endings;
 mod expressions;

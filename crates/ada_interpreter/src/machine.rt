@@ -1,9 +1,10 @@
 //! The machine: a run in progress, and who answers what it leaves open.
 
-ghost use Rattle.std.specs.Prelude.{◌≡◌, ◌⊎◌, false, Some, None, Ok, Err, IfOk, IfErr, OnOk, IfSome};
+ghost use Rattle.std.specs.Prelude.{◌≡◌, ◌⊎◌, ◌≤◌, ◌-◌, false, Some, None, Ok, Err, IfOk, IfErr, OnOk, OnErr, IfSome};
 ghost use Rattle.ada_meaning.specs.declared.event.Halt.TheVariants.{Memory};
 ghost use Rattle.ada_meaning.specs.State.{begins};
 ghost use Rattle.ada_meaning.specs.Run.{first_state};
+ghost use Rattle.ada_interpreter.specs.CommonSteps.{GoesQuietly};
 ghost use Rattle.ada_interpreter.specs.Process.{shown};
 ghost use Rattle.ada_interpreter.specs.Machine.{state_in, program_of, choices_of, halt_of, MakesStep, EndsRun, Settles, EndsTurn};
 
@@ -68,8 +69,10 @@ impl<'a, C: Choices + Drop> Machine<'a, C> {
         // One step of the definition, as the choices answered: each request is asked or told once.
         ensures steps { IfOk result (λ event. MakesStep C.grants C.picks self.old event self.new) }
         // A run ends where there is no step, and then nothing was asked or told; or where memory was refused.
-        ensures ends { halt_of self.old ≡ None → IfErr result (λ halt. EndsRun self.old halt self.new) }
-        ensures again { IfSome (halt_of self.old) (λ halt. (result ≡ Err halt) × (self.new ≡ self.old)) }
+        ensures ends { halt_of self.old
+            ≡ None → IfErr result (λ halt. EndsRun self.old halt self.new) }
+        ensures again { IfSome (halt_of self.old)
+            (λ halt. (result ≡ Err halt) × (self.new ≡ self.old)) }
         ensures halted { IfErr result (λ halt. halt_of self.new ≡ Some halt) }
         ensures runs { OnOk result (halt_of self.new ≡ None) }
         ensures program { program_of self.new ≡ program_of self.old }
@@ -77,6 +80,32 @@ impl<'a, C: Choices + Drop> Machine<'a, C> {
         match self.halted {
             Some(halt) => Err(halt),
             None => self.go(),
+        }
+    }
+
+    /// Makes quiet steps of the common kinds, one after another, as long as they come and at most `limit` statements
+    /// begin. Returns how many may still begin. In a run that has ended it makes none.
+    ///
+    /// # Errors
+    /// Where the machine's memory can't grow. The run has ended then.
+    pub fn make_common_steps(&mut self, limit: u32) -> Result<u32, AllocError>
+        ensures steps { IfOk result
+            (λ left. GoesQuietly (program_of self.old) (state_in self.old) (limit - left) (state_in self.new)) }
+        ensures left { IfOk result (λ left. left ≤ limit) }
+        ensures choices { choices_of self.new ≡ choices_of self.old }
+        ensures halted { OnOk result (halt_of self.new ≡ halt_of self.old) }
+        ensures memory { OnErr result (halt_of self.new ≡ Some Memory) }
+        ensures program { program_of self.new ≡ program_of self.old }
+    {
+        if self.halted.is_some() {
+            return Ok(limit);
+        }
+        match self.process.make_common_steps(self.program, limit) {
+            Ok(left) => Ok(left),
+            Err(AllocError) => {
+                self.halted = Some(Halt::Memory);
+                Err(AllocError)
+            }
         }
     }
 

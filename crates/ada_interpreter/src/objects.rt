@@ -3,11 +3,13 @@
 ghost use Rattle.std.specs.Prelude.{◌≡◌, ℕ, ◌<◌, [], ◌∷◌, ◌++◌, length, reverse, map, vec_len, OnOk, OnErr, IfOk, MatchOption};
 ghost use Rattle.std.specs.List.{slice_index_or, slice_set};
 ghost use Rattle.ada_meaning.specs.Heap.{on_gone, finds};
-ghost use Rattle.ada_meaning.specs.Named.{object_at, seen, lent_by, new_object, changed, parted, finished, returned, members};
+ghost use Rattle.ada_meaning.specs.Named.{object_at, seen, lent_by, new_object, changed, parted, finished, returned, filled, members};
 ghost use Rattle.ada_interpreter.specs.Objects.{cell_of, object_of, kept_of, kept_at, entered, discounted_at, listed_home, gone, is_member_at, members_among, Trims, IsTidied};
 
+use crate::values::set_value;
 use ada_meaning::{Id, Stage, Value};
 use ada_program::TypeNo;
+use ada_program::program::ComponentNo;
 use std::alloc::{AllocError, Global};
 use std::marker::Model;
 
@@ -148,6 +150,13 @@ impl Objects {
         set_returned(&mut self.objects, o);
     }
 
+    /// A component of the object of a name gets another value (5.2).
+    pub(crate) fn store(&mut self, o: Id, component: ComponentNo, value: Value)
+        ensures { self.new ≡ changed (filled component.0 value) (object_at self.old o) self.old o }
+    {
+        set_component(&mut self.objects, o, component, value);
+    }
+
     /// How many members the collection of an item has.
     pub(crate) fn count(&self, item: usize) -> usize
         ensures { result ≡ length (members self.now item) }
@@ -204,6 +213,17 @@ fn set_returned(objects: &mut Vec<Object>, o: Id)
     if o.0 < objects.len() {
         let object = &mut objects[o.0];
         object.out = false;
+    }
+}
+
+/// A component of the object of a name has another value.
+fn set_component(objects: &mut Vec<Object>, o: Id, component: ComponentNo, value: Value)
+    ensures { let xs = map object_of objects.old.items in
+        map object_of objects.new.items ≡ changed (filled component.0 value) (object_at xs o) xs o }
+{
+    if o.0 < objects.len() {
+        let object = &mut objects[o.0];
+        set_value(object.cell.values.as_mut_slice(), component.0, value);
     }
 }
 

@@ -2,6 +2,7 @@
 
 ghost use Rattle.std.specs.Prelude.{◌≡◌, OnOk};
 ghost use Rattle.ada_program.specs.Form.{links_form};
+ghost use Rattle.ada_meaning.specs.Event.{Quiet};
 ghost use Rattle.ada_meaning.specs.Step as step;
 ghost use Rattle.ada_meaning.specs.Named.{State, named, reads_boolean, reads_null, unary_given, binary_given, as_value};
 ghost use Rattle.ada_interpreter.specs.Process.{state_of, passed, Turns, outcome_of};
@@ -18,27 +19,24 @@ use std::alloc::AllocError;
 
 impl<'a> Process<'a> {
     /// The operators of a chain that are left, from left to right (4.5).
-    pub(crate) fn go_on(&mut self, links: &'a [Link]) -> Result<Turn, AllocError>
-        ensures { let s = state_of self.old in
-            Turns (step.links_next named (links_form links.now) (passed s))
-            s result (state_of self.new) }
+    pub(crate) fn go_on(&mut self, links: &'a [Link]) -> Result<(), AllocError>
+        ensures { let s = passed (state_of self.old) in
+            OnOk result (step.moves Quiet (state_of self.new) ≡ step.links_next named (links_form links.now) s) }
     {
         match links.split_first() {
             None => {
                 self.pass();
-                Ok(QUIET)
+                Ok(())
             }
             Some((first, rest)) => {
                 if is_decided(first.operator, self.newest()) {
-                    self.replace(Frame::Continues(rest))?;
-                    Ok(QUIET)
+                    self.replace(Frame::Continues(rest))
                 } else {
                     self.replace_by_three(
                         Frame::Computes(&first.operand),
                         Frame::Applies(first.operator),
                         Frame::Continues(rest),
-                    )?;
-                    Ok(QUIET)
+                    )
                 }
             }
         }
@@ -121,7 +119,8 @@ fn is_decided(operator: BinaryOperator, left: Value) -> bool
 
 /// What comes of an operator between values (4.5).
 fn binary<'a>(operator: BinaryOperator, left: Value, right: Value) -> Result<Outcome<'a>, Halt>
-    ensures { (s : State) → step.outcome_next named (binary_given operator left right) s ≡ outcome_of result s }
+    ensures { (s : State) → step.outcome_next named (binary_given operator left right) s
+        ≡ outcome_of result s }
 {
     match (left, right) {
         (Value::Scalar(left), Value::Scalar(right)) => {
@@ -133,7 +132,8 @@ fn binary<'a>(operator: BinaryOperator, left: Value, right: Value) -> Result<Out
 
 /// What comes of an operator before a value (4.5.4, 4.5.6).
 fn unary<'a>(operator: UnaryOperator, operand: Value) -> Result<Outcome<'a>, Halt>
-    ensures { (s : State) → step.outcome_next named (unary_given operator operand) s ≡ outcome_of result s }
+    ensures { (s : State) → step.outcome_next named (unary_given operator operand) s
+        ≡ outcome_of result s }
 {
     match operand {
         Value::Scalar(operand) => given(ada_values::unary(operator, operand)),

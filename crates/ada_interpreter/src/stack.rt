@@ -38,7 +38,11 @@ impl<T: Drop> Stack<T> {
         ensures pushed { OnOk result (self.new ≡ item ∷ self.old) }
         ensures unchanged { OnErr result (self.new ≡ self.old) }
     {
-        self.items.push(item)?;
+        // The room is made first, so that a call that finds it is short.
+        if self.items.len() >= self.items.capacity() {
+            self.items.reserve(1)?;
+        }
+        self.items.push_reserved(item);
         Ok(())
     }
 
@@ -53,7 +57,8 @@ impl<T: Drop> Stack<T> {
     /// The newest item.
     #[tactic(auto, using(crate::proofs::StackLemmas::newest_first))]
     pub(crate) fn top(&self) -> Option<&T>
-        ensures { MatchOption result (self.now ≡ []) (λ item. self.now ≡ item.now ∷ older self.now) }
+        ensures { MatchOption result (self.now ≡ [])
+            (λ item. self.now ≡ item.now ∷ older self.now) }
     {
         self.items.last()
     }

@@ -1,6 +1,6 @@
 //! Declarations and statements.
 
-ghost use Rattle.std.specs.Prelude.{◌≡◌, [], map};
+ghost use Rattle.std.specs.Prelude.{◌≡◌, map};
 ghost use Rattle.std.specs.Option.{option_copied};
 ghost use Rattle.ada_program.specs.Form.{initial_form, right_form, stmt_form, stmts_form, handlers_form, declaration_form};
 ghost use Rattle.ada_meaning.specs.Frame as frame;
@@ -14,7 +14,7 @@ use crate::frame::Frame;
 use crate::masters::Owned;
 use crate::process::Process;
 use crate::turn::{QUIET, Turn};
-use ada_meaning::{Event, Exception, Halt, Line, Mode, Value};
+use ada_meaning::{Event, Halt, Line, Mode, Value};
 use ada_program::program::{Declaration, Handler, Right};
 use ada_program::{Stmt, VariableNo};
 use ada_values::Value as Scalar;
@@ -92,7 +92,7 @@ impl<'a> Process<'a> {
         }
     }
 
-    /// A statement (5.1). What is assigned to, and what is freed, is a variable.
+    /// A statement (5.1). What is freed is a variable.
     #[tactic(auto, using(std::proofs::lemmas::Grind::common_steps, ada_program::specs::Form::statement_rules))]
     fn execute(&mut self, statement: &'a Stmt, rest: Frame<'a>) -> Result<Turn, AllocError>
         ensures { let s = state_of self.old in
@@ -105,18 +105,7 @@ impl<'a> Process<'a> {
                 self.replace(rest)?;
                 Ok(QUIET)
             }
-            Stmt::Assign { target, value } => {
-                if target.selectors.is_empty() {
-                    self.replace_by_three(
-                        Frame::Evaluates(Some(value)),
-                        Frame::Stores(target.root),
-                        rest,
-                    )?;
-                    Ok(QUIET)
-                } else {
-                    Ok(Turn::Halts(Halt::Stuck))
-                }
-            }
+            Stmt::Assign { target, value } => self.assign(target, value, rest),
             Stmt::Free { access, variable } => {
                 if variable.selectors.is_empty() {
                     self.free(*access, variable.root, rest)
@@ -124,13 +113,7 @@ impl<'a> Process<'a> {
                     Ok(Turn::Halts(Halt::Stuck))
                 }
             }
-            Stmt::Get(path) => {
-                if path.selectors.is_empty() {
-                    self.get(path.root, rest)
-                } else {
-                    Ok(Turn::Halts(Halt::Stuck))
-                }
-            }
+            Stmt::Get(target) => self.get(target, rest),
             Stmt::PutImage(expression) => {
                 self.replace_by_three(Frame::Computes(expression), Frame::Writes, rest)?;
                 Ok(QUIET)
@@ -226,19 +209,6 @@ impl<'a> Process<'a> {
         Ok(QUIET)
     }
 
-    /// The next number of the input goes to a variable; where there is none, End_Error is raised.
-    fn get(&mut self, variable: VariableNo, rest: Frame<'a>) -> Result<Turn, AllocError>
-        ensures { let s = replaced (frame_of rest.entry) (state_of self.old) in
-            Turns (step.gets_next named [] variable.0 s.input s) (state_of self.old) result (state_of self.new) }
-    {
-        self.replace(rest)?;
-        match self.input.next() {
-            None => self.raise(Exception::EndError),
-            Some(number) => self.put(variable, Value::Scalar(Scalar::Integer(number))),
-        }
-        Ok(QUIET)
-    }
-
     /// What is assigned is evaluated (4.1, 4.8); null where nothing is written.
     pub(crate) fn evaluate(&mut self, right: Option<&'a Right>) -> Result<Turn, AllocError>
         ensures { let s = state_of self.old in
@@ -294,7 +264,7 @@ impl<'a> Process<'a> {
     }
 
     /// The newest operand goes to a variable, and what was to do that is taken off.
-    fn put_newest(&mut self, variable: VariableNo)
+    pub(crate) fn put_newest(&mut self, variable: VariableNo)
         ensures { let s = passed (state_of self.old) in
             state_of self.new ≡ step.put variable.0 (step.newest named s) (step.popped s) }
     {

@@ -24,8 +24,8 @@ use Rattle.ada_meaning.specs.Frame.{Frame, is_master, is_loop, Landing, passes_o
 use Rattle.ada_meaning.specs.Frame as frame
 use Rattle.ada_meaning.specs.State.{Owned, declared, collection, Item, Master, home_of}
 use Rattle.ada_meaning.specs.Heap.{Cell, Found, on_null, on_gone, on_other, finds}
-use Rattle.ada_meaning.specs.Step.{halts, moves, tells, asks, picks, at, popped, held, newest, reading, component_next, follow_next, path_next, expression_next, null_test_next, is_decided, link_next, links_next, outcome_next, item_next, items_next, answered, new_next, new_cell, right_next, free_next, end_next, given_back, back_next, assign_next, frees_next, branches_next, decided_next, turn_next, repeats_next, turned_next, count_turn_next, counts_next, ranges_next, gets_next, exit_next, exited_next, stmt_next, stmts_next, line_next, declaration_next, declarations_next, members_next, item_leave_next, master_leave_next, leave_next, frame_next, landed, pass_next, running_next, jump_next, mode_next}
-use Rattle.ada_meaning.specs.Named.{Object, State, Next, next, named, look, lent, lent_by, reads_boolean, reads_null, reads_integer, unary_given, binary_given, members, object_at, changed, on_object, new_object, parted, finished, returned}
+use Rattle.ada_meaning.specs.Step.{halts, moves, tells, asks, picks, at, popped, held, newest, reading, component_next, follow_next, path_next, expression_next, null_test_next, is_decided, link_next, links_next, outcome_next, item_next, items_next, answered, new_next, new_cell, right_next, free_next, end_next, given_back, back_next, before_last, last_of, assign_next, target_next, stored_next, store_next, received_next, receive_next, frees_next, branches_next, decided_next, turn_next, repeats_next, turned_next, count_turn_next, counts_next, ranges_next, gets_next, exit_next, exited_next, stmt_next, stmts_next, line_next, declaration_next, declarations_next, members_next, item_leave_next, master_leave_next, leave_next, frame_next, landed, pass_next, running_next, jump_next, mode_next}
+use Rattle.ada_meaning.specs.Named.{Object, State, Next, next, named, look, lent, lent_by, reads_boolean, reads_null, reads_integer, unary_given, binary_given, members, object_at, changed, on_object, new_object, parted, finished, returned, filled, an_integer}
 use Rattle.ada_meaning.specs.Run.{Event, Choice, settled, grants, takes, Leads, Step}
 use Rattle.ada_meaning.specs.Law.{back_of}
 
@@ -33,12 +33,13 @@ abbrev Heap : Type 0
 Heap = List Object
 
 -- What one step does to the heap: nothing, or one object more is there, or one leaves its collection, or it ceases to exist, or its words,
--- which were out, go back.
+-- which were out, go back, or a component of it has another value.
 pub data Deed (xs : Heap) (e : Event) (ys : Heap) : Type 0 where
   same : back_of e ≡ None → ys ≡ xs → Deed xs e ys
   adds : (object : Object) → back_of e ≡ None → ys ≡ xs ++ object ∷ [] → Deed xs e ys
   parts : (v : Value) → back_of e ≡ None → ys ≡ on_object parted xs v → Deed xs e ys
   finishes : (v : Value) → back_of e ≡ None → ys ≡ on_object finished xs v → Deed xs e ys
+  fills : (o : Value) (c : ℕ) (v : Value) → back_of e ≡ None → ys ≡ on_object (filled c v) xs o → Deed xs e ys
   returns : (o : Id) (object : Object) → back_of e ≡ Some o → object_at xs o ≡ Some object → object.out ≡ true → ys ≡ slice_set xs o.0 (returned object) → Deed xs e ys
 
 -- What comes next does so, whatever is answered.
@@ -151,7 +152,23 @@ back_does (Scalar v) cause pool s = tt
 -- Statements and declarations.
 assign_does : (cs : List ℕ) (x : ℕ) (right : RightForm) (s : State) → Does s.heap (assign_next named cs x right s)
 assign_does [] x right s = same refl refl
-assign_does (c ∷ cs) x right s = tt
+assign_does (c ∷ cs) x right s = path_does (before_last c cs) (held named s x) (at (frame.Targets (last_of c cs) right ∷ s.control) s)
+
+target_does : (o : Value) (c : ℕ) (right : RightForm) (found : Found (Cell Value)) (s : State) → Does s.heap (target_next named o c right found s)
+target_does o c right on_null s = same refl refl
+target_does o c right on_gone s = tt
+target_does o c right on_other s = tt
+target_does o c right (finds cell) s = same refl refl
+
+stored_does : (o : Value) (c : ℕ) (v : Value) (before : Option Value) (s : State) → Does s.heap (stored_next named o c v before s)
+stored_does o c v None s = tt
+stored_does o c v (Some before) s = fills o c v refl refl
+
+store_does : (o : Value) (c : ℕ) (v : Value) (found : Found (Cell Value)) (s : State) → Does s.heap (store_next named o c v found s)
+store_does o c v on_null s = tt
+store_does o c v on_gone s = tt
+store_does o c v on_other s = tt
+store_does o c v (finds cell) s = stored_does o c v (slice_get cell.values c) s
 
 frees_do : (cs : List ℕ) (access x : ℕ) (s : State) → Does s.heap (frees_next named cs access x s)
 frees_do [] access x s = free_does access x (held named s x) (look s.heap (held named s x)) s
@@ -196,9 +213,20 @@ ranges_do x fs (Some low) None s = tt
 ranges_do x fs (Some low) (Some high) s = counts_do x low high fs s
 
 gets_do : (cs : List ℕ) (x : ℕ) (input : List ℤ) (s : State) → Does s.heap (gets_next named cs x input s)
-gets_do (c ∷ cs) x input s = tt
+gets_do (c ∷ cs) x input s = path_does (before_last c cs) (held named s x) (at (frame.Receives (last_of c cs) ∷ s.control) s)
 gets_do [] x [] s = same refl refl
 gets_do [] x (i ∷ is) s = same refl refl
+
+received_does : (o : Value) (c : ℕ) (input : List ℤ) (before : Option Value) (s : State) → Does s.heap (received_next named o c input before s)
+received_does o c input None s = tt
+received_does o c [] (Some before) s = same refl refl
+received_does o c (i ∷ is) (Some before) s = fills o c (an_integer i) refl refl
+
+receive_does : (o : Value) (c : ℕ) (found : Found (Cell Value)) (s : State) → Does s.heap (receive_next named o c found s)
+receive_does o c on_null s = same refl refl
+receive_does o c on_gone s = tt
+receive_does o c on_other s = tt
+receive_does o c (finds cell) s = received_does o c s.input (slice_get cell.values c) s
 
 exit_does : (condition : Option ExpressionForm) (s : State) → Does s.heap (exit_next named condition s)
 exit_does None s = same refl refl
@@ -281,6 +309,9 @@ frame_does types (frame.AppliesAlone operator) s = outcome_does (unary_given ope
 frame_does types (frame.Fills items) s = items_do items s
 frame_does types (frame.Creates access count) s = new_does access count (words_of types access) (home_of access s.masters) s
 frame_does types (frame.Stores x) s = same refl refl
+frame_does types (frame.Targets c right) s = target_does (newest named s) c right (look s.heap (newest named s)) (popped s)
+frame_does types (frame.StoresIn object c) s = store_does object c (newest named s) (look s.heap object) (popped s)
+frame_does types (frame.Receives c) s = receive_does (newest named s) c (look s.heap (newest named s)) (popped s)
 frame_does types (frame.Declares x) s = same refl refl
 frame_does types frame.Writes s = line_does (reads_integer (newest named s)) (popped s)
 frame_does types (frame.Ends v) s = end_does v (look s.heap v) s

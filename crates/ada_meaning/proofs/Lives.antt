@@ -9,11 +9,11 @@ use Rattle.ada_meaning.specs.declared.state.Id.{Id}
 use Rattle.ada_meaning.specs.declared.state.Value.{Value}
 use Rattle.ada_meaning.specs.declared.state.Value.TheVariants.{Null, Names, Scalar}
 use Rattle.ada_meaning.specs.declared.state.Stage.TheVariants.{Gone}
-use Rattle.ada_meaning.specs.Named.{Object, State, object_at, changed, on_object, parted, finished, returned}
+use Rattle.ada_meaning.specs.Named.{Object, State, object_at, changed, on_object, parted, finished, returned, filled}
 use Rattle.ada_meaning.specs.Run.{Event, Choice, Step, Run, here, there}
 use Rattle.ada_meaning.specs.Law.{back_of, Differ, BackTwoObjects}
 use Rattle.ada_meaning.specs.Life.{Remains, KeepsObjects}
-use Rattle.ada_meaning.proofs.Deeds.{Deed, same, adds, parts, finishes, returns, step_deed}
+use Rattle.ada_meaning.proofs.Deeds.{Deed, same, adds, parts, finishes, fills, returns, step_deed}
 
 abbrev Heap : Type 0
 Heap = List Object
@@ -27,6 +27,9 @@ remains_parted x = record { access = refl; number = refl; home = refl; gone = λ
 
 remains_finished : (x : Object) → Remains x (finished x)
 remains_finished x = record { access = refl; number = refl; home = refl; gone = λ g. refl; unlisted = λ u. refl; back = λ b. b }
+
+remains_filled : (c : ℕ) (v : Value) (x : Object) → Remains x (filled c v x)
+remains_filled c v x = record { access = refl; number = refl; home = refl; gone = λ g. g; unlisted = λ u. u; back = λ b. b }
 
 remains_returned : (x : Object) → Remains x (returned x)
 remains_returned x = record { access = refl; number = refl; home = refl; gone = λ g. g; unlisted = λ u. u; back = λ b. refl }
@@ -75,6 +78,7 @@ deed_keeps xs e ys (same b is) = subst (λ (zs : Heap). KeepsObjects xs zs) (sym
 deed_keeps xs e ys (adds x b is) = subst (λ (zs : Heap). KeepsObjects xs zs) (sym is) (keeps_more xs x)
 deed_keeps xs e ys (parts v b is) = subst (λ (zs : Heap). KeepsObjects xs zs) (sym is) (keeps_on parted xs v remains_parted)
 deed_keeps xs e ys (finishes v b is) = subst (λ (zs : Heap). KeepsObjects xs zs) (sym is) (keeps_on finished xs v remains_finished)
+deed_keeps xs e ys (fills o c v b is) = subst (λ (zs : Heap). KeepsObjects xs zs) (sym is) (keeps_on (filled c v) xs o (remains_filled c v))
 deed_keeps xs e ys (returns o x b was out is) = subst (λ (zs : Heap). KeepsObjects xs zs) (sym is) (keeps_set xs o.0 x (returned x) was (remains_returned x))
 
 -- Over any run each name keeps its object.
@@ -111,6 +115,7 @@ deed_back xs e ys o (same b is) back = absurd (cc)
 deed_back xs e ys o (adds x b is) back = absurd (cc)
 deed_back xs e ys o (parts v b is) back = absurd (cc)
 deed_back xs e ys o (finishes v b is) back = absurd (cc)
+deed_back xs e ys o (fills v c u b is) back = absurd (cc)
 deed_back xs e ys o (returns other x b was out is) back =
     let one : other ≡ o = cc in
     let at_other : IsBackAt ys other = (returned x, (ap (λ (zs : Heap). object_at zs other) is ∙ set_at xs other.0 x (returned x) was, refl)) in
@@ -121,6 +126,7 @@ deed_differs xs e ys o x (same b is) at_o back = rw b tt
 deed_differs xs e ys o x (adds y b is) at_o back = rw b tt
 deed_differs xs e ys o x (parts v b is) at_o back = rw b tt
 deed_differs xs e ys o x (finishes v b is) at_o back = rw b tt
+deed_differs xs e ys o x (fills v c u b is) at_o back = rw b tt
 deed_differs xs e ys o x (returns other y b was out is) at_o back =
     rw b (λ (one : o ≡ other).
     let twice : Some x ≡ Some y = sym at_o ∙ ap (object_at xs) one ∙ was in

@@ -24,12 +24,12 @@ use Rattle.ada_meaning.specs.Frame as frame
 use Rattle.ada_meaning.specs.State.{Owned, declared, collection, Item, Master, height, home_of, begins, begins_in, begins_among}
 use Rattle.ada_meaning.specs.Event.{Quiet}
 use Rattle.ada_meaning.specs.Heap.{Cell, Found, on_null, on_gone, on_other, finds}
-use Rattle.ada_meaning.specs.Step.{halts, moves, tells, asks, picks, at, older, owning, shorter, popped, held, newest, reading, component_next, follow_next, path_next, expression_next, null_test_next, is_decided, link_next, links_next, outcome_next, item_next, items_next, answered, new_next, new_cell, right_next, free_next, end_next, given_back, back_next, assign_next, frees_next, branches_next, decided_next, turn_next, repeats_next, turned_next, count_turn_next, counts_next, ranges_next, gets_next, exit_next, exited_next, stmt_next, line_next, declaration_next, declarations_next, members_next, item_leave_next, master_leave_next, leave_next, frame_next, pass_next, running_next, mode_next}
-use Rattle.ada_meaning.specs.Named.{State, Next, next, named, look, lent, reads_boolean, reads_null, reads_integer, unary_given, binary_given, members, new_object}
+use Rattle.ada_meaning.specs.Step.{halts, moves, tells, asks, picks, at, older, owning, shorter, popped, held, newest, reading, component_next, follow_next, path_next, expression_next, null_test_next, is_decided, link_next, links_next, outcome_next, item_next, items_next, answered, new_next, new_cell, right_next, free_next, end_next, given_back, back_next, assign_next, frees_next, branches_next, decided_next, turn_next, repeats_next, turned_next, count_turn_next, counts_next, ranges_next, gets_next, exit_next, exited_next, stmt_next, line_next, before_last, last_of, target_next, stored_next, store_next, received_next, receive_next, declaration_next, declarations_next, members_next, item_leave_next, master_leave_next, leave_next, frame_next, pass_next, running_next, mode_next}
+use Rattle.ada_meaning.specs.Named.{State, Next, next, named, look, lent, reads_boolean, reads_null, reads_integer, unary_given, binary_given, members, new_object, an_integer}
 use Rattle.ada_meaning.specs.Run.{Event, Choice, settled, grants, takes, Leads, Step}
 use Rattle.ada_meaning.specs.Beginning.{BeginsStatement}
 use Rattle.ada_meaning.specs.Ending.{expression_weight, links_weight, item_weight, items_weight, right_weight, branches_weight, condition_weight, declaration_weight, declarations_weight, frame_weight, has_handlers, pass_weight, passed_weight, by_mode, behind_weight, run_weight, exit_weight, heap_weight, masters_weight, weight, GoesOn, WithinStatement, here, there}
-use Rattle.ada_meaning.proofs.Members.{member_listed, heap_append, finished_lighter, returned_lighter, taken_lighter}
+use Rattle.ada_meaning.proofs.Members.{member_listed, heap_append, finished_lighter, returned_lighter, filled_lighter, taken_lighter}
 use Rattle.ada_meaning.proofs.Beginnings.{statements_begin}
 
 -- What the objects and the items weigh, and the weight of a state, open.
@@ -107,6 +107,9 @@ frame_passed (frame.AppliesAlone operator) passed exited run h i = omega (arith,
 frame_passed (frame.Fills items) passed exited run h i = omega (arith, h, some_items items)
 frame_passed (frame.Creates access count) passed exited run h i = omega (arith, h)
 frame_passed (frame.Stores x) passed exited run h i = omega (arith, h)
+frame_passed (frame.Targets c right) passed exited run h i = omega (arith, h)
+frame_passed (frame.StoresIn object c) passed exited run h i = omega (arith, h)
+frame_passed (frame.Receives c) passed exited run h i = omega (arith, h)
 frame_passed (frame.Declares x) passed exited run h i = omega (arith, h)
 frame_passed frame.Writes passed exited run h i = omega (arith, h)
 frame_passed (frame.Ends v) passed exited run h i = omega (arith, h)
@@ -224,6 +227,34 @@ back_lightens v cause pool on_gone s w h = λ memory. cc
 back_lightens v cause pool on_other s w h = λ memory. cc
 back_lightens v cause pool (finds cell) s w h = returned_lightens (pool == cell.home.pool) v cause cell s w h
 
+-- Components that are assigned to.
+target_lightens : (o : Value) (c : ℕ) (right : RightForm) (found : Found (Cell Value)) (s : State) (w : ℕ) → load (running s) + 2 + right_weight right ≤ w → Lightens (target_next named o c right found (running s)) w
+target_lightens o c right on_null s w h = omega (arith, h, passed_run s.control)
+target_lightens o c right on_gone s w h = λ memory. cc
+target_lightens o c right on_other s w h = λ memory. cc
+target_lightens o c right (finds cell) s w h = omega (arith, h)
+
+stored_lightens : (o : Value) (c : ℕ) (v : Value) (before : Option Value) (s : State) (w : ℕ) → load (running s) + 1 ≤ w → Lightens (stored_next named o c v before (running s)) w
+stored_lightens o c v None s w h = λ memory. cc
+stored_lightens o c v (Some before) s w h = omega (arith, h, filled_lighter s.heap o c v)
+
+store_lightens : (o : Value) (c : ℕ) (v : Value) (found : Found (Cell Value)) (s : State) (w : ℕ) → load (running s) + 1 ≤ w → Lightens (store_next named o c v found (running s)) w
+store_lightens o c v on_null s w h = λ memory. cc
+store_lightens o c v on_gone s w h = λ memory. cc
+store_lightens o c v on_other s w h = λ memory. cc
+store_lightens o c v (finds cell) s w h = stored_lightens o c v (slice_get cell.values c) s w h
+
+received_lightens : (o : Value) (c : ℕ) (input : List ℤ) (before : Option Value) (s : State) (w : ℕ) → load (running s) + 1 ≤ w → Lightens (received_next named o c input before (running s)) w
+received_lightens o c input None s w h = λ memory. cc
+received_lightens o c [] (Some before) s w h = omega (arith, h, passed_run s.control)
+received_lightens o c (i ∷ is) (Some before) s w h = omega (arith, h, filled_lighter s.heap o c (an_integer i))
+
+receive_lightens : (o : Value) (c : ℕ) (found : Found (Cell Value)) (s : State) (w : ℕ) → load (running s) + 1 ≤ w → Lightens (receive_next named o c found (running s)) w
+receive_lightens o c on_null s w h = omega (arith, h, passed_run s.control)
+receive_lightens o c on_gone s w h = λ memory. cc
+receive_lightens o c on_other s w h = λ memory. cc
+receive_lightens o c (finds cell) s w h = received_lightens o c s.input (slice_get cell.values c) s w h
+
 -- Branches, loops and exits, behind their conditions.
 branches_lighten : (branches : BranchesForm) (s : State) (w : ℕ) → load (running s) + 1 + branches_weight branches ≤ w → Lightens (branches_next named branches (running s)) w
 branches_lighten (otherwise fs) s w h = omega (arith, h, does_once fs s.control)
@@ -336,6 +367,12 @@ frame_lightens types (frame.Fills items) s w b h = items_lighten items s w (omeg
 frame_lightens types (frame.Creates access count) s w b h =
     new_lightens access count (words_of types access) (home_of access s.masters) s w (omega (arith, h))
 frame_lightens types (frame.Stores x) s w b h = omega (arith, h)
+frame_lightens types (frame.Targets c right) s w b h =
+    target_lightens (newest named s) c right (look s.heap (newest named s)) (popped s) w (omega (arith, h))
+frame_lightens types (frame.StoresIn object c) s w b h =
+    store_lightens object c (newest named s) (look s.heap object) (popped s) w (omega (arith, h))
+frame_lightens types (frame.Receives c) s w b h =
+    receive_lightens (newest named s) c (look s.heap (newest named s)) (popped s) w (omega (arith, h))
 frame_lightens types (frame.Declares x) s w b h = omega (arith, h, masters_owning (record { number = height s.masters; owned = declared x }) s.masters)
 frame_lightens types frame.Writes s w b h = line_lightens (reads_integer (newest named s)) (popped s) w (omega (arith, h))
 frame_lightens types (frame.Ends v) s w b h = end_lightens v (look s.heap v) s w (omega (arith, h))
@@ -378,6 +415,9 @@ exception_lands e (frame.AppliesAlone operator) = tt
 exception_lands e (frame.Fills items) = tt
 exception_lands e (frame.Creates access count) = tt
 exception_lands e (frame.Stores x) = tt
+exception_lands e (frame.Targets c right) = tt
+exception_lands e (frame.StoresIn object c) = tt
+exception_lands e (frame.Receives c) = tt
 exception_lands e (frame.Declares x) = tt
 exception_lands e frame.Writes = tt
 exception_lands e (frame.Ends v) = tt
@@ -423,6 +463,9 @@ master_no_loop (frame.AppliesAlone operator) is = refl
 master_no_loop (frame.Fills items) is = refl
 master_no_loop (frame.Creates access count) is = refl
 master_no_loop (frame.Stores x) is = refl
+master_no_loop (frame.Targets c right) is = refl
+master_no_loop (frame.StoresIn object c) is = refl
+master_no_loop (frame.Receives c) is = refl
 master_no_loop (frame.Declares x) is = refl
 master_no_loop frame.Writes is = refl
 master_no_loop (frame.Ends v) is = refl
@@ -488,9 +531,24 @@ lighter_goes_on (asks request answers) w h = tt
 lighter_goes_on (picks n taking) w h = h.0
 
 -- A statement that begins goes on.
+component_goes_on : (v : Value) (cs : List ℕ) (found : Option Value) (s : State) → GoesOn (component_next named v cs found s)
+component_goes_on v cs None s = λ memory. cc
+component_goes_on v cs (Some u) s = tt
+
+follow_goes_on : (v : Value) (c : ℕ) (cs : List ℕ) (found : Found (Cell Value)) (s : State) → GoesOn (follow_next named v c cs found s)
+follow_goes_on v c cs on_null s = tt
+follow_goes_on v c cs on_gone s = λ memory. cc
+follow_goes_on v c cs on_other s = λ memory. cc
+follow_goes_on v c cs (finds cell) s = component_goes_on v cs (slice_get cell.values c) s
+
+path_goes_on : (cs : List ℕ) (v : Value) (s : State) → GoesOn (path_next named cs v s)
+path_goes_on [] v s = tt
+path_goes_on (c ∷ cs) v s = follow_goes_on v c cs (look s.heap v) s
+
 assign_goes_on : (cs : List ℕ) (x : ℕ) (right : RightForm) (s : State) → GoesOn (assign_next named cs x right s)
 assign_goes_on [] x right s = tt
-assign_goes_on (c ∷ cs) x right s = λ memory. cc
+assign_goes_on (c ∷ cs) x right s =
+    path_goes_on (before_last c cs) (held named s x) (at (frame.Targets (last_of c cs) right ∷ s.control) s)
 
 free_goes_on : (access x : ℕ) (v : Value) (found : Found (Cell Value)) (s : State) → GoesOn (free_next named access x v found s)
 free_goes_on access x v on_null s = tt
@@ -507,7 +565,7 @@ branches_go_on (otherwise fs) s = tt
 branches_go_on (a_branch e fs branches) s = tt
 
 gets_go_on : (cs : List ℕ) (x : ℕ) (input : List ℤ) (s : State) → GoesOn (gets_next named cs x input s)
-gets_go_on (c ∷ cs) x input s = λ memory. cc
+gets_go_on (c ∷ cs) x input s = path_goes_on (before_last c cs) (held named s x) (at (frame.Receives (last_of c cs) ∷ s.control) s)
 gets_go_on [] x [] s = tt
 gets_go_on [] x (i ∷ is) s = tt
 

@@ -55,6 +55,12 @@ pub data Frame (V : Type 0) : Type 0 where
   Creates : (access count : ℕ) → Frame V
   -- the newest operand goes to a variable (5.2)
   Stores : (variable : ℕ) → Frame V
+  -- the newest operand gives access to an object, whose component is assigned to: what goes there is evaluated next (5.2)
+  Targets : (component : ℕ) → RightForm → Frame V
+  -- the newest operand goes to a component of an object (5.2)
+  StoresIn : (object : V) → (component : ℕ) → Frame V
+  -- the newest operand gives access to an object, whose component takes the next number of the input
+  Receives : (component : ℕ) → Frame V
   -- the newest operand is the initial value of a variable, which then is created (3.3.1)
   Declares : (variable : ℕ) → Frame V
   -- the newest operand is to be written (A.10.7)

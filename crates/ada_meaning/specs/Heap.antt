@@ -44,6 +44,8 @@ pub record Ops (V H : Type 0) : Type 0 where
   -- a new object for a granted request of so many words, in the collection of its home; and the value that names it
   pub create : H → (words : ℕ) → Cell V → H
   pub created : H → (words : ℕ) → V
+  -- a component of the object that a value gives access to gets another value
+  pub store : H → V → (component : ℕ) → V → H
   -- an object leaves its collection; it ceases to exist; its words go back
   pub part : H → V → H
   pub finish : H → V → H

@@ -95,11 +95,19 @@ finished object = record object { stage = Gone; listed = false }
 abbrev pub returned : Object → Object
 returned object = record object { out = false }
 
+-- An object once a component has another value (5.2).
+abbrev pub filled : ℕ → Value → Object → Object
+filled c v object = record object { cell = record (object.cell) { values = slice_set object.cell.values c v } }
+
 -- The object that a value names changes.
 abbrev pub on_object : (Object → Object) → List Object → Value → List Object
 on_object change objects Null = objects
 on_object change objects (Names o) = changed change (object_at objects o) objects o
 on_object change objects (Scalar v) = objects
+
+-- A component of the object that a value names gets another value (5.2).
+abbrev pub store : List Object → Value → ℕ → Value → List Object
+store objects o c v = on_object (filled c v) objects o
 
 -- The members of a collection (7.6.1): the objects in it whose home it is, newest first.
 abbrev pub is_member : ℕ → Object → Bool
@@ -184,6 +192,7 @@ named = record {
   lent = lent;
   create = create;
   created = created;
+  store = store;
   part = on_object parted;
   finish = on_object finished;
   back = on_object returned;

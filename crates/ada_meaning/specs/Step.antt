@@ -128,6 +128,16 @@ shorter (m ∷ ms) = record m { items = older m.items } ∷ ms
 abbrev pub numbered : {V H : Type 0} → State V H → State V H
 numbered s = record s { next = s.next + 1 }
 
+-- The components of a path before its last one, and the last, where the first is given (4.1.3).
+abbrev pub before_last : ℕ → List ℕ → List ℕ
+before_last c [] = []
+before_last c (d ∷ cs) = c ∷ before_last d cs
+
+-- The last component of a path.
+abbrev pub last_of : ℕ → List ℕ → ℕ
+last_of c [] = c
+last_of c (d ∷ cs) = last_of d cs
+
 -- How a run ends where nothing is left to do, or to pass: an exit always has a loop.
 abbrev pub end_of : Mode → Halt
 end_of Running = Finished
@@ -273,10 +283,29 @@ module _ {V H : Type 0} (ops : Ops V H) where
   back_next v cause pool on_other s = halts Stuck
   back_next v cause pool (finds cell) s = if pool == cell.home.pool then given_back v cause cell s else halts (Erroneous GivesElsewhere)
 
-  -- Statements (5.1). What is assigned to, and what is freed, is a variable: components as such come later.
+  -- Statements (5.1). An assignment finds its target first (5.2): a variable, or a component of the object to which the path before its last
+  -- name leads. Null there raises Constraint_Error before the right side is evaluated, and a target in an object that is gone is erroneous.
   abbrev pub assign_next : List ℕ → ℕ → RightForm → State V H → Next V H
   assign_next [] x right s = moves Quiet (at (frame.Evaluates right ∷ frame.Stores x ∷ s.control) s)
-  assign_next (c ∷ cs) x right s = halts Stuck
+  assign_next (c ∷ cs) x right s = path_next (before_last c cs) (held s x) (at (frame.Targets (last_of c cs) right ∷ s.control) s)
+
+  abbrev pub target_next : V → (c : ℕ) → RightForm → Found (Cell V) → State V H → Next V H
+  target_next o c right on_null s = moves Quiet (raised ConstraintError s)
+  target_next o c right on_gone s = halts (Erroneous FollowsGone)
+  target_next o c right on_other s = halts Stuck
+  target_next o c right (finds cell) s = moves (Followed o) (at (frame.Evaluates right ∷ frame.StoresIn o c ∷ s.control) s)
+
+  -- The component of an object gets a value, if the object has such a component. It is looked for once more: to store in an object that is gone
+  -- is erroneous.
+  abbrev pub stored_next : V → (c : ℕ) → V → Option V → State V H → Next V H
+  stored_next o c v None s = halts Stuck
+  stored_next o c v (Some before) s = moves (Followed o) (record s { heap = ops.store s.heap o c v })
+
+  abbrev pub store_next : V → (c : ℕ) → V → Found (Cell V) → State V H → Next V H
+  store_next o c v on_null s = halts Stuck
+  store_next o c v on_gone s = halts (Erroneous FollowsGone)
+  store_next o c v on_other s = halts Stuck
+  store_next o c v (finds cell) s = stored_next o c v (slice_get cell.values c) s
 
   abbrev pub frees_next : List ℕ → (access x : ℕ) → State V H → Next V H
   frees_next [] access x s = free_next access x (held s x) (ops.look s.heap (held s x)) s
@@ -320,11 +349,22 @@ module _ {V H : Type 0} (ops : Ops V H) where
   ranges_next x fs (Some low) None s = halts Stuck
   ranges_next x fs (Some low) (Some high) s = counts_next x low high fs s
 
-  -- The next number of the input goes to a variable; where there is none, End_Error is raised.
+  -- The next number of the input goes to a variable, or to a component, whose object is found first; where there is none, End_Error is raised.
   abbrev pub gets_next : List ℕ → ℕ → List ℤ → State V H → Next V H
-  gets_next (c ∷ cs) x input s = halts Stuck
+  gets_next (c ∷ cs) x input s = path_next (before_last c cs) (held s x) (at (frame.Receives (last_of c cs) ∷ s.control) s)
   gets_next [] x [] s = moves Quiet (raised EndError s)
   gets_next [] x (i ∷ is) s = moves Quiet (put x (ops.integer i) (record s { input = is }))
+
+  abbrev pub received_next : V → (c : ℕ) → List ℤ → Option V → State V H → Next V H
+  received_next o c input None s = halts Stuck
+  received_next o c [] (Some before) s = moves (Followed o) (raised EndError s)
+  received_next o c (i ∷ is) (Some before) s = moves (Followed o) (record s { heap = ops.store s.heap o c (ops.integer i); input = is })
+
+  abbrev pub receive_next : V → (c : ℕ) → Found (Cell V) → State V H → Next V H
+  receive_next o c on_null s = moves Quiet (raised ConstraintError s)
+  receive_next o c on_gone s = halts (Erroneous FollowsGone)
+  receive_next o c on_other s = halts Stuck
+  receive_next o c (finds cell) s = received_next o c s.input (slice_get cell.values c) s
 
   -- An exit (5.7), at once or on a condition.
   abbrev pub exit_next : Option ExpressionForm → State V H → Next V H
@@ -419,6 +459,9 @@ module _ {V H : Type 0} (ops : Ops V H) where
   frame_next types (frame.Fills items) s = items_next items s
   frame_next types (frame.Creates access count) s = new_next access count (words_of types access) (home_of access s.masters) s
   frame_next types (frame.Stores x) s = moves Quiet (put x (newest s) (popped s))
+  frame_next types (frame.Targets c right) s = target_next (newest s) c right (ops.look s.heap (newest s)) (popped s)
+  frame_next types (frame.StoresIn o c) s = store_next o c (newest s) (ops.look s.heap o) (popped s)
+  frame_next types (frame.Receives c) s = receive_next (newest s) c (ops.look s.heap (newest s)) (popped s)
   frame_next types (frame.Declares x) s = moves Quiet (owned (declared x) (put x (newest s) (popped s)))
   frame_next types frame.Writes s = line_next (ops.reads_integer (newest s)) (popped s)
   frame_next types (frame.Ends v) s = end_next v (ops.look s.heap v) s

@@ -21,7 +21,7 @@ use Rattle.ada_meaning.specs.Frame.{Frame, is_master, Landing, passes_on, goes_b
 use Rattle.ada_meaning.specs.Frame as frame
 use Rattle.ada_meaning.specs.State.{declared, collection, home_of}
 use Rattle.ada_meaning.specs.Heap.{Cell, Found, on_null, on_gone, on_other, finds}
-use Rattle.ada_meaning.specs.Step.{halts, at, popped, held, newest, reading, component_next, follow_next, path_next, expression_next, null_test_next, is_decided, link_next, links_next, outcome_next, item_next, items_next, answered, new_next, right_next, free_next, end_next, given_back, back_next, assign_next, frees_next, branches_next, decided_next, turn_next, repeats_next, turned_next, count_turn_next, counts_next, ranges_next, gets_next, exit_next, exited_next, stmt_next, stmts_next, line_next, declaration_next, declarations_next, frame_next, landed, pass_next, jump_next}
+use Rattle.ada_meaning.specs.Step.{halts, at, popped, held, newest, reading, component_next, follow_next, path_next, expression_next, null_test_next, is_decided, link_next, links_next, outcome_next, item_next, items_next, answered, new_next, right_next, free_next, end_next, given_back, back_next, before_last, last_of, assign_next, target_next, stored_next, store_next, received_next, receive_next, frees_next, branches_next, decided_next, turn_next, repeats_next, turned_next, count_turn_next, counts_next, ranges_next, gets_next, exit_next, exited_next, stmt_next, stmts_next, line_next, declaration_next, declarations_next, frame_next, landed, pass_next, jump_next}
 use Rattle.ada_meaning.specs.Named.{State, Next, named, look, lent, reads_boolean, reads_null, reads_integer, unary_given, binary_given}
 use Rattle.ada_meaning.specs.Run.{Event}
 use Rattle.ada_meaning.specs.Law.{left_by}
@@ -129,7 +129,24 @@ back_works v cause pool (finds cell) s is p = given_works (pool == cell.home.poo
 -- Statements and declarations.
 assign_works : (cs : List ℕ) (x : ℕ) (right : RightForm) (s : State) → Plain s.control → Works s (assign_next named cs x right s)
 assign_works [] x right s p = stays refl (tt, (tt, p)) refl refl
-assign_works (c ∷ cs) x right s p = tt
+assign_works (c ∷ cs) x right s p =
+    path_works (before_last c cs) (held named s x) (at (frame.Targets (last_of c cs) right ∷ s.control) s) (tt, p)
+
+target_works : (o : Value) (c : ℕ) (right : RightForm) (found : Found (Cell Value)) (s : State) → Plain s.control → Works s (target_next named o c right found s)
+target_works o c right on_null s p = stays refl p refl refl
+target_works o c right on_gone s p = tt
+target_works o c right on_other s p = tt
+target_works o c right (finds cell) s p = stays refl (tt, (tt, p)) refl refl
+
+stored_works : (o : Value) (c : ℕ) (v : Value) (before : Option Value) (s : State) → Plain s.control → Works s (stored_next named o c v before s)
+stored_works o c v None s p = tt
+stored_works o c v (Some before) s p = stays refl p refl refl
+
+store_works : (o : Value) (c : ℕ) (v : Value) (found : Found (Cell Value)) (s : State) → Plain s.control → Works s (store_next named o c v found s)
+store_works o c v on_null s p = tt
+store_works o c v on_gone s p = tt
+store_works o c v on_other s p = tt
+store_works o c v (finds cell) s p = stored_works o c v (slice_get cell.values c) s p
 
 frees_work : (cs : List ℕ) (access x : ℕ) (s : State) → Plain s.control → Works s (frees_next named cs access x s)
 frees_work [] access x s p = free_works access x (held named s x) (look s.heap (held named s x)) s p
@@ -174,9 +191,21 @@ ranges_work x fs (Some low) None s p = tt
 ranges_work x fs (Some low) (Some high) s p = counts_work x low high fs s p
 
 gets_work : (cs : List ℕ) (x : ℕ) (input : List ℤ) (s : State) → Plain s.control → Works s (gets_next named cs x input s)
-gets_work (c ∷ cs) x input s p = tt
+gets_work (c ∷ cs) x input s p =
+    path_works (before_last c cs) (held named s x) (at (frame.Receives (last_of c cs) ∷ s.control) s) (tt, p)
 gets_work [] x [] s p = stays refl p refl refl
 gets_work [] x (i ∷ is) s p = stays refl p refl refl
+
+received_works : (o : Value) (c : ℕ) (input : List ℤ) (before : Option Value) (s : State) → Plain s.control → Works s (received_next named o c input before s)
+received_works o c input None s p = tt
+received_works o c [] (Some before) s p = stays refl p refl refl
+received_works o c (i ∷ is) (Some before) s p = stays refl p refl refl
+
+receive_works : (o : Value) (c : ℕ) (found : Found (Cell Value)) (s : State) → Plain s.control → Works s (receive_next named o c found s)
+receive_works o c on_null s p = stays refl p refl refl
+receive_works o c on_gone s p = tt
+receive_works o c on_other s p = tt
+receive_works o c (finds cell) s p = received_works o c s.input (slice_get cell.values c) s p
 
 exit_works : (condition : Option ExpressionForm) (s : State) → Plain s.control → Works s (exit_next named condition s)
 exit_works None s p = stays refl p refl refl
@@ -253,6 +282,9 @@ frame_works types (frame.AppliesAlone operator) s is p = outcome_works (unary_gi
 frame_works types (frame.Fills items) s is p = items_work items s p
 frame_works types (frame.Creates access count) s is p = new_works access count (words_of types access) (home_of access s.masters) s p
 frame_works types (frame.Stores x) s is p = stays refl p refl refl
+frame_works types (frame.Targets c right) s is p = target_works (newest named s) c right (look s.heap (newest named s)) (popped s) p
+frame_works types (frame.StoresIn object c) s is p = store_works object c (newest named s) (look s.heap object) (popped s) p
+frame_works types (frame.Receives c) s is p = receive_works (newest named s) c (look s.heap (newest named s)) (popped s) p
 frame_works types (frame.Declares x) s is p = owns (declared x) refl p refl refl
 frame_works types frame.Writes s is p = line_works (reads_integer (newest named s)) (popped s) p
 frame_works types (frame.Ends v) s is p = end_works v (look s.heap v) s p

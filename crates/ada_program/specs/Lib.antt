@@ -10,6 +10,8 @@ pub mod ProgramForm
 pub mod Typed
 -- what a well-formed program is
 pub mod WellFormed
+-- where collections are created
+pub mod Nested
 -- what fits, said of the lists that a program keeps
 pub mod Kept
 -- what is seen of the creations of a program

@@ -1,6 +1,6 @@
 -- What a well-formed program is: each number is that of something there, and each form has the types that it wants.
 
-use Rattle.std.specs.Prelude.{◌≡◌, ℕ, ◌+◌, Bool, true, false, ◌&&◌, ◌==◌, nat_lt, nat_le, if◌then◌else◌, List, [], ◌∷◌, ◌++◌, length, map, count_by, Option, Some, None, is_some}
+use Rattle.std.specs.Prelude.{◌≡◌, ℕ, ◌+◌, Bool, true, false, ◌&&◌, ◌||◌, ◌==◌, nat_lt, nat_le, if◌then◌else◌, List, [], ◌∷◌, ◌++◌, length, map, count_by, Option, Some, None, is_some}
 use Rattle.std.specs.List.{list_all, slice_get}
 use Rattle.ada_values.specs.declared.operator.UnaryOperator.{UnaryOperator}
 use Rattle.ada_values.specs.declared.operator.UnaryOperator.TheVariants as unary
@@ -231,9 +231,14 @@ is_this access (Some t) = t == access
 abbrev pub follows_at_most_one : PathForm → Bool
 follows_at_most_one path = nat_le (length path.selectors) 1
 
--- In use so far: a target, an access value that is moved, and what is freed are variables, and no components.
+-- In use so far: an access value that is moved, and what is freed, are variables, and no components.
 abbrev pub names_variable : PathForm → Bool
 names_variable path = length path.selectors == 0
+
+-- In use so far: what is assigned to is a variable, or an Integer or a Boolean component of the object that a variable gives access to (5.2).
+abbrev pub names_target : List TypeForm → List VariableForm → PathForm → Bool
+names_target types variables path =
+    names_variable path || (follows_at_most_one path && is_some (scalar_of (path_kind types variables path)))
 
 -- Whether there is a type, and it is this one.
 abbrev pub is_type : ScalarType → Option ScalarType → Bool
@@ -422,9 +427,9 @@ abbrev pub choice_fits : (exceptions : List (List ℕ)) → Choice → Bool
 choice_fits exceptions (choice.Exception e) = exception_fits exceptions e
 choice_fits exceptions choice.Others = true
 
--- What the input gives goes to an Integer variable.
-abbrev pub is_integer_variable : List TypeForm → List VariableForm → PathForm → Bool
-is_integer_variable types variables path = names_variable path && is_type Integer (scalar_of (path_kind types variables path))
+-- What the input gives goes to an Integer: a variable, or a component of the object that a variable gives access to.
+abbrev pub is_integer_target : List TypeForm → List VariableForm → PathForm → Bool
+is_integer_target types variables path = follows_at_most_one path && is_type Integer (scalar_of (path_kind types variables path))
 
 -- A part creates its collections first, each of an access type, and its variables, whose initial values fit (3.11).
 abbrev pub declarations_fit : List TypeForm → List VariableForm → List DeclarationForm → Bool
@@ -438,10 +443,10 @@ abbrev mutual
   pub statement_fits : List TypeForm → List VariableForm → (texts exceptions : List (List ℕ)) → (inside_loop : Bool) → StmtForm → Bool
   statement_fits types variables texts exceptions inside_loop skips = true
   statement_fits types variables texts exceptions inside_loop (assigns target right) =
-      names_variable target && right_fits types variables (path_kind types variables target) right
+      names_target types variables target && right_fits types variables (path_kind types variables target) right
   statement_fits types variables texts exceptions inside_loop (frees access path) =
       names_variable path && is_freed_by types access (path_access types variables path)
-  statement_fits types variables texts exceptions inside_loop (gets target) = is_integer_variable types variables target
+  statement_fits types variables texts exceptions inside_loop (gets target) = is_integer_target types variables target
   statement_fits types variables texts exceptions inside_loop (writes e) = has_type types variables Integer e
   statement_fits types variables texts exceptions inside_loop (writes_text text) = nat_lt text (length texts)
   statement_fits types variables texts exceptions inside_loop (chooses branches) = branches_fit types variables texts exceptions inside_loop branches

@@ -8,6 +8,7 @@
 mod creations;
 mod lookup;
 pub mod program;
+mod targets;
 mod typing;
 mod values;
 mod well_formed;

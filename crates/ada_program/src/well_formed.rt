@@ -2,7 +2,7 @@
 
 ghost use Rattle.std.specs.Prelude.{◌≡◌, ◌&&◌, true, map};
 ghost use Rattle.std.specs.List.{list_all};
-ghost use Rattle.ada_program.specs.Form.{StmtsForm, declaration_form, path_form, stmts_form};
+ghost use Rattle.ada_program.specs.Form.{StmtsForm, declaration_form, stmts_form};
 ghost use Rattle.ada_program.specs.ProgramForm.{component_form, type_form, variable_form, program_form};
 ghost use Rattle.ada_program.specs.Kept as kept;
 ghost use Rattle.ada_program.specs.Kept.{types_in, texts_in};
@@ -10,13 +10,14 @@ ghost use Rattle.ada_program.specs.WellFormed as fits;
 
 use crate::creations::{creates_in_order, has_collections};
 use crate::lookup::{
-    access_of, designated_type, is_access, is_record, is_this, names_variable, path_access,
-    path_kind, scalar_of, variable_kind,
+    access_of, is_access, is_record, names_variable, path_access, path_kind, scalar_of,
+    variable_kind,
 };
 use crate::program::{
-    Branch, Choice, Component, ComponentKind, Declaration, Exception, Expression, Handler, Path,
-    Program, ScalarType, Stmt, TypeDefinition, Variable, VariableKind,
+    Branch, Choice, Component, ComponentKind, Declaration, Exception, Expression, Handler, Program,
+    ScalarType, Stmt, TypeDefinition, Variable, VariableKind,
 };
+use crate::targets::{is_freed_by, is_integer_target, names_target};
 use crate::typing::{has_type, is_type};
 use crate::values::{names_before, right_fits};
 
@@ -229,11 +230,11 @@ fn statement_fits(
 {
     match statement {
         Stmt::Null | Stmt::Return(_) => true,
-        Stmt::Assign { target, value } => names_variable(target)
+        Stmt::Assign { target, value } => names_target(types, variables, target)
             && right_fits(types, variables, path_kind(types, variables, target), value),
         Stmt::Free { access, variable } => names_variable(variable)
             && is_freed_by(types, access.0, path_access(types, variables, variable)),
-        Stmt::Get(target) => is_integer_variable(types, variables, target),
+        Stmt::Get(target) => is_integer_target(types, variables, target),
         Stmt::PutImage(expression) => has_type(types, variables, ScalarType::Integer, expression),
         Stmt::PutText(text) => text.0 < texts.len(),
         Stmt::If {
@@ -370,17 +371,6 @@ fn exception_fits(exceptions: &[String], exception: Exception) -> bool
     }
 }
 
-/// Whether a path is an Integer variable, to which a number of the input may go.
-fn is_integer_variable(types: &[TypeDefinition], variables: &[Variable], path: &Path) -> bool
-    ensures { result ≡ kept.is_integer_variable types.now variables.now path.now }
-{
-    names_variable(path)
-        && is_type(
-            ScalarType::Integer,
-            scalar_of(path_kind(types, variables, path)),
-        )
-}
-
 /// Whether there is a statement (5.1).
 fn has_statement(statements: &[Stmt]) -> bool
     ensures { result ≡ fits.has_statement (stmts_form statements.now) }
@@ -402,18 +392,5 @@ fn condition_fits(
     match condition {
         None => true,
         Some(condition) => has_type(types, variables, ScalarType::Boolean, condition),
-    }
-}
-
-/// Whether a variable's access type and that of an instance designate one record type (13.11.2).
-fn is_freed_by(types: &[TypeDefinition], access: usize, own: Option<usize>) -> bool
-    ensures { result ≡ fits.is_freed_by (types_in types.now) access own }
-{
-    match own {
-        None => false,
-        Some(own) => match designated_type(types, access) {
-            None => false,
-            Some(record) => is_this(record, designated_type(types, own)),
-        },
     }
 }

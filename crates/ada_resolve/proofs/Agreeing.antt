@@ -6,16 +6,20 @@ use Rattle.std.specs.List.{slice_get}
 use Rattle.ada_tree.specs.Names.{Ident}
 use Rattle.ada_program.specs.declared.program.Exception.TheVariants as exception
 use Rattle.ada_program.specs.declared.program.VariableKind.TheVariants as variable
+use Rattle.ada_program.specs.declared.program.VariableNo.{VariableNo}
 use Rattle.ada_program.specs.ProgramForm.{TypeForm, VariableForm}
+use Rattle.ada_resolve.specs.declared.fault.NameRule.TheVariants.{DeclaredTwice}
 use Rattle.ada_resolve.specs.declared.scope.Entity.{Entity}
 use Rattle.ada_resolve.specs.declared.scope.Entity.TheVariants as entity
 use Rattle.ada_resolve.specs.Known.{Known, Named, Part, named, entered, first_named, named_in, inner_first, visible, parts, with_part}
-use Rattle.ada_resolve.specs.Library.{predefined}
+use Rattle.ada_resolve.specs.Library.{predefined, is_library_root, is_taken}
 use Rattle.ada_resolve.specs.Objects.{next_variable}
+use Rattle.ada_resolve.specs.Remark.{wrong_if}
 use Rattle.ada_resolve.specs.Resolution.{with_parameter}
-use Rattle.ada_resolve.specs.Naming.{Context, Place, Binding, Meaning, an_incomplete_type, a_type, a_number, an_exception, an_instance, a_variable, meaning_among, meaning_at, IsBound, truth_name}
-use Rattle.ada_resolve.specs.Reading.{inside, behind, with_new_variable}
+use Rattle.ada_resolve.specs.Naming.{Context, Place, Binding, Meaning, an_incomplete_type, a_type, a_number, an_exception, an_instance, a_variable, a_parameter, meaning_among, meaning_at, IsBound, truth_name, IsPredefined, the_integers, the_booleans, a_truth_value, the_constraint_error, the_program_error, the_storage_error, under_ada, under_system, the_pools, the_input}
+use Rattle.ada_resolve.specs.Reading.{inside, behind, with_loop_parameter}
 use Rattle.ada_resolve.proofs.WellFormed.Names.{PartsFit, named_entered, text_same}
+use Rattle.ada_resolve.proofs.WellFormed.Remarks.{Quiet, quiet_if}
 
 -- what the name of a declared entity is bound to
 abbrev pub bound_to : Entity → Option Meaning
@@ -26,7 +30,7 @@ bound_to (entity.Number n) = Some (a_number n)
 bound_to (entity.Exception (exception.Declared n)) = Some (an_exception n.0)
 bound_to (entity.Instance t) = Some (an_instance t.0)
 bound_to (entity.Variable x kind) = Some (a_variable x.0)
-bound_to (entity.Parameter x) = Some (a_variable x.0)
+bound_to (entity.Parameter x) = Some (a_parameter x.0)
 bound_to e = None
 
 -- a name is bound to what it stands for
@@ -42,6 +46,7 @@ pub record Agrees (k : Known) (place : Place) : Type 0 where
   pub types : place.types ≡ length k.types
   pub variables : place.variables ≡ length k.variables
   pub exceptions : place.exceptions ≡ length k.exceptions
+  pub texts : place.texts ≡ length k.texts
 
 -- the tables of what is known are beginnings of those of the program
 pub record Ahead (k : Known) (p : Context) : Type 0 where
@@ -97,7 +102,7 @@ EntityRead p text (entity.Record t) = IsBound p text (a_type t.0)
 EntityRead p text (entity.Access t) = IsBound p text (a_type t.0)
 EntityRead p text (entity.Instance t) = IsBound p text (an_instance t.0)
 EntityRead p text (entity.Variable x kind) = IsBound p text (a_variable x.0)
-EntityRead p text (entity.Parameter x) = IsBound p text (a_variable x.0)
+EntityRead p text (entity.Parameter x) = IsBound p text (a_parameter x.0)
 
 -- what is predefined has its own name
 standard_read : (p : Context) (text : List ℕ) (x : Entity) (a b c d f g h : Bool) → (a ≡ true → text ≡ codes "INTEGER") → (b ≡ true → text ≡ codes "BOOLEAN") → (c ≡ true → text ≡ codes "TRUE") → (d ≡ true → text ≡ codes "FALSE") → (f ≡ true → text ≡ codes "CONSTRAINT_ERROR") → (g ≡ true → text ≡ codes "PROGRAM_ERROR") → (h ≡ true → text ≡ codes "STORAGE_ERROR") → cond a (Some entity.Integer) (cond b (Some entity.Boolean) (cond c (Some (entity.Truth true)) (cond d (Some (entity.Truth false)) (cond f (Some (entity.Exception exception.ConstraintError)) (cond g (Some (entity.Exception exception.ProgramError)) (cond h (Some (entity.Exception exception.StorageError)) None)))))) ≡ Some x → EntityRead p text x
@@ -118,6 +123,25 @@ predefined_read p text x e =
     (text_same text (codes "INTEGER")) (text_same text (codes "BOOLEAN")) (text_same text (codes "TRUE")) (text_same text (codes "FALSE"))
     (text_same text (codes "CONSTRAINT_ERROR")) (text_same text (codes "PROGRAM_ERROR")) (text_same text (codes "STORAGE_ERROR")) e
 
+-- a predefined name is declared nowhere
+taken : (text : List ℕ) → IsPredefined text → is_taken text ≡ true
+unfolding predefined is_library_root
+taken text the_integers = refl
+taken text the_booleans = refl
+taken text (a_truth_value true) = refl
+taken text (a_truth_value false) = refl
+taken text the_constraint_error = refl
+taken text the_program_error = refl
+taken text the_storage_error = refl
+taken text under_ada = refl
+taken text under_system = refl
+taken text the_pools = refl
+taken text the_input = refl
+
+pub not_predefined : (name : Ident) → Quiet (wrong_if (is_taken name.text) name.spot DeclaredTwice) → IsPredefined name.text → ⊥
+not_predefined name q is =
+    let on = taken name.text is in let off = quiet_if (is_taken name.text) name.spot DeclaredTwice q in cc (on, off)
+
 -- what is declared is bound
 bound_so : (p : Context) (text : List ℕ) (a b : Meaning) → Some a ≡ Some b → meaning_at p.place text ≡ Some b → IsBound p text a
 bound_so p text a b same is = is ∙ sym same
@@ -134,7 +158,7 @@ declared_read p text (entity.Exception exception.StorageError) m same is = absur
 declared_read p text (entity.Exception exception.EndError) m same is = absurd (cc same)
 declared_read p text (entity.Instance t) m same is = bound_so p text (an_instance t.0) m same is
 declared_read p text (entity.Variable x kind) m same is = bound_so p text (a_variable x.0) m same is
-declared_read p text (entity.Parameter x) m same is = bound_so p text (a_variable x.0) m same is
+declared_read p text (entity.Parameter x) m same is = bound_so p text (a_parameter x.0) m same is
 declared_read p text entity.Integer m same is = absurd (cc same)
 declared_read p text entity.Boolean m same is = absurd (cc same)
 declared_read p text (entity.Truth b) m same is = absurd (cc same)
@@ -153,6 +177,35 @@ pub visible_read : (k : Known) (p : Context) → Agrees k p.place → (text : Li
 unfolding visible
 visible_read k p w text x e = inner_read p text x (named_in text (parts k)) (bytes_eq text k.procedure) (stands_among k p.place w text) e
 
+-- what is bound to a loop parameter stands for it
+parameter_is : (e : Entity) (x : ℕ) → bound_to e ≡ Some (a_parameter x) → (n : VariableNo) × (e ≡ entity.Parameter n)
+parameter_is (entity.Parameter n) x same = (n, refl)
+parameter_is (entity.Variable n kind) x same = absurd (cc same)
+parameter_is (entity.Incomplete t) x same = absurd (cc same)
+parameter_is (entity.Record t) x same = absurd (cc same)
+parameter_is (entity.Access t) x same = absurd (cc same)
+parameter_is (entity.Number n) x same = absurd (cc same)
+parameter_is (entity.Exception (exception.Declared n)) x same = absurd (cc same)
+parameter_is (entity.Exception exception.ConstraintError) x same = absurd (cc same)
+parameter_is (entity.Exception exception.ProgramError) x same = absurd (cc same)
+parameter_is (entity.Exception exception.StorageError) x same = absurd (cc same)
+parameter_is (entity.Exception exception.EndError) x same = absurd (cc same)
+parameter_is (entity.Instance t) x same = absurd (cc same)
+parameter_is entity.Integer x same = absurd (cc same)
+parameter_is entity.Boolean x same = absurd (cc same)
+parameter_is (entity.Truth b) x same = absurd (cc same)
+parameter_is entity.Procedure x same = absurd (cc same)
+
+parameter_named : (o : Option Entity) (m : Option Meaning) (x : ℕ) → Stands o m → m ≡ Some (a_parameter x) → (n : VariableNo) × (o ≡ Some (entity.Parameter n))
+parameter_named None m x s is = let no : None ≡ Some (a_parameter x) = sym s ∙ is in absurd (cc no)
+parameter_named (Some e) m x s is = let n = parameter_is e x (s.1 ∙ (sym s.2 ∙ is)) in (n.0, ap (λ (v : Entity). Some v) n.1)
+
+pub parameter_visible : (k : Known) (p : Context) → Agrees k p.place → (text : List ℕ) (x : ℕ) → IsBound p text (a_parameter x) → (n : VariableNo) × (visible k text ≡ Some (entity.Parameter n))
+unfolding visible
+parameter_visible k p w text x is =
+    let n = parameter_named (named_in text (parts k)) (meaning_at p.place text) x (stands_among k p.place w text) is in
+    (n.0, ap (λ (o : Option Entity). inner_first o (bytes_eq text k.procedure) (predefined text)) n.1)
+
 -- one more name
 stands_more : (b : Bool) (e : Entity) (meaning : Meaning) (o : Option Entity) (m : Option Meaning) → bound_to e ≡ Some meaning → Stands o m → Stands (cond b (Some e) o) (cond b (Some meaning) m)
 stands_more true e meaning o m own old = (meaning, own, refl)
@@ -164,14 +217,15 @@ stands_entered ns bs name e meaning own old text =
     (stands_more (bytes_eq text name.text) e meaning (named text ns) (meaning_among text bs) own (old text))
 
 -- what a part elaborates is no name
-pub agrees_same : (k m : Known) (place : Place) → m.here.names ≡ k.here.names → m.here.first_type ≡ k.here.first_type → m.outer ≡ k.outer → length m.types ≡ length k.types → length m.variables ≡ length k.variables → length m.exceptions ≡ length k.exceptions → Agrees k place → Agrees m place
-agrees_same k m place names first outer types variables exceptions w = record {
+pub agrees_same : (k m : Known) (place : Place) → m.here.names ≡ k.here.names → m.here.first_type ≡ k.here.first_type → m.outer ≡ k.outer → length m.types ≡ length k.types → length m.variables ≡ length k.variables → length m.exceptions ≡ length k.exceptions → length m.texts ≡ length k.texts → Agrees k place → Agrees m place
+agrees_same k m place names first outer types variables exceptions texts w = record {
   here = λ text. subst (λ (ns : List Named). Stands (named text ns) (meaning_among text place.here)) (sym names) (w.here text);
   outer = λ text. subst (λ (ps : List Part). Stands (named_in text ps) (meaning_among text place.outer)) (sym outer) (w.outer text);
   first_type = w.first_type ∙ sym first;
   types = w.types ∙ sym types;
   variables = w.variables ∙ sym variables;
   exceptions = w.exceptions ∙ sym exceptions;
+  texts = w.texts ∙ sym texts;
 }
 
 -- an inner part begins
@@ -183,26 +237,29 @@ agrees_inside k place w = record {
   types = w.types;
   variables = w.variables;
   exceptions = w.exceptions;
+  texts = w.texts;
 }
 
 -- the part of a loop parameter
-pub agrees_parameter : (k : Known) (place : Place) (name : Ident) → Agrees k place → Agrees (with_parameter name k) (with_new_variable name (inside place))
+pub agrees_parameter : (k : Known) (place : Place) (name : Ident) → Agrees k place → Agrees (with_parameter name k) (with_loop_parameter name (inside place))
 agrees_parameter k place name w = record {
-  here = stands_entered [] [] name (entity.Parameter (next_variable k)) (a_variable place.variables) (ap (λ (n : ℕ). Some (a_variable n)) (sym w.variables)) (λ text. refl);
+  here = stands_entered [] [] name (entity.Parameter (next_variable k)) (a_parameter place.variables) (ap (λ (n : ℕ). Some (a_parameter n)) (sym w.variables)) (λ text. refl);
   outer = stands_among k place w;
   first_type = w.types;
   types = w.types;
   variables = ap (λ (n : ℕ). n + 1) w.variables ∙ sym (length-append k.variables (record { name = name.text; kind = variable.Integer } ∷ []));
   exceptions = w.exceptions;
+  texts = w.texts;
 }
 
 -- an inner part ends
-pub agrees_behind : (k m z : Known) (place end : Place) → z.here.names ≡ k.here.names → z.here.first_type ≡ k.here.first_type → z.outer ≡ k.outer → length z.types ≡ length m.types → length z.variables ≡ length m.variables → length z.exceptions ≡ length m.exceptions → Agrees k place → Agrees m end → Agrees z (behind place end)
-agrees_behind k m z place end names first outer types variables exceptions w v = record {
+pub agrees_behind : (k m z : Known) (place end : Place) → z.here.names ≡ k.here.names → z.here.first_type ≡ k.here.first_type → z.outer ≡ k.outer → length z.types ≡ length m.types → length z.variables ≡ length m.variables → length z.exceptions ≡ length m.exceptions → length z.texts ≡ length m.texts → Agrees k place → Agrees m end → Agrees z (behind place end)
+agrees_behind k m z place end names first outer types variables exceptions texts w v = record {
   here = λ text. subst (λ (ns : List Named). Stands (named text ns) (meaning_among text place.here)) (sym names) (w.here text);
   outer = λ text. subst (λ (ps : List Part). Stands (named_in text ps) (meaning_among text place.outer)) (sym outer) (w.outer text);
   first_type = w.first_type ∙ sym first;
   types = v.types ∙ sym types;
   variables = v.variables ∙ sym variables;
   exceptions = v.exceptions ∙ sym exceptions;
+  texts = v.texts ∙ sym texts;
 }

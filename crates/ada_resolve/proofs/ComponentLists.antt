@@ -91,7 +91,7 @@ either_false : (b : Bool) → (b || false) ≡ b
 either_false true = refl
 either_false false = refl
 
-in_more : (text : List ℕ) (a : List ComponentForm) (c : ComponentForm) → is_component text (a ++ c ∷ []) ≡ (is_component text a || bytes_eq text c.name)
+pub in_more : (text : List ℕ) (a : List ComponentForm) (c : ComponentForm) → is_component text (a ++ c ∷ []) ≡ (is_component text a || bytes_eq text c.name)
 in_more text [] c = either_false (bytes_eq text c.name)
 in_more text (d ∷ a) c = at_head (bytes_eq text d.name) (in_more text a c)
   where

@@ -20,8 +20,8 @@ use Rattle.ada_program.specs.WellFormed as well
 use Rattle.ada_resolve.specs.declared.fault.NameRule.TheVariants.{Layout}
 use Rattle.ada_resolve.specs.declared.scope.Entity.{Entity}
 use Rattle.ada_resolve.specs.declared.scope.Entity.TheVariants as entity
-use Rattle.ada_resolve.specs.Known.{Known, Named, named, declared, type_begins, no_variable_yet}
-use Rattle.ada_resolve.specs.Types.{completed_type, defined, number_of, record_found, access_defined, aspect_remark}
+use Rattle.ada_resolve.specs.Known.{Known, Named, named, declared, new_name_remark, type_begins, no_variable_yet}
+use Rattle.ada_resolve.specs.Types.{completed_type, defined, number_of, record_found, access_defined, aspect_remark, new_unless}
 use Rattle.ada_resolve.specs.Exceptions.{next_exception}
 use Rattle.ada_resolve.specs.Statics.{static_value}
 use Rattle.ada_resolve.specs.Records.{component_meant, components_written, record_type_remark, record_type_known}
@@ -29,14 +29,14 @@ use Rattle.ada_resolve.specs.Instances.{freed_found, generic_remark, is_collecte
 use Rattle.ada_resolve.specs.Objects.{missing_collections, ends_types, after_types, next_variable, object_remark, object_created, object_known, kind_of, object_type_found, initial_found, initial_source}
 use Rattle.ada_resolve.specs.Resolution.{gives, At, known_at, declaration_remark, declaration_known, declarations_told}
 use Rattle.ada_resolve.specs.Naming.{Context, Place, Meaning, an_incomplete_type, a_type, a_number, an_exception, an_instance, a_variable, meaning_among, IsTypeRead, IsInstanceRead, IsKindNamed}
-use Rattle.ada_resolve.specs.Reading.{read_at, with_binding, with_incomplete_type, with_new_type, with_new_exception, with_new_variable, IsInitialRead, AreObjectsRead, is_one_of, AreCompleted, declared_type, IsPartRead, part_incomplete_type, part_completion, part_new_type, part_number, part_exception, part_instance, part_objects}
+use Rattle.ada_resolve.specs.Reading.{read_at, IsNew, with_binding, with_incomplete_type, with_new_type, with_new_exception, with_new_variable, IsInitialRead, AreObjectsRead, is_one_of, AreCompleted, declared_type, IsPartRead, part_incomplete_type, part_completion, part_new_type, part_number, part_exception, part_instance, part_objects}
 use Rattle.ada_resolve.proofs.WellFormed.Remarks.{Quiet, quiet_unless}
 use Rattle.ada_resolve.proofs.WellFormed.Names.{named_entered, same_text}
 use Rattle.ada_resolve.proofs.WellFormed.Tables.{get_last}
 use Rattle.ada_resolve.proofs.Standing.{Sound, Complete, Grows, Keeps, complete_grows, longer, declaration_sound, declaration_keeps, ended_sound, declarations_done, declarations_keep, IsSlot, new_slot, slot_of, old_name, defined_there}
-use Rattle.ada_resolve.proofs.Agreeing.{bound_to, Stands, Agrees, Ahead, Readable, stands_entered, agrees_same}
+use Rattle.ada_resolve.proofs.Agreeing.{bound_to, Stands, Agrees, Ahead, Readable, stands_entered, agrees_same, not_predefined}
 use Rattle.ada_resolve.proofs.Keeping.{Lasts, lasts_ahead, lasts_on}
-use Rattle.ada_resolve.proofs.Written.{Legible, static_read, components_read, FoundRecord, record_read, designated_read, FoundAccess, access_read, generic_read, object_read, object_kind}
+use Rattle.ada_resolve.proofs.Written.{Legible, static_read, components_read, all_apart, FoundRecord, record_read, designated_read, FoundAccess, access_read, generic_read, object_read, object_kind}
 use Rattle.ada_resolve.proofs.Others.{others_of}
 
 -- tables that are ahead of longer ones
@@ -74,7 +74,7 @@ unfolding after_types
 after_agrees k place w = by_end (no_variable_yet k)
   where
     by_end : (b : Bool) → Agrees (ends_types b k) place
-    by_end true = agrees_same k (ends_types true k) place refl refl refl refl refl refl w
+    by_end true = agrees_same k (ends_types true k) place refl refl refl refl refl refl refl w
     by_end false = w
 
 after_full : (k : Known) → no_variable_yet k ≡ false → after_types k ≡ k
@@ -102,6 +102,7 @@ agrees_declared k place name e meaning types variables exceptions elaborated nt 
   types = t;
   variables = v;
   exceptions = x;
+  texts = w.texts;
 }
 
 one_longer : {X : Type 0} (xs : List X) (x : X) (n : ℕ) → n ≡ length xs → n + 1 ≡ length (xs ++ x ∷ [])
@@ -141,6 +142,9 @@ bound_here k place text e meaning w there own =
 
 not_bound : (k : Known) (place : Place) (text : List ℕ) → Agrees k place → named text k.here.names ≡ None → meaning_among text place.here ≡ None
 not_bound k place text w there = subst (λ (o : Option Entity). Stands o (meaning_among text place.here)) there (w.here text)
+
+new_there : (k : Known) (place : Place) (name : Ident) (spot : Spot) → Agrees k place → Quiet (new_name_remark k name spot) → IsNew place name
+new_there k place name spot w q = (not_bound k place name.text w (new_slot k name spot q), not_predefined name q.0)
 
 -- variables that are there stay
 full_on : (k m : Known) → Sound k → Keeps k m → no_variable_yet k ≡ false → no_variable_yet m ≡ false
@@ -260,7 +264,7 @@ object_first k p name type_name initial ds m z w q r ahead on = record {
   elaborated = behind_one k.here.elaborated z.here.elaborated on.forms (declares (length k.variables) source)
       (on.elaborated ∙ ap (λ (u : Known). u.here.elaborated ++ on.forms) r.is);
   full = on.full;
-  read = (sym w.agrees.variables, record { kind = r.of; there = there; kind_named = said.0; starts = said.1 }, on.read);
+  read = (sym w.agrees.variables, new_there k p.place name name.spot w.agrees q.1.0, record { kind = r.of; there = there; kind_named = said.0; starts = said.1 }, on.read);
   agrees = on.agrees;
 }
   where
@@ -382,10 +386,10 @@ agrees_type k place name None form e own w =
     (own ∙ ap (λ (n : ℕ). Some (a_type n)) (sym w.types)) (one_longer k.types form place.types w.types) w.variables w.exceptions w
 
 -- a full type declaration completes a type, or declares the next
-type_first : (k : Known) (p : Context) (name : Ident) (c : Option TypeNo) (d : DeclarationTree) (ds : DeclarationsTree) (forms : List DeclarationForm) (end : Place) (made : List ℕ) → Agrees k p.place → IsSlot k name.text c → declared_type d ≡ Some name → IsTypeRead p d (number_of c k.types).0 → IsPartRead (read_at (type_place c name p.place) p) made ds forms end → IsPartRead p made (a_declaration d ds) forms end
-type_first k p name (Some t) d ds forms end made w slot is r on = part_completion is (bound_here k p.place name.text (entity.Incomplete t) (an_incomplete_type t.0) w slot refl) r on
-type_first k p name None d ds forms end made w slot is r on =
-    part_new_type is (not_bound k p.place name.text w slot) (subst (λ (n : ℕ). IsTypeRead p d n) (sym w.types) r) on
+type_first : (k : Known) (p : Context) (name : Ident) (c : Option TypeNo) (d : DeclarationTree) (ds : DeclarationsTree) (forms : List DeclarationForm) (end : Place) (made : List ℕ) (spot : Spot) → Agrees k p.place → IsSlot k name.text c → Quiet (new_unless c (new_name_remark k name spot)) → declared_type d ≡ Some name → IsTypeRead p d (number_of c k.types).0 → IsPartRead (read_at (type_place c name p.place) p) made ds forms end → IsPartRead p made (a_declaration d ds) forms end
+type_first k p name (Some t) d ds forms end made spot w slot q is r on = part_completion is (bound_here k p.place name.text (entity.Incomplete t) (an_incomplete_type t.0) w slot refl) r on
+type_first k p name None d ds forms end made spot w slot q is r on =
+    part_new_type is (new_there k p.place name spot w q) (subst (λ (n : ℕ). IsTypeRead p d n) (sym w.types) r) on
 
 -- what declarations are read by
 legible_at : (k z : Known) (p : Context) → Sound k → Agrees k p.place → Keeps k z → Ahead z p → Legible k p
@@ -426,7 +430,7 @@ record_type_read k m p spot name definition w lasts slot is q =
     let on : bytes_eq name.text name.text ≡ true = same_text name.text name.text refl in
     let mine : named name.text m.here.names ≡ Some (entity.Record n) =
     ap (λ (v : Known). named name.text v.here.names) is ∙ (named_entered k.here.names name.text name.text (entity.Record n) ∙ ap (λ (b : Bool). cond b (Some (entity.Record n)) (named name.text k.here.names)) on) in
-    (cs, lasts.records name.text n form mine there, components_read k p [] 0 (components_written definition) w q.1.1)
+    (cs, lasts.records name.text n form mine there, components_read k p [] 0 (components_written definition) w q.1.1, all_apart k (components_written definition) q.1.1)
 
 -- `procedure Free is new Ada.Unchecked_Deallocation (T, A);`
 record Freed (k m : Known) (p : Context) (name object access : Ident) : Type 0 where
@@ -448,12 +452,12 @@ collected_more (collects s ∷ es) t u = rw (collected_more es t u) (turn (eqb s
     turn false b c = refl
 collected_more (declares x value ∷ es) t u = collected_more es t u
 
-instance_first : (k m z : Known) (p : Context) (spot : Spot) (name : Ident) (generic : NameTree) (object access : Ident) (ds : DeclarationsTree) (r : Freed k m p name object access) → IsInstanceRead p generic object access r.t.0 → PartRead (read_at (with_binding name (an_instance r.t.0) p.place) p) ds m z → PartRead p (a_declaration (instance spot name generic object access) ds) k z
-instance_first k m z p spot name generic object access ds r own on = record {
+instance_first : (k m z : Known) (p : Context) (spot : Spot) (name : Ident) (generic : NameTree) (object access : Ident) (ds : DeclarationsTree) (r : Freed k m p name object access) → IsNew p.place name → IsInstanceRead p generic object access r.t.0 → PartRead (read_at (with_binding name (an_instance r.t.0) p.place) p) ds m z → PartRead p (a_declaration (instance spot name generic object access) ds) k z
+instance_first k m z p spot name generic object access ds r new own on = record {
   forms = collects r.t.0 ∷ on.forms;
   end = on.end;
   elaborated = behind_one k.here.elaborated (after_types z).here.elaborated on.forms (collects r.t.0) (on.elaborated ∙ ap (λ (u : Known). u.here.elaborated ++ on.forms) r.is);
-  read = λ made w. part_instance own (on.read (r.t.0 ∷ made) (λ u. ap (λ b. eqb r.t.0 u || b) (w u) ∙ (sym (collected_more k.here.elaborated r.t.0 u) ∙ ap (λ (v : Known). is_collected u v.here.elaborated) (sym r.is))));
+  read = λ made w. part_instance new own (on.read (r.t.0 ∷ made) (λ u. ap (λ b. eqb r.t.0 u || b) (w u) ∙ (sym (collected_more k.here.elaborated r.t.0 u) ∙ ap (λ (v : Known). is_collected u v.here.elaborated) (sym r.is))));
   agrees = on.agrees;
 }
 
@@ -476,7 +480,7 @@ part_read p (a_declaration (incomplete_type spot name) ds) at after s w none c a
     (agrees_declared at.0 p.place name (entity.Incomplete (record { 0 = length at.0.types })) (an_incomplete_type p.place.types) (at.0.types ++ form ∷ []) at.0.variables at.0.exceptions at.0.here.elaborated
     (p.place.types + 1) p.place.variables p.place.exceptions (ap (λ (n : ℕ). Some (an_incomplete_type n)) (sym w.types)) (one_longer at.0.types form p.place.types w.types) w.variables w.exceptions w) in
     let on = part_read (read_at place p) ds next.then after next.sound agrees (ap (λ (v : Known). no_variable_yet v) next.is ∙ none) c (ahead_at after.0 p place ahead) fit next.rest in
-    plain_first at.0 next.then.0 after.0 p (read_at place p) (incomplete_type spot name) ds (ap (λ (v : Known). v.here.elaborated) next.is) on (λ made r. part_incomplete_type r)
+    plain_first at.0 next.then.0 after.0 p (read_at place p) (incomplete_type spot name) ds (ap (λ (v : Known). v.here.elaborated) next.is) on (λ made r. part_incomplete_type (new_there at.0 p.place name spot w next.quiet.1) r)
 part_read p (a_declaration (access_type spot name designated aspect) ds) at after s w none c ahead fit e =
     let d = access_type spot name designated aspect in
     let next = next_of d ds at after s e in
@@ -493,7 +497,7 @@ part_read p (a_declaration (access_type spot name designated aspect) ds) at afte
     let lasts = lasts_on next.then.0 after.0 p next.sound next.to_end (lasts_ahead after.0 p ahead) in
     let own = access_type_read k next.then.0 p spot name designated aspect legible lasts slot fit (no_aspect aspect q.1.1.1.1) r in
     plain_first k next.then.0 after.0 p (read_at place p) d ds (ap (λ (v : Known). v.here.elaborated) r.is) on
-    (λ made m. type_first k p name completes d ds on.forms on.end made w slot refl own m)
+    (λ made m. type_first k p name completes d ds on.forms on.end made spot w slot q.1.1.0 refl own m)
 part_read p (a_declaration (record_type spot name definition) ds) at after s w none c ahead fit e =
     let d = record_type spot name definition in
     let next = next_of d ds at after s e in
@@ -508,7 +512,7 @@ part_read p (a_declaration (record_type spot name definition) ds) at after s w n
     let lasts = lasts_on next.then.0 after.0 p next.sound next.to_end (lasts_ahead after.0 p ahead) in
     let own = record_type_read k next.then.0 p spot name definition legible lasts slot next.is next.quiet in
     plain_first k next.then.0 after.0 p (read_at place p) d ds (ap (λ (v : Known). v.here.elaborated) next.is) on
-    (λ made m. type_first k p name completes d ds on.forms on.end made w slot refl own m)
+    (λ made m. type_first k p name completes d ds on.forms on.end made spot w slot next.quiet.1.0 refl own m)
 part_read p (a_declaration (constant_declaration name value) ds) at after s w none c ahead fit e =
     let next = next_of (constant_declaration name value) ds at after s e in
     let n = static_value at.0 value in
@@ -517,7 +521,7 @@ part_read p (a_declaration (constant_declaration name value) ds) at after s w no
     (agrees_declared at.0 p.place name (entity.Number n) (a_number n) at.0.types at.0.variables at.0.exceptions at.0.here.elaborated p.place.types p.place.variables p.place.exceptions refl w.types w.variables w.exceptions w) in
     let on = part_read (read_at place p) ds next.then after next.sound agrees (ap (λ (v : Known). no_variable_yet v) next.is ∙ none) c (ahead_at after.0 p place ahead) fit next.rest in
     let own = static_read at.0 p value w next.quiet.1.1 in
-    plain_first at.0 next.then.0 after.0 p (read_at place p) (constant_declaration name value) ds (ap (λ (v : Known). v.here.elaborated) next.is) on (λ made r. part_number own r)
+    plain_first at.0 next.then.0 after.0 p (read_at place p) (constant_declaration name value) ds (ap (λ (v : Known). v.here.elaborated) next.is) on (λ made r. part_number (new_there at.0 p.place name name.spot w next.quiet.1.0) own r)
 part_read p (a_declaration (exception_declaration name) ds) at after s w none c ahead fit e =
     let next = next_of (exception_declaration name) ds at after s e in
     let k = at.0 in
@@ -530,7 +534,7 @@ part_read p (a_declaration (exception_declaration name) ds) at after s w none c 
     ap (λ (v : Known). slice_get v.exceptions (length k.exceptions)) next.is ∙ get_last k.exceptions name.text in
     let last = ahead.exceptions (length k.exceptions) name.text (next.to_end.exceptions (length k.exceptions) name.text there) in
     let own : slice_get p.exceptions p.place.exceptions ≡ Some name.text = ap (λ (n : ℕ). slice_get p.exceptions n) w.exceptions ∙ last in
-    plain_first k next.then.0 after.0 p (read_at place p) (exception_declaration name) ds (ap (λ (v : Known). v.here.elaborated) next.is) on (λ made r. part_exception own r)
+    plain_first k next.then.0 after.0 p (read_at place p) (exception_declaration name) ds (ap (λ (v : Known). v.here.elaborated) next.is) on (λ made r. part_exception (new_there k p.place name name.spot w next.quiet.1) own r)
 part_read p (a_declaration (instance spot name generic object access) ds) at after s w none c ahead fit e =
     let d = instance spot name generic object access in
     let next = next_of d ds at after s e in
@@ -543,7 +547,7 @@ part_read p (a_declaration (instance spot name generic object access) ds) at aft
     (agrees_declared k p.place name (entity.Instance r.t) (an_instance r.t.0) k.types k.variables k.exceptions (k.here.elaborated ++ collects r.t.0 ∷ []) p.place.types p.place.variables p.place.exceptions refl w.types w.variables w.exceptions w) in
     let on = part_read (read_at place p) ds next.then after next.sound agrees (ap (λ (v : Known). no_variable_yet v) r.is ∙ none) c (ahead_at after.0 p place ahead) fit next.rest in
     let legible = legible_at k after.0 p s w (declarations_keep (a_declaration d ds) at after s e) ahead in
-    instance_first k next.then.0 after.0 p spot name generic object access ds r (instance_read k p generic object access r.t legible fit q.1.1.0 r.found) on
+    instance_first k next.then.0 after.0 p spot name generic object access ds r (new_there k p.place name spot w q.1.0) (instance_read k p generic object access r.t legible fit q.1.1.0 r.found) on
 part_read p (a_declaration (object_declaration name type_name initial) ds) at after s w none c ahead fit e =
     let next = next_of (object_declaration name type_name initial) ds at after s e in
     let k = after_types at.0 in

@@ -13,8 +13,12 @@ pub mod WellFormed
 pub mod Parts
 -- what stands as more is declared and done
 pub mod Standing
+-- collections along nested parts
+pub mod Nesting
 -- what is known at a place, and what the place has bound
 mod Agreeing
+-- as many items as components
+mod ItemCounts
 mod Reading
 mod Keeping
 mod Written

@@ -31,34 +31,36 @@ use Rattle.ada_resolve.specs.declared.fault.NameRule.TheVariants.{UnknownName, W
 use Rattle.ada_resolve.specs.Known.{Known, parts, visible, is_empty, is_with, if_with, parts_of, library_wrong, library_remark, library_found, library_path_remark, library_path_found}
 use Rattle.ada_resolve.specs.Library.{is_library_root, library_name}
 use Rattle.ada_resolve.specs.Paths as path
-use Rattle.ada_resolve.specs.Paths.{component_at, Meant, unknown, null_value, access_variable, other_access, integer_value, boolean_value, variable_path, component_path, components_of, designated_of, component_named, is_incomplete_type, selected, component_found_meant, component_if, component_within, selection_meant, alone_meant, variable_meant, entity_meant, path_meant, component_wanted, component_within_remark, selection_remark, variable_path_remark, value_wanted, library_is_no_value, path_remark}
+use Rattle.ada_resolve.specs.Paths.{component_at, Meant, unknown, null_value, access_variable, other_access, integer_value, boolean_value, variable_path, component_path, components_of, designated_of, component_named, is_incomplete_type, selected, component_found_meant, component_if, component_within, selection_meant, alone_meant, variable_meant, entity_meant, named_meant, path_meant, component_wanted, component_within_remark, selection_remark, variable_path_remark, value_wanted, named_remark, library_is_no_value, path_remark}
 use Rattle.ada_resolve.specs.Operators.{Signature, arithmetic, ordering, equality, logical, signature_of, integer_in, boolean_in, asks_equal, equality_meant, binary_by, unary_meant, integer_wanted, boolean_wanted, equal_wanted, operands_by, operand_remark}
 use Rattle.ada_resolve.specs.Expressions.{expression_meant, expression_remark}
 use Rattle.ada_resolve.specs.declared.library.LibraryName.{LibraryName}
 use Rattle.ada_resolve.specs.declared.library.LibraryName.TheVariants.{TextIo, PutLine, UncheckedDeallocation, RunInput, Get, EndError, OtherUnit, Unknown}
 use Rattle.ada_resolve.specs.declared.library.Withs.{Withs}
-use Rattle.ada_resolve.specs.Calls.{freed_wanted, got_wanted, actual_wanted, actual_remark, freeing, getting, taking, actual_found, taker_remark, taker_found, library_call_remark, library_call_found, own_call_remark, own_call_found, call_remark, call_found}
+use Rattle.ada_resolve.specs.Calls.{freed_wanted, got_wanted, actual_wanted, actual_remark, freeing, getting, taking, written_wanted, actual_found, taker_remark, taker_found, library_call_remark, library_call_found, own_call_remark, own_call_found, call_remark, call_found}
 use Rattle.ada_resolve.specs.declared.calls.Callee.{Callee}
 use Rattle.ada_resolve.specs.declared.calls.Callee.TheVariants as callee
 use Rattle.ada_resolve.specs.Exceptions.{exception_of_library, end_error_wanted, exception_in, exception_wanted, exception_name_remark, exception_found, raising, choice_remark, exception_or_others, choice_meant, choices_remark, choices_meant}
 use Rattle.ada_resolve.specs.Lines.{line_remark, line_found, put_line_remark, put_line_found}
 use Rattle.ada_resolve.specs.Arguments.{image_wanted, image_remark, image_value_remark}
-use Rattle.ada_resolve.specs.Naming.{Context, IsExceptionNamed, IsInstanceNamed, IsVariableNamed}
-use Rattle.ada_resolve.specs.Reading.{IsPutLine, IsGet, IsImage, IsComponentNamed, components_behind, AreSelectorsRead, IsPathRead, IsValueRead, read_path, read_number, read_truth, AsksEqual, null_on_right, null_on_left, IsExpressionRead, IsNull, IsMoveRead, IsConditionRead, IsItemRead, IsItemFor, at_place, by_name, further, AreItemsRead, IsRightRead, IsSimpleRead, IsChoiceRead, AreChoicesRead}
+use Rattle.ada_resolve.specs.Naming.{Context, IsExceptionNamed, IsInstanceNamed, IsVariableNamed, IsObjectNamed}
+use Rattle.ada_resolve.specs.Reading.{IsPutLine, IsGet, IsImage, IsComponentNamed, components_behind, AreSelectorsRead, IsPathRead, IsTargetRead, IsValueRead, read_path, read_number, read_truth, AsksEqual, null_on_right, null_on_left, IsExpressionRead, IsNull, IsMoveRead, IsConditionRead, IsItemRead, IsItemFor, at_place, by_name, further, AreItemsRead, IsRightRead, IsSimpleRead, IsChoiceRead, AreChoicesRead}
 use Rattle.ada_resolve.specs.Allocators.{allocated_wanted, allocated_remark, complete_in, allocated_found, filled_components, aggregate_remark, allocation, aggregate_found, is_in_use, has_items, allocator_remark, allocator_found}
 use Rattle.ada_resolve.specs.Rights.{assigned_wanted, assigned, right_remark, right_found}
-use Rattle.ada_resolve.specs.Statements.{variable_in, variable_wanted, target_found, target_remark, kind_of_target, assignment_of, assignment_remark, assignment_found, condition_remark, condition_meant, optional_condition_remark, optional_condition_meant, statement_remark, statement_found, statement_meant, form_or_null, text_in, simple_texts, bound_remark, bound_meant}
+use Rattle.ada_resolve.specs.Assignments.{variable_target, component_target, target_found, variable_wanted, scalar_component_wanted, target_remark, kind_of_target, assignment_remark, assignment_of, assignment_found}
+use Rattle.ada_resolve.specs.Statements.{condition_remark, condition_meant, optional_condition_remark, optional_condition_meant, statement_remark, statement_found, statement_meant, form_or_null, text_in, simple_texts, bound_remark, bound_meant}
 use Rattle.ada_resolve.specs.Types.{designates}
-use Rattle.ada_resolve.specs.Remark.{wrong, node, ◌also◌, wrong_if}
+use Rattle.ada_resolve.specs.Remark.{Remark, wrong, ◌also◌, wrong_if}
 use Rattle.ada_resolve.specs.Spots.{expression_spot}
 use Rattle.ada_resolve.specs.Items.{Filling, component_for, item_meant, fits_remark, for_remark, is_alike, item_remark, filled_for, after_item, items_remark, after_items, first_filling, names_component, count_remark, item_or_null, filling_of}
-use Rattle.ada_resolve.proofs.Agreeing.{Ahead, EntityRead, Readable, visible_read}
+use Rattle.ada_resolve.proofs.Agreeing.{Agrees, Ahead, EntityRead, Readable, visible_read, parameter_visible}
 use Rattle.ada_resolve.proofs.WellFormed.Remarks.{Quiet, quiet_unless}
 use Rattle.ada_resolve.proofs.WellFormed.Values.{access_designates, components_are}
 use Rattle.ada_resolve.proofs.WellFormed.Names.{EntityFits, PartsFit, visible_fits, kind_there, text_same}
 use Rattle.ada_resolve.proofs.WellFormed.Meanings.{MeantFits, designated_same, expression_fits, path_fits}
 use Rattle.ada_resolve.proofs.WellFormed.Tables.{get_other}
 use Rattle.ada_resolve.proofs.WellFormed.Items.{items_there}
+use Rattle.ada_resolve.proofs.ItemCounts.{items_all}
 
 -- something is meant
 abbrev IsMeant : Meant → Type 0
@@ -147,7 +149,7 @@ designated_more k p t d w e = by_form (slice_get k.types t) refl e
     by_form (Some form) is e = ap (λ (o : Option TypeForm). path.designated_in o) (w.types t form is) ∙ e
 
 -- `X.C`
-found_read : (p : Context) (x : VariableNo) (name c : Ident) (ss : List SelectorTree) (t : TypeNo) (d : ℕ) (o : Option (ℕ × ComponentKind)) → IsVariableNamed p name.text x.0 → fits.variable_kind p.variables x.0 ≡ Some (variable.Access t) → designated_of p.types t.0 ≡ Some d → selected ss ≡ Some c → IsNamedOf c.text (components_of p.types d) 0 o → MeantRead p (path_expression (record { root = name; selectors = ss })) (component_if x name.spot o)
+found_read : (p : Context) (x : VariableNo) (name c : Ident) (ss : List SelectorTree) (t : TypeNo) (d : ℕ) (o : Option (ℕ × ComponentKind)) → IsObjectNamed p name.text x.0 → fits.variable_kind p.variables x.0 ≡ Some (variable.Access t) → designated_of p.types t.0 ≡ Some d → selected ss ≡ Some c → IsNamedOf c.text (components_of p.types d) 0 o → MeantRead p (path_expression (record { root = name; selectors = ss })) (component_if x name.spot o)
 found_read p x name c ss t d None b v designates s i = tt
 found_read p x name c ss t d (Some found) b v designates s i = by_kind found.1
   where
@@ -174,7 +176,7 @@ found_read p x name c ss t d (Some found) b v designates s i = by_kind found.1
     by_kind (kind.Boolean initial) = read_path whole
     by_kind (kind.Access u) = whole
 
-within_read : (k : Known) (p : Context) (x : VariableNo) (name c : Ident) (ss : List SelectorTree) (t : TypeNo) (o : Option ℕ) → Ahead k p → IsVariableNamed p name.text x.0 → fits.variable_kind p.variables x.0 ≡ Some (variable.Access t) → designated_of k.types t.0 ≡ o → selected ss ≡ Some c → MeantRead p (path_expression (record { root = name; selectors = ss })) (component_within k x name.spot o c)
+within_read : (k : Known) (p : Context) (x : VariableNo) (name c : Ident) (ss : List SelectorTree) (t : TypeNo) (o : Option ℕ) → Ahead k p → IsObjectNamed p name.text x.0 → fits.variable_kind p.variables x.0 ≡ Some (variable.Access t) → designated_of k.types t.0 ≡ o → selected ss ≡ Some c → MeantRead p (path_expression (record { root = name; selectors = ss })) (component_within k x name.spot o c)
 within_read k p x name c ss t None w b v is s = tt
 within_read k p x name c ss t (Some d) w b v is s = complete_or (is_incomplete_type k d)
   where
@@ -182,20 +184,20 @@ within_read k p x name c ss t (Some d) w b v is s = complete_or (is_incomplete_t
     complete_or true = tt
     complete_or false = found_read p x name c ss t d (component_named 0 c.text (components_of k.types d)) b v (designated_more k p t.0 d w is) s (named_more k p c.text d (component_named 0 c.text (components_of k.types d)) w (name_at 0 c.text (components_of k.types d)))
 
-selection_read : (k : Known) (p : Context) (x : VariableNo) (name : Ident) (ss : List SelectorTree) (t : TypeNo) (o : Option Ident) → Ahead k p → IsVariableNamed p name.text x.0 → fits.variable_kind p.variables x.0 ≡ Some (variable.Access t) → selected ss ≡ o → MeantRead p (path_expression (record { root = name; selectors = ss })) (selection_meant k x name.spot t o)
+selection_read : (k : Known) (p : Context) (x : VariableNo) (name : Ident) (ss : List SelectorTree) (t : TypeNo) (o : Option Ident) → Ahead k p → IsObjectNamed p name.text x.0 → fits.variable_kind p.variables x.0 ≡ Some (variable.Access t) → selected ss ≡ o → MeantRead p (path_expression (record { root = name; selectors = ss })) (selection_meant k x name.spot t o)
 selection_read k p x name ss t (Some c) w b v s = within_read k p x name c ss t (designated_of k.types t.0) w b v refl s
 selection_read k p x name ss t None w b v s = tt
 
 -- a variable alone
-variable_read : (p : Context) (x : VariableNo) (name : Ident) → IsVariableNamed p name.text x.0 → IsPathRead p (record { root = name; selectors = [] }) (variable_path x name.spot)
+variable_read : (p : Context) (x : VariableNo) (name : Ident) → IsObjectNamed p name.text x.0 → IsPathRead p (record { root = name; selectors = [] }) (variable_path x name.spot)
 variable_read p x name b = record { root = b; selectors = tt; spot = refl }
 
-alone_read : (p : Context) (x : VariableNo) (name : Ident) (of : VariableKind) → IsVariableNamed p name.text x.0 → MeantRead p (path_expression (record { root = name; selectors = [] })) (alone_meant x name.spot of)
+alone_read : (p : Context) (x : VariableNo) (name : Ident) (of : VariableKind) → IsObjectNamed p name.text x.0 → MeantRead p (path_expression (record { root = name; selectors = [] })) (alone_meant x name.spot of)
 alone_read p x name variable.Integer b = read_path (variable_read p x name b)
 alone_read p x name variable.Boolean b = read_path (variable_read p x name b)
 alone_read p x name (variable.Access t) b = variable_read p x name b
 
-place_read : (k : Known) (p : Context) (x : VariableNo) (name : Ident) (of : VariableKind) (ss : List SelectorTree) → Ahead k p → IsVariableNamed p name.text x.0 → fits.variable_kind p.variables x.0 ≡ Some of → MeantRead p (path_expression (record { root = name; selectors = ss })) (variable_meant k x name.spot of ss)
+place_read : (k : Known) (p : Context) (x : VariableNo) (name : Ident) (of : VariableKind) (ss : List SelectorTree) → Ahead k p → IsObjectNamed p name.text x.0 → fits.variable_kind p.variables x.0 ≡ Some of → MeantRead p (path_expression (record { root = name; selectors = ss })) (variable_meant k x name.spot of ss)
 place_read k p x name of [] w b v = alone_read p x name of b
 place_read k p x name variable.Integer (s ∷ ss) w b v = tt
 place_read k p x name variable.Boolean (s ∷ ss) w b v = tt
@@ -203,9 +205,9 @@ place_read k p x name (variable.Access t) (s ∷ ss) w b v = selection_read k p 
 
 -- what a name stands for
 entity_read : (k : Known) (p : Context) (e : Entity) (name : Ident) (ss : List SelectorTree) → Ahead k p → EntityFits k.types k.variables name.text e → EntityRead p name.text e → MeantRead p (path_expression (record { root = name; selectors = ss })) (entity_meant k (Some e) name.spot ss)
-entity_read k p (entity.Variable x of) name ss w f t = place_read k p x name of ss w t (kind_there p.variables x.0 name.text of (w.variables x.0 (record { name = name.text; kind = of }) f.0))
+entity_read k p (entity.Variable x of) name ss w f t = place_read k p x name of ss w (inl t) (kind_there p.variables x.0 name.text of (w.variables x.0 (record { name = name.text; kind = of }) f.0))
 entity_read k p (entity.Parameter x) name ss w f t =
-    place_read k p x name variable.Integer ss w t (kind_there p.variables x.0 name.text variable.Integer (w.variables x.0 (record { name = name.text; kind = variable.Integer }) f))
+    place_read k p x name variable.Integer ss w (inr t) (kind_there p.variables x.0 name.text variable.Integer (w.variables x.0 (record { name = name.text; kind = variable.Integer }) f))
 entity_read k p (entity.Number n) name [] w f t = read_number refl t
 entity_read k p (entity.Number n) name (s ∷ ss) w f t = tt
 entity_read k p (entity.Truth b) name [] w f t = read_truth refl t
@@ -364,7 +366,7 @@ items_read k p cs is_named items filling (an_item label e rest) w ends old q =
     items_read k p cs is_named items next rest w (λ c name f h. ends c name f (further (subst (λ (n : ℕ). IsItemFor rest n c name f) done.1 h))) done.0 q.1
 
 -- where each slot has its item, the items are those
-whole_read : (p : Context) (cs : List ComponentForm) (items : ItemsTree) (slots : List (Option ItemForm)) → list_all is_some slots ≡ true → SlotsRead p cs items slots → AreItemsRead p cs items (map item_or_null slots)
+whole_read : (p : Context) (cs : List ComponentForm) (items : ItemsTree) (slots : List (Option ItemForm)) → list_all is_some slots ≡ true → SlotsRead p cs items slots → (c : ℕ) (form : ItemForm) → slice_get (map item_or_null slots) c ≡ Some form → (d : ComponentForm) × (e : ExpressionTree) × (slice_get cs c ≡ Some d) × IsItemFor items 0 c d.name e × IsItemRead p e form
 whole_read p cs items slots all old c form is = old c form (slot_is slots all c is)
   where
     slot_is : (slots : List (Option ItemForm)) → list_all is_some slots ≡ true → (c : ℕ) → slice_get (map item_or_null slots) c ≡ Some form → slice_get slots c ≡ Some (Some form)
@@ -376,8 +378,13 @@ whole_read p cs items slots all old c form is = old c form (slot_is slots all c 
 aggregate_items_read : (k : Known) (p : Context) (cs : List ComponentForm) (items : ItemsTree) (spot : Spot) → Readable k p → Quiet (items_remark k (Some cs) (names_component items) (first_filling (Some cs)) items) → Quiet (count_remark (names_component items) (filling_of k (Some cs) items) spot) → AreItemsRead p cs items (map item_or_null (filling_of k (Some cs) items).slots)
 unfolding filling_of
 aggregate_items_read k p cs items spot w q c =
-    whole_read p cs items (filling_of k (Some cs) items).slots (items_there k cs items spot w.fits q c)
-    (items_read k p cs (names_component items) items (first_filling (Some cs)) items w (λ n name e h. h) (none_read p cs items (length cs)) q)
+    let all = items_there k cs items spot w.fits q c in
+    let count = items_all k cs items q all in (
+      count.0,
+      count.1,
+      whole_read p cs items (filling_of k (Some cs) items).slots all
+          (items_read k p cs (names_component items) items (first_filling (Some cs)) items w (λ n name e h. h) (none_read p cs items (length cs)) q),
+    )
 
 -- what is assigned
 abbrev pub FoundRight : Context → RightTree → Option RightForm → Type 0
@@ -397,25 +404,26 @@ assigned_read p e (variable.Access t) (other_access path) spot f r q = absurd q
 type_designated : (k : Known) (p : Context) (t d : ℕ) → Ahead k p → fits.designated_type k.types t ≡ Some d → fits.designated_type p.types t ≡ Some d
 type_designated k p t d w e = sym (designated_same p.types t) ∙ designated_more k p t d w (designated_same k.types t ∙ e)
 
-allocation_one : (k : Known) (p : Context) (e : Entity) (access : TypeNo) (at spot end_spot : Spot) (name : Ident) (items : ItemsTree) → Readable k p → EntityFits k.types k.variables name.text e → Quiet (allocated_wanted (Some e) k.types (Some access) spot name) → Quiet (items_remark k (filled_components k (complete_in (Some e))) (names_component items) (first_filling (filled_components k (complete_in (Some e)))) items) → Quiet (count_remark (names_component items) (filling_of k (filled_components k (complete_in (Some e))) items) end_spot) → FoundRight p (allocator_right at None name items) (allocation k (Some access) (complete_in (Some e)) items)
-allocation_one k p (entity.Record t) access at spot end_spot name items w f q i c = record {
+allocation_one : (k : Known) (p : Context) (e : Entity) (access : TypeNo) (at spot end_spot : Spot) (name : Ident) (items : ItemsTree) → Readable k p → EntityFits k.types k.variables name.text e → EntityRead p name.text e → Quiet (allocated_wanted (Some e) k.types (Some access) spot name) → Quiet (items_remark k (filled_components k (complete_in (Some e))) (names_component items) (first_filling (filled_components k (complete_in (Some e)))) items) → Quiet (count_remark (names_component items) (filling_of k (filled_components k (complete_in (Some e))) items) end_spot) → FoundRight p (allocator_right at None name items) (allocation k (Some access) (complete_in (Some e)) items)
+allocation_one k p (entity.Record t) access at spot end_spot name items w f r q i c = record {
   t = t.0;
   components = f.0;
   designates = type_designated k p access.0 t.0 w.ahead (access_designates k.types access.0 t.0 (quiet_unless (designates k.types access.0 t.0) spot WrongType q));
+  bound = r;
   named = w.ahead.types t.0 (record_of name.text f.0) f.1;
   filled = subst (λ (cs : List ComponentForm). AreItemsRead p cs items (map item_or_null (filling_of k (Some (components_of k.types t.0)) items).slots))
       (components_are k.types t.0 name.text f.0 f.1) (aggregate_items_read k p (components_of k.types t.0) items end_spot w i c);
 }
-allocation_one k p e access at spot end_spot name items w f q i c = absurd q
+allocation_one k p e access at spot end_spot name items w f r q i c = absurd q
 
-allocation_named : (k : Known) (p : Context) (o : Option Entity) (access : TypeNo) (at spot end_spot : Spot) (name : Ident) (items : ItemsTree) → Readable k p → ((e : Entity) → o ≡ Some e → EntityFits k.types k.variables name.text e) → Quiet (allocated_wanted o k.types (Some access) spot name) → Quiet (items_remark k (filled_components k (complete_in o)) (names_component items) (first_filling (filled_components k (complete_in o))) items) → Quiet (count_remark (names_component items) (filling_of k (filled_components k (complete_in o)) items) end_spot) → FoundRight p (allocator_right at None name items) (allocation k (Some access) (complete_in o) items)
-allocation_named k p (Some e) access at spot end_spot name items w v q i c = allocation_one k p e access at spot end_spot name items w (v e refl) q i c
-allocation_named k p None access at spot end_spot name items w v q i c = absurd q
+allocation_named : (k : Known) (p : Context) (o : Option Entity) (access : TypeNo) (at spot end_spot : Spot) (name : Ident) (items : ItemsTree) → Readable k p → ((e : Entity) → o ≡ Some e → EntityFits k.types k.variables name.text e) → ((e : Entity) → o ≡ Some e → EntityRead p name.text e) → Quiet (allocated_wanted o k.types (Some access) spot name) → Quiet (items_remark k (filled_components k (complete_in o)) (names_component items) (first_filling (filled_components k (complete_in o))) items) → Quiet (count_remark (names_component items) (filling_of k (filled_components k (complete_in o)) items) end_spot) → FoundRight p (allocator_right at None name items) (allocation k (Some access) (complete_in o) items)
+allocation_named k p (Some e) access at spot end_spot name items w v r q i c = allocation_one k p e access at spot end_spot name items w (v e refl) (r e refl) q i c
+allocation_named k p None access at spot end_spot name items w v r q i c = absurd q
 
 aggregate_read : (k : Known) (p : Context) (access : TypeNo) (at : Spot) (name : Ident) (items : ItemsTree) → Readable k p → Quiet (aggregate_remark k (Some access) at name items) → FoundRight p (allocator_right at None name items) (aggregate_found k (Some access) name items)
 unfolding aggregate_remark aggregate_found allocated_remark allocated_found
 aggregate_read k p access at name items w q =
-    allocation_named k p (visible k name.text) access at at name.spot name items w (visible_fits k w.fits name.text) q.0 q.1.0 q.1.1
+    allocation_named k p (visible k name.text) access at at name.spot name items w (visible_fits k w.fits name.text) (visible_read k p w.agrees name.text) q.0 q.1.0 q.1.1
 
 allocator_read : (k : Known) (p : Context) (access : TypeNo) (at : Spot) (handle : Option Ident) (name : Ident) (items : ItemsTree) → Readable k p → Quiet (allocator_remark k (Some access) at handle name items) → FoundRight p (allocator_right at handle name items) (allocator_found k (Some access) handle name items)
 unfolding allocator_remark allocator_found is_in_use
@@ -439,58 +447,110 @@ abbrev FoundStatement : Context → StatementTree → Option StmtForm → Type 0
 FoundStatement p s None = ⊥
 FoundStatement p s (Some form) = IsSimpleRead p s form
 
-value_read : (p : Context) (root : Ident) (right : RightTree) (x : VariableNo) (of : VariableKind) (o : Option RightForm) → IsVariableNamed p root.text x.0 → FoundRight p right o → FoundStatement p (assignment (record { root = root; selectors = [] }) right) (assignment_of root.spot (Some (x, of)) o)
-value_read p root right x of None b f = absurd f
-value_read p root right x of (Some form) b f = (variable_read p x root b, f)
-
-target_one : (k : Known) (p : Context) (e : Entity) (root : Ident) (right : RightTree) → Readable k p → EntityRead p root.text e → Quiet (variable_wanted (Some e) root) → Quiet (right_remark k (kind_of_target (variable_in (Some e))) right) → FoundStatement p (assignment (record { root = root; selectors = [] }) right) (assignment_of root.spot (variable_in (Some e)) (right_found k (kind_of_target (variable_in (Some e))) right))
-target_one k p (entity.Variable x of) root right w f t q = value_read p root right x of (right_found k (Some of) right) f (right_read k p of right w q)
-target_one k p e root right w f t q = absurd t
-
-target_named : (k : Known) (p : Context) (o : Option Entity) (root : Ident) (right : RightTree) → Readable k p → ((e : Entity) → o ≡ Some e → EntityRead p root.text e) → Quiet (variable_wanted o root) → Quiet (right_remark k (kind_of_target (variable_in o)) right) → FoundStatement p (assignment (record { root = root; selectors = [] }) right) (assignment_of root.spot (variable_in o) (right_found k (kind_of_target (variable_in o)) right))
-target_named k p None root right w v t q = absurd t
-target_named k p (Some e) root right w v t q = target_one k p e root right w (v e refl) t q
-
-assignment_read : (k : Known) (p : Context) (root : Ident) (ss : List SelectorTree) (right : RightTree) → Readable k p → Quiet (assignment_remark k (record { root = root; selectors = ss }) right) → FoundStatement p (assignment (record { root = root; selectors = ss }) right) (assignment_found k (record { root = root; selectors = ss }) right)
-unfolding assignment_remark assignment_found
-assignment_read k p root [] right w q = target_named k p (visible k root.text) root right w (visible_read k p w.agrees root.text) q.1.0 q.1.1
-assignment_read k p root (s ∷ ss) right w q = absurd (longer_at q)
-  where
-    longer_at : Quiet (cond (eqb (length (s ∷ ss)) 0) (node root.spot also target_remark k root also right_remark k (kind_of_target (target_found k root)) right) (wrong root.spot NotInProfile)) → ⊥
-    longer_at q = by_length (eqb (length (s ∷ ss)) 0) (ne_eqb (length (s ∷ ss)) 0 (omega arith)) q
-      where
-        by_length : (b : Bool) → b ≡ false → Quiet (cond b (node root.spot also target_remark k root also right_remark k (kind_of_target (target_found k root)) right) (wrong root.spot NotInProfile)) → ⊥
-        by_length true e q = cc e
-        by_length false e q = q
-
--- `Free (X);`
-freed_read : (p : Context) (procedure tree : PathTree) (access : TypeNo) (m : Meant) (spot : Spot) → procedure.selectors ≡ [] → IsInstanceNamed p procedure.root.text access.0 → IsMeant m → MeantRead p (path_expression tree) m → Quiet (freed_wanted access m spot) → FoundStatement p (call procedure (expression_argument (path_expression tree) ∷ [])) (freeing access m)
-freed_read p procedure tree access (access_variable path t) spot alone called f r q = (alone, called, r)
-freed_read p procedure tree access unknown spot alone called f r q = absurd f
-freed_read p procedure tree access m spot alone called f r q = absurd q
-
--- `Run_Input.Get (X);`
 path_of_value : (p : Context) (tree : PathTree) (path : PathForm) → IsValueRead p tree (reads path) → IsPathRead p tree path
 path_of_value p tree path (read_path r) = r
 
-got_read : (p : Context) (procedure tree : PathTree) (m : Meant) (spot : Spot) → IsGet procedure → IsMeant m → MeantRead p (path_expression tree) m → Quiet (got_wanted m spot) → FoundStatement p (call procedure (expression_argument (path_expression tree) ∷ [])) (getting m)
-got_read p procedure tree (integer_value (reads path)) spot is f r q = (is, path_of_value p tree path r)
-got_read p procedure tree unknown spot is f r q = absurd f
-got_read p procedure tree m spot is f r q = absurd q
+-- what is assigned to
+abbrev FoundTarget : Context → PathTree → Option (PathForm × VariableKind) → Type 0
+FoundTarget p target None = ⊥
+FoundTarget p target (Some found) = IsTargetRead p target found.0
+
+variable_target_one : (p : Context) (e : Entity) (root : Ident) → EntityRead p root.text e → Quiet (variable_wanted (Some e) root) → FoundTarget p (record { root = root; selectors = [] }) (variable_target root.spot (Some e))
+variable_target_one p (entity.Variable x of) root f q = (variable_read p x root (inl f), f)
+variable_target_one p e root f q = absurd q
+
+variable_target_read : (p : Context) (o : Option Entity) (root : Ident) → ((e : Entity) → o ≡ Some e → EntityRead p root.text e) → Quiet (variable_wanted o root) → FoundTarget p (record { root = root; selectors = [] }) (variable_target root.spot o)
+variable_target_read p None root v q = absurd q
+variable_target_read p (Some e) root v q = variable_target_one p e root (v e refl) q
+
+-- what has components is no loop parameter
+no_part_of_parameter : (k : Known) (o : Option Entity) (root : Ident) (s : SelectorTree) (ss : List SelectorTree) (n : VariableNo) → o ≡ Some (entity.Parameter n) → Quiet (value_wanted k o root (s ∷ ss)) → ⊥
+no_part_of_parameter k None root s ss n is q = cc is
+no_part_of_parameter k (Some (entity.Parameter x)) root s ss n is q = q
+no_part_of_parameter k (Some e) root s ss n is q = cc is
+
+component_root : (k : Known) (p : Context) (root : Ident) (s : SelectorTree) (ss : List SelectorTree) (x : ℕ) → Readable k p → Quiet (path_remark k (record { root = root; selectors = s ∷ ss })) → IsMeant (path_meant k (record { root = root; selectors = s ∷ ss })) → IsObjectNamed p root.text x → IsVariableNamed p root.text x
+unfolding path_remark path_meant
+component_root k p root s ss x w q m (inl b) = b
+component_root k p root s ss x w q m (inr b) = let n = parameter_visible k p w.agrees root.text x b in absurd (by_library (is_library_root root.text) _ n.0 n.1 q m)
+  where
+    by_library : (library : Bool) (other : Remark) (n : VariableNo) → visible k root.text ≡ Some (entity.Parameter n) → Quiet (cond library other (named_remark k root (s ∷ ss))) → IsMeant (cond library unknown (named_meant k root (s ∷ ss))) → ⊥
+    by_library true other n is q m = m
+    by_library false other n is q m = no_part_of_parameter k (visible k root.text) root s ss n is q
+
+component_target_read : (p : Context) (tree : PathTree) (m : Meant) (spot : Spot) → IsMeant m → MeantRead p (path_expression tree) m → ((path : PathForm) → IsPathRead p tree path → IsTargetRead p tree path) → Quiet (scalar_component_wanted m spot) → FoundTarget p tree (component_target m)
+component_target_read p tree (integer_value (reads path)) spot f r target q = target path (path_of_value p tree path r)
+component_target_read p tree (boolean_value (reads path)) spot f r target q = target path (path_of_value p tree path r)
+component_target_read p tree unknown spot f r target q = absurd f
+component_target_read p tree m spot f r target q = absurd q
+
+found_target_read : (k : Known) (p : Context) (root : Ident) (ss : List SelectorTree) → Readable k p → Quiet (target_remark k (record { root = root; selectors = ss })) → FoundTarget p (record { root = root; selectors = ss }) (target_found k (record { root = root; selectors = ss }))
+unfolding target_remark target_found
+found_target_read k p root [] w q = variable_target_read p (visible k root.text) root (visible_read k p w.agrees root.text) q
+found_target_read k p root (s ∷ ss) w q = longer_at (eqb (length (s ∷ ss)) 0) (ne_eqb (length (s ∷ ss)) 0 (omega arith)) q
+  where
+    tree : PathTree
+    tree = record { root = root; selectors = s ∷ ss }
+
+    longer_at : (b : Bool) → b ≡ false → Quiet (cond b (variable_wanted (visible k root.text) root) (path_remark k tree also scalar_component_wanted (path_meant k tree) root.spot)) → FoundTarget p tree (cond b (variable_target root.spot (visible k root.text)) (component_target (path_meant k tree)))
+    longer_at true e q = absurd (cc e)
+    longer_at false e q = component_target_read p tree (path_meant k tree) root.spot (path_known k tree w.fits q.0) (path_read k p tree w) (λ path r. (r, component_root k p root s ss path.root w q.0 (path_known k tree w.fits q.0) r.root)) q.1
+
+-- `X := ..;`
+value_read : (p : Context) (target : PathTree) (right : RightTree) (found : PathForm × VariableKind) (o : Option RightForm) → FoundTarget p target (Some found) → FoundRight p right o → FoundStatement p (assignment target right) (assignment_of (Some found) o)
+value_read p target right found None t f = absurd f
+value_read p target right found (Some form) t f = (t, f)
+
+assigned_there : (k : Known) (p : Context) (target : PathTree) (right : RightTree) (o : Option (PathForm × VariableKind)) → Readable k p → FoundTarget p target o → Quiet (right_remark k (kind_of_target o) right) → FoundStatement p (assignment target right) (assignment_of o (right_found k (kind_of_target o) right))
+assigned_there k p target right None w t q = absurd t
+assigned_there k p target right (Some found) w t q = value_read p target right found (right_found k (Some found.1) right) t (right_read k p found.1 right w q)
+
+assignment_read : (k : Known) (p : Context) (root : Ident) (ss : List SelectorTree) (right : RightTree) → Readable k p → Quiet (assignment_remark k (record { root = root; selectors = ss }) right) → FoundStatement p (assignment (record { root = root; selectors = ss }) right) (assignment_found k (record { root = root; selectors = ss }) right)
+unfolding assignment_remark assignment_found
+assignment_read k p root ss right w q =
+    assigned_there k p (record { root = root; selectors = ss }) right (target_found k (record { root = root; selectors = ss })) w
+    (found_target_read k p root ss w q.1.0) q.1.1
+
+-- nothing is written to a loop parameter
+no_parameter : (o : Option Entity) (spot : Spot) (n : VariableNo) → o ≡ Some (entity.Parameter n) → Quiet (written_wanted o spot) → ⊥
+no_parameter None spot n is q = cc is
+no_parameter (Some (entity.Parameter x)) spot n is q = q
+no_parameter (Some e) spot n is q = cc is
+
+target_read : (k : Known) (p : Context) (tree : PathTree) (path : PathForm) → Agrees k p.place → Quiet (written_wanted (visible k tree.root.text) tree.root.spot) → IsPathRead p tree path → IsTargetRead p tree path
+target_read k p tree path w q r = by_object r.root
+  where
+    by_object : IsObjectNamed p tree.root.text path.root → IsTargetRead p tree path
+    by_object (inl b) = (r, b)
+    by_object (inr b) =
+        let n = parameter_visible k p w tree.root.text path.root b in absurd (no_parameter (visible k tree.root.text) tree.root.spot n.0 n.1 q)
+
+-- `Free (X);`
+freed_read : (p : Context) (procedure tree : PathTree) (access : TypeNo) (m : Meant) (spot : Spot) → procedure.selectors ≡ [] → IsInstanceNamed p procedure.root.text access.0 → IsMeant m → MeantRead p (path_expression tree) m → ((path : PathForm) → IsPathRead p tree path → IsTargetRead p tree path) → Quiet (freed_wanted access m spot) → FoundStatement p (call procedure (expression_argument (path_expression tree) ∷ [])) (freeing access m)
+freed_read p procedure tree access (access_variable path t) spot alone called f r target q = (alone, called, target path r)
+freed_read p procedure tree access unknown spot alone called f r target q = absurd f
+freed_read p procedure tree access m spot alone called f r target q = absurd q
+
+-- `Run_Input.Get (X);`
+got_read : (p : Context) (procedure tree : PathTree) (m : Meant) (spot : Spot) → IsGet procedure → IsMeant m → MeantRead p (path_expression tree) m → ((path : PathForm) → IsPathRead p tree path → IsTargetRead p tree path) → Quiet (got_wanted m spot) → FoundStatement p (call procedure (expression_argument (path_expression tree) ∷ [])) (getting m)
+got_read p procedure tree (integer_value (reads path)) spot is f r target q = (is, target path (path_of_value p tree path r))
+got_read p procedure tree unknown spot is f r target q = absurd f
+got_read p procedure tree m spot is f r target q = absurd q
 
 -- a procedure that takes a variable is the one that is called
 abbrev IsTaker : Context → PathTree → Callee → Type 0
 IsTaker p procedure (callee.Free access) = (procedure.selectors ≡ []) × IsInstanceNamed p procedure.root.text access.0
 IsTaker p procedure callee.Get = IsGet procedure
 
-taken_read : (p : Context) (procedure tree : PathTree) (taker : Callee) (m : Meant) (spot : Spot) → IsTaker p procedure taker → IsMeant m → MeantRead p (path_expression tree) m → Quiet (actual_wanted taker m spot) → FoundStatement p (call procedure (expression_argument (path_expression tree) ∷ [])) (taking taker m)
-taken_read p procedure tree (callee.Free access) m spot is f r q = freed_read p procedure tree access m spot is.0 is.1 f r q
-taken_read p procedure tree callee.Get m spot is f r q = got_read p procedure tree m spot is f r q
+taken_read : (p : Context) (procedure tree : PathTree) (taker : Callee) (m : Meant) (spot : Spot) → IsTaker p procedure taker → IsMeant m → MeantRead p (path_expression tree) m → ((path : PathForm) → IsPathRead p tree path → IsTargetRead p tree path) → Quiet (actual_wanted taker m spot) → FoundStatement p (call procedure (expression_argument (path_expression tree) ∷ [])) (taking taker m)
+taken_read p procedure tree (callee.Free access) m spot is f r target q = freed_read p procedure tree access m spot is.0 is.1 f r target q
+taken_read p procedure tree callee.Get m spot is f r target q = got_read p procedure tree m spot is f r target q
 
 actual_read : (k : Known) (p : Context) (procedure : PathTree) (taker : Callee) (argument : ArgumentTree) → IsTaker p procedure taker → Readable k p → Quiet (actual_remark k taker argument) → FoundStatement p (call procedure (argument ∷ [])) (actual_found k taker argument)
 unfolding expression_remark
 actual_read k p procedure taker (expression_argument (path_expression tree)) is w q =
-    taken_read p procedure tree taker (path_meant k tree) tree.root.spot is (path_known k tree w.fits q.0.1) (path_read k p tree w) q.1.0
+    taken_read p procedure tree taker (path_meant k tree) tree.root.spot is (path_known k tree w.fits q.0.1) (path_read k p tree w)
+    (λ path r. target_read k p tree path w.agrees q.1.1 r) q.1.0
 actual_read k p procedure taker argument is w q = absurd q.0
 
 taker_read : (k : Known) (p : Context) (procedure : PathTree) (taker : Callee) (called : Spot) (arguments : List ArgumentTree) → IsTaker p procedure taker → Readable k p → Quiet (taker_remark k taker called arguments) → FoundStatement p (call procedure arguments) (taker_found k taker arguments)
@@ -498,6 +558,10 @@ unfolding taker_remark taker_found
 taker_read k p procedure taker called [] is w q = absurd q
 taker_read k p procedure taker called (argument ∷ []) is w q = actual_read k p procedure taker argument is w q.0
 taker_read k p procedure taker called (argument ∷ (other ∷ more)) is w q = absurd q.1.0
+
+-- the one text of a statement, if it has one, is the next
+abbrev pub IsNextText : Context → ℕ → List (List ℕ) → Type 0
+IsNextText p n texts = (text : List ℕ) → texts ≡ text ∷ [] → (n ≡ p.place.texts) × (slice_get p.texts n ≡ Some text)
 
 -- `Ada.Text_IO.Put_Line (..);`
 image_named : (k : Known) (p : Context) (prefix attribute : Ident) (o : Option Entity) → ((e : Entity) → o ≡ Some e → EntityRead p prefix.text e) → Quiet (image_wanted o attribute.text prefix.spot) → IsImage prefix attribute
@@ -509,14 +573,14 @@ image_read : (k : Known) (p : Context) (prefix attribute : Ident) → Readable k
 unfolding image_remark
 image_read k p prefix attribute w q = image_named k p prefix attribute (visible k prefix.text) (visible_read k p w.agrees prefix.text) q.1
 
-line_read : (k : Known) (p : Context) (n : ℕ) (procedure : PathTree) (argument : ArgumentTree) → Readable k p → IsPutLine procedure → ((text : List ℕ) → text_in (argument ∷ []) ≡ text ∷ [] → slice_get p.texts n ≡ Some text) → Quiet (line_remark k argument) → FoundStatement p (call procedure (argument ∷ [])) (line_found k n argument)
+line_read : (k : Known) (p : Context) (n : ℕ) (procedure : PathTree) (argument : ArgumentTree) → Readable k p → IsPutLine procedure → IsNextText p n (text_in (argument ∷ [])) → Quiet (line_remark k argument) → FoundStatement p (call procedure (argument ∷ [])) (line_found k n argument)
 unfolding image_value_remark
 line_read k p n procedure (expression_argument e) w is here q = absurd q.0
-line_read k p n procedure (text_argument spot text) w is here q = (is, here text refl)
+line_read k p n procedure (text_argument spot text) w is here q = let next = here text refl in (is, next.0, next.1)
 line_read k p n procedure (attribute_argument prefix attribute value) w is here q =
     (is, image_read k p prefix attribute w q.0, integer_read p value (expression_meant k value) (expression_spot value) (expression_known k value w.fits q.1.0) (expression_read k p value w q.1.0) q.1.1)
 
-put_line_read : (k : Known) (p : Context) (n : ℕ) (procedure : PathTree) (called : Spot) (arguments : List ArgumentTree) → Readable k p → IsPutLine procedure → ((text : List ℕ) → text_in arguments ≡ text ∷ [] → slice_get p.texts n ≡ Some text) → Quiet (put_line_remark k called arguments) → FoundStatement p (call procedure arguments) (put_line_found k n arguments)
+put_line_read : (k : Known) (p : Context) (n : ℕ) (procedure : PathTree) (called : Spot) (arguments : List ArgumentTree) → Readable k p → IsPutLine procedure → IsNextText p n (text_in arguments) → Quiet (put_line_remark k called arguments) → FoundStatement p (call procedure arguments) (put_line_found k n arguments)
 unfolding put_line_remark put_line_found
 put_line_read k p n procedure called [] w is here q = absurd q
 put_line_read k p n procedure called (argument ∷ []) w is here q = line_read k p n procedure argument w is here q.0
@@ -546,7 +610,7 @@ no_path : (k : Known) (procedure : PathTree) (b : Bool) → Quiet (cond b (libra
 no_path k procedure true q e = no_name k.withs (library_name procedure.root.text (parts_of procedure.selectors)) procedure.root.spot q e
 no_path k procedure false q e = q
 
-library_read : (k : Known) (p : Context) (n : ℕ) (procedure : PathTree) (arguments : List ArgumentTree) (o : Option LibraryName) → library_path_found k procedure ≡ o → Readable k p → ((text : List ℕ) → text_in arguments ≡ text ∷ [] → slice_get p.texts n ≡ Some text) → Quiet (library_path_remark k procedure) → Quiet (library_call_remark o k procedure.root.spot arguments) → FoundStatement p (call procedure arguments) (library_call_found o k n arguments)
+library_read : (k : Known) (p : Context) (n : ℕ) (procedure : PathTree) (arguments : List ArgumentTree) (o : Option LibraryName) → library_path_found k procedure ≡ o → Readable k p → IsNextText p n (text_in arguments) → Quiet (library_path_remark k procedure) → Quiet (library_call_remark o k procedure.root.spot arguments) → FoundStatement p (call procedure arguments) (library_call_found o k n arguments)
 library_read k p n procedure arguments None is w here q r = absurd (no_path k procedure (is_name procedure.selectors) q is)
 library_read k p n procedure arguments (Some PutLine) is w here q r =
     put_line_read k p n procedure procedure.root.spot arguments w
@@ -570,7 +634,7 @@ pub empty_is : {X : Type 0} (xs : List X) → is_empty xs ≡ true → xs ≡ []
 empty_is [] e = refl
 empty_is (x ∷ xs) e = let off : eqb (length (x ∷ xs)) 0 ≡ false = ne_eqb (length (x ∷ xs)) 0 (omega arith) in absurd (cc (off, e))
 
-call_read : (k : Known) (p : Context) (n : ℕ) (procedure : PathTree) (arguments : List ArgumentTree) → Readable k p → ((text : List ℕ) → text_in arguments ≡ text ∷ [] → slice_get p.texts n ≡ Some text) → Quiet (call_remark k procedure arguments) → FoundStatement p (call procedure arguments) (call_found k n procedure arguments)
+call_read : (k : Known) (p : Context) (n : ℕ) (procedure : PathTree) (arguments : List ArgumentTree) → Readable k p → IsNextText p n (text_in arguments) → Quiet (call_remark k procedure arguments) → FoundStatement p (call procedure arguments) (call_found k n procedure arguments)
 call_read k p n procedure arguments w here q = by_root (is_library_root procedure.root.text) q.1
   where
     by_root : (b : Bool) → Quiet (cond b (library_path_remark k procedure also library_call_remark (library_path_found k procedure) k procedure.root.spot arguments) (own_call_remark (visible k procedure.root.text) (is_empty procedure.selectors) k procedure.root arguments)) → FoundStatement p (call procedure arguments) (cond b (library_call_found (library_path_found k procedure) k n arguments) (own_call_found (visible k procedure.root.text) (is_empty procedure.selectors) k arguments))
@@ -644,7 +708,7 @@ bound_read k p e w q =
     integer_read p e (expression_meant k e) (expression_spot e) (expression_known k e w.fits q.0) (expression_read k p e w q.0) q.1
 
 -- where nothing is wrong with a statement, something is found, and it is what the tree says
-statement_read : (k : Known) (p : Context) (inside : Bool) (s : StatementTree) → Readable k p → ((text : List ℕ) → simple_texts s ≡ text ∷ [] → slice_get p.texts (length k.texts) ≡ Some text) → Quiet (statement_remark k inside s) → FoundStatement p s (statement_found k s)
+statement_read : (k : Known) (p : Context) (inside : Bool) (s : StatementTree) → Readable k p → IsNextText p (length k.texts) (simple_texts s) → Quiet (statement_remark k inside s) → FoundStatement p s (statement_found k s)
 statement_read k p inside (null_statement spot) w here q = tt
 statement_read k p inside (assignment target right) w here q = assignment_read k p target.root target.selectors right w q
 statement_read k p inside (call procedure arguments) w here q = call_read k p (length k.texts) procedure arguments w here q
@@ -658,5 +722,5 @@ meant_read p s None f = absurd f
 meant_read p s (Some form) f = f
 
 -- a statement with no others in it
-pub simple_read : (k : Known) (p : Context) (inside : Bool) (s : StatementTree) → Readable k p → ((text : List ℕ) → simple_texts s ≡ text ∷ [] → slice_get p.texts (length k.texts) ≡ Some text) → Quiet (statement_remark k inside s) → IsSimpleRead p s (statement_meant k s)
+pub simple_read : (k : Known) (p : Context) (inside : Bool) (s : StatementTree) → Readable k p → IsNextText p (length k.texts) (simple_texts s) → Quiet (statement_remark k inside s) → IsSimpleRead p s (statement_meant k s)
 simple_read k p inside s w here q = meant_read p s (statement_found k s) (statement_read k p inside s w here q)

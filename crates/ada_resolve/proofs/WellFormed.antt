@@ -25,7 +25,7 @@ pub mod Statements
 -- what is created from one place to another
 pub mod Created
 -- how many collections an access type has
-mod Counts
+pub mod Counts
 -- what a part elaborates
 pub mod Elaborated
 -- objects

@@ -1,29 +1,30 @@
 -- The program that a tree means is read back as the tree: its statements, with the declarations in them, and the whole unit.
 
-use Rattle.std.proofs.Common.{◌≡◌, ◌∙◌, ℕ, Bool, true, false, List, [], ◌∷◌, ◌++◌, length, refl, sym, ap, subst, eq-eqb}
+use Rattle.std.proofs.Common.{◌≡◌, ◌∙◌, ℕ, Bool, true, false, List, [], ◌∷◌, ◌++◌, ◌+◌, length, length-append, refl, sym, ap, subst, eq-eqb}
 use Rattle.std.specs.Prelude.{Some, None}
 use Rattle.std.specs.List.{slice_get, list_all}
+use Rattle.std.proofs.lemmas.List.{append-nil}
 use Rattle.ada_text.specs.declared.spot.Spot.{Spot}
-use Rattle.ada_tree.specs.Names.{Ident}
-use Rattle.ada_tree.specs.Expressions.{ExpressionTree}
-use Rattle.ada_tree.specs.Statements.{DeclarationsTree, no_declarations, endless, while_scheme, for_scheme, StatementTree, if_statement, loop_statement, block, declare_block, StatementsTree, no_statements, a_statement, BranchesTree, no_branches, a_branch, HandlersTree, no_handlers, a_handler, SequenceTree, a_sequence, begin_of, UnitTree}
+use Rattle.ada_tree.specs.Names.{Ident, PathTree}
+use Rattle.ada_tree.specs.Expressions.{ExpressionTree, path_expression, ArgumentTree, expression_argument, text_argument, attribute_argument}
+use Rattle.ada_tree.specs.Statements.{DeclarationsTree, no_declarations, endless, while_scheme, for_scheme, StatementTree, null_statement, assignment, call, exit_statement, return_statement, raise_statement, if_statement, loop_statement, block, declare_block, StatementsTree, no_statements, a_statement, BranchesTree, no_branches, a_branch, HandlersTree, no_handlers, a_handler, SequenceTree, a_sequence, begin_of, UnitTree}
 use Rattle.ada_program.specs.declared.program.Choice.{Choice}
 use Rattle.ada_program.specs.declared.program.VariableKind.TheVariants as variable
-use Rattle.ada_program.specs.Form.{DeclarationForm, ExpressionForm, StmtForm, chooses, repeats, counts, encloses, StmtsForm, no_stmts, a_stmt, BranchesForm, otherwise, HandlersForm}
+use Rattle.ada_program.specs.Form.{DeclarationForm, ExpressionForm, StmtForm, skips, assigns, frees, gets, writes, writes_text, exits, returns, raises, chooses, repeats, counts, encloses, StmtsForm, no_stmts, a_stmt, BranchesForm, otherwise, HandlersForm}
 use Rattle.ada_program.specs.Form as form
 use Rattle.ada_program.specs.ProgramForm.{VariableForm, ProgramForm}
 use Rattle.ada_program.specs.WellFormed as well
 use Rattle.ada_resolve.specs.Known.{Known, Part, with_part, left_to, without_part, no_variable_yet}
 use Rattle.ada_resolve.specs.Instances.{is_collected}
 use Rattle.ada_resolve.specs.Objects.{after_types}
-use Rattle.ada_resolve.specs.Statements.{bound_meant, condition_meant, simple_texts, with_texts}
+use Rattle.ada_resolve.specs.Statements.{bound_meant, condition_meant, text_in, simple_texts, with_texts}
 use Rattle.ada_resolve.specs.Resolution.{gives, At, LoopHead, loop_of, behind_loop, with_parameter, declarations_told, Others, simple_told, statement_told, statements_told, branches_told, handlers_told, program_of, known_first, statements_part, Resolves}
 use Rattle.ada_resolve.specs.declared.library.Withs.{Withs}
 use Rattle.ada_resolve.specs.Naming.{Context, Place}
-use Rattle.ada_resolve.specs.Reading.{read_at, inside, behind, with_new_variable, IsPartRead, IsExpressionRead, IsSimpleRead, AreChoicesRead, IsStatementRead, AreStatementsRead, AreBranchesRead, AreHandlersRead, first_place, first_context, statements_in, handlers_in, IsReadAs}
+use Rattle.ada_resolve.specs.Reading.{read_at, inside, behind, with_loop_parameter, IsPartRead, IsExpressionRead, IsCallRead, IsSimpleRead, behind_simple, AreChoicesRead, IsStatementRead, AreStatementsRead, AreBranchesRead, AreHandlersRead, first_place, first_context, statements_in, handlers_in, IsReadAs}
 use Rattle.ada_resolve.proofs.WellFormed.Tables.{get_last}
 use Rattle.ada_resolve.proofs.Standing.{Sound, Complete, Stays, OthersStay, made_from, first_sound, first_complete, if_done, loop_done, LoopDone, HeadIs, block_done, declare_done, SequenceDone, sequence_done, statements_done, branch_done, handler_done, simple_done, ended_sound, declarations_sound, begin_open, begin_complete, part_sound, part_complete, parameter_sound, parameter_complete, texts_stay, statement_stays, statements_stay, branches_stay, handlers_stay, body_done, BodyDone, body_sound, body_complete, EndDone, end_done}
-use Rattle.ada_resolve.proofs.Agreeing.{Agrees, Ahead, Readable, agrees_same, agrees_inside, agrees_parameter, agrees_behind}
+use Rattle.ada_resolve.proofs.Agreeing.{Agrees, Ahead, Readable, agrees_same, agrees_inside, agrees_parameter, agrees_behind, not_predefined}
 use Rattle.ada_resolve.proofs.Reading.{simple_read, condition_read, bound_read, choices_read}
 use Rattle.ada_resolve.proofs.Elaborated.{ahead_on, ahead_at, ahead_before, after_agrees, PartRead, part_read}
 
@@ -76,28 +77,60 @@ record SameCounts (k m : Known) : Type 0 where
   types : length k.types ≡ length m.types
   variables : length k.variables ≡ length m.variables
   exceptions : length k.exceptions ≡ length m.exceptions
+  texts : length k.texts ≡ length m.texts
 
 left_counts : (m : Known) (outer : List Part) → SameCounts (left_to outer m) m
-left_counts m [] = record { types = refl; variables = refl; exceptions = refl }
-left_counts m (part ∷ outer) = record { types = refl; variables = refl; exceptions = refl }
+left_counts m [] = record { types = refl; variables = refl; exceptions = refl; texts = refl }
+left_counts m (part ∷ outer) = record { types = refl; variables = refl; exceptions = refl; texts = refl }
 
 agrees_left : (k m z : Known) (place end : Place) → Stays k z → z ≡ without_part m → Agrees k place → Agrees m end → Agrees z (behind place end)
 agrees_left k m z place end f is w v =
     let c : SameCounts z m = subst (λ u. SameCounts u m) (sym is) (left_counts m m.outer) in
-    agrees_behind k m z place end (ap (λ (x : Part). x.names) f.here) (ap (λ (x : Part). x.first_type) f.here) f.outer c.types c.variables c.exceptions w v
+    agrees_behind k m z place end (ap (λ (x : Part). x.names) f.here) (ap (λ (x : Part). x.first_type) f.here) f.outer c.types c.variables c.exceptions c.texts w v
+
+-- behind a statement with no others in it, where the texts that it writes are counted
+no_texts : (k : Known) (place : Place) → Agrees k place → Agrees (with_texts [] k) place
+no_texts k place w =
+    agrees_same k (with_texts [] k) place refl refl refl refl refl refl (ap (λ (ts : List (List ℕ)). length ts) (append-nil k.texts)) w
+
+one_text : (k : Known) (place : Place) (text : List ℕ) → Agrees k place → Agrees (with_texts (text ∷ []) k) (record place { texts = place.texts + 1 })
+one_text k place text w = record {
+  here = w.here;
+  outer = w.outer;
+  first_type = w.first_type;
+  types = w.types;
+  variables = w.variables;
+  exceptions = w.exceptions;
+  texts = ap (λ (n : ℕ). n + 1) w.texts ∙ sym (length-append k.texts (text ∷ []));
+}
+
+agrees_called : (k : Known) (p : Context) (procedure : PathTree) (arguments : List ArgumentTree) (form : StmtForm) → Agrees k p.place → IsCallRead p procedure arguments form → Agrees (with_texts (text_in arguments) k) (behind_simple form p.place)
+agrees_called k p procedure (text_argument spot text ∷ []) (writes_text n) w r = one_text k p.place text w
+agrees_called k p procedure (attribute_argument prefix attribute value ∷ []) (writes form) w r = no_texts k p.place w
+agrees_called k p procedure (expression_argument (path_expression tree) ∷ []) (frees access path) w r = no_texts k p.place w
+agrees_called k p procedure (expression_argument (path_expression tree) ∷ []) (gets path) w r = no_texts k p.place w
+agrees_called k p procedure arguments form w r = absurd r
+
+agrees_simple : (k : Known) (p : Context) (s : StatementTree) (form : StmtForm) → Agrees k p.place → IsSimpleRead p s form → Agrees (with_texts (simple_texts s) k) (behind_simple form p.place)
+agrees_simple k p (null_statement spot) skips w r = no_texts k p.place w
+agrees_simple k p (assignment target value) (assigns path right) w r = no_texts k p.place w
+agrees_simple k p (call procedure arguments) form w r = agrees_called k p procedure arguments form w r
+agrees_simple k p (exit_statement spot written) (exits condition at) w r = no_texts k p.place w
+agrees_simple k p (return_statement spot) (returns at) w r = no_texts k p.place w
+agrees_simple k p (raise_statement spot name) (raises e) w r = no_texts k p.place w
+agrees_simple k p s form w r = absurd r
 
 -- a statement with no others in it
-simple_one : (p : Context) (inside_loop : Bool) (s : StatementTree) (at : At) (done : StmtForm × At) → Here at.0 p → Ahead done.1.0 p → simple_told inside_loop s at ≡ gives done → IsSimpleRead p s done.0 × Agrees done.1.0 p.place
+simple_one : (p : Context) (inside_loop : Bool) (s : StatementTree) (at : At) (done : StmtForm × At) → Here at.0 p → Ahead done.1.0 p → simple_told inside_loop s at ≡ gives done → IsSimpleRead p s done.0 × Agrees done.1.0 (behind_simple done.0 p.place)
 simple_one p inside_loop s at done w ahead e =
     let d = simple_done inside_loop s at done e in
     let more = with_texts (simple_texts s) at.0 in
     let last = ahead_as done.1.0 more p d.known ahead in
     let grows = (texts_stay (simple_texts s) at.0 w.sound w.complete).grows in
     let readable : Readable at.0 p = record { fits = w.sound.names; agrees = w.agrees; ahead = ahead_on at.0 more p grows last } in
-    let read = simple_read at.0 p inside_loop s readable (λ text is. text_there at.0 p (simple_texts s) text last is) d.quiet in (
-      subst (λ (f : StmtForm). IsSimpleRead p s f) (sym d.form) read,
-      subst (λ v. Agrees v p.place) (sym d.known) (agrees_same at.0 more p.place refl refl refl refl refl refl w.agrees),
-    )
+    let means = simple_read at.0 p inside_loop s readable (λ text is. (sym w.agrees.texts, text_there at.0 p (simple_texts s) text last is)) d.quiet in
+    let read : IsSimpleRead p s done.0 = subst (λ (f : StmtForm). IsSimpleRead p s f) (sym d.form) means in
+    (read, subst (λ v. Agrees v (behind_simple done.0 p.place)) (sym d.known) (agrees_simple at.0 p s done.0 w.agrees read))
   where
     text_there : (k : Known) (p : Context) (texts : List (List ℕ)) (text : List ℕ) → Ahead (with_texts texts k) p → texts ≡ text ∷ [] → slice_get p.texts (length k.texts) ≡ Some text
     text_there k p texts text last is =
@@ -214,7 +247,7 @@ range_read : (p : Context) (inside_loop : Bool) (spot : Spot) (name : Ident) (lo
 range_read p inside_loop spot name low high ss last at done w ahead stays d reads =
     statement_is p (loop_statement spot (for_scheme name low high) ss last) done.0 (counts x (bound_meant k low) (bound_meant k high) d.own.0 last) done.1.0 done.1.0 form refl (record {
       end = behind p.place r.end;
-      read = ((sym w.agrees.variables, there, bound_read k p low readable is.0.1.1.0, bound_read k p high readable is.0.1.1.1), refl, r.end, r.read, refl);
+      read = ((sym w.agrees.variables, (refl, not_predefined name is.0.1.0.0), there, bound_read k p low readable is.0.1.1.0, bound_read k p high readable is.0.1.1.1), refl, r.end, r.read, refl);
       agrees = agrees_left k d.own.1.0 done.1.0 p.place r.end stays known w.agrees r.agrees;
     })
   where
@@ -234,7 +267,7 @@ range_read p inside_loop spot name low high ss last at done w ahead stays d read
     known = d.known ∙ ap (λ (h : LoopHead). behind_loop h d.own.1.0) is.1
 
     place : Place
-    place = with_new_variable name (inside p.place)
+    place = with_loop_parameter name (inside p.place)
 
     begun : Here d.head.1.0 (read_at place p)
     begun = here_as (with_parameter name k) d.head.1.0 (read_at place p) is.2
@@ -319,7 +352,7 @@ mutual
         agrees = agrees_left at.0 r.last done.1.0 p.place r.body.end stays r.known w.agrees r.body.agrees;
       })
   statement_read p inside_loop s at done w ahead e =
-      let r = simple_one p inside_loop s at done w ahead e in record { end = p.place; read = (r.0, refl); agrees = r.1 }
+      let r = simple_one p inside_loop s at done w ahead e in record { end = behind_simple done.0 p.place; read = (r.0, refl); agrees = r.1 }
 
   statements_read : (p : Context) (inside_loop : Bool) (ss : StatementsTree) (at : At) (done : StmtsForm × At) → Here at.0 p → Ahead done.1.0 p → statements_told inside_loop ss at ≡ gives done → StatementsRead p ss done.0 done.1.0
   statements_read p inside_loop no_statements at done w ahead e =
@@ -389,18 +422,19 @@ end_of tree (a_sequence start ss hs last) at p e = end_done tree start ss hs las
 
 -- nothing is bound before the first declaration
 first_agrees : (withs : Withs) (procedure : List ℕ) → Agrees (known_first withs procedure) first_place
-first_agrees withs procedure = record { here = λ text. refl; outer = λ text. refl; first_type = refl; types = refl; variables = refl; exceptions = refl }
+first_agrees withs procedure = record { here = λ text. refl; outer = λ text. refl; first_type = refl; types = refl; variables = refl; exceptions = refl; texts = refl }
 
 -- a whole unit
 unit_read : (tree : UnitTree) (p : ProgramForm) (b : BodyDone tree p) → EndDone (statements_in tree.body) (handlers_in tree.body) b.ready p → IsReadAs tree p
 unit_read tree p b d = subst (λ v. IsReadAs tree v) (sym d.form) (record {
+  own_name = (refl, not_predefined tree.name b.quiet_name.0);
   declared = r.declared;
   done = r.done;
   end = r.end;
   elaborated = r.begins;
   statements = r.statements;
   handlers = r.handlers;
-  counted = record { types = sym r.agrees.types; variables = sym r.agrees.variables; exceptions = sym r.agrees.exceptions };
+  counted = record { types = sym r.agrees.types; variables = sym r.agrees.variables; exceptions = sym r.agrees.exceptions; texts = sym r.agrees.texts };
 })
   where
     z : Known

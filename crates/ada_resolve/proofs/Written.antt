@@ -1,7 +1,7 @@
 -- What each declaration writes is what is known after it.
 
-use Rattle.std.proofs.Common.{◌≡◌, zero, suc, inl, inr, ℕ, ◌+◌, Bool, true, false, cond, List, [], ◌∷◌, ◌++◌, refl, sym, subst, eqb-true}
-use Rattle.std.specs.Prelude.{Option, Some, None, codes, is_some, map}
+use Rattle.std.proofs.Common.{◌≡◌, ◌∙◌, zero, suc, inl, inr, ℕ, ◌+◌, Bool, true, false, ◌||◌, cond, List, [], ◌∷◌, ◌++◌, refl, sym, ap, subst, eqb-true}
+use Rattle.std.specs.Prelude.{Option, Some, None, codes, bytes_eq, is_some, map}
 use Rattle.std.specs.List.{slice_get, list_all}
 use Rattle.ada_text.specs.declared.spot.Spot.{Spot}
 use Rattle.ada_tree.specs.Names.{Ident, NameTree}
@@ -13,7 +13,7 @@ use Rattle.ada_program.specs.declared.program.VariableKind.TheVariants as variab
 use Rattle.ada_program.specs.Form.{RightForm}
 use Rattle.ada_program.specs.ProgramForm.{ComponentForm, TypeForm, record_of, access_to}
 use Rattle.ada_program.specs.WellFormed as well
-use Rattle.ada_resolve.specs.declared.fault.NameRule.TheVariants.{UnknownName, WrongType}
+use Rattle.ada_resolve.specs.declared.fault.NameRule.TheVariants.{UnknownName, DeclaredTwice, WrongType}
 use Rattle.ada_resolve.specs.declared.library.LibraryName.{LibraryName}
 use Rattle.ada_resolve.specs.declared.library.LibraryName.TheVariants.{TextIo, PutLine, UncheckedDeallocation, RunInput, Get, EndError, OtherUnit, Unknown}
 use Rattle.ada_resolve.specs.declared.library.Withs.{Withs}
@@ -24,17 +24,18 @@ use Rattle.ada_resolve.specs.Library.{is_library_root, library_name}
 use Rattle.ada_resolve.specs.Remark.{◌also◌}
 use Rattle.ada_resolve.specs.Types.{record_in, record_found, record_wanted, record_remark, designates, is_access_to}
 use Rattle.ada_resolve.specs.Statics.{static_value, static_remark, number_in, number_wanted, truth_in, truth_wanted}
-use Rattle.ada_resolve.specs.Records.{integer_remark, boolean_remark, no_value_remark, kind_wanted, kind_in, component_remark, component_meant, components_remark}
+use Rattle.ada_resolve.specs.Records.{integer_remark, boolean_remark, no_value_remark, kind_wanted, kind_in, is_component, component_remark, component_meant, components_remark}
 use Rattle.ada_resolve.specs.Instances.{deallocation_wanted, no_generic, generic_remark, access_if, access_in, access_wanted, freed_found, freed_remark}
 use Rattle.ada_resolve.specs.Paths.{library_is_no_value}
 use Rattle.ada_resolve.specs.Objects.{initial_remark, initial_found, initial_wanted, type_in, type_wanted, object_type_found, object_type_remark, kind_of, initial_source}
-use Rattle.ada_resolve.specs.Naming.{Context, IsNumberNamed, IsStaticRead, IsKindRead, AreComponentsRead, IsTypeNamed, IsRecordNamed, IsKindNamed, truth_name}
+use Rattle.ada_resolve.specs.Naming.{Context, IsNumberNamed, IsStaticRead, IsKindRead, AreComponentsRead, AreNamedApart, IsFullTypeNamed, IsTypeNamed, IsRecordNamed, IsKindNamed, truth_name}
 use Rattle.ada_resolve.specs.Reading.{IsInitialRead}
 use Rattle.ada_resolve.specs.Paths.{name_of_type}
-use Rattle.ada_resolve.proofs.WellFormed.Remarks.{Quiet, quiet_unless}
-use Rattle.ada_resolve.proofs.WellFormed.Names.{EntityFits, PartsFit, visible_fits}
+use Rattle.ada_resolve.proofs.WellFormed.Remarks.{Quiet, quiet_if, quiet_unless}
+use Rattle.ada_resolve.proofs.WellFormed.Names.{EntityFits, PartsFit, same_text, visible_fits}
 use Rattle.ada_resolve.proofs.WellFormed.Tables.{first_part, second_part}
 use Rattle.ada_resolve.proofs.Agreeing.{Agrees, EntityRead, Readable, visible_read}
+use Rattle.ada_resolve.proofs.ComponentLists.{in_more}
 use Rattle.ada_resolve.proofs.Keeping.{HasName, has_name, Lasts}
 use Rattle.ada_resolve.proofs.Standing.{Sound}
 use Rattle.ada_resolve.proofs.Reading.{FoundRight, right_read, empty_is, no_name}
@@ -83,7 +84,7 @@ kind_read : (k : Known) (p : Context) (name type_name : Ident) (initial : Option
 kind_read k p name type_name initial (Some entity.Integer) w f t q = integer_read k p name type_name initial w (t entity.Integer refl) q
 kind_read k p name type_name initial (Some entity.Boolean) w f t q = boolean_read k p name type_name initial w (t entity.Boolean refl) q
 kind_read k p name type_name initial (Some (entity.Access a)) w f t q =
-    let there = f (entity.Access a) refl in ((inl (t (entity.Access a) refl), there.0, w.lasts.accesses a.0 type_name.text there.0 there.1), no_value k initial q)
+    let there = f (entity.Access a) refl in ((t (entity.Access a) refl, there.0, w.lasts.accesses a.0 type_name.text there.0 there.1), no_value k initial q)
 kind_read k p name type_name initial (Some (entity.Record u)) w f t q = absurd q
 kind_read k p name type_name initial (Some e) w f t q = absurd q
 kind_read k p name type_name initial None w f t q = absurd q
@@ -96,6 +97,43 @@ components_read k p before count (c ∷ cs) w q = (
   kind_read k p c.name c.type_name c.initial (visible k c.type_name.text) w (visible_fits k w.sound.names c.type_name.text) (visible_read k p w.agrees c.type_name.text) q.0.1.1.1.1.1,
   components_read k p (before ++ component_meant k c ∷ []) (count + 1) cs w q.1,
 )
+
+-- no two components have one name
+abbrev IsApart : List ℕ → List ComponentForm → Type 0
+IsApart text cs = (i : ℕ) (d : ComponentForm) → slice_get cs i ≡ Some d → d.name ≡ text → ⊥
+
+apart_more : (text : List ℕ) (c : ComponentForm) (cs : List ComponentForm) → (c.name ≡ text → ⊥) → IsApart text cs → IsApart text (c ∷ cs)
+apart_more text c cs ne old zero d is same = let first : c ≡ d = cc is in ne (ap (λ (x : ComponentForm). x.name) first ∙ same)
+apart_more text c cs ne old (suc i) d is same = old i d is same
+
+still_there : (text : List ℕ) (before : List ComponentForm) (c : ComponentForm) → is_component text before ≡ true → is_component text (before ++ c ∷ []) ≡ true
+still_there text before c on = in_more text before c ∙ ap (λ (b : Bool). b || bytes_eq text c.name) on
+
+there_now : (before : List ComponentForm) (c : ComponentForm) → is_component c.name (before ++ c ∷ []) ≡ true
+there_now before c =
+    in_more c.name before c ∙ (ap (λ (b : Bool). is_component c.name before || b) (same_text c.name c.name refl) ∙ either (is_component c.name before))
+  where
+    either : (b : Bool) → (b || true) ≡ true
+    either true = refl
+    either false = refl
+
+components_apart : (k : Known) (before : List ComponentForm) (count : ℕ) (cs : List ComponentTree) → Quiet (components_remark k before count cs) → ((text : List ℕ) → is_component text before ≡ true → IsApart text (map (component_meant k) cs)) × AreNamedApart (map (component_meant k) cs)
+unfolding component_remark component_meant
+components_apart k before count [] q = (λ text on i d is. absurd (cc is), tt)
+components_apart k before count (c ∷ cs) q =
+    let one : ComponentForm = component_meant k c in
+    let rest = components_apart k (before ++ one ∷ []) (count + 1) cs q.1 in (
+      λ text on. apart_more text one (map (component_meant k) cs) (not_before text on) (rest.0 text (still_there text before one on)),
+      (rest.0 c.name.text (there_now before one), rest.1),
+    )
+  where
+    not_before : (text : List ℕ) → is_component text before ≡ true → c.name.text ≡ text → ⊥
+    not_before text on same =
+        let off : is_component c.name.text before ≡ false = quiet_if (is_component c.name.text before) c.name.spot DeclaredTwice q.0.1.1.0 in
+        let there : is_component c.name.text before ≡ true = subst (λ (t : List ℕ). is_component t before ≡ true) (sym same) on in cc (off, there)
+
+pub all_apart : (k : Known) (cs : List ComponentTree) → Quiet (components_remark k [] 0 cs) → AreNamedApart (map (component_meant k) cs)
+all_apart k cs q = (components_apart k [] 0 cs q).1
 
 -- the record type of a name
 abbrev pub FoundRecord : Known → Context → Ident → Option TypeNo → Type 0
@@ -132,7 +170,7 @@ designated_read p text designated t d all there same named_so =
 abbrev pub FoundAccess : Known → Context → Ident → Ident → Option TypeNo → Type 0
 FoundAccess k p access object None = ⊥
 FoundAccess k p access object (Some t) =
-    IsTypeNamed p access.text t.0 × (d : ℕ) × (slice_get k.types t.0 ≡ Some (access_to access.text d)) × HasName k.types object.text d × IsTypeNamed p object.text d
+    IsFullTypeNamed p access.text t.0 × (d : ℕ) × (slice_get k.types t.0 ≡ Some (access_to access.text d)) × HasName k.types object.text d × IsTypeNamed p object.text d
 
 reached : (types : List TypeForm) (t u d : ℕ) (text : List ℕ) → slice_get types t ≡ Some (access_to text d) → is_access_to (slice_get types t) u ≡ true → d ≡ u
 reached types t u d text there is = eqb-true d u (subst (λ (o : Option TypeForm). is_access_to o u ≡ true) there is)
@@ -145,7 +183,7 @@ access_at k p access object u (Some (entity.Access t)) has f r q = by_test (is_a
     by_test true is on =
         let there = f (entity.Access t) refl in
         let same = sym (reached k.types t.0 u.0 there.0 access.text there.1 is) in
-        (inl (r (entity.Access t) refl), there.0, there.1, subst (λ (d : ℕ). HasName k.types object.text d) same has.0, subst (λ (d : ℕ). IsTypeNamed p object.text d) same has.1)
+        (r (entity.Access t) refl, there.0, there.1, subst (λ (d : ℕ). HasName k.types object.text d) same has.0, subst (λ (d : ℕ). IsTypeNamed p object.text d) same has.1)
     by_test false is on = absurd (cc on)
 access_at k p access object u (Some e) has f r q = absurd q
 access_at k p access object u None has f r q = absurd q
@@ -204,11 +242,11 @@ object_at k p name type_name (Some right) entity.Boolean w alone f t q g = recor
   kind_named = (alone, t);
   starts = starts_read k p variable.Boolean right (initial_found k (Some variable.Boolean) (Some right)) (right_read k p variable.Boolean right w q);
 }
-object_at k p name type_name None (entity.Access a) w alone f t q g = record { of = variable.Access a; is = refl; kind_named = (alone, (inl t, f.0, w.ahead.types a.0 (access_to type_name.first.text f.0) f.1)); starts = tt }
+object_at k p name type_name None (entity.Access a) w alone f t q g = record { of = variable.Access a; is = refl; kind_named = (alone, (t, f.0, w.ahead.types a.0 (access_to type_name.first.text f.0) f.1)); starts = tt }
 object_at k p name type_name (Some right) (entity.Access a) w alone f t q g = record {
   of = variable.Access a;
   is = refl;
-  kind_named = (alone, (inl t, f.0, w.ahead.types a.0 (access_to type_name.first.text f.0) f.1));
+  kind_named = (alone, (t, f.0, w.ahead.types a.0 (access_to type_name.first.text f.0) f.1));
   starts = starts_read k p (variable.Access a) right (initial_found k (Some (variable.Access a)) (Some right)) (right_read k p (variable.Access a) right w q);
 }
 object_at k p name type_name initial e w alone f t q g = absurd g

@@ -29,10 +29,10 @@ freed_wanted access (access_variable path t) spot = wrong_if (not (t.0 == access
 freed_wanted access (other_access path) spot = wrong spot NotInProfile
 freed_wanted access other spot = wrong spot WrongType
 
--- `Run_Input.Get (X);`: the actual is an Integer variable; no component is one in the profile yet.
+-- `Run_Input.Get (X);`: the actual is an Integer, a variable or a component.
 abbrev pub got_wanted : Meant → Spot → Remark
 got_wanted unknown spot = fine
-got_wanted (integer_value (reads path)) spot = wrong_if (not (is_empty path.selectors)) spot NotInProfile
+got_wanted (integer_value (reads path)) spot = fine
 got_wanted other spot = wrong spot WrongType
 
 -- What a procedure wants of its one actual, which stands at the spot (6.4.1).
@@ -62,7 +62,7 @@ abbrev pub freeing : TypeNo → Meant → Option StmtForm
 freeing access (access_variable path t) = Some (frees access.0 path)
 freeing access other = None
 
--- The next number of the input goes to the Integer variable.
+-- The next number of the input goes to the Integer.
 abbrev pub getting : Meant → Option StmtForm
 getting (integer_value (reads path)) = Some (gets path)
 getting other = None

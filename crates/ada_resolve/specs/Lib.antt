@@ -30,6 +30,8 @@ pub mod Items
 pub mod Allocators
 -- what is assigned (5.2)
 pub mod Rights
+-- assignments (5.2)
+pub mod Assignments
 -- object declarations (3.3.1)
 pub mod Objects
 -- the arguments of a call (6.4)
@@ -40,7 +42,7 @@ pub mod Lines
 pub mod Calls
 -- exceptions, and the choices of handlers (11.1, 11.2)
 pub mod Exceptions
--- statements (5.1, 5.2)
+-- statements (5.1)
 pub mod Statements
 -- the program of a tree, or its first fault
 pub mod Resolution

@@ -23,7 +23,7 @@ use Rattle.ada_tree.specs.declared.records.ComponentDefinition.{ComponentDefinit
 use Rattle.ada_tree.specs.declared.records.RecordDefinition.{RecordDefinition}
 use Rattle.ada_tree.specs.declared.statements.Choice.{Choice}
 use Rattle.ada_tree.specs.declared.statements.Statement.{Statement}
-use Rattle.ada_program.specs.Form.{ExpressionForm, RightForm, StmtForm}
+use Rattle.ada_program.specs.Form.{ExpressionForm, PathForm, RightForm, StmtForm}
 use Rattle.ada_program.specs.ProgramForm.{ComponentForm}
 use Rattle.ada_program.specs.declared.program.Choice.{Choice as ChoiceOf}
 use Rattle.ada_program.specs.declared.program.TypeNo.{TypeNo}
@@ -36,6 +36,7 @@ use Rattle.ada_resolve.specs.declared.library.LibraryName.{LibraryName}
 use Rattle.ada_resolve.specs.declared.notes.Notes.{Notes}
 use Rattle.ada_resolve.specs.Allocators.{aggregate_found, aggregate_remark, filled_components}
 use Rattle.ada_resolve.specs.Arguments.{image_value_remark}
+use Rattle.ada_resolve.specs.Assignments.{assignment_found, assignment_remark, target_found, target_remark}
 use Rattle.ada_resolve.specs.Calls.{actual_found, actual_remark, call_found, call_remark, library_call_found, library_call_remark, named_call_found, named_call_remark, taker_found, taker_remark}
 use Rattle.ada_resolve.specs.Chains.{links_meant, links_remark}
 use Rattle.ada_resolve.specs.Exceptions.{choices_meant, choices_remark}
@@ -50,7 +51,7 @@ use Rattle.ada_resolve.specs.Paths.{Meant, component_within, component_within_re
 use Rattle.ada_resolve.specs.Records.{all_components_remark, components_written}
 use Rattle.ada_resolve.specs.Remark.{Remark}
 use Rattle.ada_resolve.specs.Rights.{right_found, right_remark}
-use Rattle.ada_resolve.specs.Statements.{assignment_found, assignment_remark, condition_meant, condition_remark, exit_found, exit_remark, bound_meant, bound_remark, named_assignment_found, named_assignment_remark, statement_found, statement_remark}
+use Rattle.ada_resolve.specs.Statements.{condition_meant, condition_remark, exit_found, exit_remark, bound_meant, bound_remark, statement_found, statement_remark}
 
 -- What is wrong with a part, and what it means.
 pub record Look (Y : Type 0) : Type 0 where
@@ -255,11 +256,11 @@ assignment_look seen target value = record {
   meaning = assignment_found (known seen) (path_of target) (right_of value);
 }
 
--- An assignment to a name.
-abbrev pub named_assignment_look : Seen → Identifier → Right → Look (Option StmtForm)
-named_assignment_look seen name value = record {
-  remark = named_assignment_remark (known seen) (ident_of name) (right_of value);
-  meaning = named_assignment_found (known seen) (ident_of name) (right_of value);
+-- A target, with what it holds.
+abbrev pub target_look : Seen → Path → Look (Option (PathForm × VariableKind))
+target_look seen target = record {
+  remark = target_remark (known seen) (path_of target);
+  meaning = target_found (known seen) (path_of target);
 }
 
 -- The components of a record type (3.8), as the code keeps them.

@@ -1,6 +1,6 @@
 -- What the names of a tree are bound to at a place, and what types, numbers and instances are read as: by the declarations before that place,
 -- and by the tables of the program. An inner declaration hides the outer ones (8.3); types, variables and exceptions are numbered in the order
--- of the text.
+-- of the text, and so are the texts that Put_Line writes.
 
 use Rattle.std.specs.Prelude.{◌≡◌, ◌⊎◌, ℕ, Bool, true, false, if◌then◌else◌, List, [], ◌∷◌, ◌++◌, Option, Some, None, slice_get, codes, bytes_eq, ℤ}
 use Rattle.ada_tree.specs.Names.{Ident, NameTree}
@@ -19,7 +19,7 @@ use Rattle.ada_resolve.specs.Records.{components_written}
 use Rattle.ada_resolve.specs.Statics.{at_most_greatest, integer_of}
 
 -- What a declaration binds its name to: a type that is to be completed (3.10.1), a type, the value of a named number (3.3.2), an exception
--- (11.1), an instance for an access type (13.11.2), or a variable; a loop parameter is one (5.5).
+-- (11.1), an instance for an access type (13.11.2), a variable (3.3.1), or a loop parameter, which is a constant (5.5).
 pub data Meaning : Type 0 where
   an_incomplete_type : (t : ℕ) → Meaning
   a_type : (t : ℕ) → Meaning
@@ -27,6 +27,7 @@ pub data Meaning : Type 0 where
   an_exception : (e : ℕ) → Meaning
   an_instance : (access : ℕ) → Meaning
   a_variable : (x : ℕ) → Meaning
+  a_parameter : (x : ℕ) → Meaning
 
 -- A name, and what it is bound to.
 pub record Binding : Type 0 where
@@ -34,7 +35,8 @@ pub record Binding : Type 0 where
   pub meaning : Meaning
 
 -- A place in the text: what the innermost declarative part has bound before it, the last first; what the parts around it have bound, the inner
--- ones first; the number of the first type of the part; and how many types, variables and exceptions the text before it declares.
+-- ones first; the number of the first type of the part; how many types, variables and exceptions are declared before it; and how many texts
+-- Put_Line writes before it.
 pub record Place : Type 0 where
   pub here : List Binding
   pub outer : List Binding
@@ -42,6 +44,7 @@ pub record Place : Type 0 where
   pub types : ℕ
   pub variables : ℕ
   pub exceptions : ℕ
+  pub texts : ℕ
 
 -- What a tree is read by: a place in it, and the tables of the program.
 pub record Context : Type 0 where
@@ -64,9 +67,13 @@ meaning_at place text = meaning_among text (place.here ++ place.outer)
 abbrev pub IsBound : Context → List ℕ → Meaning → Type 0
 IsBound p text meaning = meaning_at p.place text ≡ Some meaning
 
+-- A name is that of the type of a number, which is not incomplete there (3.10.1).
+abbrev pub IsFullTypeNamed : Context → List ℕ → ℕ → Type 0
+IsFullTypeNamed p text t = IsBound p text (a_type t)
+
 -- A name is that of the type of a number, which may still have to be completed.
 abbrev pub IsTypeNamed : Context → List ℕ → ℕ → Type 0
-IsTypeNamed p text t = IsBound p text (a_type t) ⊎ IsBound p text (an_incomplete_type t)
+IsTypeNamed p text t = IsFullTypeNamed p text t ⊎ IsBound p text (an_incomplete_type t)
 
 -- A name is that of a named number, which has the value (3.3.2).
 abbrev pub IsNumberNamed : Context → List ℕ → ℤ → Type 0
@@ -75,6 +82,10 @@ IsNumberNamed p text n = IsBound p text (a_number n)
 -- A name is that of the variable of a number (3.3.1).
 abbrev pub IsVariableNamed : Context → List ℕ → ℕ → Type 0
 IsVariableNamed p text x = IsBound p text (a_variable x)
+
+-- A name is that of the object of a number (3.3): of a variable, or of a loop parameter, which is a constant.
+abbrev pub IsObjectNamed : Context → List ℕ → ℕ → Type 0
+IsObjectNamed p text x = IsVariableNamed p text x ⊎ IsBound p text (a_parameter x)
 
 -- A name is that of an instance, which is for the access type of a number (12.3, 13.11.2).
 abbrev pub IsInstanceNamed : Context → List ℕ → ℕ → Type 0
@@ -92,17 +103,31 @@ IsRecordNamed p text t = IsTypeNamed p text t × (components : List ComponentFor
 
 -- A name is that of the access type of a number (3.10).
 abbrev pub IsAccessNamed : Context → List ℕ → ℕ → Type 0
-IsAccessNamed p text t = IsTypeNamed p text t × (designated : ℕ) × (slice_get p.types t ≡ Some (access_to text designated))
+IsAccessNamed p text t = IsFullTypeNamed p text t × (designated : ℕ) × (slice_get p.types t ≡ Some (access_to text designated))
 
 -- A name is that of the access type of a number, which designates the record type of the other name (3.10).
 abbrev pub IsAccessTo : Context → List ℕ → List ℕ → ℕ → Type 0
 IsAccessTo p text designated t =
-    IsTypeNamed p text t × (d : ℕ) × (slice_get p.types t ≡ Some (access_to text d)) × IsRecordNamed p designated d
+    IsFullTypeNamed p text t × (d : ℕ) × (slice_get p.types t ≡ Some (access_to text d)) × IsRecordNamed p designated d
 
 -- How the two truth values are called (3.5.3).
 abbrev pub truth_name : Bool → List ℕ
 truth_name true = codes "TRUE"
 truth_name false = codes "FALSE"
+
+-- A name that means the same everywhere, since no declaration may have it: a name of Standard (A.1), the exceptions of the language among them
+-- (11.1), or the name with which those of the library begin (A.2).
+pub data IsPredefined : List ℕ → Type 0 where
+  the_integers : IsPredefined (codes "INTEGER")
+  the_booleans : IsPredefined (codes "BOOLEAN")
+  a_truth_value : (b : Bool) → IsPredefined (truth_name b)
+  the_constraint_error : IsPredefined (codes "CONSTRAINT_ERROR")
+  the_program_error : IsPredefined (codes "PROGRAM_ERROR")
+  the_storage_error : IsPredefined (codes "STORAGE_ERROR")
+  under_ada : IsPredefined (codes "ADA")
+  under_system : IsPredefined (codes "SYSTEM")
+  the_pools : IsPredefined (codes "PROFILE_POOLS")
+  the_input : IsPredefined (codes "RUN_INPUT")
 
 -- What a component holds, and at first (3.8): an Integer or a Boolean has the value that is written; an access value is null.
 abbrev pub IsKindRead : Context → ComponentTree → ComponentKind → Type 0
@@ -119,13 +144,19 @@ AreComponentsRead p [] (d ∷ ds) = ⊥
 AreComponentsRead p (c ∷ cs) [] = ⊥
 AreComponentsRead p (c ∷ cs) (d ∷ ds) = (d.name ≡ c.name.text) × IsKindRead p c d.kind × AreComponentsRead p cs ds
 
--- The type of a number is the one that a full type declaration declares (3.2.1): an access type, or a record type with its components.
+-- No two of these components have one name (8.3).
+abbrev pub AreNamedApart : List ComponentForm → Type 0
+AreNamedApart [] = Unit {0}
+AreNamedApart (c ∷ cs) = ((i : ℕ) (d : ComponentForm) → slice_get cs i ≡ Some d → d.name ≡ c.name → ⊥) × AreNamedApart cs
+
+-- The type of a number is the one that a full type declaration declares (3.2.1): an access type, or a record type with its components, each of
+-- which has a name of its own.
 abbrev pub IsTypeRead : Context → DeclarationTree → ℕ → Type 0
 IsTypeRead p (access_type spot name designated aspect) t =
     (aspect ≡ None) × (d : ℕ) × (slice_get p.types t ≡ Some (access_to name.text d)) × IsRecordNamed p designated.text d
 IsTypeRead p (record_type spot name definition) t =
     (components : List ComponentForm) × (slice_get p.types t ≡ Some (record_of name.text components)) ×
-    AreComponentsRead p (components_written definition) components
+    AreComponentsRead p (components_written definition) components × AreNamedApart components
 IsTypeRead p other t = ⊥
 
 -- An instance of Unchecked_Deallocation is for the access type of a number (13.11.2).

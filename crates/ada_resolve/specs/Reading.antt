@@ -6,7 +6,7 @@ use Rattle.ada_text.specs.declared.spot.Spot.{Spot}
 use Rattle.ada_values.specs.declared.operator.BinaryOperator.{BinaryOperator}
 use Rattle.ada_values.specs.declared.operator.BinaryOperator.TheVariants as binary
 use Rattle.ada_tree.specs.Names.{Ident, NameTree, SelectorTree, component, dereference, PathTree}
-use Rattle.ada_tree.specs.Expressions.{ExpressionTree, number_expression, null_expression, path_expression, aggregate_expression, enclosed_expression, unary_expression, binary_expression, ItemsTree, an_item, RightTree, expression_right, allocator_right, creation_right, ArgumentTree, expression_argument, text_argument, attribute_argument}
+use Rattle.ada_tree.specs.Expressions.{ExpressionTree, number_expression, null_expression, path_expression, aggregate_expression, enclosed_expression, unary_expression, binary_expression, ItemsTree, no_more_items, an_item, RightTree, expression_right, allocator_right, creation_right, ArgumentTree, expression_argument, text_argument, attribute_argument}
 use Rattle.ada_tree.specs.Records.{StaticTree}
 use Rattle.ada_tree.specs.Declarations.{ChoiceTree, named_choice, others_choice}
 use Rattle.ada_tree.specs.Statements.{DeclarationTree, exception_declaration, constant_declaration, object_declaration, incomplete_type, access_type, record_type, instance, DeclarationsTree, no_declarations, a_declaration, SchemeTree, endless, while_scheme, for_scheme, StatementTree, null_statement, assignment, call, if_statement, loop_statement, exit_statement, return_statement, raise_statement, block, declare_block, StatementsTree, no_statements, a_statement, BranchesTree, no_branches, a_branch, HandlersTree, no_handlers, a_handler, SequenceTree, a_sequence, UnitTree}
@@ -20,7 +20,7 @@ use Rattle.ada_program.specs.ProgramForm.{ComponentForm, TypeForm, record_of, Pr
 use Rattle.ada_program.specs.WellFormed as fits
 use Rattle.ada_resolve.specs.Library.{library_name}
 use Rattle.ada_resolve.specs.declared.library.LibraryName.TheVariants.{PutLine, Get}
-use Rattle.ada_resolve.specs.Naming.{Context, Place, Meaning, an_incomplete_type, a_type, a_number, an_exception, an_instance, a_variable, meaning_among, IsExceptionNamed, IsNumberNamed, IsVariableNamed, IsStaticRead, IsTypeRead, IsInstanceRead, IsInstanceNamed, IsKindNamed, truth_name}
+use Rattle.ada_resolve.specs.Naming.{Context, Place, Meaning, an_incomplete_type, a_type, a_number, an_exception, an_instance, a_variable, a_parameter, meaning_among, IsPredefined, IsExceptionNamed, IsNumberNamed, IsVariableNamed, IsObjectNamed, IsFullTypeNamed, IsStaticRead, IsTypeRead, IsInstanceRead, IsInstanceNamed, IsKindNamed, truth_name}
 use Rattle.ada_resolve.specs.Known.{parts_of}
 use Rattle.ada_resolve.specs.Operators.{joined}
 use Rattle.ada_resolve.specs.Statics.{at_most_greatest, integer_of}
@@ -49,14 +49,18 @@ AreSelectorsRead p kind (component i ∷ selectors) [] = ⊥
 AreSelectorsRead p kind (component i ∷ selectors) (c ∷ cs) =
     IsComponentNamed p kind i.text c × AreSelectorsRead p (fits.selected_kind p.types kind c) selectors cs
 
--- A path (4.1): its variable has the name that is written, so have its components, and it stands where its first name does.
+-- A path (4.1): its object has the name that is written, so have its components, and it stands where its first name does.
 pub record IsPathRead (p : Context) (tree : PathTree) (path : PathForm) : Type 0 where
-  pub root : IsVariableNamed p tree.root.text path.root
+  pub root : IsObjectNamed p tree.root.text path.root
   pub selectors : AreSelectorsRead p (fits.variable_kind p.variables path.root) tree.selectors path.selectors
   pub spot : path.spot ≡ tree.root.spot
 
--- A path where a value is wanted (4.1): a variable or a component is read; a lone name may also be that of a number declaration, whose
--- value it has (3.3.2), or True or False (3.5.3).
+-- A path whose object is assigned, read from the input or freed: it begins at a variable, since a constant keeps its value (3.3, 5.2, 6.4.1).
+abbrev pub IsTargetRead : Context → PathTree → PathForm → Type 0
+IsTargetRead p tree path = IsPathRead p tree path × IsVariableNamed p tree.root.text path.root
+
+-- A path where a value is wanted (4.1): a variable, a loop parameter or a component is read; a lone name may also be that of a number
+-- declaration, whose value it has (3.3.2), or True or False (3.5.3).
 pub data IsValueRead (p : Context) (tree : PathTree) : ExpressionForm → Type 0 where
   read_path : {path : PathForm} → IsPathRead p tree path → IsValueRead p tree (reads path)
   read_number : {n : ℤ} → tree.selectors ≡ [] → IsNumberNamed p tree.root.text n → IsValueRead p tree (integer n)
@@ -115,17 +119,24 @@ pub data IsItemFor : ItemsTree → ℕ → ℕ → List ℕ → ExpressionTree �
   by_name : {label : Ident} {e : ExpressionTree} {rest : ItemsTree} {at c : ℕ} → IsItemFor (an_item (Some label) e rest) at c label.text e
   further : {label : Option Ident} {e f : ExpressionTree} {rest : ItemsTree} {at c : ℕ} {name : List ℕ} → IsItemFor rest (at + 1) c name f → IsItemFor (an_item label e rest) at c name f
 
--- Each item of an allocation is what is written for its component (4.3.1).
+-- How many items are written.
+abbrev pub how_many : ItemsTree → ℕ
+how_many no_more_items = 0
+how_many (an_item label e rest) = how_many rest + 1
+
+-- Each component of a new object has one item, which is what is written for it, and no item is left out (4.3.1).
 abbrev pub AreItemsRead : Context → List ComponentForm → ItemsTree → List ItemForm → Type 0
 AreItemsRead p components items forms =
-    (c : ℕ) (form : ItemForm) → slice_get forms c ≡ Some form →
-    (d : ComponentForm) × (e : ExpressionTree) × (slice_get components c ≡ Some d) × IsItemFor items 0 c d.name e × IsItemRead p e form
+    (how_many items ≡ length components) × (length forms ≡ length components) ×
+    ((c : ℕ) (form : ItemForm) → slice_get forms c ≡ Some form →
+    (d : ComponentForm) × (e : ExpressionTree) × (slice_get components c ≡ Some d) × IsItemFor items 0 c d.name e × IsItemRead p e form)
 
--- A new object (4.8) is of the type that is named, which the access type designates, and holds its items.
+-- A new object (4.8) is of the record type that the name stands for there, which the access type designates, and holds its items.
 pub record IsAllocationRead (p : Context) (type_name : Ident) (items : ItemsTree) (access : ℕ) (forms : List ItemForm) : Type 0 where
   pub t : ℕ
   pub components : List ComponentForm
   pub designates : fits.designated_type p.types access ≡ Some t
+  pub bound : IsFullTypeNamed p type_name.text t
   pub named : slice_get p.types t ≡ Some (record_of type_name.text components)
   pub filled : AreItemsRead p components items forms
 
@@ -152,14 +163,16 @@ abbrev pub IsImage : Ident → Ident → Type 0
 IsImage prefix attribute = (prefix.text ≡ codes "INTEGER") × (attribute.text ≡ codes "IMAGE")
 
 -- A call (6.4) of an instance frees what its one actual names, by the access type that the instance is for (13.11.2); a call of Get reads a
--- number of the input to what its one actual names; a call of Put_Line writes its one actual, a value or a text (A.10.7).
+-- number of the input to what its one actual names; a call of Put_Line writes its one actual, a value or a text (A.10.7). A text that is
+-- written is the next of the program's texts.
 abbrev pub IsCallRead : Context → PathTree → List ArgumentTree → StmtForm → Type 0
 IsCallRead p procedure (expression_argument (path_expression tree) ∷ []) (frees access path) =
-    (procedure.selectors ≡ []) × IsInstanceNamed p procedure.root.text access × IsPathRead p tree path
-IsCallRead p procedure (expression_argument (path_expression tree) ∷ []) (gets path) = IsGet procedure × IsPathRead p tree path
+    (procedure.selectors ≡ []) × IsInstanceNamed p procedure.root.text access × IsTargetRead p tree path
+IsCallRead p procedure (expression_argument (path_expression tree) ∷ []) (gets path) = IsGet procedure × IsTargetRead p tree path
 IsCallRead p procedure (attribute_argument prefix attribute value ∷ []) (writes form) =
     IsPutLine procedure × IsImage prefix attribute × IsExpressionRead p value form
-IsCallRead p procedure (text_argument spot text ∷ []) (writes_text n) = IsPutLine procedure × (slice_get p.texts n ≡ Some text)
+IsCallRead p procedure (text_argument spot text ∷ []) (writes_text n) =
+    IsPutLine procedure × (n ≡ p.place.texts) × (slice_get p.texts n ≡ Some text)
 IsCallRead p procedure arguments other = ⊥
 
 -- The condition behind `when`, or none where none is written (5.7).
@@ -201,6 +214,10 @@ inside place = record place { here = []; outer = place.here ++ place.outer; firs
 abbrev pub behind : Place → (end : Place) → Place
 behind place end = record end { here = place.here; outer = place.outer; first_type = place.first_type }
 
+-- A name that may be declared at a place: the innermost part has not declared it yet (8.3), and it is not predefined (A.1).
+abbrev pub IsNew : Place → Ident → Type 0
+IsNew place name = (meaning_among name.text place.here ≡ None) × (IsPredefined name.text → ⊥)
+
 -- The place once the name is bound to this too.
 abbrev pub with_binding : Ident → Meaning → Place → Place
 with_binding name meaning place = record place { here = record { text = name.text; meaning = meaning } ∷ place.here }
@@ -221,6 +238,10 @@ with_new_exception name place = record (with_binding name (an_exception place.ex
 abbrev pub with_new_variable : Ident → Place → Place
 with_new_variable name place = record (with_binding name (a_variable place.variables) place) { variables = place.variables + 1 }
 
+-- The place once the next variable is the loop parameter of the name (5.5).
+abbrev pub with_loop_parameter : Ident → Place → Place
+with_loop_parameter name place = record (with_binding name (a_parameter place.variables) place) { variables = place.variables + 1 }
+
 -- The initial value of a variable (3.3.1): what is written; an access value is null where nothing is (3.10).
 abbrev pub IsInitialRead : Context → VariableKind → Option RightTree → RightForm → Type 0
 IsInitialRead p kind (Some right) form = IsRightRead p right form
@@ -234,11 +255,12 @@ pub record IsObjectRead (p : Context) (name : Ident) (type_name : NameTree) (ini
   pub kind_named : IsKindNamed p type_name kind
   pub starts : IsInitialRead p kind initial form
 
--- Objects, one for one (3.11), up to the end of a part: each is the next variable, and nothing else follows.
+-- Objects, one for one (3.11), up to the end of a part: each is the next variable, of a new name, and nothing else follows.
 abbrev pub AreObjectsRead : Context → DeclarationsTree → List DeclarationForm → (end : Place) → Type 0
 AreObjectsRead p no_declarations [] end = end ≡ p.place
 AreObjectsRead p (a_declaration (object_declaration name type_name initial) ds) (declares x form ∷ forms) end =
-    (x ≡ p.place.variables) × IsObjectRead p name type_name initial x form × AreObjectsRead (read_at (with_new_variable name p.place) p) ds forms end
+    (x ≡ p.place.variables) × IsNew p.place name × IsObjectRead p name type_name initial x form ×
+    AreObjectsRead (read_at (with_new_variable name p.place) p) ds forms end
 AreObjectsRead p ds forms end = ⊥
 
 -- Whether a number is one of these.
@@ -272,13 +294,14 @@ declared_type (record_type spot name definition) = Some name
 declared_type other = None
 
 -- The rest of a declarative part, up to its end (3.11), where the collections of these access types are created before (7.6.1). Each name is
--- bound behind its declaration. An incomplete type is the next type, and a full type declaration of its name in the same part completes it; any
--- other one declares the next type. An instance creates the collection of its access type; those of the others are created where the types end,
--- by when all are completed, and then each object in order; a type, a number or an exception creates nothing.
+-- new in the part, and is bound behind its declaration. An incomplete type is the next type, and a full type declaration in the same part
+-- completes it: that alone has a name that the part has declared already (8.3). Any other full type declaration declares the next type. An
+-- instance creates the collection of its access type; those of the others are created where the types end, by when all are completed, and then
+-- each object in order; a type, a number or an exception creates nothing.
 pub data IsPartRead : Context → List ℕ → DeclarationsTree → List DeclarationForm → (end : Place) → Type 0 where
   part_incomplete_type :
       {p : Context} {made : List ℕ} {spot : Spot} {name : Ident} {ds : DeclarationsTree} {forms : List DeclarationForm} {end : Place} →
-      IsPartRead (read_at (with_incomplete_type name p.place) p) made ds forms end →
+      IsNew p.place name → IsPartRead (read_at (with_incomplete_type name p.place) p) made ds forms end →
       IsPartRead p made (a_declaration (incomplete_type spot name) ds) forms end
   part_completion :
       {p : Context} {made : List ℕ} {t : ℕ} {name : Ident} {d : DeclarationTree} {ds : DeclarationsTree} {forms : List DeclarationForm} {end : Place} →
@@ -286,19 +309,21 @@ pub data IsPartRead : Context → List ℕ → DeclarationsTree → List Declara
       IsPartRead (read_at (with_binding name (a_type t) p.place) p) made ds forms end → IsPartRead p made (a_declaration d ds) forms end
   part_new_type :
       {p : Context} {made : List ℕ} {name : Ident} {d : DeclarationTree} {ds : DeclarationsTree} {forms : List DeclarationForm} {end : Place} →
-      declared_type d ≡ Some name → meaning_among name.text p.place.here ≡ None → IsTypeRead p d p.place.types →
+      declared_type d ≡ Some name → IsNew p.place name → IsTypeRead p d p.place.types →
       IsPartRead (read_at (with_new_type name p.place) p) made ds forms end → IsPartRead p made (a_declaration d ds) forms end
   part_number :
       {p : Context} {made : List ℕ} {name : Ident} {value : StaticTree} {n : ℤ} {ds : DeclarationsTree} {forms : List DeclarationForm} {end : Place} →
-      IsStaticRead p value n → IsPartRead (read_at (with_binding name (a_number n) p.place) p) made ds forms end →
+      IsNew p.place name → IsStaticRead p value n →
+      IsPartRead (read_at (with_binding name (a_number n) p.place) p) made ds forms end →
       IsPartRead p made (a_declaration (constant_declaration name value) ds) forms end
   part_exception :
       {p : Context} {made : List ℕ} {name : Ident} {ds : DeclarationsTree} {forms : List DeclarationForm} {end : Place} →
-      slice_get p.exceptions p.place.exceptions ≡ Some name.text → IsPartRead (read_at (with_new_exception name p.place) p) made ds forms end →
+      IsNew p.place name → slice_get p.exceptions p.place.exceptions ≡ Some name.text →
+      IsPartRead (read_at (with_new_exception name p.place) p) made ds forms end →
       IsPartRead p made (a_declaration (exception_declaration name) ds) forms end
   part_instance :
       {p : Context} {made : List ℕ} {spot : Spot} {name object access : Ident} {generic : NameTree} {t : ℕ} {ds : DeclarationsTree} {forms : List DeclarationForm} {end : Place} →
-      IsInstanceRead p generic object access t →
+      IsNew p.place name → IsInstanceRead p generic object access t →
       IsPartRead (read_at (with_binding name (an_instance t) p.place) p) (t ∷ made) ds forms end →
       IsPartRead p made (a_declaration (instance spot name generic object access) ds) (collects t ∷ forms) end
   part_objects :
@@ -309,17 +334,23 @@ pub data IsPartRead : Context → List ℕ → DeclarationsTree → List Declara
 -- exception of its name (11.3).
 abbrev pub IsSimpleRead : Context → StatementTree → StmtForm → Type 0
 IsSimpleRead p (null_statement spot) skips = Unit {0}
-IsSimpleRead p (assignment target value) (assigns path right) = IsPathRead p target path × IsRightRead p value right
+IsSimpleRead p (assignment target value) (assigns path right) = IsTargetRead p target path × IsRightRead p value right
 IsSimpleRead p (call procedure arguments) form = IsCallRead p procedure arguments form
 IsSimpleRead p (exit_statement spot written) (exits condition at) = IsConditionRead p written condition × (at ≡ spot)
 IsSimpleRead p (return_statement spot) (returns at) = at ≡ spot
 IsSimpleRead p (raise_statement spot name) (raises e) = IsExceptionNamed p name e
 IsSimpleRead p statement form = ⊥
 
--- A loop parameter is the next variable, an Integer of the name, and its bounds are what is written (5.5).
+-- The place behind a statement with no others in it, which may write one more text.
+abbrev pub behind_simple : StmtForm → Place → Place
+behind_simple (writes_text n) place = record place { texts = place.texts + 1 }
+behind_simple other place = place
+
+-- A loop parameter, which is declared in a part of its own, is the next variable, an Integer of the name; its bounds are what is written (5.5).
 abbrev pub IsRangeRead : Context → Ident → (low high : ExpressionTree) → (x : ℕ) → (from to : ExpressionForm) → Type 0
 IsRangeRead p name low high x from to =
-    (x ≡ p.place.variables) × (slice_get p.variables x ≡ Some (record { name = name.text; kind = variable.Integer })) ×
+    (x ≡ p.place.variables) × IsNew (inside p.place) name ×
+    (slice_get p.variables x ≡ Some (record { name = name.text; kind = variable.Integer })) ×
     IsExpressionRead p low from × IsExpressionRead p high to
 
 -- The declarative part of a block (5.6), up to its end: an inner part.
@@ -333,7 +364,7 @@ abbrev mutual
   IsStatementRead p (if_statement spot branches others last) (chooses forms) end = AreBranchesRead p branches others forms end
   IsStatementRead p (loop_statement spot (for_scheme name low high) ss last) (counts x from to forms end_spot) end =
       IsRangeRead p name low high x from to × (end_spot ≡ last) ×
-      (done : Place) × AreStatementsRead (read_at (with_new_variable name (inside p.place)) p) ss forms done × (end ≡ behind p.place done)
+      (done : Place) × AreStatementsRead (read_at (with_loop_parameter name (inside p.place)) p) ss forms done × (end ≡ behind p.place done)
   IsStatementRead p (loop_statement spot scheme ss last) (repeats condition forms end_spot) end =
       IsSchemeRead p scheme condition × (end_spot ≡ last) × AreStatementsRead p ss forms end
   IsStatementRead p (block (a_sequence start ss hs last)) (encloses elaborated forms handled) end =
@@ -342,7 +373,7 @@ abbrev mutual
   IsStatementRead p (declare_block spot ds (a_sequence start ss hs last)) (encloses elaborated forms handled) end =
       (declared done ended : Place) × BeginsInside p ds elaborated declared × AreStatementsRead (read_at declared p) ss forms done ×
       AreHandlersRead (read_at done p) hs handled ended × (end ≡ behind p.place ended)
-  IsStatementRead p statement form end = IsSimpleRead p statement form × (end ≡ p.place)
+  IsStatementRead p statement form end = IsSimpleRead p statement form × (end ≡ behind_simple form p.place)
 
   -- Statements, one for one (5.1).
   pub AreStatementsRead : Context → StatementsTree → StmtsForm → (end : Place) → Type 0
@@ -370,7 +401,7 @@ abbrev mutual
 
 -- The place before the first declaration of a tree.
 abbrev pub first_place : Place
-first_place = record { here = []; outer = []; first_type = 0; types = 0; variables = 0; exceptions = 0 }
+first_place = record { here = []; outer = []; first_type = 0; types = 0; variables = 0; exceptions = 0; texts = 0 }
 
 -- A tree is read from there, by the tables of a program.
 abbrev pub first_context : ProgramForm → Context
@@ -390,16 +421,19 @@ statements_in (a_sequence start ss hs last) = ss
 abbrev pub handlers_in : SequenceTree → HandlersTree
 handlers_in (a_sequence start ss hs last) = hs
 
--- The program has as many types, variables and exceptions as the text up to the place declares.
+-- The program has as many types, variables and exceptions as the text up to the place declares, and as many texts as it writes, and no more.
 pub record AreCounted (program : ProgramForm) (end : Place) : Type 0 where
   pub types : length program.types ≡ end.types
   pub variables : length program.variables ≡ end.variables
   pub exceptions : length program.exceptions ≡ end.exceptions
+  pub texts : length program.texts ≡ end.texts
 
 -- Each declaration and each statement of the program is what the tree says there: nothing is left out, put in or filled up in silence, and each
--- name, literal, operator and text is the one that is written. Types, variables and exceptions are numbered in the order of the text, each has a
--- number of its own, and a name stands for what its innermost declaration declares (8.3).
+-- name, literal, operator and text is the one that is written. Types, variables, exceptions and the texts of Put_Line are numbered in the order
+-- of the text, and each has a number of its own. A name stands for what its innermost declaration declares; a part declares a name once (8.3),
+-- no declaration has a predefined one (A.1), and nothing is written to a loop parameter (5.5).
 pub record IsReadAs (tree : UnitTree) (program : ProgramForm) : Type 0 where
+  pub own_name : IsNew first_place tree.name
   pub declared : Place
   pub done : Place
   pub end : Place

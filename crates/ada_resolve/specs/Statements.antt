@@ -1,79 +1,19 @@
 -- Statements: what is wrong with each, and what it does.
 
-use Rattle.std.specs.Prelude.{ℕ, Bool, not, if◌then◌else◌, List, [], ◌∷◌, ◌++◌, length, Option, Some, None}
+use Rattle.std.specs.Prelude.{ℕ, Bool, not, List, [], ◌∷◌, ◌++◌, length, Option, Some, None}
 use Rattle.ada_text.specs.declared.spot.Spot.{Spot}
-use Rattle.ada_tree.specs.Names.{Ident, PathTree}
-use Rattle.ada_tree.specs.Expressions.{ExpressionTree, RightTree, ArgumentTree, expression_argument, text_argument, attribute_argument}
+use Rattle.ada_tree.specs.Expressions.{ExpressionTree, ArgumentTree, expression_argument, text_argument, attribute_argument}
 use Rattle.ada_tree.specs.Statements.{StatementTree, null_statement, assignment, call, exit_statement, return_statement, raise_statement}
-use Rattle.ada_program.specs.Form.{ExpressionForm, RightForm, StmtForm, skips, assigns, exits, returns}
-use Rattle.ada_program.specs.declared.program.VariableKind.{VariableKind}
-use Rattle.ada_program.specs.declared.program.VariableNo.{VariableNo}
-use Rattle.ada_resolve.specs.declared.fault.NameRule.TheVariants.{WrongType, NotInProfile}
-use Rattle.ada_resolve.specs.declared.scope.Entity.{Entity}
-use Rattle.ada_resolve.specs.declared.scope.Entity.TheVariants as entity
-use Rattle.ada_resolve.specs.Known.{Known, visible, missing, is_empty}
-use Rattle.ada_resolve.specs.Paths.{variable_path}
+use Rattle.ada_program.specs.Form.{ExpressionForm, StmtForm, skips, exits, returns}
+use Rattle.ada_resolve.specs.declared.fault.NameRule.TheVariants.{NotInProfile}
+use Rattle.ada_resolve.specs.Assignments.{assignment_found, assignment_remark}
+use Rattle.ada_resolve.specs.Known.{Known}
 use Rattle.ada_resolve.specs.Remark.{Remark, fine, wrong, node, ◌also◌, wrong_if}
 use Rattle.ada_resolve.specs.Spots.{expression_spot, statement_spot}
 use Rattle.ada_resolve.specs.Expressions.{expression_meant, expression_remark}
 use Rattle.ada_resolve.specs.Operators.{boolean_in, boolean_wanted, integer_in, integer_wanted}
 use Rattle.ada_resolve.specs.Calls.{call_found, call_remark}
 use Rattle.ada_resolve.specs.Exceptions.{raise_found, raise_remark}
-use Rattle.ada_resolve.specs.Rights.{right_found, right_remark}
-
--- The variable that a name stands for, and what it holds.
-abbrev pub variable_in : Option Entity → Option (VariableNo × VariableKind)
-variable_in (Some (entity.Variable x kind)) = Some (x, kind)
-variable_in (Some other) = None
-variable_in None = None
-
--- The variable that is assigned to, or `None` where something is wrong.
-abbrev pub target_found : Known → Ident → Option (VariableNo × VariableKind)
-target_found known name = variable_in (visible known name.text)
-
--- A variable is wanted: another thing of that name is of the wrong kind (8.6).
-abbrev pub variable_wanted : Option Entity → Ident → Remark
-variable_wanted (Some (entity.Variable x kind)) name = fine
-variable_wanted (Some other) name = wrong name.spot WrongType
-variable_wanted None name = missing None name
-
--- What is wrong with a name where a variable is assigned to (5.2).
-abbrev pub target_remark : Known → Ident → Remark
-target_remark known name = variable_wanted (visible known name.text) name
-
--- What the variable holds, where it is known.
-abbrev pub kind_of_target : Option (VariableNo × VariableKind) → Option VariableKind
-kind_of_target (Some found) = Some found.1
-kind_of_target None = None
-
--- What is wrong with a name that is assigned to, and with the value (5.2).
-abbrev pub named_assignment_remark : Known → Ident → RightTree → Remark
-named_assignment_remark known name value = target_remark known name also right_remark known (kind_of_target (target_found known name)) value
-
--- What is wrong with `X := ..;` (5.2): a node of the source, a variable, and a value of its type.
-unfoldable pub assignment_remark : Known → PathTree → RightTree → Remark
-assignment_remark known target value =
-    if is_empty target.selectors
-    then node target.root.spot also named_assignment_remark known target.root value
-    else wrong target.root.spot NotInProfile
-
--- The assignment of a value to a variable, which is named at the spot, or `None` where either is not known.
-abbrev pub assignment_of : Spot → Option (VariableNo × VariableKind) → Option RightForm → Option StmtForm
-assignment_of spot (Some found) (Some value) = Some (assigns (variable_path found.0 spot) value)
-assignment_of spot (Some found) None = None
-assignment_of spot None value = None
-
--- What an assignment to a name does, or `None` where something is wrong.
-abbrev pub named_assignment_found : Known → Ident → RightTree → Option StmtForm
-named_assignment_found known name value =
-    assignment_of name.spot (target_found known name) (right_found known (kind_of_target (target_found known name)) value)
-
--- What an assignment does, or `None` where something is wrong.
-unfoldable pub assignment_found : Known → PathTree → RightTree → Option StmtForm
-assignment_found known target value =
-    if is_empty target.selectors
-    then named_assignment_found known target.root value
-    else None
 
 -- What is wrong with a condition (5.3): it is a Boolean.
 abbrev pub condition_remark : Known → ExpressionTree → Remark

@@ -2,16 +2,18 @@
 
 use Rattle.std.specs.Prelude.{◌≡◌, ℕ, List, map, reverse, Option, Some, None, option_map, Result, Ok, Err}
 use Rattle.ada_tree.specs.Statements.{UnitTree}
-use Rattle.ada_program.specs.Form.{RightForm, StmtForm, StmtsForm, ItemForm, LinksForm, a_link, no_more_links, path_form, expression_form, right_form, item_form, stmt_form, stmts_form, branches_form, condition_form, BranchesForm, ExpressionForm, declaration_form, HandlersForm, handlers_form}
+use Rattle.ada_program.specs.Form.{PathForm, RightForm, StmtForm, StmtsForm, ItemForm, LinksForm, a_link, no_more_links, path_form, expression_form, right_form, item_form, stmt_form, stmts_form, branches_form, condition_form, BranchesForm, ExpressionForm, declaration_form, HandlersForm, handlers_form}
 use Rattle.ada_program.specs.ProgramForm.{variable_form}
 use Rattle.ada_program.specs.declared.program.Item.{Item}
 use Rattle.ada_program.specs.declared.program.Link.{Link}
+use Rattle.ada_program.specs.declared.program.Path.{Path}
 use Rattle.ada_program.specs.declared.program.Right.{Right}
 use Rattle.ada_program.specs.declared.program.Branch.{Branch}
 use Rattle.ada_program.specs.declared.program.Choice.{Choice}
 use Rattle.ada_program.specs.declared.program.Handler.{Handler}
 use Rattle.ada_program.specs.declared.program.Stmt.{Stmt}
 use Rattle.ada_program.specs.declared.program.TypeNo.{TypeNo}
+use Rattle.ada_program.specs.declared.program.VariableKind.{VariableKind}
 use Rattle.ada_text.specs.declared.spot.Spot.{Spot}
 use Rattle.ada_resolve.specs.declared.fault.NameFault.{NameFault}
 use Rattle.ada_resolve.specs.declared.fault.NameFault.TheVariants.{Broken, NoMemory}
@@ -93,6 +95,11 @@ filling_in f = record { count = f.count; slots = map item_in f.slots.items; whol
 abbrev pub right_in : Option Right → Option RightForm
 right_in (Some value) = Some (right_form value)
 right_in None = None
+
+-- What is assigned to, and what that holds, where they are known.
+abbrev pub target_in : Option (Path × VariableKind) → Option (PathForm × VariableKind)
+target_in (Some found) = Some (path_form found.0, found.1)
+target_in None = None
 
 -- What a statement does, where that is known.
 abbrev pub stmt_in : Option Stmt → Option StmtForm

@@ -28,7 +28,8 @@ impl<'t> Resolver<'t> {
         access: Option<TypeNo>,
         notes: &mut Notes,
     ) -> Result<Option<program::Right>, NameFault>
-        ensures { Looks right_in result notes (aggregate_look self access spot type_name.entry items.now) }
+        ensures { Looks right_in result notes
+            (aggregate_look self access spot type_name.entry items.now) }
     {
         let found = self.allocated_type(spot, type_name, access, notes);
         let filling = self.items(items, found, notes)?;
@@ -52,7 +53,8 @@ impl<'t> Resolver<'t> {
         notes: &mut Notes,
     ) -> Option<TypeNo>
         ensures found { result ≡ allocated_found (known self) (ident_of name.entry) }
-        ensures remark { IsNoted notes (allocated_remark (known self) access spot (ident_of name.entry)) }
+        ensures remark { IsNoted notes
+            (allocated_remark (known self) access spot (ident_of name.entry)) }
     {
         match self.lookup(name, notes) {
             Some(Entity::Record(number)) => {

@@ -77,7 +77,8 @@ impl<'t> Resolver<'t> {
         value: &Expression<'t>,
         notes: &mut Notes,
     ) -> Result<program::Expression, NameFault>
-        ensures { Looks expression_form result notes (image_look self prefix.entry attribute.entry value.now) }
+        ensures { Looks expression_form result notes
+            (image_look self prefix.entry attribute.entry value.now) }
     {
         self.image(prefix, attribute, notes);
         let meant = self.expression(value, notes)?;

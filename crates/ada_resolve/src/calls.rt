@@ -60,7 +60,8 @@ impl<'t> Resolver<'t> {
         text: TextNo,
         notes: &mut Notes,
     ) -> Result<Option<Stmt>, NameFault>
-        ensures { Looks stmt_in result notes (library_call_look self found text.0 called arguments.now) }
+        ensures { Looks stmt_in result notes
+            (library_call_look self found text.0 called arguments.now) }
     {
         match found {
             Some(LibraryName::PutLine) => self.put_line(called, arguments, text, notes),
@@ -184,7 +185,8 @@ impl<'t> Resolver<'t> {
 
     /// An expression that is no path is of the wrong kind.
     fn no_path(&self, value: &Expression<'t>, notes: &mut Notes) -> Result<(), NameFault>
-        ensures remark { Remarks result notes (no_path_remark (known self) (expression_of value.now)) }
+        ensures remark { Remarks result notes
+            (no_path_remark (known self) (expression_of value.now)) }
         ensures memory { IfErr result (λ e. e ≡ NameFault.NoMemory) }
     {
         notes.note(expression_spot(value), NameRule::WrongType);
@@ -218,17 +220,14 @@ fn getting(meant: Meant, spot: Spot, notes: &mut Notes) -> Option<Stmt>
     }
 }
 
-/// The Integer is a variable: no component is in use where a number of the input goes.
+/// The Integer is a variable or a component, to which the next number of the input goes.
 #[tactic(auto, using(std::proofs::lemmas::Grind::common_steps, ada_program::specs::Form::statement_rules, ada_program::specs::Form::expression_rules))]
 fn getting_integer(value: program::Expression, spot: Spot, notes: &mut Notes) -> Option<Stmt>
     ensures found { stmt_in result ≡ getting (integer_value (expression_form value)) }
     ensures remark { IsNoted notes (got_wanted (integer_value (expression_form value)) spot) }
 {
     match value {
-        program::Expression::Path(path) => {
-            notes.note_if(!path.selectors.is_empty(), spot, NameRule::NotInProfile);
-            Some(Stmt::Get(path))
-        }
+        program::Expression::Path(path) => Some(Stmt::Get(path)),
         program::Expression::Integer(_)
         | program::Expression::Boolean(_)
         | program::Expression::NullTest { .. }

@@ -77,7 +77,8 @@ impl<'t> Resolver<'t> {
         notes: &mut Notes,
     ) -> Option<Exception>
         ensures found { result ≡ exception_in (entity_of self name.entry) alone }
-        ensures remark { IsNoted notes (exception_wanted (entity_of self name.entry) alone (ident_of name.entry)) }
+        ensures remark { IsNoted notes
+            (exception_wanted (entity_of self name.entry) alone (ident_of name.entry)) }
     {
         match self.lookup(name, notes) {
             Some(Entity::Exception(exception)) if alone => Some(exception),

@@ -95,7 +95,8 @@ impl<'t> Resolver<'t> {
         requires room { filling.old.count < usize.MAX }
         ensures count { OnOk result (filling.new.count ≡ filling.old.count + 1) }
         ensures filling { OnOk result (Fills filling (item_filling self found is_named item.now)) }
-        ensures remark { Remarks result notes (written_item_remark self found is_named filling item.now) }
+        ensures remark { Remarks result notes
+            (written_item_remark self found is_named filling item.now) }
         ensures memory { IfErr result (λ e. e ≡ NameFault.NoMemory) }
     {
         let alike = item.label.is_some() == is_named;
@@ -241,7 +242,8 @@ fn component_for<'t>(
     label: Option<Identifier<'t>>,
     at: usize,
 ) -> Option<(usize, ComponentKind)>
-    ensures { result ≡ component_for (forms_in (option_copied components.entry)) (optional_ident_of label.entry) at }
+    ensures { result ≡ component_for (forms_in (option_copied components.entry))
+        (optional_ident_of label.entry) at }
 {
     match label {
         Some(label) => components?.named(label.text),

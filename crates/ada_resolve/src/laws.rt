@@ -1,6 +1,7 @@
 //! The laws of resolution. Each is a function that does nothing, and whose contract is the theorem.
 
 ghost use Rattle.ada_tree.specs.Statements.{UnitTree};
+ghost use Rattle.ada_program.specs.Nested.{CollectionsNest};
 ghost use Rattle.ada_program.specs.ProgramForm.{ProgramForm};
 ghost use Rattle.ada_program.specs.WellFormed.{IsWellFormed};
 ghost use Rattle.ada_resolve.specs.First.{NotesTheFirst};
@@ -9,12 +10,22 @@ ghost use Rattle.ada_resolve.specs.Resolution.{Resolves};
 
 /// The program that a tree means is well formed.
 pub fn programs_are_well_formed()
-    ensures { (tree : UnitTree) (program : ProgramForm) → Resolves tree program → IsWellFormed program }
+    ensures { (tree : UnitTree) (program : ProgramForm) →
+        Resolves tree program → IsWellFormed program }
+{}
+
+/// Collections nest in the program that a tree means. No part creates a collection that is open around it. What the
+/// components of a collection's objects name lies in collections of the same part or of the parts around it, which last
+/// at least as long.
+pub fn collections_nest()
+    ensures { (tree : UnitTree) (program : ProgramForm) →
+        Resolves tree program → CollectionsNest program }
 {}
 
 /// The declarations and the statements of the program that a tree means are those of the tree, name by name.
 pub fn programs_are_read_as_written()
-    ensures { (tree : UnitTree) (program : ProgramForm) → Resolves tree program → IsReadAs tree program }
+    ensures { (tree : UnitTree) (program : ProgramForm) →
+        Resolves tree program → IsReadAs tree program }
 {}
 
 /// What is noted of a declaration or a statement, where nothing was wrong before it, is the first of the faults that are

@@ -3,6 +3,7 @@
 
 mod allocators;
 mod arguments;
+mod assignments;
 mod calls;
 mod choices;
 mod components;

@@ -171,7 +171,8 @@ impl<'t> Resolver<'t> {
 
     /// Whether a type is an access type whose collection isn't created yet.
     fn lacks_collection(&self, number: TypeNo) -> bool
-        ensures { result ≡ lacks_collection (known self).types (known self).here.elaborated number.0 }
+        ensures { result ≡ lacks_collection (known self).types
+            (known self).here.elaborated number.0 }
     {
         self.is_access(number) && !self.is_collected(number)
     }
@@ -215,7 +216,8 @@ fn initial_wanted(
     initial: &Option<expressions::Right<'_>>,
     notes: &mut Notes,
 )
-    ensures { IsNoted notes (initial_wanted found (ident_of name.entry) (optional_right_of initial.now)) }
+    ensures { IsNoted notes
+        (initial_wanted found (ident_of name.entry) (optional_right_of initial.now)) }
 {
     match found {
         Some(Entity::Integer | Entity::Boolean) => notes.note_if(

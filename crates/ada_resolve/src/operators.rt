@@ -82,7 +82,8 @@ fn equality_meant(
     left: Meant,
     right: Meant,
 ) -> Result<Meant, NameFault>
-    ensures found { Finds meant_of result (equality_meant operator (meant_of left) (meant_of right)) }
+    ensures found { Finds meant_of result
+        (equality_meant operator (meant_of left) (meant_of right)) }
     ensures memory { IfErr result (λ e. e ≡ NameFault.NoMemory) }
 {
     let equal = matches!(operator, BinaryOperator::Equal);
@@ -107,7 +108,8 @@ fn of_integers(
     operator: BinaryOperator,
     right: Meant,
 ) -> Result<Expression, NameFault>
-    ensures found { Finds expression_form result (joined (integer_in (meant_of left)) operator (integer_in (meant_of right))) }
+    ensures found { Finds expression_form result
+        (joined (integer_in (meant_of left)) operator (integer_in (meant_of right))) }
     ensures memory { IfErr result (λ e. e ≡ NameFault.NoMemory) }
 {
     joined(alloc, left.into_integer(), operator, right.into_integer())
@@ -121,7 +123,8 @@ fn joined(
     operator: BinaryOperator,
     operand: Expression,
 ) -> Result<Expression, NameFault>
-    ensures found { Finds expression_form result (joined (expression_form left) operator (expression_form operand)) }
+    ensures found { Finds expression_form result
+        (joined (expression_form left) operator (expression_form operand)) }
     ensures memory { IfErr result (λ e. e ≡ NameFault.NoMemory) }
 {
     let link = Link { operator, operand };
@@ -141,7 +144,8 @@ fn joined(
 /// A chain of one operator.
 #[tactic(auto, using(std::proofs::lemmas::Grind::common_steps, ada_program::specs::Form::expression_rules))]
 fn chain(alloc: Global, first: Expression, link: Link) -> Result<Expression, NameFault>
-    ensures found { Finds expression_form result (chained (expression_form first) (single_link link)) }
+    ensures found { Finds expression_form result
+        (chained (expression_form first) (single_link link)) }
     ensures memory { IfErr result (λ e. e ≡ NameFault.NoMemory) }
 {
     let links = vec![in alloc; link]?;
@@ -173,7 +177,8 @@ pub(crate) fn operands_wanted(
     right_spot: Spot,
     notes: &mut Notes,
 )
-    ensures { IsNoted notes (operands_remark operator (meant_of left.now) left_spot (meant_of right.now) right_spot) }
+    ensures { IsNoted notes
+        (operands_remark operator (meant_of left.now) left_spot (meant_of right.now) right_spot) }
 {
     match operator {
         BinaryOperator::Add
@@ -205,7 +210,8 @@ pub(crate) fn operands_wanted(
 
 /// What is wrong with the operands of an equality.
 fn equal_wanted(left: &Meant, left_spot: Spot, right: &Meant, right_spot: Spot, notes: &mut Notes)
-    ensures { IsNoted notes (equal_wanted (meant_of left.now) left_spot (meant_of right.now) right_spot) }
+    ensures { IsNoted notes
+        (equal_wanted (meant_of left.now) left_spot (meant_of right.now) right_spot) }
 {
     match (left.comparable(), right.comparable()) {
         (Comparable::AnyValue, _)

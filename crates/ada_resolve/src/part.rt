@@ -121,7 +121,8 @@ impl<'t> Part<'t> {
         variable: VariableNo,
         initial: Option<program::Right>,
     ) -> Result<(), NameFault>
-        ensures known { OnOk result (Elaborates self (declares variable.0 (initial_source (right_in initial)) ∷ [])) }
+        ensures known { OnOk result
+            (Elaborates self (declares variable.0 (initial_source (right_in initial)) ∷ [])) }
         ensures memory { IfErr result (λ e. e ≡ NameFault.NoMemory) }
     {
         self.declarations

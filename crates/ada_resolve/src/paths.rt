@@ -81,7 +81,8 @@ impl<'t> Resolver<'t> {
         selectors: &[Selector<'t>],
         notes: &mut Notes,
     ) -> Result<Meant, NameFault>
-        ensures { Looks meant_of result notes (variable_look self variable spot kind selectors.now) }
+        ensures { Looks meant_of result notes
+            (variable_look self variable spot kind selectors.now) }
     {
         match (kind, selectors) {
             (_, []) => Ok(alone_meant(self.alloc, variable, spot, kind)),
@@ -104,7 +105,8 @@ impl<'t> Resolver<'t> {
         component: Option<Identifier<'t>>,
         notes: &mut Notes,
     ) -> Result<Meant, NameFault>
-        ensures { Looks meant_of result notes (selection_look self variable spot access component.entry) }
+        ensures { Looks meant_of result notes
+            (selection_look self variable spot access component.entry) }
     {
         match (component, self.designated_type(access)) {
             (Some(name), Some(number)) => {

@@ -78,7 +78,8 @@ fn procedure_end<'t>(
     handlers: &[WrittenHandler<'t>],
     notes: &mut Notes,
 ) -> Result<Body, NameFault>
-    ensures { Answers result (program_in resolver.new) (end_outcome resolver.old unit.now statements handlers.now notes) }
+    ensures { Answers result (program_in resolver.new)
+        (end_outcome resolver.old unit.now statements handlers.now notes) }
 {
     let handlers = resolver.handlers(handlers, false, notes)?;
     same_name(unit.name, unit.end_name)?;
@@ -156,7 +157,8 @@ pub(crate) fn alone(name: Identifier<'_>, spot: Spot, notes: &mut Notes)
 
 /// The name after `end` is the procedure's own, where one is written (6.3).
 fn same_name(name: Identifier<'_>, last: Option<Identifier<'_>>) -> Result<(), NameFault>
-    ensures { Tells result done (same_name name.entry.text.now (optional_ident_of last.entry) done) }
+    ensures { Tells result done
+        (same_name name.entry.text.now (optional_ident_of last.entry) done) }
 {
     match last {
         Some(end) if end.text != name.text => Err(NameFault::Broken {

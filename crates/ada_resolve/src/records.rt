@@ -87,8 +87,10 @@ impl<'t> Resolver<'t> {
         components: &mut Components<'t>,
         notes: &mut Notes,
     ) -> Result<(), NameFault>
-        ensures meant { OnOk result (AddsComponent components (meant_component self component.now)) }
-        ensures remark { Remarks result notes (next_component_remark self components count component.now) }
+        ensures meant { OnOk result
+            (AddsComponent components (meant_component self component.now)) }
+        ensures remark { Remarks result notes
+            (next_component_remark self components count component.now) }
         ensures memory { IfErr result (λ e. e ≡ NameFault.NoMemory) }
     {
         let name = component.name;
@@ -140,7 +142,8 @@ impl<'t> Resolver<'t> {
     /// The initial value of an Integer component, which has one.
     fn initial_value(&self, component: &ComponentDefinition<'t>, notes: &mut Notes) -> i32
         ensures value { result ≡ initial_value (known self) (component_of component.now).initial }
-        ensures remark { IsNoted notes (first_integer_remark (known self) (component_of component.now)) }
+        ensures remark { IsNoted notes
+            (first_integer_remark (known self) (component_of component.now)) }
     {
         match &component.initial {
             Some(value) => self.static_value(value, notes),
@@ -154,7 +157,8 @@ impl<'t> Resolver<'t> {
     /// The initial value of a Boolean component, which has one too.
     fn initial_truth(&self, component: &ComponentDefinition<'t>, notes: &mut Notes) -> bool
         ensures value { result ≡ initial_truth (known self) (component_of component.now).initial }
-        ensures remark { IsNoted notes (first_truth_remark (known self) (component_of component.now)) }
+        ensures remark { IsNoted notes
+            (first_truth_remark (known self) (component_of component.now)) }
     {
         match &component.initial {
             Some(value) => self.static_truth(value, notes),

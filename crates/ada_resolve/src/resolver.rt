@@ -176,8 +176,10 @@ impl<'t> Resolver<'t> {
         rest: &[Identifier<'t>],
         notes: &mut Notes,
     ) -> Option<LibraryName>
-        ensures found { result ≡ library_found (known self) (ident_of first.entry) (map ident_of rest.now) }
-        ensures remark { IsNoted notes (library_remark (known self) (ident_of first.entry) (map ident_of rest.now)) }
+        ensures found { result
+            ≡ library_found (known self) (ident_of first.entry) (map ident_of rest.now) }
+        ensures remark { IsNoted notes
+            (library_remark (known self) (ident_of first.entry) (map ident_of rest.now)) }
     {
         let name = library_name(first.text, rest);
         if let LibraryName::Unknown = name {

@@ -2,25 +2,22 @@
 
 ghost use Rattle.std.specs.Prelude.{◌≡◌, length, map, OnOk, IfErr};
 ghost use Rattle.ada_tree.specs.ExpressionView.{argument_of};
-ghost use Rattle.ada_tree.specs.Names.{ident_of};
 ghost use Rattle.ada_tree.specs.StatementView.{branch_of, handler_of, sequence_of, statement_of, statements_of};
 ghost use Rattle.ada_program.specs.Form.{expression_form, stmt_form};
 ghost use Rattle.ada_resolve.specs.Known.{with_part};
-ghost use Rattle.ada_resolve.specs.Look.{Looks, assignment_look, condition_look, exit_look, named_assignment_look, statement_look};
+ghost use Rattle.ada_resolve.specs.Look.{Looks, condition_look, exit_look, statement_look};
 ghost use Rattle.ada_resolve.specs.Method.{known, IsNoted, Changes, Does, DoesBranches, Takes, branches_come, handlers_of};
 ghost use Rattle.ada_resolve.specs.Resolution.{block_told, body_remark, branch_told, handler_told, handlers_told, node_told, simple_told, statement_told, statements_told};
-ghost use Rattle.ada_resolve.specs.Statements.{simple_texts, target_found, target_remark, form_or_null, text_in, with_texts};
+ghost use Rattle.ada_resolve.specs.Statements.{simple_texts, form_or_null, text_in, with_texts};
 ghost use Rattle.ada_resolve.specs.View.{branch_form, handler_form, handlers_in, stmt_in, statements_in};
 
 use crate::fault::{NameFault, NameRule};
 use crate::notes::Notes;
 use crate::resolver::Resolver;
-use crate::scope::Entity;
 use crate::spots::{expression_spot, statement_spot};
-use ada_program::program::{self, Branch, Handler, Stmt, TextNo, VariableKind};
-use ada_program::{Spot, VariableNo};
-use ada_tree::expressions::{Argument, Expression as Written, Right};
-use ada_tree::names::{Identifier, Path};
+use ada_program::Spot;
+use ada_program::program::{self, Branch, Handler, Stmt, TextNo};
+use ada_tree::expressions::{Argument, Expression as Written};
 use ada_tree::statements::{
     Branch as WrittenBranch, Handler as WrittenHandler, Sequence, Statement,
 };
@@ -35,7 +32,8 @@ impl<'t> Resolver<'t> {
         inside_loop: bool,
         notes: &mut Notes,
     ) -> Result<Vec<Stmt>, NameFault>
-        ensures { Does result statements_in self notes (statements_told inside_loop (statements_of statements.now)) }
+        ensures { Does result statements_in self notes
+            (statements_told inside_loop (statements_of statements.now)) }
     {
         let mut made = Vec::new(self.alloc);
         'statements: for one in statements {
@@ -54,7 +52,8 @@ impl<'t> Resolver<'t> {
         inside_loop: bool,
         notes: &mut Notes,
     ) -> Result<Stmt, NameFault>
-        ensures { Does result stmt_form self notes (statement_told inside_loop (statement_of statement.now)) }
+        ensures { Does result stmt_form self notes
+            (statement_told inside_loop (statement_of statement.now)) }
     {
         match statement {
             Statement::If {
@@ -153,7 +152,8 @@ impl<'t> Resolver<'t> {
         inside_loop: bool,
         notes: &mut Notes,
     ) -> Result<Branch, NameFault>
-        ensures { Does result branch_form self notes (branch_told inside_loop (branch_of branch.now)) }
+        ensures { Does result branch_form self notes
+            (branch_told inside_loop (branch_of branch.now)) }
     {
         let condition = self.condition(&branch.condition, notes)?;
         notes.settle()?;
@@ -173,7 +173,8 @@ impl<'t> Resolver<'t> {
         inside_loop: bool,
         notes: &mut Notes,
     ) -> Result<Vec<Handler>, NameFault>
-        ensures { Does result handlers_in self notes (handlers_told inside_loop (handlers_of handlers.now)) }
+        ensures { Does result handlers_in self notes
+            (handlers_told inside_loop (handlers_of handlers.now)) }
     {
         let mut made = Vec::new(self.alloc);
         'handlers: for one in handlers {
@@ -191,7 +192,8 @@ impl<'t> Resolver<'t> {
         inside_loop: bool,
         notes: &mut Notes,
     ) -> Result<Handler, NameFault>
-        ensures { Does result handler_form self notes (handler_told inside_loop (handler_of handler.now)) }
+        ensures { Does result handler_form self notes
+            (handler_told inside_loop (handler_of handler.now)) }
     {
         note_body(handler.spot, &handler.statements, notes);
         notes.node(handler.spot);
@@ -233,7 +235,8 @@ impl<'t> Resolver<'t> {
         inside_loop: bool,
         notes: &mut Notes,
     ) -> Result<Stmt, NameFault>
-        ensures { Does result stmt_form self notes (simple_told inside_loop (statement_of statement.now)) }
+        ensures { Does result stmt_form self notes
+            (simple_told inside_loop (statement_of statement.now)) }
     {
         let found = self.meaning(statement, inside_loop, notes)?;
         notes.settle()?;
@@ -308,7 +311,8 @@ impl<'t> Resolver<'t> {
     /// The text that a statement writes is added, if it writes one.
     #[tactic(auto, using(std::proofs::lemmas::Grind::common_steps, ada_tree::specs::StatementView::statement_rules))]
     fn add_text(&mut self, statement: &Statement<'t>) -> Result<(), NameFault>
-        ensures known { OnOk result (Changes self (with_texts (simple_texts (statement_of statement.now)))) }
+        ensures known { OnOk result
+            (Changes self (with_texts (simple_texts (statement_of statement.now)))) }
         ensures memory { IfErr result (λ e. e ≡ NameFault.NoMemory) }
     {
         match statement {
@@ -328,77 +332,14 @@ impl<'t> Resolver<'t> {
     /// The text that the first argument of a call is, is added, if it is one.
     #[tactic(auto, unfolding(crate::specs::View::known_of), using(crate::proofs::Names::map_snoc))]
     fn add_first_text(&mut self, arguments: &[Argument<'t>]) -> Result<(), NameFault>
-        ensures known { OnOk result (Changes self (with_texts (text_in (map argument_of arguments.now)))) }
+        ensures known { OnOk result
+            (Changes self (with_texts (text_in (map argument_of arguments.now)))) }
         ensures memory { IfErr result (λ e. e ≡ NameFault.NoMemory) }
     {
         if let Some(Argument::Text { text, .. }) = arguments.first() {
             self.texts.push(String::from_str(self.alloc, text)?)?;
         }
         Ok(())
-    }
-
-    /// `X := ..;` (5.2): to a variable alone.
-    #[tactic(auto, unfolding(crate::specs::Statements::assignment_remark, crate::specs::Statements::assignment_found))]
-    fn assignment(
-        &self,
-        target: &Path<'t>,
-        value: &Right<'t>,
-        notes: &mut Notes,
-    ) -> Result<Option<Stmt>, NameFault>
-        ensures { Looks stmt_in result notes (assignment_look self target.now value.now) }
-    {
-        let spot = target.root.spot;
-        if target.selectors.is_empty() {
-            notes.node(spot);
-            self.named_assignment(target.root, value, notes)
-        } else {
-            notes.note(spot, NameRule::NotInProfile);
-            Ok(None)
-        }
-    }
-
-    /// The assignment of a value to the variable of a name.
-    #[tactic(auto, using(std::proofs::lemmas::Grind::common_steps, ada_program::specs::Form::statement_rules))]
-    fn named_assignment(
-        &self,
-        name: Identifier<'t>,
-        value: &Right<'t>,
-        notes: &mut Notes,
-    ) -> Result<Option<Stmt>, NameFault>
-        ensures { Looks stmt_in result notes (named_assignment_look self name.entry value.now) }
-    {
-        match self.target(name, notes) {
-            Some((target, kind)) => match self.right(value, Some(kind), notes)? {
-                Some(value) => {
-                    let target = program::Path {
-                        root: target,
-                        selectors: Vec::new(self.alloc),
-                        spot: name.spot,
-                    };
-                    Ok(Some(Stmt::Assign { target, value }))
-                }
-                None => Ok(None),
-            },
-            None => {
-                let _value = self.right(value, None, notes)?;
-                Ok(None)
-            }
-        }
-    }
-
-    /// The variable that is assigned to, and what it holds.
-    fn target(&self, name: Identifier<'t>, notes: &mut Notes) -> Option<(VariableNo, VariableKind)>
-        ensures found { result ≡ target_found (known self) (ident_of name.entry) }
-        ensures remark { IsNoted notes (target_remark (known self) (ident_of name.entry)) }
-    {
-        match self.lookup(name, notes) {
-            Some(Entity::Variable { variable, kind }) => Some((variable, kind)),
-            Some(_) => {
-                notes.note(name.spot, NameRule::WrongType);
-                None
-            }
-            None => None,
-        }
     }
 }
 

@@ -46,7 +46,8 @@ impl<'t> Resolver<'t> {
         aspect: Option<Aspect<'t>>,
         notes: &mut Notes,
     ) -> Result<(), NameFault>
-        ensures { Declares result self notes (access_tree spot name.entry designated.entry aspect.entry) }
+        ensures { Declares result self notes
+            (access_tree spot name.entry designated.entry aspect.entry) }
     {
         self.type_begins(spot, notes);
         let completes = self.completed_type(name);

@@ -1,6 +1,6 @@
 -- The runner's run, turn by turn, up to its end or to the limit of statements.
 
-use Rattle.std.proofs.Common.{◌≡◌, ◌⊎◌, inl, inr, ℕ, ℤ, zero, suc, ◌+◌, ◌-◌, ◌<◌, ◌≤◌, Bool, true, false, List, [], ◌∷◌, ◌++◌, append_assoc, append-nil, arith, refl, sym, ◌∙◌, ap, subst, Option, Result, Ok, Err}
+use Rattle.std.proofs.Common.{◌≡◌, ◌⊎◌, inl, inr, ℕ, ℤ, zero, suc, ◌+◌, ◌-◌, ◌<◌, ◌≤◌, Bool, true, false, List, [], ◌∷◌, ◌++◌, append_assoc, append-nil, add-zero, arith, refl, sym, ◌∙◌, ap, subst, Option, Result, Ok, Err}
 use Rattle.std.specs.Prelude.{IfOk, nat_eq, not, ◌&&◌, cond}
 use Rattle.std.proofs.lemmas.Grind.{flat_map-append}
 use Rattle.std.specs.Io.KnownBytes.{Appends}
@@ -19,6 +19,7 @@ use Rattle.ada_meaning.specs.Ending.{weight, GoesOn, StepsMakeLighter, StatesGoO
 use Rattle.ada_interpreter.specs.declared.machine.Machine.{Machine}
 use Rattle.ada_interpreter.specs.declared.choices.RefuseOne.{RefuseOne}
 use Rattle.ada_interpreter.specs.Listed.{is_asked}
+use Rattle.ada_interpreter.specs.CommonSteps.{GoesQuietly, stays, goes_on as goes_quietly_on}
 use Rattle.ada_interpreter.specs.Machine.{Answers, Makes, EndsRun, program_of, state_in}
 use Rattle.ada_serve.specs.declared.serve.Status.{Status}
 use Rattle.ada_serve.specs.declared.serve.Status.TheVariants.{Stopped}
@@ -292,3 +293,41 @@ reaches_end program numbers limit refuse left until s ending old mid new h e = f
 
 pub reaches_limit : (program : Program) (numbers : List ℤ) (limit refuse left until : ℕ) (s : State) (result : Result Status ServeFault) (old mid new : Option (List ℕ)) → Reaches program numbers limit refuse left until s old mid → begins s ≡ true → left ≡ 0 → Writes mid new (stopped_text limit) result → IfOk result (λ ending. ending ≡ Stopped) → SaysFront (HasRun program numbers limit refuse) old new result
 reaches_limit program numbers limit refuse left until s result old mid new h b none a e = has_stopped program numbers limit refuse h.statements until s result old mid new h.written (omega (arith, h.count, none)) b a e
+
+-- A quiet step, and quiet steps one after another: nothing is asked, and nothing is written.
+quiet_step : (program : Program) (refuse : ℕ) (first s last : State) (statements begun_now until : ℕ) (old new : Option (List ℕ)) → HasWritten program refuse first statements until s old new → next program.types.items s ≡ moves Quiet last → begun_now ≡ begun_with (begins s) statements → HasWritten program refuse first begun_now until last old new
+quiet_step program refuse first s last statements begun_now until old new h is count =
+    let made : StepsOn program until until s last new new = record {
+      choice = settled;
+      event = Quiet;
+      runners = subst (λ (coming : Next). RunnerAnswers until coming settled until) (sym is) refl;
+      step = subst (λ (coming : Next). Leads coming settled Quiet last) (sym is) (refl, refl);
+      line = appends_none new;
+    } in
+    written_more program refuse first s last statements begun_now until until old new new h made count
+
+begun_both : (starts : Bool) (n k : ℕ) → n + begun_with starts k ≡ begun_with starts (n + k)
+begun_both true n k = omega arith
+begun_both false n k = refl
+
+quiet_steps : (program : Program) (refuse : ℕ) (first s last : State) (statements more until : ℕ) (old new : Option (List ℕ)) → HasWritten program refuse first statements until s old new → GoesQuietly program s more last → HasWritten program refuse first (statements + more) until last old new
+quiet_steps program refuse first s last statements more until old new h stays =
+    subst (λ (n : ℕ). HasWritten program refuse first n until s old new) (sym (add-zero statements)) h
+quiet_steps program refuse first s last statements more until old new h (goes_quietly_on counted mid so_far is count) =
+    quiet_step program refuse first mid last (statements + counted) (statements + more) until old new
+    (quiet_steps program refuse first s mid statements counted until old new h so_far) is
+    (ap (λ (n : ℕ). statements + n) count ∙ begun_both (begins mid) statements counted)
+
+-- Quiet steps in which so many statements begin that these are left.
+pub reaches_quietly : (program : Program) (numbers : List ℤ) (limit refuse left after until : ℕ) (s last : State) (old new : Option (List ℕ)) → Reaches program numbers limit refuse left until s old new → GoesQuietly program s (left - after) last → after ≤ left → Reaches program numbers limit refuse after until last old new
+reaches_quietly program numbers limit refuse left after until s last old new h quiet within = record {
+  statements = h.statements + (left - after);
+  count = omega (arith, h.count, within);
+  written = quiet_steps program refuse (first_state program numbers) s last h.statements (left - after) until old new h.written quiet;
+}
+
+-- A fault between two turns.
+pub reaches_fault : StepsMakeLighter → StatesGoOn → (program : Program) (numbers : List ℤ) (limit refuse left until : ℕ) (s : State) (old new : Option (List ℕ)) → Reaches program numbers limit refuse left until s old new → Begins (HasRun program numbers limit refuse) old new
+reaches_fault lightens goes program numbers limit refuse left until s old new h =
+    let lines : List ℕ = lines_of program h.written.events in
+    begins_run lightens goes program numbers limit refuse h.statements until s h.written.events lines [] old new (omega (arith, h.count)) h.written.run (sym (append-nil lines)) h.written.lines

@@ -284,6 +284,7 @@ fn take_turns<W: ByteWriter>(
         if let Some(status) = take_turn(machine, program, page, out)? {
             return Ok(status);
         }
+        left = machine.make_common_steps(left)?;
     }
 }
 

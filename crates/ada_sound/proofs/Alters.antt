@@ -1,4 +1,4 @@
--- What a step does to objects: each keeps what lies in it, and words that are back were back before or go back now.
+-- What a step does to objects: each stays the object that it was, and words that are back were back before or go back now.
 
 use Rattle.std.proofs.Common.{◌≡◌, ◌≢◌, true, false, List, [], ◌∷◌, ◌++◌, length, refl, ap, ◌⊎◌, inl, inr}
 use Rattle.std.specs.Prelude.{Some}
@@ -14,27 +14,32 @@ use Rattle.ada_sound.proofs.Values.{same_or_not}
 abbrev pub BackIn : List Object → Id → Type 0
 BackIn heap o = (x : Object) × (object_at heap o ≡ Some x) × (x.out ≡ false)
 
+-- An object is of its access type, with its trace number and its home, as before (4.8); its components may have other values (5.2).
+abbrev pub StaysItself : (before after : Object) → Type 0
+StaysItself before after =
+    (after.cell.access ≡ before.cell.access) × (after.cell.number ≡ before.cell.number) × (after.cell.home ≡ before.cell.home)
+
 pub record Alters (before : List Object) (e : Event) (after : List Object) : Type 0 where
-  pub kept : (o : Id) (x : Object) → object_at before o ≡ Some x → (y : Object) × (object_at after o ≡ Some y) × (y.cell ≡ x.cell) × (x.out ≡ false → y.out ≡ false)
+  pub kept : (o : Id) (x : Object) → object_at before o ≡ Some x → (y : Object) × (object_at after o ≡ Some y) × StaysItself x y × (x.out ≡ false → y.out ≡ false)
   pub told : (o : Id) (y : Object) → object_at after o ≡ Some y → y.out ≡ false → BackIn before o ⊎ GivesBackOf o e
 
 pub alters_same : (heap : List Object) (e : Event) → Alters heap e heap
-alters_same heap e = record { kept = λ o x is. (x, is, refl, λ h. h); told = λ o y is back. inl (y, is, back) }
+alters_same heap e = record { kept = λ o x is. (x, is, (refl, refl, refl), λ h. h); told = λ o y is back. inl (y, is, back) }
 
 pub alters_new : (heap : List Object) (e : Event) (y : Object) → y.out ≡ true → Alters heap e (heap ++ y ∷ [])
-alters_new heap e y out = record { kept = λ o x is. (x, get_more heap y o.0 x is, refl, λ h. h); told = λ o z is back. go o z back (more_get heap y o.0 z is) }
+alters_new heap e y out = record { kept = λ o x is. (x, get_more heap y o.0 x is, (refl, refl, refl), λ h. h); told = λ o z is back. go o z back (more_get heap y o.0 z is) }
   where
     go : (o : Id) (z : Object) → z.out ≡ false → (slice_get heap o.0 ≡ Some z) ⊎ ((o.0 ≡ length heap) × (z ≡ y)) → BackIn heap o ⊎ GivesBackOf o e
     go o z back (inl is) = inl (z, is, back)
     go o z back (inr is) = let b = rw is.1 at back in absurd (cc (out, b))
 
 -- One object changes.
-module _ (heap : List Object) (e : Event) (o : Id) (x y : Object) (found : object_at heap o ≡ Some x) (cell : y.cell ≡ x.cell) (stays : x.out ≡ false → y.out ≡ false) (told : y.out ≡ false → (x.out ≡ false) ⊎ GivesBackOf o e) where
-  kept_at : (p : Id) (z : Object) → object_at heap p ≡ Some z → (p.0 ≡ o.0) ⊎ (p.0 ≢ o.0) → (w : Object) × (object_at (slice_set heap o.0 y) p ≡ Some w) × (w.cell ≡ z.cell) × (z.out ≡ false → w.out ≡ false)
+module _ (heap : List Object) (e : Event) (o : Id) (x y : Object) (found : object_at heap o ≡ Some x) (itself : StaysItself x y) (stays : x.out ≡ false → y.out ≡ false) (told : y.out ≡ false → (x.out ≡ false) ⊎ GivesBackOf o e) where
+  kept_at : (p : Id) (z : Object) → object_at heap p ≡ Some z → (p.0 ≡ o.0) ⊎ (p.0 ≢ o.0) → (w : Object) × (object_at (slice_set heap o.0 y) p ≡ Some w) × StaysItself z w × (z.out ≡ false → w.out ≡ false)
   kept_at p z is (inl same) =
       let z_is : z ≡ x = let h = rw same at is in cc (h, found) in
-      (y, rw same (set_here heap o.0 x y found), rw z_is cell, rw z_is stays)
-  kept_at p z is (inr ne) = (z, rw (set_other heap o.0 p.0 y ne) is, refl, λ h. h)
+      (y, rw same (set_here heap o.0 x y found), rw z_is itself, rw z_is stays)
+  kept_at p z is (inr ne) = (z, rw (set_other heap o.0 p.0 y ne) is, (refl, refl, refl), λ h. h)
 
   told_at : (p : Id) (z : Object) → z.out ≡ false → ((p.0 ≡ o.0) × (z ≡ y)) ⊎ ((p.0 ≢ o.0) × (slice_get heap p.0 ≡ Some z)) → BackIn heap p ⊎ GivesBackOf p e
   told_at p z back (inl is) =

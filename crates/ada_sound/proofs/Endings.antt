@@ -70,7 +70,7 @@ module _ (known : Known) where
           rest = behind_set cause o e.object.cell.home.item (finished e.object) s.heap a.places s.masters k b.2;
         }),
       );
-      alters = alters_set s.heap Quiet o e.object (finished e.object) e.found refl (λ h. h) (λ h. inl h);
+      alters = alters_set s.heap Quiet o e.object (finished e.object) e.found (refl, refl, refl) (λ h. h) (λ h. inl h);
       says = tt;
     }
     end_object o (f ∷ k) e b = absurd b
@@ -107,7 +107,7 @@ module _ (known : Known) where
     back_object : (o : Id) (cause : Cause) (pool : ℕ) (k : Control) (b : Backing known o cause pool k s.heap a.places s.masters) → Stepped known s.heap (Back (Names o) b.object.cell.access b.object.cell.number b.object.cell.home.pool b.object.cell.home.subpool cause) (record (running k a rest s) { heap = slice_set s.heap o.0 (returned b.object) })
     back_object o cause pool k b = record {
       ready = (tt, behind_ready o (slice_set s.heap o.0 (returned b.object)) (stored_back o b.object b.found b.gone b.stored) cause b.object.cell.home.item k (behind_set cause o b.object.cell.home.item (returned b.object) s.heap a.places s.masters k b.rest));
-      alters = alters_set s.heap _ o b.object (returned b.object) b.found refl (λ h. refl) (λ h. inr refl);
+      alters = alters_set s.heap _ o b.object (returned b.object) b.found (refl, refl, refl) (λ h. refl) (λ h. inr refl);
       says = record {
         id = o;
         object = b.object;
@@ -177,7 +177,7 @@ module _ (known : Known) where
               );
             },
           );
-          alters = alters_set s.heap Quiet o member.object (parted member.object) member.found refl (λ h. h) (λ h. inl h);
+          alters = alters_set s.heap Quiet o member.object (parted member.object) member.found (refl, refl, refl) (λ h. h) (λ h. inl h);
           says = tt;
         }))
 

@@ -19,7 +19,7 @@ use Rattle.ada_program.specs.ProgramForm.{VariableForm}
 use Rattle.ada_program.specs.Handling.{is_same}
 use Rattle.ada_program.specs.WellFormed.{is_this}
 use Rattle.ada_effects.specs.Effects.{expression_raises, right_raises}
-use Rattle.ada_meaning.specs.Frame.{Computes, Fills, Creates, Stores, Declares}
+use Rattle.ada_meaning.specs.Frame.{Computes, Fills, Creates, Stores, StoresIn, Declares}
 use Rattle.ada_meaning.specs.Event.{Line, Quiet}
 use Rattle.ada_meaning.specs.Heap.{Cell}
 use Rattle.ada_meaning.specs.State.{declared, Activation, Master, home_of}
@@ -28,9 +28,9 @@ use Rattle.ada_meaning.specs.Named.{Object, State, named, new_object}
 use Rattle.ada_sound.proofs.Objects.{get_new, get_past}
 use Rattle.ada_sound.proofs.Items.{home_has}
 use Rattle.ada_sound.proofs.Stored.{stored_new, stored_owning}
-use Rattle.ada_sound.proofs.Values.{Lives, IsLive, Fits, IsOwn, Fit, place_at, HasNoOther, fit_more, put_fit, lose, other_owner}
+use Rattle.ada_sound.proofs.Values.{Lives, IsLive, Fits, IsOwn, Fit, place_at, HasNoOther, last_more, access_lasts, fit_more, put_fit, lose, other_owner}
 use Rattle.ada_sound.proofs.Alters.{alters_new}
-use Rattle.ada_sound.proofs.Invariant.{Known, Control, Rooms, Goes, Raised, RunsOn, StoresTo, Gives, Takes, Owns, Creating, Awaits, Working, ReadyIn, Stepped, Fine, ways}
+use Rattle.ada_sound.proofs.Invariant.{Known, Control, Rooms, Goes, Raised, RunsOn, StoresTo, Gives, Into, GivesInto, Takes, Owns, Creating, Awaits, Working, ReadyIn, Stepped, Fine, ways}
 use Rattle.ada_sound.proofs.Ready.{running, at_work, stays, goes_on, runs_on, jumps_less}
 use Rattle.ada_sound.proofs.Statements.{roomed_declares}
 use Rattle.ada_sound.proofs.Outcomes.{using_goes, ends_goes}
@@ -46,12 +46,13 @@ held_fits heap variables None x r v live = tt
 held_fits heap variables (Some access) x r v live = held_by heap access (variable_access variables x) (is_this access (variable_access variables x)) r v refl live
 
 module _ (known : Known) where
-  -- What is evaluated is what a variable awaits.
-  stores_ready : (k : Control) (more : ℕ → Control → Type 0) (v : Value) (heap : List Object) (places operands : List Value) (ms : List Master) → StoresTo k more → ((x : ℕ) (k' : Control) → more x k' → Working known heap (slice_set places x v) ms (RunsOn known k')) → ReadyIn known Running k heap places (v ∷ operands) ms
-  stores_ready [] more v heap places operands ms h stored = absurd h
-  stores_ready (Stores x ∷ k) more v heap places operands ms h stored = stored x k h
-  stores_ready (Declares x ∷ k) more v heap places operands ms h stored = stored x k h
-  stores_ready (f ∷ k) more v heap places operands ms h stored = absurd h
+  -- What is evaluated is what a variable awaits, or a component.
+  stores_ready : (k : Control) (more : ℕ → Control → Type 0) (into : Value → Control → Type 0) (v : Value) (heap : List Object) (places operands : List Value) (ms : List Master) → StoresTo k more into → ((x : ℕ) (k' : Control) → more x k' → Working known heap (slice_set places x v) ms (RunsOn known k')) → ((o : Value) (k' : Control) → into o k' → Working known heap places ms (λ rooms holds. Into known heap rooms holds o k')) → ReadyIn known Running k heap places (v ∷ operands) ms
+  stores_ready [] more into v heap places operands ms h stored filled = absurd h
+  stores_ready (Stores x ∷ k) more into v heap places operands ms h stored filled = stored x k h
+  stores_ready (Declares x ∷ k) more into v heap places operands ms h stored filled = stored x k h
+  stores_ready (StoresIn o c ∷ k) more into v heap places operands ms h stored filled = filled o k h
+  stores_ready (f ∷ k) more into v heap places operands ms h stored filled = absurd h
 
   -- What an owner held is moved to another variable.
   module _ (y : ℕ) (spot : Spot) (holds : Holds) (heap : List Object) (places : List Value) (fit : Fit heap known.variables places holds) (x : ℕ) (more raised : Holds → Type 0) where
@@ -81,53 +82,62 @@ module _ (known : Known) where
       no_name access hold.Lost v own fits e = own
 
   -- What an allocator and an expression follow is not lost, and what awaits them goes on.
-  allocates_awaits : (access : ℕ) (items : List ItemForm) (k : Control) (rooms : Rooms) (holds : Holds) → Takes known (allocates access items) k rooms holds → Awaits known (Fills items ∷ Creates access (length items) ∷ k) rooms holds
-  allocates_awaits access items [] rooms holds g = absurd g
-  allocates_awaits access items (Stores x ∷ k) rooms holds g = by x k g
+  allocates_awaits : (heap : List Object) (access : ℕ) (items : List ItemForm) (k : Control) (rooms : Rooms) (holds : Holds) → Takes known heap (allocates access items) k rooms holds → Awaits known heap (Fills items ∷ Creates access (length items) ∷ k) rooms holds
+  allocates_awaits heap access items [] rooms holds g = absurd g
+  allocates_awaits heap access items (Stores x ∷ k) rooms holds g = by x k g
     where
-      by : (x : ℕ) (k : Control) → Goes (gives known.variables x (allocates access items) holds) (RunsOn known k rooms) (Raised (λ e. right_raises (is_same e) (allocates access items)) (ways known k rooms)) → Awaits known (Fills items ∷ Creates access (length items) ∷ Stores x ∷ k) rooms holds
+      by : (x : ℕ) (k : Control) → Goes (gives known.variables x (allocates access items) holds) (RunsOn known k rooms) (Raised (λ e. right_raises (is_same e) (allocates access items)) (ways known k rooms)) → Awaits known heap (Fills items ∷ Creates access (length items) ∷ Stores x ∷ k) rooms holds
       by x k g =
           let u = using_goes (uses_in_items items) holds (ends_with true holds (slice_set holds x (held_as known.variables (Some access) x (hold.Own Whole)))) (RunsOn known k rooms) (Raised (λ e. right_raises (is_same e) (allocates access items)) (ways known k rooms)) g in
           (u.0, (λ may. u.1.1 ConstraintError may), ((λ may. u.1.1 StorageError refl), u.1.0))
-  allocates_awaits access items (Declares x ∷ k) rooms holds g = by x k g
+  allocates_awaits heap access items (Declares x ∷ k) rooms holds g = by x k g
     where
-      by : (x : ℕ) (k : Control) → Goes (gives known.variables x (allocates access items) holds) (RunsOn known k rooms) (Raised (λ e. right_raises (is_same e) (allocates access items)) (ways known k rooms)) → Awaits known (Fills items ∷ Creates access (length items) ∷ Declares x ∷ k) rooms holds
+      by : (x : ℕ) (k : Control) → Goes (gives known.variables x (allocates access items) holds) (RunsOn known k rooms) (Raised (λ e. right_raises (is_same e) (allocates access items)) (ways known k rooms)) → Awaits known heap (Fills items ∷ Creates access (length items) ∷ Declares x ∷ k) rooms holds
       by x k g =
           let u = using_goes (uses_in_items items) holds (ends_with true holds (slice_set holds x (held_as known.variables (Some access) x (hold.Own Whole)))) (RunsOn known k rooms) (Raised (λ e. right_raises (is_same e) (allocates access items)) (ways known k rooms)) g in
           (u.0, (λ may. u.1.1 ConstraintError may), ((λ may. u.1.1 StorageError refl), u.1.0))
-  allocates_awaits access items (f ∷ k) rooms holds g = absurd g
+  allocates_awaits heap access items (StoresIn o c ∷ k) rooms holds g = absurd g.1
+  allocates_awaits heap access items (f ∷ k) rooms holds g = absurd g
 
-  computes_awaits : (e : ExpressionForm) (k : Control) (rooms : Rooms) (holds : Holds) → Takes known (computes e) k rooms holds → Awaits known (Computes e ∷ k) rooms holds
-  computes_awaits e [] rooms holds g = absurd g
-  computes_awaits e (Stores x ∷ k) rooms holds g =
+  computes_awaits : (heap : List Object) (e : ExpressionForm) (k : Control) (rooms : Rooms) (holds : Holds) → Takes known heap (computes e) k rooms holds → Awaits known heap (Computes e ∷ k) rooms holds
+  computes_awaits heap e [] rooms holds g = absurd g
+  computes_awaits heap e (Stores x ∷ k) rooms holds g =
       let after = ends_with (expression_raises e) holds (slice_set holds x hold.Lost) in
       let raised' = Raised (λ y. right_raises (is_same y) (computes e)) (ways known k rooms) in
       let u = using_goes (uses_in e) holds after (RunsOn known k rooms) raised' g in
       let n = ends_goes (expression_raises e) holds (slice_set holds x hold.Lost) (RunsOn known k rooms) raised' u.1 in
       (u.0, (λ may. n.1 may ConstraintError may), n.0)
-  computes_awaits e (Declares x ∷ k) rooms holds g =
+  computes_awaits heap e (Declares x ∷ k) rooms holds g =
       let after = ends_with (expression_raises e) holds (slice_set holds x hold.Lost) in
       let raised' = Raised (λ y. right_raises (is_same y) (computes e)) (ways known k rooms) in
       let u = using_goes (uses_in e) holds after (RunsOn known k rooms) raised' g in
       let n = ends_goes (expression_raises e) holds (slice_set holds x hold.Lost) (RunsOn known k rooms) raised' u.1 in
       (u.0, (λ may. n.1 may ConstraintError may), n.0)
-  computes_awaits e (f ∷ k) rooms holds g = absurd g
+  computes_awaits heap e (StoresIn o c ∷ k) rooms holds g = (g.1.0, g.1.1, (g.0, g.1.2))
+  computes_awaits heap e (f ∷ k) rooms holds g = absurd g
 
   module _ (k : Control) (a : Activation Value) (rest : List (Activation Value)) (s : State) where
     -- A new object is granted or refused.
-    module _ (access count words item : ℕ) (home : home_of access s.masters ≡ Some item) (w : Working known s.heap a.places s.masters (Creating known access k)) where
+    module _ (access count words item : ℕ) (home : home_of access s.masters ≡ Some item) (w : Working known s.heap a.places s.masters (Creating known s.heap access k)) where
       cell : Cell Value
       cell = new_cell named access count item (running k a rest s)
 
       granted_ready : (vs : List Value) → ReadyIn known Running k (s.heap ++ new_object cell ∷ []) a.places (Names (record { 0 = length s.heap }) ∷ vs) s.masters
       unfolding cell
-      granted_ready vs = stores_ready k (Owns known access w.rooms w.holds) (Names (record { 0 = length s.heap })) _ a.places vs s.masters w.rest.1 (λ x k' r. record {
+      granted_ready vs = stores_ready k (Owns known access w.rooms w.holds) (Into known s.heap w.rooms w.holds) (Names (record { 0 = length s.heap })) _ a.places vs s.masters w.rest.1 (λ x k' r. record {
         rooms = w.rooms;
         holds = slice_set w.holds x (held_as known.variables (Some access) x (hold.Own Whole));
         stored = stored_new cell refl (home_has access item s.masters home) w.stored;
         roomed = w.roomed;
         fit = new_fit s.heap a.places w.holds x cell w.fit;
         rest = r;
+      }) (λ o k' r. record {
+        rooms = w.rooms;
+        holds = w.holds;
+        stored = stored_new cell refl (home_has access item s.masters home) w.stored;
+        roomed = w.roomed;
+        fit = fit_more (new_object cell) w.fit;
+        rest = (access_lasts s.heap (s.heap ++ new_object cell ∷ []) o (last_more s.heap (new_object cell)) r.0, r.1);
       })
 
       answered_fine : (granted : Bool) → Stepped known s.heap Quiet (answered named access count item words (running k a rest s) granted)
@@ -135,38 +145,39 @@ module _ (known : Known) where
       answered_fine true = record { ready = (tt, granted_ready _); alters = alters_new s.heap Quiet (new_object cell) refl; says = tt }
       answered_fine false = jumps_less known k a rest s (Raising StorageError) (at_work w (w.rest.0 refl))
 
-    creates_by : (access count words : ℕ) (home : Option ℕ) → home_of access s.masters ≡ home → Working known s.heap a.places s.masters (Creating known access k) → Fine known s.heap s.masters (new_next named access count words home (running k a rest s))
+    creates_by : (access count words : ℕ) (home : Option ℕ) → home_of access s.masters ≡ home → Working known s.heap a.places s.masters (Creating known s.heap access k) → Fine known s.heap s.masters (new_next named access count words home (running k a rest s))
     creates_by access count words None e w = jumps_less known k a rest s (Raising StorageError) (at_work w (w.rest.0 refl))
     creates_by access count words (Some item) e w = answered_fine access count words item e w
 
-    pub creates_fine : (access count words : ℕ) → Working known s.heap a.places s.masters (Creating known access k) → Fine known s.heap s.masters (new_next named access count words (home_of access s.masters) (running k a rest s))
+    pub creates_fine : (access count words : ℕ) → Working known s.heap a.places s.masters (Creating known s.heap access k) → Fine known s.heap s.masters (new_next named access count words (home_of access s.masters) (running k a rest s))
     creates_fine access count words w = creates_by access count words (home_of access s.masters) refl w
 
-    -- A value is there for the variable that awaits it.
-    gives_on : (more : Rooms → Holds → ℕ → Control → Type 0) (v : Value) → (w : Working known s.heap a.places s.masters (λ rooms holds. StoresTo k (more rooms holds))) → ((x : ℕ) (k' : Control) → more w.rooms w.holds x k' → Working known s.heap (slice_set a.places x v) s.masters (RunsOn known k')) → Stepped known s.heap Quiet (running k (record a { operands = v ∷ a.operands }) rest s)
-    gives_on more v w stored = stays known Quiet (running k (record a { operands = v ∷ a.operands }) rest s) (tt, stores_ready k (more w.rooms w.holds) v s.heap a.places a.operands s.masters w.rest stored) tt
+    -- A value is there for the variable that awaits it. No component awaits an access value yet.
+    gives_on : (more : Rooms → Holds → ℕ → Control → Type 0) (into : Rooms → Holds → Value → Control → Type 0) (v : Value) → (w : Working known s.heap a.places s.masters (λ rooms holds. StoresTo k (more rooms holds) (into rooms holds))) → ((x : ℕ) (k' : Control) → more w.rooms w.holds x k' → Working known s.heap (slice_set a.places x v) s.masters (RunsOn known k')) → ((o : Value) (k' : Control) → into w.rooms w.holds o k' → ⊥) → Stepped known s.heap Quiet (running k (record a { operands = v ∷ a.operands }) rest s)
+    gives_on more into v w stored none = stays known Quiet (running k (record a { operands = v ∷ a.operands }) rest s) (tt, stores_ready k (more w.rooms w.holds) (into w.rooms w.holds) v s.heap a.places a.operands s.masters w.rest stored (λ o k' r. absurd (none o k' r))) tt
 
     -- A path that is moved.
     GivesPath : List ℕ → PathForm → Rooms → Holds → ℕ → Control → Type 0
     GivesPath cs path rooms holds x k' = Goes (moves_path known.variables x cs path holds) (RunsOn known k' rooms) (Raised (λ e. right_raises (is_same e) (value_of path)) (ways known k' rooms))
 
-    value_fine : (cs : List ℕ) (path : PathForm) → Working known s.heap a.places s.masters (λ rooms holds. StoresTo k (GivesPath cs path rooms holds)) → Fine known s.heap s.masters (path_next named cs (place_at a.places path.root) (running k a rest s))
+    value_fine : (cs : List ℕ) (path : PathForm) → Working known s.heap a.places s.masters (λ rooms holds. StoresTo k (GivesPath cs path rooms holds) (GivesInto known s.heap (value_of path) rooms holds)) → Fine known s.heap s.masters (path_next named cs (place_at a.places path.root) (running k a rest s))
     unfolding GivesPath
-    value_fine [] path w = gives_on (GivesPath [] path) (place_at a.places path.root) w (λ x k' r. let h = move_hold path.root path.spot w.holds s.heap a.places w.fit x (RunsOn known k' w.rooms) (Raised (λ e. right_raises (is_same e) (value_of path)) (ways known k' w.rooms)) (hold_at w.holds path.root) refl r (w.fit.each path.root) in record { rooms = w.rooms; holds = h.0; stored = w.stored; roomed = w.roomed; fit = h.1; rest = h.2 })
+    value_fine [] path w = gives_on (GivesPath [] path) (GivesInto known s.heap (value_of path)) (place_at a.places path.root) w (λ x k' r. let h = move_hold path.root path.spot w.holds s.heap a.places w.fit x (RunsOn known k' w.rooms) (Raised (λ e. right_raises (is_same e) (value_of path)) (ways known k' w.rooms)) (hold_at w.holds path.root) refl r (w.fit.each path.root) in record { rooms = w.rooms; holds = h.0; stored = w.stored; roomed = w.roomed; fit = h.1; rest = h.2 }) (λ o k' r. r.1)
     value_fine (c ∷ cs) path w = absurd (none_stores k w.rest)
       where
-        none_stores : (k' : Control) → StoresTo k' (GivesPath (c ∷ cs) path w.rooms w.holds) → ⊥
+        none_stores : (k' : Control) → StoresTo k' (GivesPath (c ∷ cs) path w.rooms w.holds) (GivesInto known s.heap (value_of path) w.rooms w.holds) → ⊥
         none_stores [] g = g
         none_stores (Stores x ∷ k') g = g
         none_stores (Declares x ∷ k') g = g
+        none_stores (StoresIn o d ∷ k') g = g.1
         none_stores (f ∷ k') g = g
 
-    pub right_fine : (right : RightForm) → Working known s.heap a.places s.masters (Takes known right k) → Fine known s.heap s.masters (right_next named right (running k a rest s))
+    pub right_fine : (right : RightForm) → Working known s.heap a.places s.masters (Takes known s.heap right k) → Fine known s.heap s.masters (right_next named right (running k a rest s))
     unfolding GivesPath
-    right_fine nothing w = gives_on (Gives known nothing) Null w (λ x k' r. record { rooms = w.rooms; holds = slice_set w.holds x hold.Null; stored = w.stored; roomed = w.roomed; fit = put_fit s.heap known.variables a.places w.holds x hold.Null Null (λ e. absurd e) refl w.fit; rest = r.0 })
+    right_fine nothing w = gives_on (Gives known nothing) (GivesInto known s.heap nothing) Null w (λ x k' r. record { rooms = w.rooms; holds = slice_set w.holds x hold.Null; stored = w.stored; roomed = w.roomed; fit = put_fit s.heap known.variables a.places w.holds x hold.Null Null (λ e. absurd e) refl w.fit; rest = r.0 }) (λ o k' r. r.1)
     right_fine (value_of path) w = value_fine path.selectors path w
-    right_fine (allocates access items) w = goes_on known (Fills items ∷ Creates access (length items) ∷ k) a rest s (at_work w (allocates_awaits access items k w.rooms w.holds w.rest)) a.operands
-    right_fine (computes e) w = goes_on known (Computes e ∷ k) a rest s (at_work w (computes_awaits e k w.rooms w.holds w.rest)) a.operands
+    right_fine (allocates access items) w = goes_on known (Fills items ∷ Creates access (length items) ∷ k) a rest s (at_work w (allocates_awaits s.heap access items k w.rooms w.holds w.rest)) a.operands
+    right_fine (computes e) w = goes_on known (Computes e ∷ k) a rest s (at_work w (computes_awaits s.heap e k w.rooms w.holds w.rest)) a.operands
 
     -- A value is stored, a variable is created, a line is written.
     pub stores_fine : (x : ℕ) (v : Value) (vs : List Value) → Working known s.heap (slice_set a.places x v) s.masters (RunsOn known k) → Stepped known s.heap Quiet (running k (record { places = slice_set a.places x v; operands = vs }) rest s)

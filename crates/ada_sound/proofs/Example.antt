@@ -81,7 +81,7 @@ handled_program_of statements le handlers few = record {
   handlers = vec handlers few;
 }
 
-abbrev program_of : (statements : List Stmt) → length statements ≤ 8 → Program
+abbrev pub program_of : (statements : List Stmt) → length statements ≤ 8 → Program
 program_of statements le = handled_program_of statements le [] (omega arith)
 
 abbrev pub x : Path
@@ -237,7 +237,7 @@ abbrev pub n : Path
 n = record { root = record { 0 = 2 }; selectors = vec [] (omega arith); spot = spot }
 
 -- An expression, an operator and a number.
-abbrev with_number : BinaryOperator → ℕ → Expression → Expression
+abbrev pub with_number : BinaryOperator → ℕ → Expression → Expression
 with_number operator m e = Chain (boxed e) (vec (record { operator = operator; operand = Integer (pos m) } ∷ []) (omega arith))
 
 -- while N < 2 loop N := N + 1; Put_Line (Integer'Image (N)); end loop;

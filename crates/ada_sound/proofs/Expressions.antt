@@ -30,7 +30,7 @@ use Rattle.ada_sound.proofs.Followings.{first_kept, kept_apart}
 use Rattle.ada_sound.proofs.Raising.{or_left, or_right, RaisesOnly}
 
 module _ (known : Known) (k : Control) (a : Activation Value) (rest : List (Activation Value)) (s : State) where
-  module _ (w : Working known s.heap a.places s.masters (Awaits known k)) where
+  module _ (w : Working known s.heap a.places s.masters (Awaits known s.heap k)) where
     -- An exception is raised.
     fails : MayRaise known true ConstraintError k w.rooms w.holds → (vs : List Value) → Fine known s.heap s.masters (moves Quiet (raised ConstraintError (running k (record a { operands = vs }) rest s)))
     fails raise vs = jumps_less known k (record a { operands = vs }) rest s (Raising ConstraintError) (at_work w (raise refl))
@@ -91,7 +91,7 @@ raise_right known a b k rooms holds raise e = raise (or_right a b e)
 
 module _ (known : Known) (k : Control) (a : Activation Value) (rest : List (Activation Value)) (s : State) where
   -- The next step of an expression.
-  pub expression_fine : (e : ExpressionForm) → Working known s.heap a.places s.masters (Awaits known (Computes e ∷ k)) → Fine known s.heap s.masters (expression_next named e (running k a rest s))
+  pub expression_fine : (e : ExpressionForm) → Working known s.heap a.places s.masters (Awaits known s.heap (Computes e ∷ k)) → Fine known s.heap s.masters (expression_next named e (running k a rest s))
   unfolding uses_in
   expression_fine (integer i) w = goes_on known k a rest s (at_work w w.rest.2) _
   expression_fine (boolean b) w = goes_on known k a rest s (at_work w w.rest.2) _
@@ -106,11 +106,11 @@ module _ (known : Known) (k : Control) (a : Activation Value) (rest : List (Acti
       goes_on known (Computes e ∷ Continues links ∷ k) a rest s (at_work w (h.0, raise_left known (expression_raises e) (links_raise links) k w.rooms w.holds w.rest.1, (h.1, raise_right known (expression_raises e) (links_raise links) k w.rooms w.holds w.rest.1, w.rest.2))) a.operands
 
   -- The next operator of a chain.
-  decided_fine : (decided : Bool) (operator : BinaryOperator) (e : ExpressionForm) (links : LinksForm) → Working known s.heap a.places s.masters (Awaits known (Computes e ∷ Applies operator ∷ Continues links ∷ k)) → Fine known s.heap s.masters (link_next named decided operator e links (running k a rest s))
+  decided_fine : (decided : Bool) (operator : BinaryOperator) (e : ExpressionForm) (links : LinksForm) → Working known s.heap a.places s.masters (Awaits known s.heap (Computes e ∷ Applies operator ∷ Continues links ∷ k)) → Fine known s.heap s.masters (link_next named decided operator e links (running k a rest s))
   decided_fine true operator e links w = goes_on known (Continues links ∷ k) a rest s (at_work w w.rest.2.1) a.operands
   decided_fine false operator e links w = goes_on known (Computes e ∷ Applies operator ∷ Continues links ∷ k) a rest s w a.operands
 
-  pub links_fine : (links : LinksForm) → Working known s.heap a.places s.masters (Awaits known (Continues links ∷ k)) → Fine known s.heap s.masters (links_next named links (running k a rest s))
+  pub links_fine : (links : LinksForm) → Working known s.heap a.places s.masters (Awaits known s.heap (Continues links ∷ k)) → Fine known s.heap s.masters (links_next named links (running k a rest s))
   unfolding uses_in_links
   links_fine no_more_links w = goes_on known k a rest s (at_work w w.rest.2) a.operands
   links_fine (a_link operator e links) w =
@@ -120,11 +120,11 @@ module _ (known : Known) (k : Control) (a : Activation Value) (rest : List (Acti
       (at_work w (h.0, raise_right known (binary_raises operator) (expression_raises e) k w.rooms w.holds first, (raise_left known (binary_raises operator) (expression_raises e) k w.rooms w.holds first, (h.1, raise_right known (binary_raises operator || expression_raises e) (links_raise links) k w.rooms w.holds w.rest.1, w.rest.2))))
 
   -- The next item of an allocator.
-  item_fine : (i : ItemForm) (is : List ItemForm) → Working known s.heap a.places s.masters (λ rooms holds. NoneIsLost holds (uses_in_item i) × MayRaise known (item_raises i) ConstraintError k rooms holds × Awaits known (Fills is ∷ k) rooms holds) → Fine known s.heap s.masters (item_next named i (running (Fills is ∷ k) a rest s))
+  item_fine : (i : ItemForm) (is : List ItemForm) → Working known s.heap a.places s.masters (λ rooms holds. NoneIsLost holds (uses_in_item i) × MayRaise known (item_raises i) ConstraintError k rooms holds × Awaits known s.heap (Fills is ∷ k) rooms holds) → Fine known s.heap s.masters (item_next named i (running (Fills is ∷ k) a rest s))
   item_fine null_item is w = goes_on known (Fills is ∷ k) a rest s (at_work w w.rest.2) _
   item_fine (item_of_value e) is w = goes_on known (Computes e ∷ Fills is ∷ k) a rest s (at_work w w.rest) a.operands
 
-  pub items_fine : (is : List ItemForm) → Working known s.heap a.places s.masters (Awaits known (Fills is ∷ k)) → Fine known s.heap s.masters (items_next named is (running k a rest s))
+  pub items_fine : (is : List ItemForm) → Working known s.heap a.places s.masters (Awaits known s.heap (Fills is ∷ k)) → Fine known s.heap s.masters (items_next named is (running k a rest s))
   items_fine [] w = goes_on known k a rest s (at_work w w.rest.2) a.operands
   items_fine (i ∷ is) w =
       let h = kept_apart w.holds (uses_in_item i) (uses_in_items is) w.rest.0 in

@@ -4,8 +4,8 @@ use Rattle.std.proofs.Common.{◌≡◌, ℕ, suc, ◌≤◌, Bool, true, false,
 use Rattle.std.specs.Prelude.{ℤ, Option, Some, None}
 use Rattle.std.specs.List.{slice_set}
 use Rattle.ada_program.specs.declared.program.Exception.{Exception}
-use Rattle.ada_program.specs.declared.program.Exception.TheVariants.{ConstraintError, StorageError}
-use Rattle.ada_program.specs.Form.{ExpressionForm, RightForm, StmtsForm, BranchesForm, HandlersForm, DeclarationForm}
+use Rattle.ada_program.specs.declared.program.Exception.TheVariants.{ConstraintError, StorageError, EndError}
+use Rattle.ada_program.specs.Form.{ExpressionForm, RightForm, computes, StmtsForm, BranchesForm, HandlersForm, DeclarationForm}
 use Rattle.ada_program.specs.ProgramForm.{VariableForm}
 use Rattle.ada_program.specs.Handling.{is_same, handler_of}
 use Rattle.ada_effects.specs.Effects.{expression_raises, links_raise, items_raise, condition_raises, unary_raises, binary_raises, right_raises, declaration_raises, stmts_raise, branches_raise, handlers_raise}
@@ -22,7 +22,7 @@ use Rattle.ada_meaning.specs.declared.event.Cause.{Cause}
 use Rattle.ada_meaning.specs.declared.event.Cause.TheVariants.{Leaving, Freeing, Assigning, Undoing}
 use Rattle.ada_meaning.specs.declared.event.Halt.{Halt}
 use Rattle.ada_meaning.specs.declared.event.Halt.TheVariants.{Finished, Unhandled, Erroneous, Stuck, Memory}
-use Rattle.ada_meaning.specs.Frame.{Frame, Elaborates, Does, Decides, Repeats, Turns, Ranges, Counts, Exits, Handles, Closes, Leaves, Evaluates, Computes, Follows, TestsNull, Continues, Applies, AppliesAlone, Fills, Creates, Stores, Declares, Writes, Ends, GivesBack, Clears}
+use Rattle.ada_meaning.specs.Frame.{Frame, Elaborates, Does, Decides, Repeats, Turns, Ranges, Counts, Exits, Handles, Closes, Leaves, Evaluates, Computes, Follows, TestsNull, Continues, Applies, AppliesAlone, Fills, Creates, Stores, Targets, StoresIn, Receives, Declares, Writes, Ends, GivesBack, Clears}
 use Rattle.ada_meaning.specs.Event.{Born, Finalized, Back, Followed, Left, Line, Quiet}
 use Rattle.ada_meaning.specs.State.{Activation, Owned, declared, collection, Item, Master}
 use Rattle.ada_meaning.specs.Step.{halts, moves, tells, asks, picks, first_or, places, operands}
@@ -32,7 +32,7 @@ use Rattle.ada_meaning.specs.Law.{AtItem, leaving_by, LeavesHome}
 use Rattle.ada_sound.specs.Agreement.{Turning, Comes, ComesBy, ComesTo}
 use Rattle.ada_sound.proofs.Items.{NoMaster}
 use Rattle.ada_sound.proofs.Stored.{Stored}
-use Rattle.ada_sound.proofs.Values.{Fit, IsOwn, NoOwner}
+use Rattle.ada_sound.proofs.Values.{GivesAccess, MayGiveAccess, Fit, IsOwn, NoOwner}
 use Rattle.ada_sound.proofs.Orderings.{AsGood}
 use Rattle.ada_sound.proofs.Alters.{BackIn, Alters}
 
@@ -235,20 +235,6 @@ RunsOn known k rooms holds = (ways known k rooms).normal holds
 abbrev pub GoesOn : Known → Mode → Control → Rooms → Holds → Type 0
 GoesOn known mode k rooms holds = By mode (ways known k rooms) holds
 
--- A value is awaited by a variable.
-abbrev pub StoresTo : Control → (ℕ → Control → Type 0) → Type 0
-StoresTo [] more = ⊥
-StoresTo (Stores x ∷ k) more = more x k
-StoresTo (Declares x ∷ k) more = more x k
-StoresTo (f ∷ k) more = ⊥
-
-abbrev pub Gives : Known → RightForm → Rooms → Holds → ℕ → Control → Type 0
-Gives known right rooms holds x k =
-    Goes (gives known.variables x right holds) (RunsOn known k rooms) (Raised (λ e. right_raises (is_same e) right) (ways known k rooms))
-
-abbrev pub Takes : Known → RightForm → Control → Rooms → Holds → Type 0
-Takes known right k rooms holds = StoresTo k (Gives known right rooms holds)
-
 -- None of these paths uses a lost value.
 abbrev pub NoneIsLost : Holds → List Use → Type 0
 NoneIsLost holds uses = lost_among holds uses ≡ None
@@ -257,12 +243,51 @@ NoneIsLost holds uses = lost_among holds uses ≡ None
 abbrev pub MayRaise : Known → Bool → Exception → Control → Rooms → Holds → Type 0
 MayRaise known may e k rooms holds = may ≡ true → To ((ways known k rooms).raised e) holds
 
+-- A value is awaited by a variable, or by a component of an object.
+abbrev pub StoresTo : Control → (ℕ → Control → Type 0) → (Value → Control → Type 0) → Type 0
+StoresTo [] more into = ⊥
+StoresTo (Stores x ∷ k) more into = more x k
+StoresTo (Declares x ∷ k) more into = more x k
+StoresTo (StoresIn o c ∷ k) more into = into o k
+StoresTo (f ∷ k) more into = ⊥
+
+abbrev pub Gives : Known → RightForm → Rooms → Holds → ℕ → Control → Type 0
+Gives known right rooms holds x k =
+    Goes (gives known.variables x right holds) (RunsOn known k rooms) (Raised (λ e. right_raises (is_same e) right) (ways known k rooms))
+
+-- An object is there as long as a component of it awaits a value. Nothing relies on what components hold.
+abbrev pub Into : Known → List Object → Rooms → Holds → Value → Control → Type 0
+Into known heap rooms holds o k = GivesAccess heap o × RunsOn known k rooms holds
+
+-- A component is given what an expression gives; no access value, before components own what they hold.
+abbrev pub Computing : Known → RightForm → Rooms → Holds → Control → Type 0
+Computing known (computes e) rooms holds k =
+    NoneIsLost holds (uses_in e) × MayRaise known (expression_raises e) ConstraintError k rooms holds × RunsOn known k rooms holds
+Computing known right rooms holds k = ⊥
+
+abbrev pub GivesInto : Known → List Object → RightForm → Rooms → Holds → Value → Control → Type 0
+GivesInto known heap right rooms holds o k = GivesAccess heap o × Computing known right rooms holds k
+
+abbrev pub Takes : Known → List Object → RightForm → Control → Rooms → Holds → Type 0
+Takes known heap right k rooms holds = StoresTo k (Gives known right rooms holds) (GivesInto known heap right rooms holds)
+
 -- A new object is awaited.
 abbrev pub Owns : Known → (access : ℕ) → Rooms → Holds → ℕ → Control → Type 0
 Owns known access rooms holds x k = RunsOn known k rooms (slice_set holds x (held_as known.variables (Some access) x (hold.Own Whole)))
 
-abbrev pub Creating : Known → (access : ℕ) → Control → Rooms → Holds → Type 0
-Creating known access k rooms holds = MayRaise known true StorageError k rooms holds × StoresTo k (Owns known access rooms holds)
+abbrev pub Creating : Known → List Object → (access : ℕ) → Control → Rooms → Holds → Type 0
+Creating known heap access k rooms holds =
+    MayRaise known true StorageError k rooms holds × StoresTo k (Owns known access rooms holds) (Into known heap rooms holds)
+
+-- A component is a target (5.2): the value before it is null, or gives access to its object. What the component gets is computed next, or is
+-- the next number of the input.
+abbrev pub Targeting : Known → List Object → Value → RightForm → Control → Rooms → Holds → Type 0
+Targeting known heap v right k rooms holds =
+    MayGiveAccess heap v × MayRaise known true ConstraintError k rooms holds × Computing known right rooms holds k
+
+abbrev pub Receiving : Known → List Object → Value → Control → Rooms → Holds → Type 0
+Receiving known heap v k rooms holds =
+    MayGiveAccess heap v × MayRaise known true ConstraintError k rooms holds × MayRaise known true EndError k rooms holds × RunsOn known k rooms holds
 
 -- A condition is awaited: by branches, by a loop, by an exit.
 abbrev pub Deciding : Known → StmtsForm → BranchesForm → Control → Rooms → Holds → Type 0
@@ -275,29 +300,31 @@ TurningOn known e body k rooms holds =
 abbrev pub ExitingTo : Known → Control → Rooms → Holds → Type 0
 ExitingTo known k rooms holds = RunsOn known k rooms holds × (ways known k rooms).exited holds
 
--- What is left of an expression, or of an allocator's items, uses nothing that is lost; and nothing relies on an expression's value.
-abbrev pub Awaits : Known → Control → Rooms → Holds → Type 0
-Awaits known [] rooms holds = ⊥
-Awaits known (Computes e ∷ k) rooms holds =
-    NoneIsLost holds (uses_in e) × MayRaise known (expression_raises e) ConstraintError k rooms holds × Awaits known k rooms holds
-Awaits known (Continues links ∷ k) rooms holds =
-    NoneIsLost holds (uses_in_links links) × MayRaise known (links_raise links) ConstraintError k rooms holds × Awaits known k rooms holds
-Awaits known (TestsNull equal ∷ k) rooms holds = Awaits known k rooms holds
-Awaits known (Decides fs branches ∷ k) rooms holds = Deciding known fs branches k rooms holds
-Awaits known (Turns e body ∷ k) rooms holds = TurningOn known e body k rooms holds
-Awaits known (Ranges x body ∷ k) rooms holds = Counting known x body k (ways known k rooms) holds
-Awaits known (Exits ∷ k) rooms holds = ExitingTo known k rooms holds
-Awaits known (Applies operator ∷ k) rooms holds =
-    MayRaise known (binary_raises operator) ConstraintError k rooms holds × Awaits known k rooms holds
-Awaits known (AppliesAlone operator ∷ k) rooms holds =
-    MayRaise known (unary_raises operator) ConstraintError k rooms holds × Awaits known k rooms holds
-Awaits known (Fills items ∷ k) rooms holds =
-    NoneIsLost holds (uses_in_items items) × MayRaise known (items_raise items) ConstraintError k rooms holds × Awaits known k rooms holds
-Awaits known (Creates access count ∷ k) rooms holds = Creating known access k rooms holds
-Awaits known (Stores x ∷ k) rooms holds = RunsOn known k rooms (slice_set holds x hold.Lost)
-Awaits known (Declares x ∷ k) rooms holds = RunsOn known k rooms (slice_set holds x hold.Lost)
-Awaits known (Writes ∷ k) rooms holds = RunsOn known k rooms holds
-Awaits known (f ∷ k) rooms holds = ⊥
+-- What is left of an expression, or of an allocator's items, uses nothing that is lost; and nothing relies on an expression's value. An object
+-- of which a component awaits it is there.
+abbrev pub Awaits : Known → List Object → Control → Rooms → Holds → Type 0
+Awaits known heap [] rooms holds = ⊥
+Awaits known heap (Computes e ∷ k) rooms holds =
+    NoneIsLost holds (uses_in e) × MayRaise known (expression_raises e) ConstraintError k rooms holds × Awaits known heap k rooms holds
+Awaits known heap (Continues links ∷ k) rooms holds =
+    NoneIsLost holds (uses_in_links links) × MayRaise known (links_raise links) ConstraintError k rooms holds × Awaits known heap k rooms holds
+Awaits known heap (TestsNull equal ∷ k) rooms holds = Awaits known heap k rooms holds
+Awaits known heap (Decides fs branches ∷ k) rooms holds = Deciding known fs branches k rooms holds
+Awaits known heap (Turns e body ∷ k) rooms holds = TurningOn known e body k rooms holds
+Awaits known heap (Ranges x body ∷ k) rooms holds = Counting known x body k (ways known k rooms) holds
+Awaits known heap (Exits ∷ k) rooms holds = ExitingTo known k rooms holds
+Awaits known heap (Applies operator ∷ k) rooms holds =
+    MayRaise known (binary_raises operator) ConstraintError k rooms holds × Awaits known heap k rooms holds
+Awaits known heap (AppliesAlone operator ∷ k) rooms holds =
+    MayRaise known (unary_raises operator) ConstraintError k rooms holds × Awaits known heap k rooms holds
+Awaits known heap (Fills items ∷ k) rooms holds =
+    NoneIsLost holds (uses_in_items items) × MayRaise known (items_raise items) ConstraintError k rooms holds × Awaits known heap k rooms holds
+Awaits known heap (Creates access count ∷ k) rooms holds = Creating known heap access k rooms holds
+Awaits known heap (Stores x ∷ k) rooms holds = RunsOn known k rooms (slice_set holds x hold.Lost)
+Awaits known heap (Declares x ∷ k) rooms holds = RunsOn known k rooms (slice_set holds x hold.Lost)
+Awaits known heap (StoresIn o c ∷ k) rooms holds = Into known heap rooms holds o k
+Awaits known heap (Writes ∷ k) rooms holds = RunsOn known k rooms holds
+Awaits known heap (f ∷ k) rooms holds = ⊥
 
 -- The program is at work, and no object is under way.
 pub record Working (known : Known) (heap : List Object) (places : List Value) (masters : List Master) (more : Rooms → Holds → Type 0) : Type 0 where
@@ -375,22 +402,25 @@ ReadyBy known (Does fs) k heap places operands masters = Working known heap plac
 ReadyBy known (Decides fs branches) k heap places operands masters = Working known heap places masters (Deciding known fs branches k)
 ReadyBy known (Repeats condition body) k heap places operands masters = Working known heap places masters (RunsOn known (Repeats condition body ∷ k))
 ReadyBy known (Turns e body) k heap places operands masters = Working known heap places masters (TurningOn known e body k)
-ReadyBy known (Ranges x body) k heap places operands masters = Working known heap places masters (Awaits known (Ranges x body ∷ k))
+ReadyBy known (Ranges x body) k heap places operands masters = Working known heap places masters (Awaits known heap (Ranges x body ∷ k))
 ReadyBy known (Counts x next last body) k heap places operands masters = Working known heap places masters (RunsOn known (Counts x next last body ∷ k))
 ReadyBy known Exits k heap places operands masters = Working known heap places masters (ExitingTo known k)
 ReadyBy known (Handles hs) k heap places operands masters = Working known heap places masters (RunsOn known (Handles hs ∷ k))
 ReadyBy known Closes k heap places operands masters = Working known heap places masters (RunsOn known (Closes ∷ k))
 ReadyBy known (Leaves mode) k heap places operands masters = Working known heap places masters (RunsOn known (Leaves mode ∷ k))
-ReadyBy known (Evaluates right) k heap places operands masters = Working known heap places masters (Takes known right k)
-ReadyBy known (Computes e) k heap places operands masters = Working known heap places masters (Awaits known (Computes e ∷ k))
+ReadyBy known (Evaluates right) k heap places operands masters = Working known heap places masters (Takes known heap right k)
+ReadyBy known (Computes e) k heap places operands masters = Working known heap places masters (Awaits known heap (Computes e ∷ k))
 ReadyBy known (Follows cs) k heap places operands masters = ⊥
-ReadyBy known (TestsNull equal) k heap places operands masters = Working known heap places masters (Awaits known k)
-ReadyBy known (Continues links) k heap places operands masters = Working known heap places masters (Awaits known (Continues links ∷ k))
-ReadyBy known (Applies operator) k heap places operands masters = Working known heap places masters (Awaits known (Applies operator ∷ k))
-ReadyBy known (AppliesAlone operator) k heap places operands masters = Working known heap places masters (Awaits known (AppliesAlone operator ∷ k))
-ReadyBy known (Fills items) k heap places operands masters = Working known heap places masters (Awaits known (Fills items ∷ k))
-ReadyBy known (Creates access count) k heap places operands masters = Working known heap places masters (Creating known access k)
+ReadyBy known (TestsNull equal) k heap places operands masters = Working known heap places masters (Awaits known heap k)
+ReadyBy known (Continues links) k heap places operands masters = Working known heap places masters (Awaits known heap (Continues links ∷ k))
+ReadyBy known (Applies operator) k heap places operands masters = Working known heap places masters (Awaits known heap (Applies operator ∷ k))
+ReadyBy known (AppliesAlone operator) k heap places operands masters = Working known heap places masters (Awaits known heap (AppliesAlone operator ∷ k))
+ReadyBy known (Fills items) k heap places operands masters = Working known heap places masters (Awaits known heap (Fills items ∷ k))
+ReadyBy known (Creates access count) k heap places operands masters = Working known heap places masters (Creating known heap access k)
 ReadyBy known (Stores x) k heap places operands masters = Working known heap (slice_set places x (first_or Null operands)) masters (RunsOn known k)
+ReadyBy known (Targets c right) k heap places operands masters = Working known heap places masters (Targeting known heap (first_or Null operands) right k)
+ReadyBy known (StoresIn o c) k heap places operands masters = Working known heap places masters (Awaits known heap (StoresIn o c ∷ k))
+ReadyBy known (Receives c) k heap places operands masters = Working known heap places masters (Receiving known heap (first_or Null operands) k)
 ReadyBy known (Declares x) k heap places operands masters = Working known heap (slice_set places x (first_or Null operands)) masters (RunsOn known k)
 ReadyBy known Writes k heap places operands masters = Working known heap places masters (RunsOn known k)
 ReadyBy known (Ends v) k heap places operands masters = EndingBy known v k heap places masters

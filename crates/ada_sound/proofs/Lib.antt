@@ -30,6 +30,8 @@ pub mod Nestings
 pub mod Statements
 -- what is assigned
 pub mod Evaluations
+-- components that are assigned to
+pub mod Targets
 -- what ends
 pub mod Endings
 -- jumps on their way
@@ -50,3 +52,5 @@ pub mod Choices
 pub mod Example
 -- the same with exceptions, handlers, blocks and counting loops
 pub mod ExampleBlocks
+-- the same with components that are assigned to
+pub mod ExampleTargets

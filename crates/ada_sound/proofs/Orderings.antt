@@ -1,12 +1,12 @@
 -- What is known of variables, from most to least: what is joined, and what a loop's start is opened to.
 
-use Rattle.std.proofs.Common.{◌≡◌, ◌≢◌, ℕ, zero, suc, Bool, true, false, ◌&&◌, [], ◌∷◌, refl, ◌⊎◌, inl, inr}
+use Rattle.std.proofs.Common.{◌≡◌, ◌≢◌, ℕ, zero, suc, Bool, true, false, ◌&&◌, List, [], ◌∷◌, refl, ◌⊎◌, inl, inr}
 use Rattle.std.specs.List.{slice_set}
 use Rattle.ada_program.specs.Form.{StmtForm, skips, assigns, frees, gets, writes, writes_text, chooses, repeats, counts, exits, returns, raises, encloses, StmtsForm, no_stmts, a_stmt, BranchesForm, otherwise, a_branch, HandlersForm, no_handlers, a_handler}
 use Rattle.ada_flow.specs.declared.rule.Hold.{Hold}
 use Rattle.ada_flow.specs.declared.rule.Hold.TheVariants.{Null, Own, Alias, Lost}
 use Rattle.ada_flow.specs.declared.rule.Region.TheVariants.{Whole}
-use Rattle.ada_flow.specs.Flow.{Holds, hold_at, join_hold, join, is_as_good, are_as_good, opened_hold, opened, opened_by, opened_by_all, opened_by_branches, opened_by_handlers}
+use Rattle.ada_flow.specs.Flow.{Holds, hold_at, join_hold, join, is_as_good, are_as_good, opened_hold, opened, opened_target, opened_by, opened_by_all, opened_by_branches, opened_by_handlers}
 use Rattle.ada_sound.proofs.Values.{read_other, same_or_not, lost_here}
 
 pub good_here : (h : Hold) → is_as_good h h ≡ true
@@ -120,10 +120,14 @@ opened_good x holds y = go (same_or_not y x)
     go (inl e) = rw e (opened_at x holds)
     go (inr ne) = rw (read_other holds x y (opened_hold (hold_at holds x)) Lost ne) (good_here (hold_at holds y))
 
+target_good : (cs : List ℕ) (x : ℕ) (holds : Holds) → AsGood holds (opened_target cs x holds)
+target_good [] x holds = opened_good x holds
+target_good (c ∷ cs) x holds = as_good holds
+
 mutual
   by_good : (f : StmtForm) (holds : Holds) → AsGood holds (opened_by f holds)
   by_good skips holds = as_good holds
-  by_good (assigns target right) holds = opened_good target.root holds
+  by_good (assigns target right) holds = target_good target.selectors target.root holds
   by_good (frees access variable) holds = as_good holds
   by_good (gets target) holds = as_good holds
   by_good (writes e) holds = as_good holds

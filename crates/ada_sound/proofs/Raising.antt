@@ -89,9 +89,15 @@ declarations_more among more m (d ∷ ds) is =
 mutual
   stmt_more : (f : StmtForm) (among more : Exception → Bool) → IsAmong among more → stmt_raises among f ≡ true → stmt_raises more f ≡ true
   stmt_more skips among more m is = is
-  stmt_more (assigns target right) among more m is = right_more among more m right is
+  stmt_more (assigns target right) among more m is =
+      let follows = path_raises target.selectors in
+      or_map (among ConstraintError && follows) (right_raises among right) (more ConstraintError && follows) (right_raises more right)
+      (λ i. and_first (among ConstraintError) follows (more ConstraintError) (m ConstraintError) i) (right_more among more m right) is
   stmt_more (frees access variable) among more m is = is
-  stmt_more (gets target) among more m is = m EndError is
+  stmt_more (gets target) among more m is =
+      let follows = path_raises target.selectors in
+      or_map (among EndError) (among ConstraintError && follows) (more EndError) (more ConstraintError && follows)
+      (m EndError) (λ i. and_first (among ConstraintError) follows (more ConstraintError) (m ConstraintError) i) is
   stmt_more (writes e) among more m is = and_first (among ConstraintError) (expression_raises e) (more ConstraintError) (m ConstraintError) is
   stmt_more (writes_text text) among more m is = is
   stmt_more (chooses branches) among more m is = branches_more branches among more m is

@@ -8,7 +8,7 @@ use Rattle.ada_meaning.specs.declared.state.Value.{Value}
 use Rattle.ada_meaning.specs.declared.state.Value.TheVariants.{Null}
 use Rattle.ada_meaning.specs.declared.state.Mode.{Mode}
 use Rattle.ada_meaning.specs.declared.state.Mode.TheVariants.{Running, Raising, Exiting, Returning}
-use Rattle.ada_meaning.specs.Frame.{Elaborates, Does, Decides, Repeats, Turns, Ranges, Counts, Exits, Handles, Closes, Leaves, Computes, TestsNull, Continues, Applies, AppliesAlone, Fills, Creates, Stores, Declares, Writes}
+use Rattle.ada_meaning.specs.Frame.{Elaborates, Does, Decides, Repeats, Turns, Ranges, Counts, Exits, Handles, Closes, Leaves, Computes, TestsNull, Continues, Applies, AppliesAlone, Fills, Creates, Stores, StoresIn, Declares, Writes}
 use Rattle.ada_meaning.specs.Event.{Quiet}
 use Rattle.ada_meaning.specs.State.{Activation, Master}
 use Rattle.ada_meaning.specs.Step.{first_or, jumping}
@@ -79,7 +79,7 @@ module _ (known : Known) where
   lost_stored x k v heap places ms w = record { rooms = w.rooms; holds = slice_set w.holds x hold.Lost; stored = w.stored; roomed = w.roomed; fit = put_fit heap known.variables places w.holds x hold.Lost v (λ e. absurd e) tt w.fit; rest = w.rest }
 
   -- What awaits a value goes on, whatever is computed.
-  pub awaits_ready : (k : Control) (heap : List Object) (places operands : List Value) (ms : List Master) → Working known heap places ms (Awaits known k) → ReadyIn known Running k heap places operands ms
+  pub awaits_ready : (k : Control) (heap : List Object) (places operands : List Value) (ms : List Master) → Working known heap places ms (Awaits known heap k) → ReadyIn known Running k heap places operands ms
   awaits_ready [] heap places operands ms w = absurd (w.rest)
   awaits_ready (Computes e ∷ k) heap places operands ms w = w
   awaits_ready (Continues links ∷ k) heap places operands ms w = w
@@ -93,13 +93,14 @@ module _ (known : Known) where
   awaits_ready (Fills items ∷ k) heap places operands ms w = w
   awaits_ready (Creates access count ∷ k) heap places operands ms w = w
   awaits_ready (Stores x ∷ k) heap places operands ms w = lost_stored x k (first_or Null operands) heap places ms w
+  awaits_ready (StoresIn o c ∷ k) heap places operands ms w = w
   awaits_ready (Declares x ∷ k) heap places operands ms w = lost_stored x k (first_or Null operands) heap places ms w
   awaits_ready (Writes ∷ k) heap places operands ms w = w
   awaits_ready (f ∷ k) heap places operands ms w = absurd (w.rest)
 
   module _ (k : Control) (a : Activation Value) (rest : List (Activation Value)) (s : State) where
     -- What awaits a value goes on with one, or without.
-    pub goes_on : Working known s.heap a.places s.masters (Awaits known k) → (vs : List Value) → Stepped known s.heap Quiet (running k (record a { operands = vs }) rest s)
+    pub goes_on : Working known s.heap a.places s.masters (Awaits known s.heap k) → (vs : List Value) → Stepped known s.heap Quiet (running k (record a { operands = vs }) rest s)
     goes_on w vs = stays Quiet (running k (record a { operands = vs }) rest s) (tt, awaits_ready k s.heap a.places vs s.masters w) tt
 
     -- What is left of the program goes on.

@@ -15,7 +15,7 @@ use Rattle.ada_meaning.specs.declared.state.Mode.TheVariants.{Running, Raising, 
 use Rattle.ada_meaning.specs.declared.event.Halt.{Halt}
 use Rattle.ada_meaning.specs.declared.event.Halt.TheVariants.{Finished, Unhandled, Erroneous, Stuck, Memory}
 use Rattle.ada_meaning.specs.declared.event.Why.{Why}
-use Rattle.ada_meaning.specs.Frame.{Frame, Elaborates, Does, Decides, Repeats, Turns, Ranges, Counts, Exits, Handles, Closes, Leaves, Evaluates, Computes, Follows, TestsNull, Continues, Applies, AppliesAlone, Fills, Creates, Stores, Declares, Writes, Ends, GivesBack, Clears}
+use Rattle.ada_meaning.specs.Frame.{Frame, Elaborates, Does, Decides, Repeats, Turns, Ranges, Counts, Exits, Handles, Closes, Leaves, Evaluates, Computes, Follows, TestsNull, Continues, Applies, AppliesAlone, Fills, Creates, Stores, Targets, StoresIn, Receives, Declares, Writes, Ends, GivesBack, Clears}
 use Rattle.ada_meaning.specs.Event.{Born, Finalized, Back, Followed, Left, Line, Quiet}
 use Rattle.ada_meaning.specs.State.{Master}
 use Rattle.ada_meaning.specs.Step.{halts, moves, tells, asks, picks}
@@ -24,7 +24,7 @@ use Rattle.ada_meaning.specs.Run.{Event, Choice, settled, grants, takes, Leads, 
 use Rattle.ada_meaning.specs.Law.{named_by, back_of, followed_of, finalized_of, Differ, BackTwoObjects, FinalizedTwoValues, FollowedBeforeBack, leaving_by, IsBackHome, GoesHome, GivesBackOf, Happened, IsBack, HasEnded}
 use Rattle.ada_sound.proofs.Items.{NoMaster}
 use Rattle.ada_sound.proofs.Stored.{Stored}
-use Rattle.ada_sound.proofs.Alters.{BackIn}
+use Rattle.ada_sound.proofs.Alters.{BackIn, StaysItself}
 use Rattle.ada_sound.proofs.Invariant.{Known, Control, EndingBy, BackingBy, ReadyBy, ReadyIn, Ready, Says, Stepped, EndsWell, Fine}
 use Rattle.ada_sound.proofs.Steps.{fine}
 
@@ -111,17 +111,17 @@ goes_home (Left master) heap after says = tt
 goes_home (Line line) heap after says = tt
 goes_home Quiet heap after says = tt
 
--- Each object is still there, with what lies in it.
-abbrev KeepsCells : List Object → List Object → Type 0
-KeepsCells before after = (o : Id) (x : Object) → object_at before o ≡ Some x → (y : Object) × (object_at after o ≡ Some y) × (y.cell ≡ x.cell) × (x.out ≡ false → y.out ≡ false)
+-- Each object is still there, as the object that it was.
+abbrev KeepsObjects : List Object → List Object → Type 0
+KeepsObjects before after = (o : Id) (x : Object) → object_at before o ≡ Some x → (y : Object) × (object_at after o ≡ Some y) × StaysItself x y × (x.out ≡ false → y.out ≡ false)
 
-home_kept_by : (before after : List Object) (o : Option Id) (access number pool : ℕ) (subpool : Option ℕ) (leaving : Option _) → KeepsCells before after → GoesHome before o access number pool subpool leaving → GoesHome after o access number pool subpool leaving
+home_kept_by : (before after : List Object) (o : Option Id) (access number pool : ℕ) (subpool : Option ℕ) (leaving : Option _) → KeepsObjects before after → GoesHome before o access number pool subpool leaving → GoesHome after o access number pool subpool leaving
 home_kept_by before after None access number pool subpool leaving keeps h = h
 home_kept_by before after (Some o) access number pool subpool leaving keeps h =
     let y = keeps o h.0 h.1 in
-    (y.0, y.1, rw y.2 h.2, rw y.2 h.3, rw y.2 h.4, rw y.2 h.5, rw y.2 h.6)
+    (y.0, y.1, y.2.0 ∙ h.2, y.2.1 ∙ h.3, rw y.2.2 h.4, rw y.2.2 h.5, rw y.2.2 h.6)
 
-home_kept : (before after : List Object) (e : Event) → KeepsCells before after → IsBackHome before e → IsBackHome after e
+home_kept : (before after : List Object) (e : Event) → KeepsObjects before after → IsBackHome before e → IsBackHome after e
 home_kept before after (Born v part turn type number by) keeps h = tt
 home_kept before after (Finalized v part turn type number cause) keeps h = tt
 home_kept before after (Back v access number pool subpool cause) keeps h = home_kept_by before after (named_by v) access number pool subpool (leaving_by (Some cause)) keeps h
@@ -187,6 +187,9 @@ module _ (known : Known) where
   frame_stored (Fills items) k heap places operands ms r = (None, r.stored)
   frame_stored (Creates access count) k heap places operands ms r = (None, r.stored)
   frame_stored (Stores x) k heap places operands ms r = (None, r.stored)
+  frame_stored (Targets c right) k heap places operands ms r = (None, r.stored)
+  frame_stored (StoresIn o c) k heap places operands ms r = (None, r.stored)
+  frame_stored (Receives c) k heap places operands ms r = (None, r.stored)
   frame_stored (Declares x) k heap places operands ms r = (None, r.stored)
   frame_stored Writes k heap places operands ms r = (None, r.stored)
   frame_stored (Ends v) k heap places operands ms r = value_stored v k heap places ms r
@@ -235,18 +238,18 @@ module _ (known : Known) where
   pub ends_clean : (program : Program) (s : State) (halt : Halt) → Ready known s → Halts program s halt → HasEnded halt → (s.masters ≡ []) × All IsBack s.heap
   ends_clean program s halt r is e = ends_by halt s.heap s.masters (rw is at (fine known program.types.items s r)) e
 
-  -- Objects keep what lies in them, and what is back stays so.
-  pub cells_kept : {program : Program} {s last : State} {events : List Event} → Run program s events last → Ready known s → KeepsCells s.heap last.heap
-  cells_kept here r = λ o x is. (x, is, refl, λ h. h)
-  cells_kept {program} {s = s} (there {event = e} choice mid step run) r =
+  -- Objects stay what they were, and what is back stays so.
+  pub objects_kept : {program : Program} {s last : State} {events : List Event} → Run program s events last → Ready known s → KeepsObjects s.heap last.heap
+  objects_kept here r = λ o x is. (x, is, (refl, refl, refl), λ h. h)
+  objects_kept {program} {s = s} (there {event = e} choice mid step run) r =
       let st = stepped program s choice e mid r step in
       λ o x is.
       let y = st.alters.kept o x is in
-      let z = cells_kept run st.ready o y.0 y.1 in
-      (z.0, z.1, z.2 ∙ y.2, λ back. z.3 (y.3 back))
+      let z = objects_kept run st.ready o y.0 y.1 in
+      (z.0, z.1, (z.2.0 ∙ y.2.0, z.2.1 ∙ y.2.1, z.2.2 ∙ y.2.2), λ back. z.3 (y.3 back))
 
   back_kept : {program : Program} {s last : State} {events : List Event} (o : Id) → Run program s events last → Ready known s → BackIn s.heap o → BackIn last.heap o
-  back_kept o run r b = let y = cells_kept run r o b.0 b.1 in (y.0, y.1, y.3 b.2)
+  back_kept o run r b = let y = objects_kept run r o b.0 b.1 in (y.0, y.1, y.3 b.2)
 
   -- Laws of two events: what the first leaves behind lasts, and the second keeps to it.
   module _ (R : Event → Event → Type 0) (K : Event → State → Type 0) (born : (e : Event) (before : List Object) (after : State) → Stepped known before e after → K e after) (kept : (program : Program) (d : Event) (s : State) (choice : Choice) (e : Event) (after : State) → Ready known s → Step program s choice e after → K d s → R d e × K d after) where
@@ -297,7 +300,7 @@ module _ (known : Known) where
       go {t = t} (there {event = e} {events = es} choice mid step rest) r' =
           let st = stepped program t choice e mid r' step in
           All-cons (IsBackHome last.heap) e es
-          (home_kept t.heap last.heap e (cells_kept (there choice mid step rest) r') (goes_home e t.heap mid st.says))
+          (home_kept t.heap last.heap e (objects_kept (there choice mid step rest) r') (goes_home e t.heap mid st.says))
           (go rest st.ready)
 
   -- The words of an object are back exactly where an event says so.

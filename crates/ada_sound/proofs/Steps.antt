@@ -7,7 +7,7 @@ use Rattle.ada_meaning.specs.declared.state.Value.{Value}
 use Rattle.ada_meaning.specs.declared.state.Value.TheVariants.{Null}
 use Rattle.ada_meaning.specs.declared.state.Mode.{Mode}
 use Rattle.ada_meaning.specs.declared.state.Mode.TheVariants.{Running, Raising, Exiting, Returning}
-use Rattle.ada_meaning.specs.Frame.{Frame, Elaborates, Does, Decides, Repeats, Turns, Ranges, Counts, Exits, Handles, Closes, Leaves, Evaluates, Computes, Follows, TestsNull, Continues, Applies, AppliesAlone, Fills, Creates, Stores, Declares, Writes, Ends, GivesBack, Clears}
+use Rattle.ada_meaning.specs.Frame.{Frame, Elaborates, Does, Decides, Repeats, Turns, Ranges, Counts, Exits, Handles, Closes, Leaves, Evaluates, Computes, Follows, TestsNull, Continues, Applies, AppliesAlone, Fills, Creates, Stores, Targets, StoresIn, Receives, Declares, Writes, Ends, GivesBack, Clears}
 use Rattle.ada_meaning.specs.Event.{Quiet}
 use Rattle.ada_meaning.specs.State.{Activation}
 use Rattle.ada_meaning.specs.Step.{first_or, older, frame_next, mode_next}
@@ -19,6 +19,7 @@ use Rattle.ada_sound.proofs.Raising.{unary_only, binary_only}
 use Rattle.ada_sound.proofs.Expressions.{outcome_fine, null_test_fine, expression_fine, links_fine, items_fine}
 use Rattle.ada_sound.proofs.Statements.{declarations_fine, repeats_fine, counts_fine, ranges_fine, decided_fine, turned_fine, exited_fine, stmts_fine}
 use Rattle.ada_sound.proofs.Evaluations.{creates_fine, right_fine, stores_fine, declares_fine, writes_fine}
+use Rattle.ada_sound.proofs.Targets.{target_fine, store_fine, receive_fine}
 use Rattle.ada_sound.proofs.Endings.{ends_fine, backs_fine, leave_fine}
 use Rattle.ada_sound.proofs.Jumps.{closes_fine, raising_fine, exiting_fine, returning_fine}
 
@@ -51,6 +52,9 @@ module _ (known : Known) where
     frame_fine (Fills items) r = items_fine known k a rest s items r
     frame_fine (Creates access count) r = creates_fine known k a rest s access count (words_of types access) r
     frame_fine (Stores x) r = stores_fine known k a rest s x (first_or Null a.operands) (older a.operands) r
+    frame_fine (Targets c right) r = target_fine known k (record a { operands = older a.operands }) rest s (first_or Null a.operands) c right r
+    frame_fine (StoresIn o c) r = store_fine known k (record a { operands = older a.operands }) rest s o c (first_or Null a.operands) r
+    frame_fine (Receives c) r = receive_fine known k (record a { operands = older a.operands }) rest s (first_or Null a.operands) c r
     frame_fine (Declares x) r = declares_fine known k a rest s x (first_or Null a.operands) (older a.operands) r
     frame_fine Writes r = writes_fine known k a rest s (named.reads_integer (first_or Null a.operands)) (older a.operands) r
     frame_fine (Ends v) r = ends_fine known a rest s v k r

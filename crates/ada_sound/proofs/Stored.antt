@@ -11,7 +11,7 @@ use Rattle.ada_meaning.specs.declared.state.Stage.TheVariants.{Existing, Gone}
 use Rattle.ada_meaning.specs.Heap.{Cell}
 use Rattle.ada_meaning.specs.State.{Owned, collection, Item, Master, height}
 use Rattle.ada_meaning.specs.Step.{owning}
-use Rattle.ada_meaning.specs.Named.{Object, object_at, new_object, parted, finished, returned, is_member, members_from, members}
+use Rattle.ada_meaning.specs.Named.{Object, object_at, new_object, parted, finished, returned, filled, is_member, members_from, members}
 use Rattle.ada_meaning.specs.Law.{items_of}
 use Rattle.ada_sound.proofs.Objects.{more_get, set_get}
 use Rattle.ada_sound.proofs.Items.{Counted, HasItem, counted_owning, has_owning}
@@ -73,6 +73,15 @@ stored_back {heap} {masters} o x is gone s =
   where
     same_id : (p q : Id) → Some q ≡ Some p → p.0 ≡ q.0
     same_id p q n = cc n
+
+-- A component of it gets another value.
+pub stored_filled : {under : Option Id} {heap : List Object} {masters : List Master} (o : Id) (x : Object) (c : ℕ) (v : Value) → object_at heap o ≡ Some x → Stored under heap masters → Stored under (slice_set heap o.0 (filled c v x)) masters
+stored_filled {under} {heap} {masters} o x c v is s =
+    let h = s.sane o x is in
+    stored_set o (filled c v x)
+    (record { standard = h.standard; back_gone = h.back_gone; listed_exists = h.listed_exists; housed = h.housed; out_listed = h.out_listed })
+    (λ p z ne g. g)
+    s
 
 -- One item more.
 pub stored_owning : {under : Option Id} {heap : List Object} {masters : List Master} (owned : Owned) → Stored under heap masters → Stored under heap (owning (record { number = height masters; owned = owned }) masters)

@@ -1,19 +1,20 @@
 -- Values and holds: what a change of one place, or of the objects, keeps.
 
 use Rattle.std.proofs.Common.{◌≡◌, ◌≢◌, ℕ, zero, suc, true, List, [], ◌∷◌, ◌++◌, refl, sym, ap, ◌∙◌, ◌⊎◌, inl, inr, arith}
-use Rattle.std.specs.Prelude.{Option, Some}
+use Rattle.std.specs.Prelude.{Option, Some, None}
 use Rattle.std.specs.List.{slice_set, slice_index_or}
+use Rattle.ada_text.specs.declared.spot.Spot.{Spot}
 use Rattle.ada_flow.specs.declared.rule.Hold.{Hold}
 use Rattle.ada_flow.specs.declared.rule.Hold.TheVariants as hold
 use Rattle.ada_flow.specs.declared.rule.Region.TheVariants.{Whole}
 use Rattle.ada_program.specs.ProgramForm.{VariableForm}
-use Rattle.ada_flow.specs.Flow.{Holds, hold_at, variable_access, is_as_good}
+use Rattle.ada_flow.specs.Flow.{Holds, hold_at, variable_access, lost_by, is_as_good}
 use Rattle.ada_meaning.specs.declared.state.Id.{Id}
 use Rattle.ada_meaning.specs.declared.state.Value.{Value}
 use Rattle.ada_meaning.specs.declared.state.Value.TheVariants.{Null, Names, Scalar}
 use Rattle.ada_meaning.specs.declared.state.Stage.TheVariants.{Existing}
 use Rattle.ada_meaning.specs.Named.{Object, object_at}
-use Rattle.ada_sound.proofs.Objects.{get_more, set_other}
+use Rattle.ada_sound.proofs.Objects.{get_more, set_other, set_here}
 
 -- An object of this name exists, and is of this access type.
 abbrev pub Lives : List Object → Option ℕ → Id → Type 0
@@ -23,6 +24,22 @@ abbrev pub IsLive : List Object → Option ℕ → Value → Type 0
 IsLive objects access Null = Unit {0}
 IsLive objects access (Names o) = Lives objects access o
 IsLive objects access (Scalar v) = ⊥
+
+-- An object of this name exists.
+abbrev pub Exists : List Object → Id → Type 0
+Exists objects o = (object : Object) × (object_at objects o ≡ Some object) × (object.stage ≡ Existing)
+
+-- A value gives access to an object that exists.
+abbrev pub GivesAccess : List Object → Value → Type 0
+GivesAccess objects Null = ⊥
+GivesAccess objects (Names o) = Exists objects o
+GivesAccess objects (Scalar v) = ⊥
+
+-- It does, or is null.
+abbrev pub MayGiveAccess : List Object → Value → Type 0
+MayGiveAccess objects Null = Unit {0}
+MayGiveAccess objects (Names o) = Exists objects o
+MayGiveAccess objects (Scalar v) = ⊥
 
 -- A value fits a hold. No form gives an alias yet: what is called one is null.
 abbrev pub Fits : List Object → Option ℕ → Hold → Value → Type 0
@@ -100,6 +117,30 @@ fits_set xs o y access hold.Lost v other f = tt
 pub fit_set : {objects : List Object} {variables : List VariableForm} {places : List Value} {holds : Holds} (o : Id) (y : Object) → NoOwner places holds o → Fit objects variables places holds → Fit (slice_set objects o.0 y) variables places holds
 fit_set {objects} {variables} {places} {holds} o y none f = record { each = λ x. fits_set objects o y (variable_access variables x) (hold_at holds x) (place_at places x) (none x) (f.each x); apart = f.apart }
 
+-- An object changes, yet exists as before and is of its access type.
+module _ (xs : List Object) (o : Id) (x y : Object) (found : object_at xs o ≡ Some x) (stage : y.stage ≡ x.stage) (of_type : y.cell.access ≡ x.cell.access) where
+  lives_kept : (access : Option ℕ) (p : Id) → Lives xs access p → (p.0 ≡ o.0) ⊎ (p.0 ≢ o.0) → Lives (slice_set xs o.0 y) access p
+  lives_kept access p h (inl same) =
+      let it : h.0 ≡ x = let there = rw same at h.1 in cc (there, found) in
+      let stage_is : y.stage ≡ Existing = stage ∙ (rw it at h.2) in
+      let type_is : access ≡ Some y.cell.access = rw of_type (rw it at h.3) in
+      (y, rw same (set_here xs o.0 x y found), stage_is, type_is)
+  lives_kept access p h (inr ne) = (h.0, rw (set_other xs o.0 p.0 y ne) h.1, h.2, h.3)
+
+  live_kept : (access : Option ℕ) (v : Value) → IsLive xs access v → IsLive (slice_set xs o.0 y) access v
+  live_kept access Null h = tt
+  live_kept access (Names p) h = lives_kept access p h (same_or_not p.0 o.0)
+  live_kept access (Scalar n) h = h
+
+  fits_kept : (access : Option ℕ) (h : Hold) (v : Value) → Fits xs access h v → Fits (slice_set xs o.0 y) access h v
+  fits_kept access hold.Null v f = f
+  fits_kept access (hold.Own r) v f = live_kept access v f
+  fits_kept access (hold.Alias r) v f = f
+  fits_kept access hold.Lost v f = tt
+
+  pub fit_kept : {variables : List VariableForm} {places : List Value} {holds : Holds} → Fit xs variables places holds → Fit (slice_set xs o.0 y) variables places holds
+  fit_kept {variables} {places} {holds} f = record { each = λ z. fits_kept (variable_access variables z) (hold_at holds z) (place_at places z) (f.each z); apart = f.apart }
+
 -- What is written to one place.
 fits_null : (xs : List Object) (access : Option ℕ) (h : Hold) (v : Value) → Fits xs access h v → Fits xs access h Null
 fits_null xs access hold.Null v f = refl
@@ -175,6 +216,30 @@ pub no_owner : {objects : List Object} {variables : List VariableForm} {places :
 no_owner {objects} {variables} {places} {holds} x o f own is y a b =
     let h = other_owner holds x y hold.Null (λ none. none) a in
     f.apart y x o h.0 h.1 own (rw (read_other places x y Null Null h.0) at b) is
+
+-- What a variable holds that is not lost may be followed.
+pub held_gives : (objects : List Object) (access : Option ℕ) (spot : Spot) (h : Hold) (v : Value) → lost_by h spot ≡ None → Fits objects access h v → MayGiveAccess objects v
+held_gives objects access spot hold.Null v e f = rw f tt
+held_gives objects access spot (hold.Own r) v e f = live_gives v f
+  where
+    live_gives : (w : Value) → IsLive objects access w → MayGiveAccess objects w
+    live_gives Null h = tt
+    live_gives (Names o) h = (h.0, h.1, h.2)
+    live_gives (Scalar n) h = h
+held_gives objects access spot (hold.Alias r) v e f = rw f tt
+held_gives objects access spot hold.Lost v e f = absurd (cc e)
+
+-- Objects last: each one that exists before exists after.
+abbrev pub Last : (before after : List Object) → Type 0
+Last before after = (o : Id) → Exists before o → Exists after o
+
+pub last_more : (xs : List Object) (y : Object) → Last xs (xs ++ y ∷ [])
+last_more xs y o e = (e.0, get_more xs y o.0 e.0 e.1, e.2)
+
+pub access_lasts : (before after : List Object) (v : Value) → Last before after → GivesAccess before v → GivesAccess after v
+access_lasts before after Null last g = g
+access_lasts before after (Names o) last g = last o g
+access_lasts before after (Scalar n) last g = g
 
 -- What is called an owner or an alias may be null; whatever it is may be called lost.
 null_live : (objects : List Object) (access : Option ℕ) (v : Value) → v ≡ Null → IsLive objects access v

@@ -1,6 +1,7 @@
 -- The statements and the events of the programs by which the laws show that they are not empty, and that the rules are needed.
 
-use Rattle.std.specs.Prelude.{ℕ, List, [], ◌∷◌, Some, None, true, false, pos}
+use Rattle.std.specs.Prelude.{ℕ, List, [], ◌∷◌, ◌++◌, Some, None, true, false, pos}
+use Rattle.std.proofs.Math.ListN.{replicate}
 use Rattle.ada_values.specs.declared.operator.BinaryOperator.{BinaryOperator}
 use Rattle.ada_values.specs.declared.operator.BinaryOperator.TheVariants as binary
 use Rattle.ada_values.specs.declared.operator.UnaryOperator.TheVariants as unary
@@ -393,3 +394,39 @@ mistyping_stmts = a_stmt mistyping_block (a_stmt (writes (value_at 0)) no_stmts)
 -- The object goes with the block's collection.
 abbrev pub mistyping_events : List Event
 mistyping_events = Back (Names (record { 0 = 0 })) 2 1 0 None (Leaving 1 2) ∷ Left 1 ∷ []
+
+-- Components that are assigned to:
+-- X := new Cell'(Value => 7); Get (X.Value);
+-- while X.Value < 7 loop X.Value := X.Value + 1; end loop; Put_Line (Integer'Image (X.Value));
+abbrev pub filling_body : StmtsForm
+filling_body = a_stmt (assigns (example_path 0 (0 ∷ [])) (computes (with_number binary.Add 1 (value_at 0)))) no_stmts
+
+-- The object, its first number, the loop, and what follows it.
+abbrev pub filling_stmts : StmtsForm
+filling_stmts =
+    seven_to_x
+    (a_stmt (gets (example_path 0 (0 ∷ [])))
+    (a_stmt (repeats (Some (with_number binary.Less 7 (value_at 0))) filling_body example_spot)
+    (a_stmt (writes (value_at 0)) no_stmts)))
+
+-- The input is 5, so that the loop has two turns. The object is followed by Get, by each of three conditions, and before the line is written;
+-- and three times in each turn: where its component is found, where it is read, and where it is assigned to.
+abbrev pub filling_events : List Event
+filling_events =
+    replicate 11 (Followed (Names (record { 0 = 0 })))
+    ++ Line (Image (pos 7))
+    ∷ Back (Names (record { 0 = 0 })) 1 1 0 None (Leaving 0 0)
+    ∷ Left 0
+    ∷ []
+
+-- X := new Cell'(Value => 7); Y := X; Free (Y); X.Value := 1;
+abbrev pub storing_stmts : StmtsForm
+storing_stmts =
+    seven_to_x
+    (a_stmt (assigns (example_path 1 []) (value_of (example_path 0 [])))
+    (a_stmt (frees 1 (example_path 1 []))
+    (a_stmt (assigns (example_path 0 (0 ∷ [])) (computes (integer (pos 1)))) no_stmts)))
+
+-- The object is freed, and then a component of it is assigned to.
+abbrev pub storing_events : List Event
+storing_events = Back (Names (record { 0 = 0 })) 1 1 0 None (Freeing 1) ∷ []

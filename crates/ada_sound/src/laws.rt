@@ -121,7 +121,8 @@ pub fn only_owners_are_moved()
 /// turn: the handler that names it follows and frees the object of the first one. And one whose loop is left by an exit out
 /// of a block: the object of the block's collection goes with the block, and an outer one stays until the end. And one where
 /// an exception leaves a block before the handler behind it begins, which returns. And one with a `for` loop that reads
-/// numbers until there is none.
+/// numbers until there is none. And one that reads a number into a component of an object, adds to it in a loop, and
+/// writes what the component then holds.
 pub fn premises_are_met()
     ensures begins { (program : Program) × ObeysRules program × ReachesStatement program }
     ensures finishes { (program : Program) × ObeysRules program × FinishesAfter examples.example_events program }
@@ -143,6 +144,8 @@ pub fn premises_are_met()
     ensures counts { (program : Program) × (stmt_forms program ≡ examples.counting_stmts)
         × (handler_forms program ≡ examples.counting_handlers)
         × ObeysRules program × FinishesAfter examples.counting_events program }
+    ensures fills { (program : Program) × (stmt_forms program ≡ examples.filling_stmts)
+        × ObeysRules program × FinishesAfter examples.filling_events program }
 {}
 
 /// The rules are needed: a program that breaks them follows an access value whose object is gone, and one ends an object
@@ -153,7 +156,8 @@ pub fn premises_are_met()
 /// did not count: `-` raises, of the first Integer (4.5). Behind a block its collections
 /// are gone, also where an exit leaves it: of a program whose outer variable names an object of one of them, that object is
 /// followed there. And a variable relies on values of its own access type alone: else one of another type names what goes
-/// with a block.
+/// with a block. To assign to a component follows the value before it (4.1, 5.2): a lost one would reach into an object
+/// that is gone.
 pub fn rules_are_needed()
     ensures follows { (program : Program) × (ObeysRules program → ⊥) × HaltsSomewhere (Erroneous FollowsGone) program }
     ensures ends { (program : Program) × (ObeysRules program → ⊥) × HaltsSomewhere (Erroneous EndsTwice) program }
@@ -174,4 +178,6 @@ pub fn rules_are_needed()
         × always.Breaks LoopState program × always.HaltsAfter examples.outliving_events (Erroneous FollowsGone) program }
     ensures mistypes { (program : Program) × (stmt_forms program ≡ examples.mistyping_stmts)
         × always.Breaks LostValue program × always.HaltsAfter examples.mistyping_events (Erroneous FollowsGone) program }
+    ensures stores { (program : Program) × (stmt_forms program ≡ examples.storing_stmts)
+        × always.Breaks LostValue program × always.HaltsAfter examples.storing_events (Erroneous FollowsGone) program }
 {}

@@ -1,6 +1,6 @@
 -- What is left to do fits what is there: each frame finds operands of the kinds that it waits for, and leaves one of the kind that is waited for.
 
-use Rattle.ada_typed.specs.Holding.{Cells, HaveKinds, cells_of}
+use Rattle.ada_typed.specs.Holding.{Cells, IsAccess, HaveKinds, cells_of}
 use Rattle.std.proofs.Common.{◌≡◌, ℕ, zero, suc, ◌+◌, ◌≤◌, Bool, true, false, List, [], ◌∷◌, ◌++◌, length, take, drop, reverse, Option, Some, None, arith, refl, sym, ap, ◌∙◌, subst}
 use Rattle.std.proofs.lemmas.List.{reverse-append}
 use Rattle.std.specs.List.{list_all}
@@ -10,7 +10,7 @@ use Rattle.ada_program.specs.declared.program.VariableKind.{VariableKind}
 use Rattle.ada_program.specs.declared.program.VariableKind.TheVariants as variable
 use Rattle.ada_program.specs.Form.{HandlersForm}
 use Rattle.ada_program.specs.ProgramForm.{ComponentForm, ProgramForm}
-use Rattle.ada_program.specs.WellFormed.{reached_components, held_kind, variable_kind, selectors_kind, unary_type, binary_type, type_of, chain_type, items_fit, kind_takes, initial_fits, condition_fits, has_statement, stmts_fit, branches_fit, handlers_fit}
+use Rattle.ada_program.specs.WellFormed.{reached_components, held_kind, variable_kind, selected_kind, selectors_kind, unary_type, binary_type, type_of, chain_type, items_fit, kind_takes, initial_fits, condition_fits, has_statement, stmts_fit, branches_fit, handlers_fit}
 use Rattle.ada_meaning.specs.declared.state.Value.{Value}
 use Rattle.ada_meaning.specs.declared.state.Value.TheVariants.{Null, Names, Scalar}
 use Rattle.ada_meaning.specs.declared.state.Mode.{Mode}
@@ -59,44 +59,47 @@ FitsBehind Returning behind lands catches = catches
 
 abbrev mutual
   -- Operands of these kinds are there; what is left to do fits them. Where statements begin, no operand is there.
-  pub Fits : ProgramForm → List VariableKind → List (Frame Value) → Type 0
-  Fits p kinds [] = Unit {0}
-  Fits p kinds (frame.Elaborates ds fs hs ∷ k) = (kinds ≡ []) × (inside : Bool) × (list_all (initial_fits p.types p.variables) ds ≡ true) × (stmts_fit p.types p.variables p.texts p.exceptions inside fs ≡ true) × (handlers_fit p.types p.variables p.texts p.exceptions inside hs ≡ true) × WhereInside inside (Lands p k) × Fits p [] k
-  Fits p kinds (frame.Does fs ∷ k) = (kinds ≡ []) × (inside : Bool) × (stmts_fit p.types p.variables p.texts p.exceptions inside fs ≡ true) × WhereInside inside (Lands p k) × Fits p [] k
-  Fits p kinds (frame.Decides fs branches ∷ k) = (kinds ≡ variable.Boolean ∷ []) × (inside : Bool) × (stmts_fit p.types p.variables p.texts p.exceptions inside fs ≡ true) × (branches_fit p.types p.variables p.texts p.exceptions inside branches ≡ true) × WhereInside inside (Lands p k) × Fits p [] k
-  Fits p kinds (frame.Repeats condition fs ∷ k) = (kinds ≡ []) × (condition_fits p.types p.variables condition ≡ true) × (has_statement fs ≡ true) × (stmts_fit p.types p.variables p.texts p.exceptions true fs ≡ true) × Fits p [] k
-  Fits p kinds (frame.Turns e fs ∷ k) = (kinds ≡ variable.Boolean ∷ []) × (condition_fits p.types p.variables (Some e) ≡ true) × (has_statement fs ≡ true) × (stmts_fit p.types p.variables p.texts p.exceptions true fs ≡ true) × Fits p [] k
-  Fits p kinds (frame.Ranges x fs ∷ k) = (kinds ≡ variable.Integer ∷ variable.Integer ∷ []) × (variable_kind p.variables x ≡ Some variable.Integer) × (has_statement fs ≡ true) × (stmts_fit p.types p.variables p.texts p.exceptions true fs ≡ true) × Fits p [] k
-  Fits p kinds (frame.Counts x value last fs ∷ k) = (kinds ≡ []) × (variable_kind p.variables x ≡ Some variable.Integer) × (has_statement fs ≡ true) × (stmts_fit p.types p.variables p.texts p.exceptions true fs ≡ true) × Fits p [] k
-  Fits p kinds (frame.Exits ∷ k) = (kinds ≡ variable.Boolean ∷ []) × Lands p k × Fits p [] k
-  Fits p kinds (frame.Handles hs ∷ k) = (kinds ≡ []) × (inside : Bool) × (handlers_fit p.types p.variables p.texts p.exceptions inside hs ≡ true) × WhereInside inside (Lands p k) × Fits p [] k
-  Fits p kinds (frame.Closes ∷ k) = Fits p kinds k
-  Fits p kinds (frame.Leaves mode ∷ k) = FitsBehind mode (Fits p kinds k) (Lands p k) (Catches p k)
-  Fits p kinds (frame.Evaluates right ∷ k) = (kind : VariableKind) × (kind_takes p.types p.variables kind right ≡ true) × Fits p (kind ∷ kinds) k
-  Fits p kinds (frame.Computes e ∷ k) = (t : ScalarType) × (type_of p.types p.variables e ≡ Some t) × Fits p (kind_of t ∷ kinds) k
-  Fits p kinds (frame.Follows cs ∷ k) = (ks : List VariableKind) × (from : VariableKind) × (to : VariableKind) × (kinds ≡ from ∷ ks) × (selectors_kind p.types (Some from) cs ≡ Some to) × Fits p (to ∷ ks) k
-  Fits p kinds (frame.TestsNull equal ∷ k) = (ks : List VariableKind) × (access : TypeNo) × (kinds ≡ variable.Access access ∷ ks) × Fits p (variable.Boolean ∷ ks) k
-  Fits p kinds (frame.Continues links ∷ k) = (ks : List VariableKind) × (l : ScalarType) × (t : ScalarType) × (kinds ≡ kind_of l ∷ ks) × (chain_type p.types p.variables (Some l) links ≡ Some t) × Fits p (kind_of t ∷ ks) k
-  Fits p kinds (frame.Applies operator ∷ k) = (ks : List VariableKind) × (l : ScalarType) × (r : ScalarType) × (t : ScalarType) × (kinds ≡ kind_of r ∷ kind_of l ∷ ks) × (binary_type operator (Some l) (Some r) ≡ Some t) × Fits p (kind_of t ∷ ks) k
-  Fits p kinds (frame.AppliesAlone operator ∷ k) = (ks : List VariableKind) × (l : ScalarType) × (t : ScalarType) × (kinds ≡ kind_of l ∷ ks) × (unary_type operator (Some l) ≡ Some t) × Fits p (kind_of t ∷ ks) k
-  Fits p kinds (frame.Fills items ∷ k) = (cs : List ComponentForm) × (items_fit p.types p.variables cs items ≡ true) × Fits p (onto cs kinds) k
-  Fits p kinds (frame.Creates access count ∷ k) = (ks : List VariableKind) × (cs : List ComponentForm) × (kinds ≡ onto cs ks) × (reached_components p.types access ≡ Some cs) × (count ≡ length cs) × Fits p (variable.Access (record { 0 = access }) ∷ ks) k
-  Fits p kinds (frame.Stores x ∷ k) = (ks : List VariableKind) × (kind : VariableKind) × (kinds ≡ kind ∷ ks) × (variable_kind p.variables x ≡ Some kind) × Fits p ks k
-  Fits p kinds (frame.Declares x ∷ k) = (ks : List VariableKind) × (kind : VariableKind) × (kinds ≡ kind ∷ ks) × (variable_kind p.variables x ≡ Some kind) × Fits p ks k
-  Fits p kinds (frame.Writes ∷ k) = (ks : List VariableKind) × (kinds ≡ variable.Integer ∷ ks) × Fits p ks k
-  Fits p kinds (frame.Ends v ∷ k) = IsName v × Fits p kinds k
-  Fits p kinds (frame.GivesBack v cause pool ∷ k) = IsName v × Fits p kinds k
-  Fits p kinds (frame.Clears x ∷ k) = (access : TypeNo) × (variable_kind p.variables x ≡ Some (variable.Access access)) × Fits p kinds k
+  pub Fits : ProgramForm → Cells → List VariableKind → List (Frame Value) → Type 0
+  Fits p cells kinds [] = Unit {0}
+  Fits p cells kinds (frame.Elaborates ds fs hs ∷ k) = (kinds ≡ []) × (inside : Bool) × (list_all (initial_fits p.types p.variables) ds ≡ true) × (stmts_fit p.types p.variables p.texts p.exceptions inside fs ≡ true) × (handlers_fit p.types p.variables p.texts p.exceptions inside hs ≡ true) × WhereInside inside (Lands p cells k) × Fits p cells [] k
+  Fits p cells kinds (frame.Does fs ∷ k) = (kinds ≡ []) × (inside : Bool) × (stmts_fit p.types p.variables p.texts p.exceptions inside fs ≡ true) × WhereInside inside (Lands p cells k) × Fits p cells [] k
+  Fits p cells kinds (frame.Decides fs branches ∷ k) = (kinds ≡ variable.Boolean ∷ []) × (inside : Bool) × (stmts_fit p.types p.variables p.texts p.exceptions inside fs ≡ true) × (branches_fit p.types p.variables p.texts p.exceptions inside branches ≡ true) × WhereInside inside (Lands p cells k) × Fits p cells [] k
+  Fits p cells kinds (frame.Repeats condition fs ∷ k) = (kinds ≡ []) × (condition_fits p.types p.variables condition ≡ true) × (has_statement fs ≡ true) × (stmts_fit p.types p.variables p.texts p.exceptions true fs ≡ true) × Fits p cells [] k
+  Fits p cells kinds (frame.Turns e fs ∷ k) = (kinds ≡ variable.Boolean ∷ []) × (condition_fits p.types p.variables (Some e) ≡ true) × (has_statement fs ≡ true) × (stmts_fit p.types p.variables p.texts p.exceptions true fs ≡ true) × Fits p cells [] k
+  Fits p cells kinds (frame.Ranges x fs ∷ k) = (kinds ≡ variable.Integer ∷ variable.Integer ∷ []) × (variable_kind p.variables x ≡ Some variable.Integer) × (has_statement fs ≡ true) × (stmts_fit p.types p.variables p.texts p.exceptions true fs ≡ true) × Fits p cells [] k
+  Fits p cells kinds (frame.Counts x value last fs ∷ k) = (kinds ≡ []) × (variable_kind p.variables x ≡ Some variable.Integer) × (has_statement fs ≡ true) × (stmts_fit p.types p.variables p.texts p.exceptions true fs ≡ true) × Fits p cells [] k
+  Fits p cells kinds (frame.Exits ∷ k) = (kinds ≡ variable.Boolean ∷ []) × Lands p cells k × Fits p cells [] k
+  Fits p cells kinds (frame.Handles hs ∷ k) = (kinds ≡ []) × (inside : Bool) × (handlers_fit p.types p.variables p.texts p.exceptions inside hs ≡ true) × WhereInside inside (Lands p cells k) × Fits p cells [] k
+  Fits p cells kinds (frame.Closes ∷ k) = Fits p cells kinds k
+  Fits p cells kinds (frame.Leaves mode ∷ k) = FitsBehind mode (Fits p cells kinds k) (Lands p cells k) (Catches p cells k)
+  Fits p cells kinds (frame.Evaluates right ∷ k) = (kind : VariableKind) × (kind_takes p.types p.variables kind right ≡ true) × Fits p cells (kind ∷ kinds) k
+  Fits p cells kinds (frame.Computes e ∷ k) = (t : ScalarType) × (type_of p.types p.variables e ≡ Some t) × Fits p cells (kind_of t ∷ kinds) k
+  Fits p cells kinds (frame.Follows cs ∷ k) = (ks : List VariableKind) × (from : VariableKind) × (to : VariableKind) × (kinds ≡ from ∷ ks) × (selectors_kind p.types (Some from) cs ≡ Some to) × Fits p cells (to ∷ ks) k
+  Fits p cells kinds (frame.TestsNull equal ∷ k) = (ks : List VariableKind) × (access : TypeNo) × (kinds ≡ variable.Access access ∷ ks) × Fits p cells (variable.Boolean ∷ ks) k
+  Fits p cells kinds (frame.Continues links ∷ k) = (ks : List VariableKind) × (l : ScalarType) × (t : ScalarType) × (kinds ≡ kind_of l ∷ ks) × (chain_type p.types p.variables (Some l) links ≡ Some t) × Fits p cells (kind_of t ∷ ks) k
+  Fits p cells kinds (frame.Applies operator ∷ k) = (ks : List VariableKind) × (l : ScalarType) × (r : ScalarType) × (t : ScalarType) × (kinds ≡ kind_of r ∷ kind_of l ∷ ks) × (binary_type operator (Some l) (Some r) ≡ Some t) × Fits p cells (kind_of t ∷ ks) k
+  Fits p cells kinds (frame.AppliesAlone operator ∷ k) = (ks : List VariableKind) × (l : ScalarType) × (t : ScalarType) × (kinds ≡ kind_of l ∷ ks) × (unary_type operator (Some l) ≡ Some t) × Fits p cells (kind_of t ∷ ks) k
+  Fits p cells kinds (frame.Fills items ∷ k) = (cs : List ComponentForm) × (items_fit p.types p.variables cs items ≡ true) × Fits p cells (onto cs kinds) k
+  Fits p cells kinds (frame.Creates access count ∷ k) = (ks : List VariableKind) × (cs : List ComponentForm) × (kinds ≡ onto cs ks) × (reached_components p.types access ≡ Some cs) × (count ≡ length cs) × Fits p cells (variable.Access (record { 0 = access }) ∷ ks) k
+  Fits p cells kinds (frame.Stores x ∷ k) = (ks : List VariableKind) × (kind : VariableKind) × (kinds ≡ kind ∷ ks) × (variable_kind p.variables x ≡ Some kind) × Fits p cells ks k
+  Fits p cells kinds (frame.Targets c right ∷ k) = (ks : List VariableKind) × (access : TypeNo) × (kind : VariableKind) × (kinds ≡ variable.Access access ∷ ks) × (selected_kind p.types (Some (variable.Access access)) c ≡ Some kind) × (kind_takes p.types p.variables kind right ≡ true) × Fits p cells ks k
+  Fits p cells kinds (frame.StoresIn object c ∷ k) = (ks : List VariableKind) × (access : TypeNo) × (kind : VariableKind) × (kinds ≡ kind ∷ ks) × IsName object × IsAccess cells access.0 object × (selected_kind p.types (Some (variable.Access access)) c ≡ Some kind) × Fits p cells ks k
+  Fits p cells kinds (frame.Receives c ∷ k) = (ks : List VariableKind) × (access : TypeNo) × (kinds ≡ variable.Access access ∷ ks) × (selected_kind p.types (Some (variable.Access access)) c ≡ Some variable.Integer) × Fits p cells ks k
+  Fits p cells kinds (frame.Declares x ∷ k) = (ks : List VariableKind) × (kind : VariableKind) × (kinds ≡ kind ∷ ks) × (variable_kind p.variables x ≡ Some kind) × Fits p cells ks k
+  Fits p cells kinds (frame.Writes ∷ k) = (ks : List VariableKind) × (kinds ≡ variable.Integer ∷ ks) × Fits p cells ks k
+  Fits p cells kinds (frame.Ends v ∷ k) = IsName v × Fits p cells kinds k
+  Fits p cells kinds (frame.GivesBack v cause pool ∷ k) = IsName v × Fits p cells kinds k
+  Fits p cells kinds (frame.Clears x ∷ k) = (access : TypeNo) × (variable_kind p.variables x ≡ Some (variable.Access access)) × Fits p cells kinds k
 
   -- There is a loop; behind it, what is left to do fits where no operand is there (5.7).
-  pub Lands : ProgramForm → List (Frame Value) → Type 0
-  Lands p [] = ⊥
-  Lands p (f ∷ k) = AtLoop (is_loop f) (Fits p [] k) (Lands p k)
+  pub Lands : ProgramForm → Cells → List (Frame Value) → Type 0
+  Lands p cells [] = ⊥
+  Lands p cells (f ∷ k) = AtLoop (is_loop f) (Fits p cells [] k) (Lands p cells k)
 
   -- Behind the first handlers, if there are some, what is left to do fits where no operand is there (11.4).
-  pub Catches : ProgramForm → List (Frame Value) → Type 0
-  Catches p [] = Unit {0}
-  Catches p (f ∷ k) = AtHandlers p (handlers_in f) (Lands p k) (Fits p [] k) (Catches p k)
+  pub Catches : ProgramForm → Cells → List (Frame Value) → Type 0
+  Catches p cells [] = Unit {0}
+  Catches p cells (f ∷ k) = AtHandlers p (handlers_in f) (Lands p cells k) (Fits p cells [] k) (Catches p cells k)
 
 -- How many masters what is left to do belongs to.
 abbrev pub depth : List (Frame Value) → ℕ
@@ -122,6 +125,9 @@ depth (frame.AppliesAlone operator ∷ k) = depth k
 depth (frame.Fills items ∷ k) = depth k
 depth (frame.Creates access count ∷ k) = depth k
 depth (frame.Stores x ∷ k) = depth k
+depth (frame.Targets c right ∷ k) = depth k
+depth (frame.StoresIn object c ∷ k) = depth k
+depth (frame.Receives c ∷ k) = depth k
 depth (frame.Declares x ∷ k) = depth k
 depth (frame.Writes ∷ k) = depth k
 depth (frame.Ends v ∷ k) = depth k
@@ -150,6 +156,9 @@ depth_behind (frame.AppliesAlone operator) k = omega arith
 depth_behind (frame.Fills items) k = omega arith
 depth_behind (frame.Creates access count) k = omega arith
 depth_behind (frame.Stores x) k = omega arith
+depth_behind (frame.Targets c right) k = omega arith
+depth_behind (frame.StoresIn object c) k = omega arith
+depth_behind (frame.Receives c) k = omega arith
 depth_behind (frame.Declares x) k = omega arith
 depth_behind frame.Writes k = omega arith
 depth_behind (frame.Ends v) k = omega arith
@@ -171,52 +180,55 @@ pub record Jumps (p : ProgramForm) (mode : Mode) (s : State) : Type 0 where
   pub deep : depth s.control ≤ length s.masters
 
 -- What is left to do while a jump is on its way.
-abbrev pub Goes : ProgramForm → Mode → List (Frame Value) → Type 0
-Goes p mode k = FitsBehind mode ⊥ (Lands p k) (Catches p k)
+abbrev pub Goes : ProgramForm → Cells → Mode → List (Frame Value) → Type 0
+Goes p cells mode k = FitsBehind mode ⊥ (Lands p cells k) (Catches p cells k)
 
 -- A state of a run of a well-formed program: what is left to do fits it, or a jump is on its way.
 pub data Typed (p : ProgramForm) (s : State) : Type 0 where
-  running : (kinds : List VariableKind) → Ready p kinds s → Fits p kinds s.control → Typed p s
-  on_jump : (mode : Mode) → Jumps p mode s → Goes p mode s.control → Typed p s
+  running : (kinds : List VariableKind) → Ready p kinds s → Fits p (cells_of s.heap) kinds s.control → Typed p s
+  on_jump : (mode : Mode) → Jumps p mode s → Goes p (cells_of s.heap) mode s.control → Typed p s
 
 -- Wherever an exception is raised, it finds handlers behind which what is left to do fits, or none.
 module _ (p : ProgramForm) where
-  pub catches : (k : List (Frame Value)) (kinds : List VariableKind) → Fits p kinds k → Catches p k
-  catches [] kinds fits = tt
-  catches (frame.Elaborates ds fs hs ∷ k) kinds fits = catches k [] fits.6
-  catches (frame.Does fs ∷ k) kinds fits = catches k [] fits.4
-  catches (frame.Decides fs branches ∷ k) kinds fits = catches k [] fits.5
-  catches (frame.Repeats condition fs ∷ k) kinds fits = catches k [] fits.4
-  catches (frame.Turns e fs ∷ k) kinds fits = catches k [] fits.4
-  catches (frame.Ranges x fs ∷ k) kinds fits = catches k [] fits.4
-  catches (frame.Counts x value last fs ∷ k) kinds fits = catches k [] fits.4
-  catches (frame.Exits ∷ k) kinds fits = catches k [] fits.2
-  catches (frame.Handles hs ∷ k) kinds fits = (fits.1, fits.2, fits.3, fits.4)
-  catches (frame.Closes ∷ k) kinds fits = catches k kinds fits
-  catches (frame.Leaves Running ∷ k) kinds fits = catches k kinds fits
-  catches (frame.Leaves (Raising e) ∷ k) kinds fits = fits
-  catches (frame.Leaves Exiting ∷ k) kinds fits = fits.1
-  catches (frame.Leaves Returning ∷ k) kinds fits = fits
-  catches (frame.Evaluates right ∷ k) kinds fits = catches k (fits.0 ∷ kinds) fits.2
-  catches (frame.Computes e ∷ k) kinds fits = catches k (kind_of fits.0 ∷ kinds) fits.2
-  catches (frame.Follows cs ∷ k) kinds fits = catches k (fits.2 ∷ fits.0) fits.5
-  catches (frame.TestsNull equal ∷ k) kinds fits = catches k (variable.Boolean ∷ fits.0) fits.3
-  catches (frame.Continues links ∷ k) kinds fits = catches k (kind_of fits.2 ∷ fits.0) fits.5
-  catches (frame.Applies operator ∷ k) kinds fits = catches k (kind_of fits.3 ∷ fits.0) fits.6
-  catches (frame.AppliesAlone operator ∷ k) kinds fits = catches k (kind_of fits.2 ∷ fits.0) fits.5
-  catches (frame.Fills items ∷ k) kinds fits = catches k (onto fits.0 kinds) fits.2
-  catches (frame.Creates access count ∷ k) kinds fits = catches k (variable.Access (record { 0 = access }) ∷ fits.0) fits.5
-  catches (frame.Stores x ∷ k) kinds fits = catches k fits.0 fits.4
-  catches (frame.Declares x ∷ k) kinds fits = catches k fits.0 fits.4
-  catches (frame.Writes ∷ k) kinds fits = catches k fits.0 fits.2
-  catches (frame.Ends v ∷ k) kinds fits = catches k kinds fits.1
-  catches (frame.GivesBack v cause pool ∷ k) kinds fits = catches k kinds fits.1
-  catches (frame.Clears x ∷ k) kinds fits = catches k kinds fits.2
+  pub catches : (cells : Cells) (k : List (Frame Value)) (kinds : List VariableKind) → Fits p cells kinds k → Catches p cells k
+  catches cells [] kinds fits = tt
+  catches cells (frame.Elaborates ds fs hs ∷ k) kinds fits = catches cells k [] fits.6
+  catches cells (frame.Does fs ∷ k) kinds fits = catches cells k [] fits.4
+  catches cells (frame.Decides fs branches ∷ k) kinds fits = catches cells k [] fits.5
+  catches cells (frame.Repeats condition fs ∷ k) kinds fits = catches cells k [] fits.4
+  catches cells (frame.Turns e fs ∷ k) kinds fits = catches cells k [] fits.4
+  catches cells (frame.Ranges x fs ∷ k) kinds fits = catches cells k [] fits.4
+  catches cells (frame.Counts x value last fs ∷ k) kinds fits = catches cells k [] fits.4
+  catches cells (frame.Exits ∷ k) kinds fits = catches cells k [] fits.2
+  catches cells (frame.Handles hs ∷ k) kinds fits = (fits.1, fits.2, fits.3, fits.4)
+  catches cells (frame.Closes ∷ k) kinds fits = catches cells k kinds fits
+  catches cells (frame.Leaves Running ∷ k) kinds fits = catches cells k kinds fits
+  catches cells (frame.Leaves (Raising e) ∷ k) kinds fits = fits
+  catches cells (frame.Leaves Exiting ∷ k) kinds fits = fits.1
+  catches cells (frame.Leaves Returning ∷ k) kinds fits = fits
+  catches cells (frame.Evaluates right ∷ k) kinds fits = catches cells k (fits.0 ∷ kinds) fits.2
+  catches cells (frame.Computes e ∷ k) kinds fits = catches cells k (kind_of fits.0 ∷ kinds) fits.2
+  catches cells (frame.Follows cs ∷ k) kinds fits = catches cells k (fits.2 ∷ fits.0) fits.5
+  catches cells (frame.TestsNull equal ∷ k) kinds fits = catches cells k (variable.Boolean ∷ fits.0) fits.3
+  catches cells (frame.Continues links ∷ k) kinds fits = catches cells k (kind_of fits.2 ∷ fits.0) fits.5
+  catches cells (frame.Applies operator ∷ k) kinds fits = catches cells k (kind_of fits.3 ∷ fits.0) fits.6
+  catches cells (frame.AppliesAlone operator ∷ k) kinds fits = catches cells k (kind_of fits.2 ∷ fits.0) fits.5
+  catches cells (frame.Fills items ∷ k) kinds fits = catches cells k (onto fits.0 kinds) fits.2
+  catches cells (frame.Creates access count ∷ k) kinds fits = catches cells k (variable.Access (record { 0 = access }) ∷ fits.0) fits.5
+  catches cells (frame.Stores x ∷ k) kinds fits = catches cells k fits.0 fits.4
+  catches cells (frame.Targets c right ∷ k) kinds fits = catches cells k fits.0 fits.6
+  catches cells (frame.StoresIn object c ∷ k) kinds fits = catches cells k fits.0 fits.7
+  catches cells (frame.Receives c ∷ k) kinds fits = catches cells k fits.0 fits.4
+  catches cells (frame.Declares x ∷ k) kinds fits = catches cells k fits.0 fits.4
+  catches cells (frame.Writes ∷ k) kinds fits = catches cells k fits.0 fits.2
+  catches cells (frame.Ends v ∷ k) kinds fits = catches cells k kinds fits.1
+  catches cells (frame.GivesBack v cause pool ∷ k) kinds fits = catches cells k kinds fits.1
+  catches cells (frame.Clears x ∷ k) kinds fits = catches cells k kinds fits.2
 
   -- So it is behind each frame that it passes.
-  pub catches_behind : (o : Option HandlersForm) (k : List (Frame Value)) → AtHandlers p o (Lands p k) (Fits p [] k) (Catches p k) → Catches p k
-  catches_behind None k h = h
-  catches_behind (Some hs) k h = catches k [] h.3
+  pub catches_behind : (cells : Cells) (o : Option HandlersForm) (k : List (Frame Value)) → AtHandlers p o (Lands p cells k) (Fits p cells [] k) (Catches p cells k) → Catches p cells k
+  catches_behind cells None k h = h
+  catches_behind cells (Some hs) k h = catches cells k [] h.3
 
 -- Of the operands that have been computed for an allocator, the newest are its components, in reverse.
 next_taken : {X : Type 0} (m : ℕ) (ops : List X) (v : X) (rest : List X) → drop m ops ≡ v ∷ rest → (take (suc m) ops ≡ take m ops ++ v ∷ []) × (drop (suc m) ops ≡ rest)

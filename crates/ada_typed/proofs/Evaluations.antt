@@ -35,7 +35,8 @@ use Rattle.ada_meaning.specs.State.{Activation, Owned, Item, Master, height}
 use Rattle.ada_meaning.specs.Heap.{Cell}
 use Rattle.ada_meaning.specs.Step.{halts, moves, tells, asks, picks, at, owning, owned, shorter, computed, popped, jumping, raised, put, held, newest, operands, operands_of, with_operands, reading, component_next, follow_next, path_next, expression_next, null_test_next, is_decided, link_next, links_next, outcome_next, item_next, items_next, answered, new_next, new_cell, right_next}
 use Rattle.ada_meaning.specs.Named.{Object, State, Next, named, look, seen, existing, changed, on_object, new_object, reads_boolean, reads_null}
-use Rattle.ada_typed.proofs.Values.{AreFilled, IsActive, kind_of, filled_new, active_more, newest_name, active_held, active_set, active_push, active_pop, active_newest, active_cleared, component_held, filled_at}
+use Rattle.ada_typed.proofs.Values.{AreFilled, IsActive, kind_of, filled_new, active_later, designated_more, newest_name, active_held, active_set, active_push, active_pop, active_newest, active_cleared, component_held, filled_at}
+use Rattle.ada_typed.proofs.Later.{fits_later}
 use Rattle.ada_typed.proofs.Operators.{and_left, and_right, typed, unary_operand, binary_operand, chain_left, decided_same, GivesKind}
 use Rattle.ada_typed.proofs.Control.{onto, Fits, depth, Ready, Jumps, Typed, running, on_jump, catches, split}
 
@@ -88,6 +89,13 @@ length_shorter (m ∷ ms) = refl
 selectors_none : (types : List TypeForm) (cs : List ℕ) → selectors_kind types None cs ≡ None
 selectors_none types [] = refl
 selectors_none types (c ∷ cs) = selectors_none types cs
+
+-- The object of a name is of its access type.
+pub own_access : (xs : List Object) (o : Id) (access : ℕ) (object : Object) → Designates (cells_of xs) access o → slice_get xs o.0 ≡ Some object → object.cell.access ≡ access
+own_access xs o access object has is =
+    let twice : Some has.0 ≡ Some object.cell = sym has.1 ∙ cell_at xs o.0 object is in
+    let one : has.0 ≡ object.cell = cc in
+    ap (λ (x : Cell Value). x.access) (sym one) ∙ has.2
 
 module _ (p : ProgramForm) where
   -- How states change.
@@ -144,6 +152,9 @@ module _ (p : ProgramForm) where
     deep = ready.deep;
   }
 
+  pub fits_heap : (kinds : List VariableKind) (s : State) (k : List (Frame Value)) (heap : List Object) → cells_of heap ≡ cells_of s.heap → Fits p (cells_of s.heap) kinds k → Fits p (cells_of heap) kinds k
+  fits_heap kinds s k heap same fits = subst (λ (cs : Cells). Fits p cs kinds k) (sym same) fits
+
   -- A jump begins: operands are dropped.
   pub jumped : (kinds : List VariableKind) (mode : Mode) (s : State) → Ready p kinds s → Jumps p mode (jumping mode s)
   jumped kinds mode s ready = record {
@@ -153,58 +164,56 @@ module _ (p : ProgramForm) where
     deep = ready.deep;
   }
 
-  pub raises : (kinds ks : List VariableKind) (e : Exception) (s : State) → Ready p kinds s → Fits p ks s.control → Typed p (raised e s)
-  raises kinds ks e s ready fits = on_jump (Raising e) (jumped kinds (Raising e) s ready) (catches p s.control ks fits)
+  pub raises : (kinds ks : List VariableKind) (e : Exception) (s : State) → Ready p kinds s → Fits p (cells_of s.heap) ks s.control → Typed p (raised e s)
+  raises kinds ks e s ready fits = on_jump (Raising e) (jumped kinds (Raising e) s ready) (catches p (cells_of s.heap) s.control ks fits)
 
   -- Paths.
-  reading_fine : (cs : List ℕ) (v : Value) (kind to : VariableKind) (s : State) (kinds : List VariableKind) → Ready p kinds s → HasKind (cells_of s.heap) kind v → selectors_kind p.types (Some kind) cs ≡ Some to → Fits p (to ∷ kinds) s.control → Typed p (reading named cs v s)
+  reading_fine : (cs : List ℕ) (v : Value) (kind to : VariableKind) (s : State) (kinds : List VariableKind) → Ready p kinds s → HasKind (cells_of s.heap) kind v → selectors_kind p.types (Some kind) cs ≡ Some to → Fits p (cells_of s.heap) (to ∷ kinds) s.control → Typed p (reading named cs v s)
   reading_fine [] v kind to s kinds ready has is fits =
       let same : to ≡ kind = cc in
-      running (kind ∷ kinds) (ready_push kinds s kind v ready has) (subst (λ (q : VariableKind). Fits p (q ∷ kinds) s.control) same fits)
+      running (kind ∷ kinds) (ready_push kinds s kind v ready has) (subst (λ (q : VariableKind). Fits p (cells_of s.heap) (q ∷ kinds) s.control) same fits)
   reading_fine (c ∷ cs) v kind to s kinds ready has is fits =
       running (kind ∷ kinds) (ready_at (kind ∷ kinds) (computed v s) (frame.Follows (c ∷ cs) ∷ s.control) (ready_push kinds s kind v ready has) ready.deep) (kinds, kind, to, refl, is, fits)
 
-  value_fine : (o : Value) (cs : List ℕ) (c : ℕ) (components : List ComponentForm) (values : List Value) (kind : Option VariableKind) (to : VariableKind) (s : State) (kinds : List VariableKind) → Ready p kinds s → HaveKinds (cells_of s.heap) components values → component_kind (slice_get components c) ≡ kind → selectors_kind p.types kind cs ≡ Some to → Fits p (to ∷ kinds) s.control → Fine p (component_next named o cs (slice_get values c) s)
+  value_fine : (o : Value) (cs : List ℕ) (c : ℕ) (components : List ComponentForm) (values : List Value) (kind : Option VariableKind) (to : VariableKind) (s : State) (kinds : List VariableKind) → Ready p kinds s → HaveKinds (cells_of s.heap) components values → component_kind (slice_get components c) ≡ kind → selectors_kind p.types kind cs ≡ Some to → Fits p (cells_of s.heap) (to ∷ kinds) s.control → Fine p (component_next named o cs (slice_get values c) s)
   value_fine o cs c components values None to s kinds ready have is leads fits = let never : None ≡ Some to = sym (selectors_none p.types cs) ∙ leads in absurd (cc)
   value_fine o cs c components values (Some kind) to s kinds ready have is leads fits =
       let u = component_held (cells_of s.heap) components values c kind have is in
       subst (λ (f : Option Value). Fine p (component_next named o cs f s)) (sym u.1) (reading_fine cs u.0 kind to s kinds ready u.2 leads fits)
 
-  found_fine : (o : Id) (c : ℕ) (cs : List ℕ) (access : TypeNo) (to : VariableKind) (object : Object) (s : State) (kinds : List VariableKind) → Ready p kinds s → Designates (cells_of s.heap) access.0 o → slice_get s.heap o.0 ≡ Some object → selectors_kind p.types (selected_kind p.types (Some (variable.Access access)) c) cs ≡ Some to → Fits p (to ∷ kinds) s.control → Fine p (component_next named (Names o) cs (slice_get object.cell.values c) s)
+  found_fine : (o : Id) (c : ℕ) (cs : List ℕ) (access : TypeNo) (to : VariableKind) (object : Object) (s : State) (kinds : List VariableKind) → Ready p kinds s → Designates (cells_of s.heap) access.0 o → slice_get s.heap o.0 ≡ Some object → selectors_kind p.types (selected_kind p.types (Some (variable.Access access)) c) cs ≡ Some to → Fits p (cells_of s.heap) (to ∷ kinds) s.control → Fine p (component_next named (Names o) cs (slice_get object.cell.values c) s)
   found_fine o c cs access to object s kinds ready has is leads fits =
       let there : slice_get (cells_of s.heap) o.0 ≡ Some object.cell = cell_at s.heap o.0 object is in
-      let twice : Some has.0 ≡ Some object.cell = sym has.1 ∙ there in
-      let one : has.0 ≡ object.cell = cc in
-      let own : object.cell.access ≡ access.0 = ap (λ (x : Cell Value). x.access) (sym one) ∙ has.2 in
+      let own : object.cell.access ≡ access.0 = own_access s.heap o access.0 object has is in
       let filled = filled_at p.types (cells_of s.heap) (cells_of s.heap) o.0 object.cell ready.filled there in
       let reached : reached_components p.types access.0 ≡ Some filled.0 = ap (reached_components p.types) (sym own) ∙ filled.1 in
       let behind : selectors_kind p.types (component_kind (slice_get filled.0 c)) cs ≡ Some to = sym (ap (λ (found : Option (List ComponentForm)). selectors_kind p.types (kind_among found c) cs) reached) ∙ leads in
       value_fine (Names o) cs c filled.0 object.cell.values (component_kind (slice_get filled.0 c)) to s kinds ready filled.2 refl behind fits
 
-  stage_fine : (stage : Stage) (o : Id) (c : ℕ) (cs : List ℕ) (access : TypeNo) (to : VariableKind) (object : Object) (s : State) (kinds : List VariableKind) → Ready p kinds s → Designates (cells_of s.heap) access.0 o → slice_get s.heap o.0 ≡ Some object → selectors_kind p.types (selected_kind p.types (Some (variable.Access access)) c) cs ≡ Some to → Fits p (to ∷ kinds) s.control → Fine p (follow_next named (Names o) c cs (existing object stage) s)
+  stage_fine : (stage : Stage) (o : Id) (c : ℕ) (cs : List ℕ) (access : TypeNo) (to : VariableKind) (object : Object) (s : State) (kinds : List VariableKind) → Ready p kinds s → Designates (cells_of s.heap) access.0 o → slice_get s.heap o.0 ≡ Some object → selectors_kind p.types (selected_kind p.types (Some (variable.Access access)) c) cs ≡ Some to → Fits p (cells_of s.heap) (to ∷ kinds) s.control → Fine p (follow_next named (Names o) c cs (existing object stage) s)
   stage_fine Gone o c cs access to object s kinds ready has is leads fits = tt
   stage_fine Building o c cs access to object s kinds ready has is leads fits = found_fine o c cs access to object s kinds ready has is leads fits
   stage_fine Existing o c cs access to object s kinds ready has is leads fits = found_fine o c cs access to object s kinds ready has is leads fits
 
-  seen_fine : (at_o : Option Object) (o : Id) (c : ℕ) (cs : List ℕ) (access : TypeNo) (to : VariableKind) (s : State) (kinds : List VariableKind) → Ready p kinds s → Designates (cells_of s.heap) access.0 o → slice_get s.heap o.0 ≡ at_o → selectors_kind p.types (selected_kind p.types (Some (variable.Access access)) c) cs ≡ Some to → Fits p (to ∷ kinds) s.control → Fine p (follow_next named (Names o) c cs (seen at_o) s)
+  seen_fine : (at_o : Option Object) (o : Id) (c : ℕ) (cs : List ℕ) (access : TypeNo) (to : VariableKind) (s : State) (kinds : List VariableKind) → Ready p kinds s → Designates (cells_of s.heap) access.0 o → slice_get s.heap o.0 ≡ at_o → selectors_kind p.types (selected_kind p.types (Some (variable.Access access)) c) cs ≡ Some to → Fits p (cells_of s.heap) (to ∷ kinds) s.control → Fine p (follow_next named (Names o) c cs (seen at_o) s)
   seen_fine None o c cs access to s kinds ready has is leads fits = tt
   seen_fine (Some object) o c cs access to s kinds ready has is leads fits = stage_fine object.stage o c cs access to object s kinds ready has is leads fits
 
-  access_fine : (v : Value) (c : ℕ) (cs : List ℕ) (access : TypeNo) (to : VariableKind) (s : State) (kinds : List VariableKind) → Ready p kinds s → HasKind (cells_of s.heap) (variable.Access access) v → selectors_kind p.types (selected_kind p.types (Some (variable.Access access)) c) cs ≡ Some to → Fits p (to ∷ kinds) s.control → Fine p (follow_next named v c cs (look s.heap v) s)
+  access_fine : (v : Value) (c : ℕ) (cs : List ℕ) (access : TypeNo) (to : VariableKind) (s : State) (kinds : List VariableKind) → Ready p kinds s → HasKind (cells_of s.heap) (variable.Access access) v → selectors_kind p.types (selected_kind p.types (Some (variable.Access access)) c) cs ≡ Some to → Fits p (cells_of s.heap) (to ∷ kinds) s.control → Fine p (follow_next named v c cs (look s.heap v) s)
   access_fine Null c cs access to s kinds ready has leads fits = raises kinds (to ∷ kinds) ConstraintError s ready fits
   access_fine (Names o) c cs access to s kinds ready has leads fits = seen_fine (slice_get s.heap o.0) o c cs access to s kinds ready has refl leads fits
   access_fine (Scalar v) c cs access to s kinds ready has leads fits = absurd has
 
-  follow_fine : (from : VariableKind) (v : Value) (c : ℕ) (cs : List ℕ) (to : VariableKind) (s : State) (kinds : List VariableKind) → Ready p kinds s → HasKind (cells_of s.heap) from v → selectors_kind p.types (selected_kind p.types (Some from) c) cs ≡ Some to → Fits p (to ∷ kinds) s.control → Fine p (follow_next named v c cs (look s.heap v) s)
+  follow_fine : (from : VariableKind) (v : Value) (c : ℕ) (cs : List ℕ) (to : VariableKind) (s : State) (kinds : List VariableKind) → Ready p kinds s → HasKind (cells_of s.heap) from v → selectors_kind p.types (selected_kind p.types (Some from) c) cs ≡ Some to → Fits p (cells_of s.heap) (to ∷ kinds) s.control → Fine p (follow_next named v c cs (look s.heap v) s)
   follow_fine variable.Integer v c cs to s kinds ready has leads fits = let never : None ≡ Some to = sym (selectors_none p.types cs) ∙ leads in absurd (cc)
   follow_fine variable.Boolean v c cs to s kinds ready has leads fits = let never : None ≡ Some to = sym (selectors_none p.types cs) ∙ leads in absurd (cc)
   follow_fine (variable.Access access) v c cs to s kinds ready has leads fits = access_fine v c cs access to s kinds ready has leads fits
 
-  pub path_fine : (cs : List ℕ) (v : Value) (from to : VariableKind) (s : State) (kinds : List VariableKind) → Ready p kinds s → HasKind (cells_of s.heap) from v → selectors_kind p.types (Some from) cs ≡ Some to → Fits p (to ∷ kinds) s.control → Fine p (path_next named cs v s)
+  pub path_fine : (cs : List ℕ) (v : Value) (from to : VariableKind) (s : State) (kinds : List VariableKind) → Ready p kinds s → HasKind (cells_of s.heap) from v → selectors_kind p.types (Some from) cs ≡ Some to → Fits p (cells_of s.heap) (to ∷ kinds) s.control → Fine p (path_next named cs v s)
   path_fine [] v from to s kinds ready has leads fits = reading_fine [] v from to s kinds ready has leads fits
   path_fine (c ∷ cs) v from to s kinds ready has leads fits = follow_fine from v c cs to s kinds ready has leads fits
 
-  root_fine : (kind : Option VariableKind) (cs : List ℕ) (x : ℕ) (to : VariableKind) (s : State) (kinds : List VariableKind) → Ready p kinds s → variable_kind p.variables x ≡ kind → selectors_kind p.types kind cs ≡ Some to → Fits p (to ∷ kinds) s.control → Fine p (path_next named cs (held named s x) s)
+  pub root_fine : (kind : Option VariableKind) (cs : List ℕ) (x : ℕ) (to : VariableKind) (s : State) (kinds : List VariableKind) → Ready p kinds s → variable_kind p.variables x ≡ kind → selectors_kind p.types kind cs ≡ Some to → Fits p (cells_of s.heap) (to ∷ kinds) s.control → Fine p (path_next named cs (held named s x) s)
   root_fine None cs x to s kinds ready is leads fits = let never : None ≡ Some to = sym (selectors_none p.types cs) ∙ leads in absurd (cc)
   root_fine (Some from) cs x to s kinds ready is leads fits = path_fine cs (held named s x) from to s kinds ready (held_of kinds s x from ready is) leads fits
 
@@ -232,14 +241,14 @@ module _ (p : ProgramForm) where
   tested_kind true kind t h = tested_access kind t h
   tested_kind false kind t h = absurd (cc)
 
-  pub null_test_fine : (equal : Bool) (access : TypeNo) (v : Value) (s : State) (kinds : List VariableKind) (cells : Cells) → HasKind cells (variable.Access access) v → Ready p kinds s → Fits p (variable.Boolean ∷ kinds) s.control → Fine p (null_test_next named equal (reads_null v) s)
+  pub null_test_fine : (equal : Bool) (access : TypeNo) (v : Value) (s : State) (kinds : List VariableKind) (cells : Cells) → HasKind cells (variable.Access access) v → Ready p kinds s → Fits p (cells_of s.heap) (variable.Boolean ∷ kinds) s.control → Fine p (null_test_next named equal (reads_null v) s)
   null_test_fine true access Null s kinds cells has ready fits = running (variable.Boolean ∷ kinds) (ready_push kinds s variable.Boolean (Scalar (scalar.Boolean true)) ready tt) fits
   null_test_fine false access Null s kinds cells has ready fits = running (variable.Boolean ∷ kinds) (ready_push kinds s variable.Boolean (Scalar (scalar.Boolean false)) ready tt) fits
   null_test_fine true access (Names o) s kinds cells has ready fits = running (variable.Boolean ∷ kinds) (ready_push kinds s variable.Boolean (Scalar (scalar.Boolean false)) ready tt) fits
   null_test_fine false access (Names o) s kinds cells has ready fits = running (variable.Boolean ∷ kinds) (ready_push kinds s variable.Boolean (Scalar (scalar.Boolean true)) ready tt) fits
   null_test_fine equal access (Scalar v) s kinds cells has ready fits = absurd has
 
-  pub expression_fine : (e : ExpressionForm) (t : ScalarType) (s : State) (kinds : List VariableKind) → Ready p kinds s → type_of p.types p.variables e ≡ Some t → Fits p (kind_of t ∷ kinds) s.control → Fine p (expression_next named e s)
+  pub expression_fine : (e : ExpressionForm) (t : ScalarType) (s : State) (kinds : List VariableKind) → Ready p kinds s → type_of p.types p.variables e ≡ Some t → Fits p (cells_of s.heap) (kind_of t ∷ kinds) s.control → Fine p (expression_next named e s)
   expression_fine (integer i) Integer s kinds ready is fits = running (variable.Integer ∷ kinds) (ready_push kinds s variable.Integer (Scalar (scalar.Integer i)) ready tt) fits
   expression_fine (integer i) Boolean s kinds ready is fits = absurd (cc)
   expression_fine (boolean b) Boolean s kinds ready is fits = running (variable.Boolean ∷ kinds) (ready_push kinds s variable.Boolean (Scalar (scalar.Boolean b)) ready tt) fits
@@ -251,7 +260,7 @@ module _ (p : ProgramForm) where
       let tested = tested_kind (follows_at_most_one path) (path_kind p.types p.variables path) t is in
       root_fine (variable_kind p.variables path.root) path.selectors path.root (variable.Access tested.0) (at (frame.TestsNull equal ∷ s.control) s) kinds
       (ready_at kinds s (frame.TestsNull equal ∷ s.control) ready ready.deep) refl tested.1
-      (kinds, tested.0, refl, subst (λ (q : ScalarType). Fits p (kind_of q ∷ kinds) s.control) (sym tested.2) fits)
+      (kinds, tested.0, refl, subst (λ (q : ScalarType). Fits p (cells_of s.heap) (kind_of q ∷ kinds) s.control) (sym tested.2) fits)
   expression_fine (applied_to operator e) t s kinds ready is fits =
       let operand = unary_operand operator (type_of p.types p.variables e) t is in
       let gives : unary_type operator (Some operand.0) ≡ Some t = ap (unary_type operator) (sym operand.1) ∙ is in
@@ -261,7 +270,7 @@ module _ (p : ProgramForm) where
       let chain : chain_type p.types p.variables (Some left.0) links ≡ Some t = ap (λ (o : Option ScalarType). chain_type p.types p.variables o links) (sym left.1) ∙ is in
       running kinds (ready_at kinds s (frame.Computes e ∷ frame.Continues links ∷ s.control) ready ready.deep) (left.0, left.1, (kinds, left.0, t, refl, chain, fits))
 
-  link_fine : (decided : Bool) (truth : Option Bool) (operator : BinaryOperator) (e : ExpressionForm) (links : LinksForm) (l r m t : ScalarType) (s : State) (ks : List VariableKind) → is_decided named operator truth ≡ decided → Ready p (kind_of l ∷ ks) s → type_of p.types p.variables e ≡ Some r → binary_type operator (Some l) (Some r) ≡ Some m → chain_type p.types p.variables (Some m) links ≡ Some t → Fits p (kind_of t ∷ ks) s.control → Fine p (link_next named decided operator e links s)
+  link_fine : (decided : Bool) (truth : Option Bool) (operator : BinaryOperator) (e : ExpressionForm) (links : LinksForm) (l r m t : ScalarType) (s : State) (ks : List VariableKind) → is_decided named operator truth ≡ decided → Ready p (kind_of l ∷ ks) s → type_of p.types p.variables e ≡ Some r → binary_type operator (Some l) (Some r) ≡ Some m → chain_type p.types p.variables (Some m) links ≡ Some t → Fits p (cells_of s.heap) (kind_of t ∷ ks) s.control → Fine p (link_next named decided operator e links s)
   link_fine true truth operator e links l r m t s ks decides ready right gives chain fits =
       let same : l ≡ m = decided_same operator truth l r m decides gives in
       running (kind_of l ∷ ks) (ready_at (kind_of l ∷ ks) s (frame.Continues links ∷ s.control) ready ready.deep)
@@ -270,10 +279,10 @@ module _ (p : ProgramForm) where
       running (kind_of l ∷ ks) (ready_at (kind_of l ∷ ks) s (frame.Computes e ∷ frame.Applies operator ∷ frame.Continues links ∷ s.control) ready ready.deep)
       (r, right, (ks, l, r, m, refl, gives, (ks, m, t, refl, chain, fits)))
 
-  pub links_fine : (links : LinksForm) (l t : ScalarType) (s : State) (ks : List VariableKind) → Ready p (kind_of l ∷ ks) s → chain_type p.types p.variables (Some l) links ≡ Some t → Fits p (kind_of t ∷ ks) s.control → Fine p (links_next named links s)
+  pub links_fine : (links : LinksForm) (l t : ScalarType) (s : State) (ks : List VariableKind) → Ready p (kind_of l ∷ ks) s → chain_type p.types p.variables (Some l) links ≡ Some t → Fits p (cells_of s.heap) (kind_of t ∷ ks) s.control → Fine p (links_next named links s)
   links_fine no_more_links l t s ks ready chain fits =
       let same : t ≡ l = cc in
-      running (kind_of l ∷ ks) ready (subst (λ (x : ScalarType). Fits p (kind_of x ∷ ks) s.control) same fits)
+      running (kind_of l ∷ ks) ready (subst (λ (x : ScalarType). Fits p (cells_of s.heap) (kind_of x ∷ ks) s.control) same fits)
   links_fine (a_link operator e links) l t s ks ready chain fits =
       let given = chain_left p.types p.variables (binary_type operator (Some l) (type_of p.types p.variables e)) links t chain in
       let right = binary_operand operator l (type_of p.types p.variables e) given.0 given.1 in
@@ -281,14 +290,14 @@ module _ (p : ProgramForm) where
       let later : chain_type p.types p.variables (Some given.0) links ≡ Some t = ap (λ (o : Option ScalarType). chain_type p.types p.variables o links) (sym given.1) ∙ chain in
       link_fine (is_decided named operator (reads_boolean (newest named s))) (reads_boolean (newest named s)) operator e links l right.0 given.0 t s ks refl ready right.1 gives later fits
 
-  pub outcome_fine : (outcome : Result Value OperatorFault) (t : ScalarType) (s : State) (ks : List VariableKind) → Ready p ks s → GivesKind (cells_of s.heap) t outcome → Fits p (kind_of t ∷ ks) s.control → Fine p (outcome_next named outcome s)
+  pub outcome_fine : (outcome : Result Value OperatorFault) (t : ScalarType) (s : State) (ks : List VariableKind) → Ready p ks s → GivesKind (cells_of s.heap) t outcome → Fits p (cells_of s.heap) (kind_of t ∷ ks) s.control → Fine p (outcome_next named outcome s)
   outcome_fine (Ok v) t s ks ready gives fits = running (kind_of t ∷ ks) (ready_push ks s (kind_of t) v ready gives) fits
   outcome_fine (Err Overflow) t s ks ready gives fits = raises ks (kind_of t ∷ ks) ConstraintError s ready fits
   outcome_fine (Err DivisionByZero) t s ks ready gives fits = raises ks (kind_of t ∷ ks) ConstraintError s ready fits
   outcome_fine (Err WrongType) t s ks ready gives fits = absurd gives
 
   -- Allocators.
-  item_fine : (kind : ComponentKind) (item : ItemForm) (s : State) (kinds : List VariableKind) → Ready p kinds s → item_fits p.types p.variables kind item ≡ true → Fits p (held_kind kind ∷ kinds) s.control → Fine p (item_next named item s)
+  item_fine : (kind : ComponentKind) (item : ItemForm) (s : State) (kinds : List VariableKind) → Ready p kinds s → item_fits p.types p.variables kind item ≡ true → Fits p (cells_of s.heap) (held_kind kind ∷ kinds) s.control → Fine p (item_next named item s)
   item_fine (component.Integer initial) null_item s kinds ready is fits = absurd (cc)
   item_fine (component.Integer initial) (item_of_value e) s kinds ready is fits =
       running kinds (ready_at kinds s (frame.Computes e ∷ s.control) ready ready.deep) (Integer, typed Integer (type_of p.types p.variables e) is, fits)
@@ -298,7 +307,7 @@ module _ (p : ProgramForm) where
   item_fine (component.Access access) null_item s kinds ready is fits = running (variable.Access access ∷ kinds) (ready_push kinds s (variable.Access access) Null ready tt) fits
   item_fine (component.Access access) (item_of_value e) s kinds ready is fits = absurd (cc)
 
-  pub items_fine : (items : List ItemForm) (cs : List ComponentForm) (s : State) (kinds : List VariableKind) → Ready p kinds s → items_fit p.types p.variables cs items ≡ true → Fits p (onto cs kinds) s.control → Fine p (items_next named items s)
+  pub items_fine : (items : List ItemForm) (cs : List ComponentForm) (s : State) (kinds : List VariableKind) → Ready p kinds s → items_fit p.types p.variables cs items ≡ true → Fits p (cells_of s.heap) (onto cs kinds) s.control → Fine p (items_next named items s)
   items_fine [] [] s kinds ready is fits = running kinds ready fits
   items_fine [] (c ∷ cs) s kinds ready is fits = absurd (cc)
   items_fine (i ∷ items) [] s kinds ready is fits = absurd (cc)
@@ -310,14 +319,14 @@ module _ (p : ProgramForm) where
   active_new : (cells : Cells) (cell : Cell Value) (cs : List ComponentForm) (ks : List VariableKind) (access : TypeNo) (acts : List (Activation Value)) (o : ℕ) → cell.access ≡ access.0 → o ≡ length cells → IsActive cells p.variables (onto cs ks) acts → IsActive (cells ++ cell ∷ []) p.variables (variable.Access access ∷ ks) (with_operands (Names (record { 0 = o }) ∷ drop (length cs) (operands_of acts)) acts)
   active_new cells cell cs ks access [] o own is active = active
   active_new cells cell cs ks access (a ∷ suspended) o own is active =
-      let more : IsActive (cells ++ cell ∷ []) p.variables ks (record a { operands = drop (length cs) a.operands } ∷ suspended) = active_more cells cell p.variables ks (record a { operands = drop (length cs) a.operands } ∷ suspended) (active.0, (split cells cs ks a.operands active.1).1) in
+      let more : IsActive (cells ++ cell ∷ []) p.variables ks (record a { operands = drop (length cs) a.operands } ∷ suspended) = active_later cells (cells ++ cell ∷ []) (designated_more cells cell) p.variables ks (record a { operands = drop (length cs) a.operands } ∷ suspended) (active.0, (split cells cs ks a.operands active.1).1) in
       (more.0, ((cell, ap (slice_get (cells ++ cell ∷ [])) is ∙ newest_name cells cell, own), more.1))
 
   active_values : (cells : Cells) (cs : List ComponentForm) (ks : List VariableKind) (acts : List (Activation Value)) → IsActive cells p.variables (onto cs ks) acts → HaveKinds cells cs (reverse (take (length cs) (operands_of acts)))
   active_values cells cs ks [] active = absurd active
   active_values cells cs ks (a ∷ suspended) active = (split cells cs ks a.operands active.1).0
 
-  answered_fine : (access item words : ℕ) (s : State) (ks : List VariableKind) (cs : List ComponentForm) → Ready p (onto cs ks) s → reached_components p.types access ≡ Some cs → Fits p (variable.Access (record { 0 = access }) ∷ ks) s.control → (granted : Bool) → Typed p (answered named access (length cs) item words s granted)
+  answered_fine : (access item words : ℕ) (s : State) (ks : List VariableKind) (cs : List ComponentForm) → Ready p (onto cs ks) s → reached_components p.types access ≡ Some cs → Fits p (cells_of s.heap) (variable.Access (record { 0 = access }) ∷ ks) s.control → (granted : Bool) → Typed p (answered named access (length cs) item words s granted)
   answered_fine access item words s ks cs ready reached fits true =
       let cell = new_cell named access (length cs) item s in
       let same : cells_of (s.heap ++ new_object cell ∷ []) ≡ cells_of s.heap ++ cell ∷ [] = cells_more s.heap (new_object cell) in
@@ -327,10 +336,11 @@ module _ (p : ProgramForm) where
             (active_new (cells_of s.heap) cell cs ks (record { 0 = access }) s.activations (length s.heap) refl (sym (length_cells s.heap)) ready.active);
         runs = ready.runs;
         deep = ready.deep;
-      }) fits
+      }) (subst (λ (xs : Cells). Fits p xs (variable.Access (record { 0 = access }) ∷ ks) s.control) (sym same)
+      (fits_later p (cells_of s.heap) (cells_of s.heap ++ cell ∷ []) (designated_more (cells_of s.heap) cell) s.control (variable.Access (record { 0 = access }) ∷ ks) fits))
   answered_fine access item words s ks cs ready reached fits false = raises (onto cs ks) (variable.Access (record { 0 = access }) ∷ ks) StorageError s ready fits
 
-  pub new_fine : (home : Option ℕ) (access words : ℕ) (s : State) (ks : List VariableKind) (cs : List ComponentForm) → Ready p (onto cs ks) s → reached_components p.types access ≡ Some cs → Fits p (variable.Access (record { 0 = access }) ∷ ks) s.control → Fine p (new_next named access (length cs) words home s)
+  pub new_fine : (home : Option ℕ) (access words : ℕ) (s : State) (ks : List VariableKind) (cs : List ComponentForm) → Ready p (onto cs ks) s → reached_components p.types access ≡ Some cs → Fits p (cells_of s.heap) (variable.Access (record { 0 = access }) ∷ ks) s.control → Fine p (new_next named access (length cs) words home s)
   new_fine None access words s ks cs ready reached fits = raises (onto cs ks) (variable.Access (record { 0 = access }) ∷ ks) StorageError s ready fits
   new_fine (Some item) access words s ks cs ready reached fits = answered_fine access item words s ks cs ready reached fits
 
@@ -351,7 +361,7 @@ module _ (p : ProgramForm) where
   as_many vs (c ∷ cs) [] h = absurd (cc)
   as_many vs (c ∷ cs) (i ∷ items) h = ap suc (as_many vs cs items (and_right (item_fits p.types vs c.kind i) (items_fit p.types vs cs items) h))
 
-  pub right_fine : (right : RightForm) (kind : VariableKind) (s : State) (kinds : List VariableKind) → Ready p kinds s → kind_takes p.types p.variables kind right ≡ true → Fits p (kind ∷ kinds) s.control → Fine p (right_next named right s)
+  pub right_fine : (right : RightForm) (kind : VariableKind) (s : State) (kinds : List VariableKind) → Ready p kinds s → kind_takes p.types p.variables kind right ≡ true → Fits p (cells_of s.heap) (kind ∷ kinds) s.control → Fine p (right_next named right s)
   right_fine nothing variable.Integer s kinds ready is fits = absurd (cc)
   right_fine (value_of path) variable.Integer s kinds ready is fits = absurd (cc)
   right_fine (allocates access items) variable.Integer s kinds ready is fits = absurd (cc)
@@ -370,5 +380,5 @@ module _ (p : ProgramForm) where
       let same : t ≡ access.0 = eqb-true t access.0 (and_left (t == access.0) (is_filled p.types p.variables (reached_components p.types access.0) items) is) in
       let filled = filled_items (reached_components p.types access.0) p.variables items (and_right (t == access.0) (is_filled p.types p.variables (reached_components p.types access.0) items) is) in
       running kinds (ready_at kinds s (frame.Fills items ∷ frame.Creates t (length items) ∷ s.control) ready ready.deep)
-      (filled.0, filled.2, (kinds, filled.0, refl, ap (reached_components p.types) same ∙ filled.1, as_many p.variables filled.0 items filled.2, subst (λ (i : ℕ). Fits p (variable.Access (record { 0 = i }) ∷ kinds) s.control) (sym same) fits))
+      (filled.0, filled.2, (kinds, filled.0, refl, ap (reached_components p.types) same ∙ filled.1, as_many p.variables filled.0 items filled.2, subst (λ (i : ℕ). Fits p (cells_of s.heap) (variable.Access (record { 0 = i }) ∷ kinds) s.control) (sym same) fits))
   right_fine (computes e) (variable.Access access) s kinds ready is fits = absurd (cc)

@@ -22,7 +22,7 @@ use Rattle.ada_program.specs.declared.program.Choice.TheVariants as choice
 use Rattle.ada_program.specs.declared.program.Exception.{Exception}
 use Rattle.ada_program.specs.declared.program.Exception.TheVariants.{ProgramError, Declared}
 use Rattle.ada_program.specs.declared.program.Handler.{Handler}
-use Rattle.ada_program.specs.Form.{expression_form, stmt_form, path_form, integer, reads, is_null, StmtsForm, no_stmts, a_stmt, gets, writes, frees, chooses, repeats, counts, exits, raises, encloses, otherwise, a_branch, HandlersForm, no_handlers, a_handler, declaration_forms, stmt_forms, handler_forms, statement_rules, expression_rules}
+use Rattle.ada_program.specs.Form.{expression_form, stmt_form, path_form, integer, reads, is_null, StmtsForm, no_stmts, a_stmt, assigns, computes, gets, writes, frees, chooses, repeats, counts, exits, raises, encloses, otherwise, a_branch, HandlersForm, no_handlers, a_handler, declaration_forms, stmt_forms, handler_forms, statement_rules, expression_rules}
 use Rattle.ada_program.specs.ProgramForm.{program_form}
 use Rattle.ada_program.specs.WellFormed.{Creation, creation, created_by_all, created_by_handlers, creates_from, has_collections, IsWellFormed, stmts_fit}
 use Rattle.ada_meaning.specs.declared.event.Halt.TheVariants.{Finished}
@@ -80,9 +80,14 @@ declarations =
 abbrev x_is : Bool → Expression
 x_is equal = NullTest x_path equal
 
--- Put_Line (Integer'Image (N)); Free (X);
+-- Get (X.Value); X.Value := N; Put_Line (Integer'Image (N)); Free (X);
 abbrev chosen : List Stmt
-chosen = stmt.PutImage (Reads n_path) ∷ stmt.Free (record { 0 = 1 }) x_path ∷ []
+chosen =
+    stmt.Get value_path
+    ∷ stmt.Assign value_path (right.Value (Reads n_path))
+    ∷ stmt.PutImage (Reads n_path)
+    ∷ stmt.Free (record { 0 = 1 }) x_path
+    ∷ []
 
 -- if X /= null then .. end if; exit when X = null;
 abbrev body : List Stmt
@@ -117,7 +122,10 @@ program = record {
 
 -- The statements as plain data.
 abbrev chosen_forms : StmtsForm
-chosen_forms = a_stmt (writes (reads (path_form n_path))) (a_stmt (frees 1 (path_form x_path)) no_stmts)
+chosen_forms =
+    a_stmt (gets (path_form value_path)) (
+    a_stmt (assigns (path_form value_path) (computes (reads (path_form n_path)))) (
+    a_stmt (writes (reads (path_form n_path))) (a_stmt (frees 1 (path_form x_path)) no_stmts)))
 
 abbrev body_forms : StmtsForm
 body_forms = a_stmt (chooses (a_branch (is_null false (path_form x_path)) chosen_forms (otherwise no_stmts))) (a_stmt (exits (Some (is_null true (path_form x_path))) spot) no_stmts)
@@ -152,9 +160,9 @@ well_formed = record {
   handlers_fit = refl;
 }
 
--- The input of the run: one number.
+-- The input of the run: two numbers.
 abbrev input : List ℤ
-input = pos 5 ∷ []
+input = pos 4 ∷ pos 5 ∷ []
 
 -- A run from these statements.
 abbrev FinishesFrom : StmtsForm → Type 0
@@ -162,7 +170,7 @@ FinishesFrom fs = (events : List Event) × (last : State) × Run program (record
 
 finishes_from : FinishesFrom forms
 unfolding next expression_form
-finishes_from = (_, _, there settled _ (refl, refl) (there settled _ (refl, refl) (there settled _ (refl, refl) (there settled _ (refl, refl) (there settled _ (refl, refl) (there settled _ (refl, refl) (there (grants true) _ (refl, refl) (there settled _ (refl, refl) (there settled _ (refl, refl) (there settled _ (refl, refl) (there settled _ (refl, refl) (there settled _ (refl, refl) (there settled _ (refl, refl) (there settled _ (refl, refl) (there settled _ (refl, refl) (there settled _ (refl, refl) (there settled _ (refl, refl) (there settled _ (refl, refl) (there settled _ (refl, refl) (there settled _ (refl, refl) (there settled _ (refl, refl) (there settled _ (refl, refl) (there settled _ (refl, refl) (there settled _ (refl, refl) (there settled _ (refl, refl) (there settled _ (refl, refl) (there settled _ (refl, refl) (there settled _ (refl, refl) (there settled _ (refl, refl) (there settled _ (refl, refl) (there settled _ (refl, refl) (there settled _ (refl, refl) (there settled _ (refl, refl) (there settled _ (refl, refl) (there settled _ (refl, refl) (there settled _ (refl, refl) (there settled _ (refl, refl) (there settled _ (refl, refl) (there settled _ (refl, refl) (there settled _ (refl, refl) (there settled _ (refl, refl) (there settled _ (refl, refl) (there settled _ (refl, refl) (there settled _ (refl, refl) (there settled _ (refl, refl) (there settled _ (refl, refl) (there settled _ (refl, refl) (there settled _ (refl, refl) (there settled _ (refl, refl) (there settled _ (refl, refl) (there settled _ (refl, refl) (there settled _ (refl, refl) (there settled _ (refl, refl) (there settled _ (refl, refl) (there settled _ (refl, refl) (there settled _ (refl, refl) (there settled _ (refl, refl) (there settled _ (refl, refl) here))))))))))))))))))))))))))))))))))))))))))))))))))))))))), refl)
+finishes_from = (_, _, there settled _ (refl, refl) (there settled _ (refl, refl) (there settled _ (refl, refl) (there settled _ (refl, refl) (there settled _ (refl, refl) (there settled _ (refl, refl) (there (grants true) _ (refl, refl) (there settled _ (refl, refl) (there settled _ (refl, refl) (there settled _ (refl, refl) (there settled _ (refl, refl) (there settled _ (refl, refl) (there settled _ (refl, refl) (there settled _ (refl, refl) (there settled _ (refl, refl) (there settled _ (refl, refl) (there settled _ (refl, refl) (there settled _ (refl, refl) (there settled _ (refl, refl) (there settled _ (refl, refl) (there settled _ (refl, refl) (there settled _ (refl, refl) (there settled _ (refl, refl) (there settled _ (refl, refl) (there settled _ (refl, refl) (there settled _ (refl, refl) (there settled _ (refl, refl) (there settled _ (refl, refl) (there settled _ (refl, refl) (there settled _ (refl, refl) (there settled _ (refl, refl) (there settled _ (refl, refl) (there settled _ (refl, refl) (there settled _ (refl, refl) (there settled _ (refl, refl) (there settled _ (refl, refl) (there settled _ (refl, refl) (there settled _ (refl, refl) (there settled _ (refl, refl) (there settled _ (refl, refl) (there settled _ (refl, refl) (there settled _ (refl, refl) (there settled _ (refl, refl) (there settled _ (refl, refl) (there settled _ (refl, refl) (there settled _ (refl, refl) (there settled _ (refl, refl) (there settled _ (refl, refl) (there settled _ (refl, refl) (there settled _ (refl, refl) (there settled _ (refl, refl) (there settled _ (refl, refl) (there settled _ (refl, refl) (there settled _ (refl, refl) (there settled _ (refl, refl) (there settled _ (refl, refl) (there settled _ (refl, refl) (there settled _ (refl, refl) (there settled _ (refl, refl) (there settled _ (refl, refl) (there settled _ (refl, refl) (there settled _ (refl, refl) (there settled _ (refl, refl) (there settled _ (refl, refl) (there settled _ (refl, refl) here)))))))))))))))))))))))))))))))))))))))))))))))))))))))))))))))), refl)
 
 pub finishes : Finishes program
 finishes =

@@ -4,8 +4,12 @@ pub mod Values
 pub mod Operators
 -- what is left to do fits what is there
 pub mod Control
+-- it fits as well once objects have come to be or have changed
+pub mod Later
 -- paths, expressions, allocators and what is assigned
 pub mod Evaluations
+-- components that are assigned to
+pub mod Targets
 -- each step leads from typed states to typed states
 pub mod Steps
 -- so no run is stuck

@@ -14,7 +14,7 @@ use Rattle.ada_program.specs.Form.{ExpressionForm, RightForm, StmtForm, skips, a
 use Rattle.ada_program.specs.Handling.{some_takes, handler_of}
 use Rattle.ada_program.specs.ProgramForm.{VariableForm, ProgramForm}
 use Rattle.ada_program.specs.Typed.{words_of}
-use Rattle.ada_program.specs.WellFormed.{selectors_kind, variable_kind, path_kind, path_access, access_of, scalar_of, names_variable, is_type, type_of, kind_takes, right_fits, is_freed_by, collections_first, collection_fits, initial_fits, declarations_fit, has_type, condition_fits, has_statement, choice_fits, statement_fits, stmts_fit, branches_fit, handlers_fit, names_before}
+use Rattle.ada_program.specs.WellFormed.{selectors_kind, variable_kind, path_kind, path_access, access_of, scalar_of, follows_at_most_one, names_variable, names_target, is_type, type_of, kind_takes, right_fits, is_freed_by, collections_first, collection_fits, initial_fits, declarations_fit, has_type, condition_fits, has_statement, choice_fits, statement_fits, stmts_fit, branches_fit, handlers_fit, names_before}
 use Rattle.ada_values.specs.declared.value.Value.TheVariants as scalar
 use Rattle.ada_meaning.specs.declared.state.Id.{Id}
 use Rattle.ada_meaning.specs.declared.state.Value.{Value}
@@ -34,11 +34,12 @@ use Rattle.ada_meaning.specs.Frame.{Frame, is_master, is_loop, Landing, passes_o
 use Rattle.ada_meaning.specs.Frame as frame
 use Rattle.ada_meaning.specs.State.{Owned, declared, collection, Item, Master, home_of}
 use Rattle.ada_meaning.specs.Heap.{Cell, on_gone, finds}
-use Rattle.ada_meaning.specs.Step.{halts, moves, at, older, shorter, popped, jumping, put, held, newest, new_next, free_next, end_next, given_back, back_next, assign_next, frees_next, branches_next, decided_next, turn_next, repeats_next, turned_next, count_turn_next, ranges_next, gets_next, exit_next, exited_next, stmt_next, stmts_next, line_next, declarations_next, members_next, item_leave_next, master_leave_next, leave_next, frame_next, landed, pass_next, running_next, jump_next, mode_next, end_of}
+use Rattle.ada_meaning.specs.Step.{halts, moves, at, older, shorter, popped, jumping, put, held, newest, new_next, free_next, end_next, given_back, back_next, before_last, last_of, assign_next, frees_next, branches_next, decided_next, turn_next, repeats_next, turned_next, count_turn_next, ranges_next, gets_next, exit_next, exited_next, stmt_next, stmts_next, line_next, declarations_next, members_next, item_leave_next, master_leave_next, leave_next, frame_next, landed, pass_next, running_next, jump_next, mode_next, end_of}
 use Rattle.ada_meaning.specs.Named.{an_integer, Object, State, next, named, look, lent, lent_by, seen, existing, on_object, parted, finished, returned, reads_integer, reads_boolean, unary_given, binary_given, members, members_of}
-use Rattle.ada_typed.proofs.Evaluations.{Fine, cells_on, length_shorter, ready_kinds, ready_at, ready_pop, newest_of, held_of, put_in, ready_owning, ready_heap, jumped, raises, path_fine, null_test_fine, expression_fine, links_fine, outcome_fine, items_fine, new_fine, right_fine}
+use Rattle.ada_typed.proofs.Evaluations.{Fine, cells_on, length_shorter, ready_kinds, ready_at, ready_pop, newest_of, held_of, put_in, ready_owning, ready_heap, fits_heap, jumped, raises, root_fine, path_fine, null_test_fine, expression_fine, links_fine, outcome_fine, items_fine, new_fine, right_fine}
 use Rattle.ada_typed.proofs.Values.{kind_of, active_none}
 use Rattle.ada_typed.proofs.Operators.{and_left, and_right, typed, unary_gives, binary_gives}
+use Rattle.ada_typed.proofs.Targets.{split_kind, target_fine, store_fine, receive_fine}
 use Rattle.ada_typed.proofs.Control.{onto, IsName, AtLoop, WhereInside, handlers_in, AtHandlers, FitsBehind, Fits, Lands, Catches, depth, depth_behind, Ready, Jumps, Goes, Typed, running, on_jump, catches, catches_behind}
 
 -- What is picked of a collection is a name.
@@ -52,51 +53,64 @@ picked ids vs i is lt = subst (λ (ws : List Value). IsName (slice_index_or ws i
 
 module _ (p : ProgramForm) where
   -- Free (13.11.2), and what it leads to.
-  free_found : (stage : Stage) (access x : ℕ) (o : Id) (type : TypeNo) (object : Object) (s : State) (kinds : List VariableKind) → Ready p kinds s → variable_kind p.variables x ≡ Some (variable.Access type) → Fits p kinds s.control → Fine p (free_next named access x (Names o) (existing object stage) s)
+  free_found : (stage : Stage) (access x : ℕ) (o : Id) (type : TypeNo) (object : Object) (s : State) (kinds : List VariableKind) → Ready p kinds s → variable_kind p.variables x ≡ Some (variable.Access type) → Fits p (cells_of s.heap) kinds s.control → Fine p (free_next named access x (Names o) (existing object stage) s)
   free_found Gone access x o type object s kinds ready is fits = tt
   free_found Building access x o type object s kinds ready is fits =
-      let other = ready_heap p kinds s (on_object parted s.heap (Names o)) (cells_on parted s.heap (Names o) (λ y. refl)) ready in
-      running kinds (record { filled = other.filled; active = other.active; runs = other.runs; deep = other.deep }) (tt, (tt, (type, is, fits)))
+      let heap = on_object parted s.heap (Names o) in
+      let same : cells_of heap ≡ cells_of s.heap = cells_on parted s.heap (Names o) (λ y. refl) in
+      let other = ready_heap p kinds s heap same ready in
+      running kinds (record { filled = other.filled; active = other.active; runs = other.runs; deep = other.deep }) (tt, (tt, (type, is, fits_heap p kinds s s.control heap same fits)))
   free_found Existing access x o type object s kinds ready is fits =
-      let other = ready_heap p kinds s (on_object parted s.heap (Names o)) (cells_on parted s.heap (Names o) (λ y. refl)) ready in
-      running kinds (record { filled = other.filled; active = other.active; runs = other.runs; deep = other.deep }) (tt, (tt, (type, is, fits)))
+      let heap = on_object parted s.heap (Names o) in
+      let same : cells_of heap ≡ cells_of s.heap = cells_on parted s.heap (Names o) (λ y. refl) in
+      let other = ready_heap p kinds s heap same ready in
+      running kinds (record { filled = other.filled; active = other.active; runs = other.runs; deep = other.deep }) (tt, (tt, (type, is, fits_heap p kinds s s.control heap same fits)))
 
-  free_seen : (at_o : Option Object) (access x : ℕ) (o : Id) (type : TypeNo) (s : State) (kinds : List VariableKind) → Ready p kinds s → variable_kind p.variables x ≡ Some (variable.Access type) → Fits p kinds s.control → Fine p (free_next named access x (Names o) (seen at_o) s)
+  free_seen : (at_o : Option Object) (access x : ℕ) (o : Id) (type : TypeNo) (s : State) (kinds : List VariableKind) → Ready p kinds s → variable_kind p.variables x ≡ Some (variable.Access type) → Fits p (cells_of s.heap) kinds s.control → Fine p (free_next named access x (Names o) (seen at_o) s)
   free_seen None access x o type s kinds ready is fits = tt
   free_seen (Some object) access x o type s kinds ready is fits = free_found object.stage access x o type object s kinds ready is fits
 
-  free_fine : (v : Value) (access x : ℕ) (type : TypeNo) (s : State) (kinds : List VariableKind) → Ready p kinds s → HasKind (cells_of s.heap) (variable.Access type) v → variable_kind p.variables x ≡ Some (variable.Access type) → Fits p kinds s.control → Fine p (free_next named access x v (look s.heap v) s)
+  free_fine : (v : Value) (access x : ℕ) (type : TypeNo) (s : State) (kinds : List VariableKind) → Ready p kinds s → HasKind (cells_of s.heap) (variable.Access type) v → variable_kind p.variables x ≡ Some (variable.Access type) → Fits p (cells_of s.heap) kinds s.control → Fine p (free_next named access x v (look s.heap v) s)
   free_fine Null access x type s kinds ready has is fits = running kinds ready fits
   free_fine (Names o) access x type s kinds ready has is fits = free_seen (slice_get s.heap o.0) access x o type s kinds ready is fits
   free_fine (Scalar v) access x type s kinds ready has is fits = absurd has
 
-  end_stage : (stage : Stage) (o : Id) (object : Object) (s : State) (kinds : List VariableKind) → Ready p kinds s → Fits p kinds s.control → Fine p (end_next named (Names o) (existing object stage) s)
+  end_stage : (stage : Stage) (o : Id) (object : Object) (s : State) (kinds : List VariableKind) → Ready p kinds s → Fits p (cells_of s.heap) kinds s.control → Fine p (end_next named (Names o) (existing object stage) s)
   end_stage Gone o object s kinds ready fits = tt
-  end_stage Building o object s kinds ready fits = running kinds (ready_heap p kinds s (on_object finished s.heap (Names o)) (cells_on finished s.heap (Names o) (λ y. refl)) ready) fits
-  end_stage Existing o object s kinds ready fits = running kinds (ready_heap p kinds s (on_object finished s.heap (Names o)) (cells_on finished s.heap (Names o) (λ y. refl)) ready) fits
+  end_stage Building o object s kinds ready fits =
+      let heap = on_object finished s.heap (Names o) in
+      let same : cells_of heap ≡ cells_of s.heap = cells_on finished s.heap (Names o) (λ y. refl) in
+      running kinds (ready_heap p kinds s heap same ready) (fits_heap p kinds s s.control heap same fits)
+  end_stage Existing o object s kinds ready fits =
+      let heap = on_object finished s.heap (Names o) in
+      let same : cells_of heap ≡ cells_of s.heap = cells_on finished s.heap (Names o) (λ y. refl) in
+      running kinds (ready_heap p kinds s heap same ready) (fits_heap p kinds s s.control heap same fits)
 
-  end_seen : (at_o : Option Object) (o : Id) (s : State) (kinds : List VariableKind) → Ready p kinds s → Fits p kinds s.control → Fine p (end_next named (Names o) (seen at_o) s)
+  end_seen : (at_o : Option Object) (o : Id) (s : State) (kinds : List VariableKind) → Ready p kinds s → Fits p (cells_of s.heap) kinds s.control → Fine p (end_next named (Names o) (seen at_o) s)
   end_seen None o s kinds ready fits = tt
   end_seen (Some object) o s kinds ready fits = end_stage object.stage o object s kinds ready fits
 
-  end_fine : (v : Value) (s : State) (kinds : List VariableKind) → IsName v → Ready p kinds s → Fits p kinds s.control → Fine p (end_next named v (look s.heap v) s)
+  end_fine : (v : Value) (s : State) (kinds : List VariableKind) → IsName v → Ready p kinds s → Fits p (cells_of s.heap) kinds s.control → Fine p (end_next named v (look s.heap v) s)
   end_fine Null s kinds is ready fits = absurd is
   end_fine (Names o) s kinds is ready fits = end_seen (slice_get s.heap o.0) o s kinds ready fits
   end_fine (Scalar v) s kinds is ready fits = absurd is
 
-  given_fine : (same : Bool) (o : Id) (cause : Cause) (cell : Cell Value) (s : State) (kinds : List VariableKind) → Ready p kinds s → Fits p kinds s.control → Fine p (if same then given_back named (Names o) cause cell s else halts (Erroneous GivesElsewhere))
-  given_fine true o cause cell s kinds ready fits = running kinds (ready_heap p kinds s (on_object returned s.heap (Names o)) (cells_on returned s.heap (Names o) (λ y. refl)) ready) fits
+  given_fine : (same : Bool) (o : Id) (cause : Cause) (cell : Cell Value) (s : State) (kinds : List VariableKind) → Ready p kinds s → Fits p (cells_of s.heap) kinds s.control → Fine p (if same then given_back named (Names o) cause cell s else halts (Erroneous GivesElsewhere))
+  given_fine true o cause cell s kinds ready fits =
+      let heap = on_object returned s.heap (Names o) in
+      let same : cells_of heap ≡ cells_of s.heap = cells_on returned s.heap (Names o) (λ y. refl) in
+      running kinds (ready_heap p kinds s heap same ready) (fits_heap p kinds s s.control heap same fits)
   given_fine false o cause cell s kinds ready fits = tt
 
-  out_fine : (out : Bool) (o : Id) (cause : Cause) (pool : ℕ) (object : Object) (s : State) (kinds : List VariableKind) → Ready p kinds s → Fits p kinds s.control → Fine p (back_next named (Names o) cause pool (if out then finds object.cell else on_gone) s)
+  out_fine : (out : Bool) (o : Id) (cause : Cause) (pool : ℕ) (object : Object) (s : State) (kinds : List VariableKind) → Ready p kinds s → Fits p (cells_of s.heap) kinds s.control → Fine p (back_next named (Names o) cause pool (if out then finds object.cell else on_gone) s)
   out_fine true o cause pool object s kinds ready fits = given_fine (pool == object.cell.home.pool) o cause object.cell s kinds ready fits
   out_fine false o cause pool object s kinds ready fits = tt
 
-  lent_fine : (at_o : Option Object) (o : Id) (cause : Cause) (pool : ℕ) (s : State) (kinds : List VariableKind) → Ready p kinds s → Fits p kinds s.control → Fine p (back_next named (Names o) cause pool (lent_by at_o) s)
+  lent_fine : (at_o : Option Object) (o : Id) (cause : Cause) (pool : ℕ) (s : State) (kinds : List VariableKind) → Ready p kinds s → Fits p (cells_of s.heap) kinds s.control → Fine p (back_next named (Names o) cause pool (lent_by at_o) s)
   lent_fine None o cause pool s kinds ready fits = tt
   lent_fine (Some object) o cause pool s kinds ready fits = out_fine object.out o cause pool object s kinds ready fits
 
-  back_fine : (v : Value) (cause : Cause) (pool : ℕ) (s : State) (kinds : List VariableKind) → IsName v → Ready p kinds s → Fits p kinds s.control → Fine p (back_next named v cause pool (lent s.heap v) s)
+  back_fine : (v : Value) (cause : Cause) (pool : ℕ) (s : State) (kinds : List VariableKind) → IsName v → Ready p kinds s → Fits p (cells_of s.heap) kinds s.control → Fine p (back_next named v cause pool (lent s.heap v) s)
   back_fine Null cause pool s kinds is ready fits = absurd is
   back_fine (Names o) cause pool s kinds is ready fits = lent_fine (slice_get s.heap o.0) o cause pool s kinds ready fits
   back_fine (Scalar v) cause pool s kinds is ready fits = absurd is
@@ -112,20 +126,24 @@ module _ (p : ProgramForm) where
   freed_kind (Some variable.Boolean) access h = absurd (cc)
   freed_kind (Some (variable.Access type)) access h = (type, refl)
 
-  assign_fine : (cs : List ℕ) (x : ℕ) (right : RightForm) (s : State) (kinds : List VariableKind) → Ready p kinds s → (length cs == 0) ≡ true → right_fits p.types p.variables (selectors_kind p.types (variable_kind p.variables x) cs) right ≡ true → Fits p kinds s.control → Fine p (assign_next named cs x right s)
-  assign_fine (c ∷ cs) x right s kinds ready short is fits = let never : length (c ∷ cs) ≡ 0 = eqb-true (length (c ∷ cs)) 0 short in absurd (omega (arith, never))
-  assign_fine [] x right s kinds ready short is fits =
+  assign_fine : (cs : List ℕ) (x : ℕ) (right : RightForm) (s : State) (kinds : List VariableKind) → Ready p kinds s → right_fits p.types p.variables (selectors_kind p.types (variable_kind p.variables x) cs) right ≡ true → Fits p (cells_of s.heap) kinds s.control → Fine p (assign_next named cs x right s)
+  assign_fine (c ∷ cs) x right s kinds ready is fits =
+      let own = right_kind (selectors_kind p.types (variable_kind p.variables x) (c ∷ cs)) p.variables right is in
+      let parts = split_kind p.types (variable_kind p.variables x) c cs own.0 own.1 in
+      let found = at (frame.Targets (last_of c cs) right ∷ s.control) s in
+      root_fine p (variable_kind p.variables x) (before_last c cs) x (variable.Access parts.0) found kinds (ready_at p kinds s found.control ready ready.deep) refl parts.1 (kinds, parts.0, own.0, refl, parts.2, own.2, fits)
+  assign_fine [] x right s kinds ready is fits =
       let own = right_kind (variable_kind p.variables x) p.variables right is in
       running kinds (ready_at p kinds s (frame.Evaluates right ∷ frame.Stores x ∷ s.control) ready ready.deep) (own.0, own.2, (kinds, own.0, refl, own.1, fits))
 
-  frees_fine : (cs : List ℕ) (access x : ℕ) (s : State) (kinds : List VariableKind) → Ready p kinds s → (length cs == 0) ≡ true → is_freed_by p.types access (access_of (selectors_kind p.types (variable_kind p.variables x) cs)) ≡ true → Fits p kinds s.control → Fine p (frees_next named cs access x s)
+  frees_fine : (cs : List ℕ) (access x : ℕ) (s : State) (kinds : List VariableKind) → Ready p kinds s → (length cs == 0) ≡ true → is_freed_by p.types access (access_of (selectors_kind p.types (variable_kind p.variables x) cs)) ≡ true → Fits p (cells_of s.heap) kinds s.control → Fine p (frees_next named cs access x s)
   frees_fine (c ∷ cs) access x s kinds ready short is fits = let never : length (c ∷ cs) ≡ 0 = eqb-true (length (c ∷ cs)) 0 short in absurd (omega (arith, never))
   frees_fine [] access x s kinds ready short is fits =
       let own = freed_kind (variable_kind p.variables x) access is in
       free_fine (held named s x) access x own.0 s kinds ready (held_of p kinds s x (variable.Access own.0) ready own.1) own.1 fits
 
   -- Branches (5.3).
-  branches_fine : (branches : BranchesForm) (inside : Bool) (s : State) → Ready p [] s → branches_fit p.types p.variables p.texts p.exceptions inside branches ≡ true → WhereInside inside (Lands p s.control) → Fits p [] s.control → Fine p (branches_next named branches s)
+  branches_fine : (branches : BranchesForm) (inside : Bool) (s : State) → Ready p [] s → branches_fit p.types p.variables p.texts p.exceptions inside branches ≡ true → WhereInside inside (Lands p (cells_of s.heap) s.control) → Fits p (cells_of s.heap) [] s.control → Fine p (branches_next named branches s)
   branches_fine (otherwise fs) inside s ready is lands fits = running [] (ready_at p [] s (frame.Does fs ∷ s.control) ready ready.deep) (refl, inside, is, lands, fits)
   branches_fine (a_branch e fs branches) inside s ready is lands fits =
       let own = has_type p.types p.variables Boolean e in
@@ -135,7 +153,7 @@ module _ (p : ProgramForm) where
       running [] (ready_at p [] s (frame.Computes e ∷ frame.Decides fs branches ∷ s.control) ready ready.deep)
       (Boolean, typed Boolean (type_of p.types p.variables e) (and_left own inner former), (refl, inside, and_right own inner former, and_right (own && inner) others is, lands, fits))
 
-  decided_fine : (fs : StmtsForm) (branches : BranchesForm) (v : Value) (inside : Bool) (s : State) (cells : Cells) → HasKind cells variable.Boolean v → Ready p [] s → stmts_fit p.types p.variables p.texts p.exceptions inside fs ≡ true → branches_fit p.types p.variables p.texts p.exceptions inside branches ≡ true → WhereInside inside (Lands p s.control) → Fits p [] s.control → Fine p (decided_next named fs branches (reads_boolean v) s)
+  decided_fine : (fs : StmtsForm) (branches : BranchesForm) (v : Value) (inside : Bool) (s : State) (cells : Cells) → HasKind cells variable.Boolean v → Ready p [] s → stmts_fit p.types p.variables p.texts p.exceptions inside fs ≡ true → branches_fit p.types p.variables p.texts p.exceptions inside branches ≡ true → WhereInside inside (Lands p (cells_of s.heap) s.control) → Fits p (cells_of s.heap) [] s.control → Fine p (decided_next named fs branches (reads_boolean v) s)
   decided_fine fs branches Null inside s cells has ready is others lands fits = absurd has
   decided_fine fs branches (Names o) inside s cells has ready is others lands fits = absurd has
   decided_fine fs branches (Scalar (scalar.Integer i)) inside s cells has ready is others lands fits = absurd has
@@ -143,17 +161,17 @@ module _ (p : ProgramForm) where
   decided_fine fs branches (Scalar (scalar.Boolean false)) inside s cells has ready is others lands fits = branches_fine branches inside s ready others lands fits
 
   -- Loops (5.5).
-  turn_fine : (condition : Option ExpressionForm) (fs : StmtsForm) (s : State) → Ready p [] s → condition_fits p.types p.variables condition ≡ true → has_statement fs ≡ true → stmts_fit p.types p.variables p.texts p.exceptions true fs ≡ true → Fits p [] s.control → Fine p (turn_next named condition fs s)
+  turn_fine : (condition : Option ExpressionForm) (fs : StmtsForm) (s : State) → Ready p [] s → condition_fits p.types p.variables condition ≡ true → has_statement fs ≡ true → stmts_fit p.types p.variables p.texts p.exceptions true fs ≡ true → Fits p (cells_of s.heap) [] s.control → Fine p (turn_next named condition fs s)
   turn_fine condition no_stmts s ready is some own fits = absurd (cc)
   turn_fine condition (a_stmt f fs) s ready is some own fits =
       running [] (ready_at p [] s (frame.Does (a_stmt f fs) ∷ frame.Repeats condition (a_stmt f fs) ∷ s.control) ready ready.deep) (refl, true, own, fits, (refl, is, refl, own, fits))
 
-  repeats_fine : (condition : Option ExpressionForm) (fs : StmtsForm) (s : State) → Ready p [] s → condition_fits p.types p.variables condition ≡ true → has_statement fs ≡ true → stmts_fit p.types p.variables p.texts p.exceptions true fs ≡ true → Fits p [] s.control → Fine p (repeats_next named condition fs s)
+  repeats_fine : (condition : Option ExpressionForm) (fs : StmtsForm) (s : State) → Ready p [] s → condition_fits p.types p.variables condition ≡ true → has_statement fs ≡ true → stmts_fit p.types p.variables p.texts p.exceptions true fs ≡ true → Fits p (cells_of s.heap) [] s.control → Fine p (repeats_next named condition fs s)
   repeats_fine None fs s ready is some own fits = turn_fine None fs s ready is some own fits
   repeats_fine (Some e) fs s ready is some own fits =
       running [] (ready_at p [] s (frame.Computes e ∷ frame.Turns e fs ∷ s.control) ready ready.deep) (Boolean, typed Boolean (type_of p.types p.variables e) is, (refl, is, some, own, fits))
 
-  turned_fine : (e : ExpressionForm) (fs : StmtsForm) (v : Value) (s : State) (cells : Cells) → HasKind cells variable.Boolean v → Ready p [] s → condition_fits p.types p.variables (Some e) ≡ true → has_statement fs ≡ true → stmts_fit p.types p.variables p.texts p.exceptions true fs ≡ true → Fits p [] s.control → Fine p (turned_next named e fs (reads_boolean v) s)
+  turned_fine : (e : ExpressionForm) (fs : StmtsForm) (v : Value) (s : State) (cells : Cells) → HasKind cells variable.Boolean v → Ready p [] s → condition_fits p.types p.variables (Some e) ≡ true → has_statement fs ≡ true → stmts_fit p.types p.variables p.texts p.exceptions true fs ≡ true → Fits p (cells_of s.heap) [] s.control → Fine p (turned_next named e fs (reads_boolean v) s)
   turned_fine e fs Null s cells has ready is some own fits = absurd has
   turned_fine e fs (Names o) s cells has ready is some own fits = absurd has
   turned_fine e fs (Scalar (scalar.Integer i)) s cells has ready is some own fits = absurd has
@@ -161,16 +179,16 @@ module _ (p : ProgramForm) where
   turned_fine e fs (Scalar (scalar.Boolean false)) s cells has ready is some own fits = running [] ready fits
 
   -- Exits (5.7): each has a loop.
-  exit_jump : (s : State) → Ready p [] s → Lands p s.control → Fits p [] s.control → Typed p (jumping Exiting s)
-  exit_jump s ready lands fits = on_jump Exiting (jumped p [] Exiting s ready) (lands, catches p s.control [] fits)
+  exit_jump : (s : State) → Ready p [] s → Lands p (cells_of s.heap) s.control → Fits p (cells_of s.heap) [] s.control → Typed p (jumping Exiting s)
+  exit_jump s ready lands fits = on_jump Exiting (jumped p [] Exiting s ready) (lands, catches p (cells_of s.heap) s.control [] fits)
 
-  exit_fine : (inside : Bool) (condition : Option ExpressionForm) (s : State) → Ready p [] s → (inside && condition_fits p.types p.variables condition) ≡ true → WhereInside inside (Lands p s.control) → Fits p [] s.control → Fine p (exit_next named condition s)
+  exit_fine : (inside : Bool) (condition : Option ExpressionForm) (s : State) → Ready p [] s → (inside && condition_fits p.types p.variables condition) ≡ true → WhereInside inside (Lands p (cells_of s.heap) s.control) → Fits p (cells_of s.heap) [] s.control → Fine p (exit_next named condition s)
   exit_fine false condition s ready is lands fits = absurd (cc)
   exit_fine true None s ready is lands fits = exit_jump s ready lands fits
   exit_fine true (Some e) s ready is lands fits =
       running [] (ready_at p [] s (frame.Computes e ∷ frame.Exits ∷ s.control) ready ready.deep) (Boolean, typed Boolean (type_of p.types p.variables e) is, (refl, lands, fits))
 
-  exited_fine : (v : Value) (s : State) (cells : Cells) → HasKind cells variable.Boolean v → Ready p [] s → Lands p s.control → Fits p [] s.control → Fine p (exited_next named (reads_boolean v) s)
+  exited_fine : (v : Value) (s : State) (cells : Cells) → HasKind cells variable.Boolean v → Ready p [] s → Lands p (cells_of s.heap) s.control → Fits p (cells_of s.heap) [] s.control → Fine p (exited_next named (reads_boolean v) s)
   exited_fine Null s cells has ready lands fits = absurd has
   exited_fine (Names o) s cells has ready lands fits = absurd has
   exited_fine (Scalar (scalar.Integer i)) s cells has ready lands fits = absurd has
@@ -184,50 +202,51 @@ module _ (p : ProgramForm) where
   integer_kind (Some variable.Boolean) h = absurd (cc)
   integer_kind (Some (variable.Access access)) h = absurd (cc)
 
-  count_turn_fine : (x : ℕ) (value last : ℤ) (fs : StmtsForm) (s : State) → Ready p [] s → variable_kind p.variables x ≡ Some variable.Integer → has_statement fs ≡ true → stmts_fit p.types p.variables p.texts p.exceptions true fs ≡ true → Fits p [] s.control → Fine p (count_turn_next named x value last fs s)
+  count_turn_fine : (x : ℕ) (value last : ℤ) (fs : StmtsForm) (s : State) → Ready p [] s → variable_kind p.variables x ≡ Some variable.Integer → has_statement fs ≡ true → stmts_fit p.types p.variables p.texts p.exceptions true fs ≡ true → Fits p (cells_of s.heap) [] s.control → Fine p (count_turn_next named x value last fs s)
   count_turn_fine x value last no_stmts s ready is some own fits = absurd (cc)
   count_turn_fine x value last (a_stmt f fs) s ready is some own fits =
       running [] (ready_at p [] (put x (an_integer value) s) (frame.Does (a_stmt f fs) ∷ frame.Counts x (value +ℤ pos 1) last (a_stmt f fs) ∷ s.control) (put_in p [] s x variable.Integer (an_integer value) ready is tt) ready.deep)
       (refl, true, own, fits, (refl, is, refl, own, fits))
 
-  counts_fine : (again : Bool) (x : ℕ) (value last : ℤ) (fs : StmtsForm) (s : State) → Ready p [] s → variable_kind p.variables x ≡ Some variable.Integer → has_statement fs ≡ true → stmts_fit p.types p.variables p.texts p.exceptions true fs ≡ true → Fits p [] s.control → Fine p (if again then count_turn_next named x value last fs s else moves Quiet s)
+  counts_fine : (again : Bool) (x : ℕ) (value last : ℤ) (fs : StmtsForm) (s : State) → Ready p [] s → variable_kind p.variables x ≡ Some variable.Integer → has_statement fs ≡ true → stmts_fit p.types p.variables p.texts p.exceptions true fs ≡ true → Fits p (cells_of s.heap) [] s.control → Fine p (if again then count_turn_next named x value last fs s else moves Quiet s)
   counts_fine true x value last fs s ready is some own fits = count_turn_fine x value last fs s ready is some own fits
   counts_fine false x value last fs s ready is some own fits = running [] ready fits
 
-  high_fine : (x : ℕ) (fs : StmtsForm) (low : ℤ) (high : Value) (s : State) (cells : Cells) → HasKind cells variable.Integer high → Ready p [] s → variable_kind p.variables x ≡ Some variable.Integer → has_statement fs ≡ true → stmts_fit p.types p.variables p.texts p.exceptions true fs ≡ true → Fits p [] s.control → Fine p (ranges_next named x fs (Some low) (reads_integer high) s)
+  high_fine : (x : ℕ) (fs : StmtsForm) (low : ℤ) (high : Value) (s : State) (cells : Cells) → HasKind cells variable.Integer high → Ready p [] s → variable_kind p.variables x ≡ Some variable.Integer → has_statement fs ≡ true → stmts_fit p.types p.variables p.texts p.exceptions true fs ≡ true → Fits p (cells_of s.heap) [] s.control → Fine p (ranges_next named x fs (Some low) (reads_integer high) s)
   high_fine x fs low Null s cells has ready is some own fits = absurd has
   high_fine x fs low (Names o) s cells has ready is some own fits = absurd has
   high_fine x fs low (Scalar (scalar.Integer high)) s cells has ready is some own fits = counts_fine (int_le low high) x low high fs s ready is some own fits
   high_fine x fs low (Scalar (scalar.Boolean b)) s cells has ready is some own fits = absurd has
 
-  ranges_fine : (x : ℕ) (fs : StmtsForm) (low high : Value) (s : State) (cells : Cells) → HasKind cells variable.Integer low → HasKind cells variable.Integer high → Ready p [] s → variable_kind p.variables x ≡ Some variable.Integer → has_statement fs ≡ true → stmts_fit p.types p.variables p.texts p.exceptions true fs ≡ true → Fits p [] s.control → Fine p (ranges_next named x fs (reads_integer low) (reads_integer high) s)
+  ranges_fine : (x : ℕ) (fs : StmtsForm) (low high : Value) (s : State) (cells : Cells) → HasKind cells variable.Integer low → HasKind cells variable.Integer high → Ready p [] s → variable_kind p.variables x ≡ Some variable.Integer → has_statement fs ≡ true → stmts_fit p.types p.variables p.texts p.exceptions true fs ≡ true → Fits p (cells_of s.heap) [] s.control → Fine p (ranges_next named x fs (reads_integer low) (reads_integer high) s)
   ranges_fine x fs Null high s cells has too ready is some own fits = absurd has
   ranges_fine x fs (Names o) high s cells has too ready is some own fits = absurd has
   ranges_fine x fs (Scalar (scalar.Integer low)) high s cells has too ready is some own fits = high_fine x fs low high s cells too ready is some own fits
   ranges_fine x fs (Scalar (scalar.Boolean b)) high s cells has too ready is some own fits = absurd has
 
-  -- The next number of the input goes to an Integer variable.
-  gets_fine : (cs : List ℕ) (x : ℕ) (input : List ℤ) (s : State) → Ready p [] s → (length cs == 0) ≡ true → is_type Integer (scalar_of (selectors_kind p.types (variable_kind p.variables x) cs)) ≡ true → Fits p [] s.control → Fine p (gets_next named cs x input s)
-  gets_fine (c ∷ cs) x input s ready short is fits = let never : length (c ∷ cs) ≡ 0 = eqb-true (length (c ∷ cs)) 0 short in absurd (omega (arith, never))
-  gets_fine [] x [] s ready short is fits = raises p [] [] EndError s ready fits
-  gets_fine [] x (i ∷ input) s ready short is fits =
+  -- The next number of the input goes to an Integer.
+  gets_fine : (cs : List ℕ) (x : ℕ) (input : List ℤ) (s : State) → Ready p [] s → is_type Integer (scalar_of (selectors_kind p.types (variable_kind p.variables x) cs)) ≡ true → Fits p (cells_of s.heap) [] s.control → Fine p (gets_next named cs x input s)
+  gets_fine (c ∷ cs) x input s ready is fits =
+      let parts = split_kind p.types (variable_kind p.variables x) c cs variable.Integer (integer_kind (selectors_kind p.types (variable_kind p.variables x) (c ∷ cs)) is) in
+      let found = at (frame.Receives (last_of c cs) ∷ s.control) s in
+      root_fine p (variable_kind p.variables x) (before_last c cs) x (variable.Access parts.0) found [] (ready_at p [] s found.control ready ready.deep) refl parts.1 ([], parts.0, refl, parts.2, fits)
+  gets_fine [] x [] s ready is fits = raises p [] [] EndError s ready fits
+  gets_fine [] x (i ∷ input) s ready is fits =
       let stored = put_in p [] s x variable.Integer (an_integer i) ready (integer_kind (variable_kind p.variables x) is) tt in
       running [] (record { filled = stored.filled; active = stored.active; runs = stored.runs; deep = stored.deep }) fits
 
-  stmt_fine : (f : StmtForm) (inside : Bool) (s : State) → Ready p [] s → statement_fits p.types p.variables p.texts p.exceptions inside f ≡ true → WhereInside inside (Lands p s.control) → Fits p [] s.control → Fine p (stmt_next named f s)
+  stmt_fine : (f : StmtForm) (inside : Bool) (s : State) → Ready p [] s → statement_fits p.types p.variables p.texts p.exceptions inside f ≡ true → WhereInside inside (Lands p (cells_of s.heap) s.control) → Fits p (cells_of s.heap) [] s.control → Fine p (stmt_next named f s)
   stmt_fine skips inside s ready is lands fits = running [] ready fits
   stmt_fine (assigns target right) inside s ready is lands fits =
       assign_fine target.selectors target.root right s [] ready
-      (and_left (names_variable target) (right_fits p.types p.variables (path_kind p.types p.variables target) right) is)
-      (and_right (names_variable target) (right_fits p.types p.variables (path_kind p.types p.variables target) right) is) fits
+      (and_right (names_target p.types p.variables target) (right_fits p.types p.variables (path_kind p.types p.variables target) right) is) fits
   stmt_fine (frees access path) inside s ready is lands fits =
       frees_fine path.selectors access path.root s [] ready
       (and_left (names_variable path) (is_freed_by p.types access (path_access p.types p.variables path)) is)
       (and_right (names_variable path) (is_freed_by p.types access (path_access p.types p.variables path)) is) fits
   stmt_fine (gets target) inside s ready is lands fits =
       gets_fine target.selectors target.root s.input s ready
-      (and_left (names_variable target) (is_type Integer (scalar_of (path_kind p.types p.variables target))) is)
-      (and_right (names_variable target) (is_type Integer (scalar_of (path_kind p.types p.variables target))) is) fits
+      (and_right (follows_at_most_one target) (is_type Integer (scalar_of (path_kind p.types p.variables target))) is) fits
   stmt_fine (writes e) inside s ready is lands fits =
       running [] (ready_at p [] s (frame.Computes e ∷ frame.Writes ∷ s.control) ready ready.deep) (Integer, typed Integer (type_of p.types p.variables e) is, ([], refl, fits))
   stmt_fine (writes_text text) inside s ready is lands fits = running [] ready fits
@@ -257,7 +276,7 @@ module _ (p : ProgramForm) where
           (refl, integer_kind (variable_kind p.variables x) (and_left kind first two), and_right (kind && first && last) some four, and_right (kind && first && last && some) inner is, fits),
         ),
       )
-  stmt_fine (returns spot) inside s ready is lands fits = on_jump Returning (jumped p [] Returning s ready) (catches p s.control [] fits)
+  stmt_fine (returns spot) inside s ready is lands fits = on_jump Returning (jumped p [] Returning s ready) (catches p (cells_of s.heap) s.control [] fits)
   stmt_fine (raises_it e) inside s ready is lands fits = raises p [] [] e s ready fits
   stmt_fine (encloses ds fs hs) inside s ready is lands fits =
       let own = declarations_fit p.types p.variables ds in
@@ -268,7 +287,7 @@ module _ (p : ProgramForm) where
       running [] (record { filled = ready.filled; active = ready.active; runs = ready.runs; deep = omega (arith, ready.deep) })
       (refl, inside, initials, and_right own inner former, and_right (own && inner) handled is, lands, fits)
 
-  stmts_fine : (fs : StmtsForm) (inside : Bool) (s : State) → Ready p [] s → stmts_fit p.types p.variables p.texts p.exceptions inside fs ≡ true → WhereInside inside (Lands p s.control) → Fits p [] s.control → Fine p (stmts_next named fs s)
+  stmts_fine : (fs : StmtsForm) (inside : Bool) (s : State) → Ready p [] s → stmts_fit p.types p.variables p.texts p.exceptions inside fs ≡ true → WhereInside inside (Lands p (cells_of s.heap) s.control) → Fits p (cells_of s.heap) [] s.control → Fine p (stmts_next named fs s)
   stmts_fine no_stmts inside s ready is lands fits = running [] ready fits
   stmts_fine (a_stmt f fs) inside s ready is lands fits =
       let own = statement_fits p.types p.variables p.texts p.exceptions inside f in
@@ -276,14 +295,14 @@ module _ (p : ProgramForm) where
       stmt_fine f inside (at (frame.Does fs ∷ s.control) s) (ready_at p [] s (frame.Does fs ∷ s.control) ready ready.deep)
       (and_left own others is) lands (refl, inside, and_right own others is, lands, fits)
 
-  line_fine : (v : Value) (s : State) (kinds : List VariableKind) (cells : Cells) → HasKind cells variable.Integer v → Ready p kinds s → Fits p kinds s.control → Fine p (line_next named (reads_integer v) s)
+  line_fine : (v : Value) (s : State) (kinds : List VariableKind) (cells : Cells) → HasKind cells variable.Integer v → Ready p kinds s → Fits p (cells_of s.heap) kinds s.control → Fine p (line_next named (reads_integer v) s)
   line_fine Null s kinds cells has ready fits = absurd has
   line_fine (Names o) s kinds cells has ready fits = absurd has
   line_fine (Scalar (scalar.Integer i)) s kinds cells has ready fits = running kinds ready fits
   line_fine (Scalar (scalar.Boolean b)) s kinds cells has ready fits = absurd has
 
   -- Declarations (3.11).
-  declarations_fine : (ds : List DeclarationForm) (fs : StmtsForm) (hs : HandlersForm) (s : State) → Ready p [] s → 1 + depth s.control ≤ length s.masters → Fits p [] (frame.Elaborates ds fs hs ∷ s.control) → Fine p (declarations_next named ds fs hs s)
+  declarations_fine : (ds : List DeclarationForm) (fs : StmtsForm) (hs : HandlersForm) (s : State) → Ready p [] s → 1 + depth s.control ≤ length s.masters → Fits p (cells_of s.heap) [] (frame.Elaborates ds fs hs ∷ s.control) → Fine p (declarations_next named ds fs hs s)
   declarations_fine [] fs hs s ready deep fits =
       running [] (ready_at p [] s (frame.Does fs ∷ frame.Handles hs ∷ frame.Closes ∷ s.control) ready deep)
       (refl, fits.1, fits.3, fits.5, (refl, fits.1, fits.4, fits.5, fits.6))
@@ -302,32 +321,34 @@ module _ (p : ProgramForm) where
   ready_shorter : (kinds : List VariableKind) (s : State) → Ready p kinds s → Ready p kinds (record s { masters = shorter s.masters })
   ready_shorter kinds s ready = record { filled = ready.filled; active = ready.active; runs = ready.runs; deep = omega (arith, ready.deep, length_shorter s.masters) }
 
-  members_fine : (cause : Cause) (access : ℕ) (ids : List Id) (vs : List Value) (s : State) (kinds : List VariableKind) → map Names ids ≡ vs → Ready p kinds s → Fits p kinds s.control → Fine p (members_next named cause access vs s)
+  members_fine : (cause : Cause) (access : ℕ) (ids : List Id) (vs : List Value) (s : State) (kinds : List VariableKind) → map Names ids ≡ vs → Ready p kinds s → Fits p (cells_of s.heap) kinds s.control → Fine p (members_next named cause access vs s)
   members_fine cause access ids [] s kinds are ready fits = running kinds (ready_shorter kinds s ready) fits
   members_fine cause access ids (v ∷ vs) s kinds are ready fits = λ i lt.
       let name : IsName (slice_index_or (v ∷ vs) i Null) = picked ids (v ∷ vs) i are lt in
-      let other = ready_heap p kinds s (on_object parted s.heap (slice_index_or (v ∷ vs) i Null)) (cells_on parted s.heap (slice_index_or (v ∷ vs) i Null) (λ y. refl)) ready in
-      running kinds (record { filled = other.filled; active = other.active; runs = other.runs; deep = other.deep }) (name, (name, fits))
+      let heap = on_object parted s.heap (slice_index_or (v ∷ vs) i Null) in
+      let same : cells_of heap ≡ cells_of s.heap = cells_on parted s.heap (slice_index_or (v ∷ vs) i Null) (λ y. refl) in
+      let other = ready_heap p kinds s heap same ready in
+      running kinds (record { filled = other.filled; active = other.active; runs = other.runs; deep = other.deep }) (name, (name, fits_heap p kinds s s.control heap same fits))
 
-  item_leave_fine : (m : ℕ) (item : Item) (what : Owned) (s : State) (kinds : List VariableKind) → Ready p kinds s → Fits p kinds s.control → Fine p (item_leave_next named m item what s)
+  item_leave_fine : (m : ℕ) (item : Item) (what : Owned) (s : State) (kinds : List VariableKind) → Ready p kinds s → Fits p (cells_of s.heap) kinds s.control → Fine p (item_leave_next named m item what s)
   item_leave_fine m item (declared x) s kinds ready fits = running kinds (ready_shorter kinds s ready) fits
   item_leave_fine m item (collection access) s kinds ready fits = members_fine (Leaving m item.number) access (members_of s.heap item.number) (members s.heap item.number) s kinds refl ready fits
 
   left_jumps : (mode : Mode) (s : State) (kinds : List VariableKind) (ms : List Master) → Ready p kinds s → depth s.control ≤ length ms → Jumps p mode (record s { masters = ms; mode = mode })
   left_jumps mode s kinds ms ready deep = record { filled = ready.filled; active = active_none (cells_of s.heap) p.variables kinds s.activations ready.active; jumps = refl; deep = deep }
 
-  left_fine : (mode : Mode) (s : State) (kinds : List VariableKind) (ms : List Master) → Ready p kinds s → depth s.control ≤ length ms → Fits p kinds (frame.Leaves mode ∷ s.control) → Typed p (record s { masters = ms; mode = mode })
+  left_fine : (mode : Mode) (s : State) (kinds : List VariableKind) (ms : List Master) → Ready p kinds s → depth s.control ≤ length ms → Fits p (cells_of s.heap) kinds (frame.Leaves mode ∷ s.control) → Typed p (record s { masters = ms; mode = mode })
   left_fine Running s kinds ms ready deep fits = running kinds (record { filled = ready.filled; active = ready.active; runs = refl; deep = deep }) fits
   left_fine (Raising e) s kinds ms ready deep fits = on_jump (Raising e) (left_jumps (Raising e) s kinds ms ready deep) fits
   left_fine Exiting s kinds ms ready deep fits = on_jump Exiting (left_jumps Exiting s kinds ms ready deep) fits
   left_fine Returning s kinds ms ready deep fits = on_jump Returning (left_jumps Returning s kinds ms ready deep) fits
 
-  master_leave_fine : (mode : Mode) (m : ℕ) (items : List Item) (s : State) (kinds : List VariableKind) → Ready p kinds s → 1 + depth s.control ≤ length s.masters → depth s.control ≤ length (older s.masters) → Fits p kinds (frame.Leaves mode ∷ s.control) → Fine p (master_leave_next named mode m items s)
+  master_leave_fine : (mode : Mode) (m : ℕ) (items : List Item) (s : State) (kinds : List VariableKind) → Ready p kinds s → 1 + depth s.control ≤ length s.masters → depth s.control ≤ length (older s.masters) → Fits p (cells_of s.heap) kinds (frame.Leaves mode ∷ s.control) → Fine p (master_leave_next named mode m items s)
   master_leave_fine mode m [] s kinds ready deep below fits = left_fine mode s kinds (older s.masters) ready below fits
   master_leave_fine mode m (item ∷ items) s kinds ready deep below fits =
       item_leave_fine m item item.owned (at (frame.Leaves mode ∷ s.control) s) kinds (ready_at p kinds s (frame.Leaves mode ∷ s.control) ready deep) fits
 
-  leave_fine : (mode : Mode) (ms : List Master) (s : State) (kinds : List VariableKind) → s.masters ≡ ms → Ready p kinds s → 1 + depth s.control ≤ length s.masters → Fits p kinds (frame.Leaves mode ∷ s.control) → Fine p (leave_next named mode ms s)
+  leave_fine : (mode : Mode) (ms : List Master) (s : State) (kinds : List VariableKind) → s.masters ≡ ms → Ready p kinds s → 1 + depth s.control ≤ length s.masters → Fits p (cells_of s.heap) kinds (frame.Leaves mode ∷ s.control) → Fine p (leave_next named mode ms s)
   leave_fine mode [] s kinds is ready deep fits = let none : length s.masters ≡ 0 = ap length is in absurd (omega (arith, deep, none))
   leave_fine mode (m ∷ ms) s kinds is ready deep fits =
       let same : length (older s.masters) ≡ length ms = ap (λ (xs : List Master). length (older xs)) is in
@@ -335,7 +356,7 @@ module _ (p : ProgramForm) where
       master_leave_fine mode m.number m.items s kinds ready deep (omega (arith, deep, same, all)) fits
 
   -- Each frame that is taken off.
-  frame_fine : (types : List TypeDefinition) (f : Frame Value) (s : State) (kinds : List VariableKind) → Ready p kinds s → depth (f ∷ s.control) ≤ length s.masters → Fits p kinds (f ∷ s.control) → Fine p (frame_next named types f s)
+  frame_fine : (types : List TypeDefinition) (f : Frame Value) (s : State) (kinds : List VariableKind) → Ready p kinds s → depth (f ∷ s.control) ≤ length s.masters → Fits p (cells_of s.heap) kinds (f ∷ s.control) → Fine p (frame_next named types f s)
   frame_fine types (frame.Elaborates ds fs hs) s kinds ready deep fits =
       declarations_fine ds fs hs s (ready_kinds p kinds [] s fits.0 ready) deep (refl, fits.1, fits.2, fits.3, fits.4, fits.5, fits.6)
   frame_fine types (frame.Does fs) s kinds ready deep fits = stmts_fine fs fits.1 s (ready_kinds p kinds [] s fits.0 ready) fits.2 fits.3 fits.4
@@ -386,6 +407,15 @@ module _ (p : ProgramForm) where
   frame_fine types (frame.Stores x) s kinds ready deep fits =
       let taken = ready_kinds p kinds (fits.1 ∷ fits.0) s fits.2 ready in
       running fits.0 (put_in p fits.0 (popped s) x fits.1 (newest named s) (ready_pop p fits.1 fits.0 s taken) fits.3 (newest_of p fits.1 fits.0 s taken)) fits.4
+  frame_fine types (frame.Targets c right) s kinds ready deep fits =
+      let taken = ready_kinds p kinds (variable.Access fits.1 ∷ fits.0) s fits.3 ready in
+      target_fine p (newest named s) fits.1 c right fits.2 (popped s) fits.0 (ready_pop p (variable.Access fits.1) fits.0 s taken) (newest_of p (variable.Access fits.1) fits.0 s taken) fits.4 fits.5 fits.6
+  frame_fine types (frame.StoresIn object c) s kinds ready deep fits =
+      let taken = ready_kinds p kinds (fits.2 ∷ fits.0) s fits.3 ready in
+      store_fine p object fits.1 c (newest named s) fits.2 (popped s) fits.0 fits.4 (ready_pop p fits.2 fits.0 s taken) fits.5 fits.6 (newest_of p fits.2 fits.0 s taken) fits.7
+  frame_fine types (frame.Receives c) s kinds ready deep fits =
+      let taken = ready_kinds p kinds (variable.Access fits.1 ∷ fits.0) s fits.2 ready in
+      receive_fine p (newest named s) fits.1 c (popped s) fits.0 (ready_pop p (variable.Access fits.1) fits.0 s taken) (newest_of p (variable.Access fits.1) fits.0 s taken) fits.3 fits.4
   frame_fine types (frame.Declares x) s kinds ready deep fits =
       let taken = ready_kinds p kinds (fits.1 ∷ fits.0) s fits.2 ready in
       running fits.0 (ready_owning p fits.0 (put x (newest named s) (popped s)) (declared x) (put_in p fits.0 (popped s) x fits.1 (newest named s) (ready_pop p fits.1 fits.0 s taken) fits.3 (newest_of p fits.1 fits.0 s taken))) fits.4
@@ -396,7 +426,7 @@ module _ (p : ProgramForm) where
   frame_fine types (frame.GivesBack v cause pool) s kinds ready deep fits = back_fine v cause pool s kinds fits.0 ready fits.1
   frame_fine types (frame.Clears x) s kinds ready deep fits = running kinds (put_in p kinds s x (variable.Access fits.0) Null ready fits.1 tt) fits.2
 
-  running_fine : (types : List TypeDefinition) (k : List (Frame Value)) (s : State) (kinds : List VariableKind) → s.control ≡ k → Ready p kinds s → Fits p kinds k → Fine p (running_next named types k s)
+  running_fine : (types : List TypeDefinition) (k : List (Frame Value)) (s : State) (kinds : List VariableKind) → s.control ≡ k → Ready p kinds s → Fits p (cells_of s.heap) kinds k → Fine p (running_next named types k s)
   running_fine types [] s kinds is ready fits = tt
   running_fine types (f ∷ k) s kinds is ready fits =
       let same : depth s.control ≡ depth (f ∷ k) = ap depth is in
@@ -425,6 +455,9 @@ module _ (p : ProgramForm) where
   master_deep (frame.Fills items) k is = absurd (cc)
   master_deep (frame.Creates access count) k is = absurd (cc)
   master_deep (frame.Stores x) k is = absurd (cc)
+  master_deep (frame.Targets c right) k is = absurd (cc)
+  master_deep (frame.StoresIn object c) k is = absurd (cc)
+  master_deep (frame.Receives c) k is = absurd (cc)
   master_deep (frame.Declares x) k is = absurd (cc)
   master_deep frame.Writes k is = absurd (cc)
   master_deep (frame.Ends v) k is = absurd (cc)
@@ -458,6 +491,9 @@ module _ (p : ProgramForm) where
   landing_comes e (frame.Fills items) = refl
   landing_comes e (frame.Creates access count) = refl
   landing_comes e (frame.Stores x) = refl
+  landing_comes e (frame.Targets c right) = refl
+  landing_comes e (frame.StoresIn object c) = refl
+  landing_comes e (frame.Receives c) = refl
   landing_comes e (frame.Declares x) = refl
   landing_comes e frame.Writes = refl
   landing_comes e (frame.Ends v) = refl
@@ -465,11 +501,11 @@ module _ (p : ProgramForm) where
   landing_comes e (frame.Clears x) = refl
 
   -- A jump that is left waiting while a master is left.
-  waits : (mode : Mode) (f : Frame Value) (k : List (Frame Value)) → is_loop f ≡ false → Goes p mode (f ∷ k) → FitsBehind mode (Fits p [] k) (Lands p k) (Catches p k)
-  waits Running f k no_loop goes = absurd goes
-  waits (Raising e) f k no_loop goes = catches_behind p (handlers_in f) k goes
-  waits Exiting f k no_loop goes = (subst (λ (loop : Bool). AtLoop loop (Fits p [] k) (Lands p k)) no_loop goes.0, catches_behind p (handlers_in f) k goes.1)
-  waits Returning f k no_loop goes = catches_behind p (handlers_in f) k goes
+  waits : (cells : Cells) (mode : Mode) (f : Frame Value) (k : List (Frame Value)) → is_loop f ≡ false → Goes p cells mode (f ∷ k) → FitsBehind mode (Fits p cells [] k) (Lands p cells k) (Catches p cells k)
+  waits cells Running f k no_loop goes = absurd goes
+  waits cells (Raising e) f k no_loop goes = catches_behind p cells (handlers_in f) k goes
+  waits cells Exiting f k no_loop goes = (subst (λ (loop : Bool). AtLoop loop (Fits p cells [] k) (Lands p cells k)) no_loop goes.0, catches_behind p cells (handlers_in f) k goes.1)
+  waits cells Returning f k no_loop goes = catches_behind p cells (handlers_in f) k goes
 
   -- The first handler that takes an exception has a statement, and fits (11.2, 11.4).
   abbrev IsAble : Bool → StmtsForm → Type 0
@@ -491,48 +527,48 @@ module _ (p : ProgramForm) where
       (λ later. handler_able inside hs e fs (and_right (chosen && some && inner) others own) later) is
 
   -- An exception comes to handlers.
-  handler_fine : (o : Option StmtsForm) (e : Exception) (hs : HandlersForm) (s : State) → handler_of e hs ≡ o → AtHandlers p (Some hs) (Lands p s.control) (Fits p [] s.control) (Catches p s.control) → Jumps p (Raising e) s → Fine p (landed named (handler_landing o) s)
-  handler_fine None e hs s is caught jumps = on_jump (Raising e) jumps (catches p s.control [] caught.3)
+  handler_fine : (o : Option StmtsForm) (e : Exception) (hs : HandlersForm) (s : State) → handler_of e hs ≡ o → AtHandlers p (Some hs) (Lands p (cells_of s.heap) s.control) (Fits p (cells_of s.heap) [] s.control) (Catches p (cells_of s.heap) s.control) → Jumps p (Raising e) s → Fine p (landed named (handler_landing o) s)
+  handler_fine None e hs s is caught jumps = on_jump (Raising e) jumps (catches p (cells_of s.heap) s.control [] caught.3)
   handler_fine (Some no_stmts) e hs s is caught jumps = let own = handler_able caught.0 hs e no_stmts caught.1 is in absurd (cc)
   handler_fine (Some (a_stmt f fs)) e hs s is caught jumps =
       let own = handler_able caught.0 hs e (a_stmt f fs) caught.1 is in
       running [] (record { filled = jumps.filled; active = jumps.active; runs = refl; deep = jumps.deep }) (refl, caught.0, own.1, caught.2, caught.3)
 
-  handlers_fine : (o : Option HandlersForm) (e : Exception) (s : State) → AtHandlers p o (Lands p s.control) (Fits p [] s.control) (Catches p s.control) → Jumps p (Raising e) s → Fine p (landed named (lands_by e o) s)
+  handlers_fine : (o : Option HandlersForm) (e : Exception) (s : State) → AtHandlers p o (Lands p (cells_of s.heap) s.control) (Fits p (cells_of s.heap) [] s.control) (Catches p (cells_of s.heap) s.control) → Jumps p (Raising e) s → Fine p (landed named (lands_by e o) s)
   handlers_fine None e s caught jumps = on_jump (Raising e) jumps caught
   handlers_fine (Some hs) e s caught jumps = handler_fine (handler_of e hs) e hs s refl caught jumps
 
   -- An exit comes to a loop.
-  loop_fine : (loop : Bool) (s : State) → AtLoop loop (Fits p [] s.control) (Lands p s.control) → Catches p s.control → Jumps p Exiting s → Fine p (landed named (if loop then goes_behind else passes_on) s)
+  loop_fine : (loop : Bool) (s : State) → AtLoop loop (Fits p (cells_of s.heap) [] s.control) (Lands p (cells_of s.heap) s.control) → Catches p (cells_of s.heap) s.control → Jumps p Exiting s → Fine p (landed named (if loop then goes_behind else passes_on) s)
   loop_fine true s lands caught jumps = running [] (record { filled = jumps.filled; active = jumps.active; runs = refl; deep = jumps.deep }) lands
   loop_fine false s lands caught jumps = on_jump Exiting jumps (lands, caught)
 
-  landed_fine : (mode : Mode) (f : Frame Value) (s : State) → Goes p mode (f ∷ s.control) → Jumps p mode s → Fine p (landed named (landing mode f) s)
+  landed_fine : (mode : Mode) (f : Frame Value) (s : State) → Goes p (cells_of s.heap) mode (f ∷ s.control) → Jumps p mode s → Fine p (landed named (landing mode f) s)
   landed_fine Running f s goes jumps = absurd goes
   landed_fine (Raising e) f s goes jumps = subst (λ (where_to : Landing). Fine p (landed named where_to s)) (sym (landing_comes e f)) (handlers_fine (handlers_in f) e s goes jumps)
-  landed_fine Exiting f s goes jumps = loop_fine (is_loop f) s goes.0 (catches_behind p (handlers_in f) s.control goes.1) jumps
-  landed_fine Returning f s goes jumps = on_jump Returning jumps (catches_behind p (handlers_in f) s.control goes)
+  landed_fine Exiting f s goes jumps = loop_fine (is_loop f) s goes.0 (catches_behind p (cells_of s.heap) (handlers_in f) s.control goes.1) jumps
+  landed_fine Returning f s goes jumps = on_jump Returning jumps (catches_behind p (cells_of s.heap) (handlers_in f) s.control goes)
 
-  pass_fine : (master : Bool) (mode : Mode) (f : Frame Value) (s : State) → is_master f ≡ master → Goes p mode (f ∷ s.control) → Jumps p mode s → depth (f ∷ s.control) ≤ length s.masters → Fine p (pass_next named master (landing mode f) mode s)
+  pass_fine : (master : Bool) (mode : Mode) (f : Frame Value) (s : State) → is_master f ≡ master → Goes p (cells_of s.heap) mode (f ∷ s.control) → Jumps p mode s → depth (f ∷ s.control) ≤ length s.masters → Fine p (pass_next named master (landing mode f) mode s)
   pass_fine true mode f s is goes jumps deep =
       let own = master_deep f s.control is in
-      running [] (record { filled = jumps.filled; active = jumps.active; runs = refl; deep = omega (arith, deep, own.0) }) (waits mode f s.control own.1 goes)
+      running [] (record { filled = jumps.filled; active = jumps.active; runs = refl; deep = omega (arith, deep, own.0) }) (waits (cells_of s.heap) mode f s.control own.1 goes)
   pass_fine false mode f s is goes jumps deep = landed_fine mode f s goes jumps
 
-  ends_fine : (mode : Mode) → Goes p mode [] → EndsByTheLanguage (end_of mode)
-  ends_fine Running goes = absurd goes
-  ends_fine (Raising e) goes = tt
-  ends_fine Exiting goes = absurd goes.0
-  ends_fine Returning goes = tt
+  ends_fine : (cells : Cells) (mode : Mode) → Goes p cells mode [] → EndsByTheLanguage (end_of mode)
+  ends_fine cells Running goes = absurd goes
+  ends_fine cells (Raising e) goes = tt
+  ends_fine cells Exiting goes = absurd goes.0
+  ends_fine cells Returning goes = tt
 
-  jump_fine : (mode : Mode) (k : List (Frame Value)) (s : State) → s.control ≡ k → Goes p mode k → Jumps p mode s → Fine p (jump_next named mode k s)
-  jump_fine mode [] s is goes jumps = ends_fine mode goes
+  jump_fine : (mode : Mode) (k : List (Frame Value)) (s : State) → s.control ≡ k → Goes p (cells_of s.heap) mode k → Jumps p mode s → Fine p (jump_next named mode k s)
+  jump_fine mode [] s is goes jumps = ends_fine (cells_of s.heap) mode goes
   jump_fine mode (f ∷ k) s is goes jumps =
       let same : depth s.control ≡ depth (f ∷ k) = ap depth is in
       pass_fine (is_master f) mode f (at k s) refl goes (record { filled = jumps.filled; active = jumps.active; jumps = jumps.jumps; deep = omega (arith, jumps.deep, same, depth_behind f k) }) (omega (arith, jumps.deep, same))
 
   -- What comes next in a mode.
-  mode_fine : (types : List TypeDefinition) (mode : Mode) (s : State) → Goes p mode s.control → Jumps p mode s → Fine p (mode_next named types mode s)
+  mode_fine : (types : List TypeDefinition) (mode : Mode) (s : State) → Goes p (cells_of s.heap) mode s.control → Jumps p mode s → Fine p (mode_next named types mode s)
   mode_fine types Running s goes jumps = absurd goes
   mode_fine types (Raising e) s goes jumps = jump_fine (Raising e) s.control s refl goes jumps
   mode_fine types Exiting s goes jumps = jump_fine Exiting s.control s refl goes jumps

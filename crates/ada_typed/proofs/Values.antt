@@ -1,7 +1,7 @@
 -- Values and their kinds: which value a variable or a component may hold, as objects come to be.
 
-use Rattle.ada_typed.specs.Holding.{Cells, IsAccess, HasKind, HaveKinds, IsFilled}
-use Rattle.std.proofs.Common.{◌≡◌, ℕ, zero, suc, List, [], ◌∷◌, ◌++◌, length, map, Some, refl, subst}
+use Rattle.ada_typed.specs.Holding.{Cells, Designates, IsAccess, HasKind, HaveKinds, IsFilled}
+use Rattle.std.proofs.Common.{◌≡◌, ℕ, zero, suc, List, [], ◌∷◌, ◌++◌, length, map, Some, refl, ap, ◌∙◌, subst}
 use Rattle.std.specs.List.{slice_get, slice_set, slice_index_or}
 use Rattle.ada_program.specs.declared.program.ScalarType.{ScalarType}
 use Rattle.ada_program.specs.declared.program.ScalarType.TheVariants.{Integer, Boolean}
@@ -10,6 +10,7 @@ use Rattle.ada_program.specs.declared.program.VariableKind.{VariableKind}
 use Rattle.ada_program.specs.declared.program.VariableKind.TheVariants as variable
 use Rattle.ada_program.specs.ProgramForm.{TypeForm, ComponentForm, VariableForm, variable_form}
 use Rattle.ada_program.specs.WellFormed.{reached_components, held_kind, component_kind, variable_kind}
+use Rattle.ada_meaning.specs.declared.state.Id.{Id}
 use Rattle.ada_meaning.specs.declared.state.Value.{Value}
 use Rattle.ada_meaning.specs.declared.state.Value.TheVariants.{Null, Names, Scalar}
 use Rattle.ada_meaning.specs.Heap.{Cell}
@@ -43,31 +44,80 @@ abbrev pub kind_of : ScalarType → VariableKind
 kind_of Integer = variable.Integer
 kind_of Boolean = variable.Boolean
 
--- One object more changes no kind.
+-- Names that were given stay those of objects of their access types, as objects come to be and change.
+abbrev pub StayDesignated : Cells → Cells → Type 0
+StayDesignated cells after = (access : ℕ) (o : Id) → Designates cells access o → Designates after access o
+
+-- So values stay of their kinds.
+module _ (cells after : Cells) (stay : StayDesignated cells after) where
+  pub access_later : (access : ℕ) (v : Value) → IsAccess cells access v → IsAccess after access v
+  access_later access Null h = tt
+  access_later access (Names o) h = stay access o h
+  access_later access (Scalar v) h = h
+
+  pub kind_later : (kind : VariableKind) (v : Value) → HasKind cells kind v → HasKind after kind v
+  kind_later variable.Integer v h = h
+  kind_later variable.Boolean v h = h
+  kind_later (variable.Access access) v h = access_later access.0 v h
+
+  pub kinds_later : (cs : List ComponentForm) (vs : List Value) → HaveKinds cells cs vs → HaveKinds after cs vs
+  kinds_later [] [] h = tt
+  kinds_later [] (v ∷ vs) h = h
+  kinds_later (k ∷ cs) [] h = h
+  kinds_later (k ∷ cs) (v ∷ vs) h = (kind_later (held_kind k.kind) v h.0, kinds_later cs vs h.1)
+
+  pub filled_later : (types : List TypeForm) (xs : Cells) → AreFilled types cells xs → AreFilled types after xs
+  filled_later types [] h = tt
+  filled_later types (x ∷ xs) h = ((h.0.0, h.0.1, kinds_later h.0.0 x.values h.0.2), filled_later types xs h.1)
+
+  held_later : (xs : List VariableForm) (vs : List Value) → AreHeld cells xs vs → AreHeld after xs vs
+  held_later [] vs h = tt
+  held_later (x ∷ xs) [] h = h
+  held_later (x ∷ xs) (v ∷ vs) h = (kind_later x.kind v h.0, held_later xs vs h.1)
+
+  computed_later : (kinds : List VariableKind) (vs : List Value) → AreComputed cells kinds vs → AreComputed after kinds vs
+  computed_later [] vs h = tt
+  computed_later (kind ∷ kinds) [] h = h
+  computed_later (kind ∷ kinds) (v ∷ vs) h = (kind_later kind v h.0, computed_later kinds vs h.1)
+
+  pub active_later : (xs : List VariableForm) (kinds : List VariableKind) (acts : List (Activation Value)) → IsActive cells xs kinds acts → IsActive after xs kinds acts
+  active_later xs kinds [] h = h
+  active_later xs kinds (a ∷ suspended) h = (held_later xs a.places h.0, computed_later kinds a.operands h.1)
+
+-- One object more.
 get_more : (cells : Cells) (c : Cell Value) (i : ℕ) (cell : Cell Value) → slice_get cells i ≡ Some cell → slice_get (cells ++ c ∷ []) i ≡ Some cell
 get_more [] c i cell is = absurd (cc)
 get_more (x ∷ cells) c zero cell is = is
 get_more (x ∷ cells) c (suc i) cell is = get_more cells c i cell is
 
-access_more : (cells : Cells) (c : Cell Value) (access : ℕ) (v : Value) → IsAccess cells access v → IsAccess (cells ++ c ∷ []) access v
-access_more cells c access Null h = tt
-access_more cells c access (Names o) h = (h.0, get_more cells c o.0 h.0 h.1, h.2)
-access_more cells c access (Scalar v) h = h
+pub designated_more : (cells : Cells) (c : Cell Value) → StayDesignated cells (cells ++ c ∷ [])
+designated_more cells c access o h = (h.0, get_more cells c o.0 h.0 h.1, h.2)
 
-pub kind_more : (cells : Cells) (c : Cell Value) (kind : VariableKind) (v : Value) → HasKind cells kind v → HasKind (cells ++ c ∷ []) kind v
-kind_more cells c variable.Integer v h = h
-kind_more cells c variable.Boolean v h = h
-kind_more cells c (variable.Access access) v h = access_more cells c access.0 v h
+-- An object that stays of its access type.
+get_set : (cells : Cells) (i : ℕ) (before cell : Cell Value) (k access : ℕ) (found : Cell Value) → slice_get cells i ≡ Some before → cell.access ≡ before.access → slice_get cells k ≡ Some found → found.access ≡ access → (later : Cell Value) × (slice_get (slice_set cells i cell) k ≡ Some later) × (later.access ≡ access)
+get_set [] i before cell k access found is same there own = absurd (cc)
+get_set (x ∷ cells) zero before cell zero access found is same there own =
+    let one : before ≡ found = cc in
+    (cell, refl, same ∙ ap (λ (c : Cell Value). c.access) one ∙ own)
+get_set (x ∷ cells) zero before cell (suc k) access found is same there own = (found, there, own)
+get_set (x ∷ cells) (suc i) before cell zero access found is same there own = (found, there, own)
+get_set (x ∷ cells) (suc i) before cell (suc k) access found is same there own = get_set cells i before cell k access found is same there own
 
-pub kinds_more : (cells : Cells) (c : Cell Value) (cs : List ComponentForm) (vs : List Value) → HaveKinds cells cs vs → HaveKinds (cells ++ c ∷ []) cs vs
-kinds_more cells c [] [] h = tt
-kinds_more cells c [] (v ∷ vs) h = h
-kinds_more cells c (k ∷ cs) [] h = h
-kinds_more cells c (k ∷ cs) (v ∷ vs) h = (kind_more cells c (held_kind k.kind) v h.0, kinds_more cells c cs vs h.1)
+pub designated_set : (cells : Cells) (i : ℕ) (before cell : Cell Value) → slice_get cells i ≡ Some before → cell.access ≡ before.access → StayDesignated cells (slice_set cells i cell)
+designated_set cells i before cell is same access o h = get_set cells i before cell o.0 access h.0 is same h.1 h.2
 
-filled_more : (types : List TypeForm) (cells : Cells) (c : Cell Value) (xs : Cells) → AreFilled types cells xs → AreFilled types (cells ++ c ∷ []) xs
-filled_more types cells c [] h = tt
-filled_more types cells c (x ∷ xs) h = ((h.0.0, h.0.1, kinds_more cells c h.0.0 x.values h.0.2), filled_more types cells c xs h.1)
+pub filled_set : (types : List TypeForm) (cells : Cells) (xs : Cells) (i : ℕ) (cell : Cell Value) → AreFilled types cells xs → IsFilled types cells cell → AreFilled types cells (slice_set xs i cell)
+filled_set types cells [] i cell h filled = tt
+filled_set types cells (x ∷ xs) zero cell h filled = (filled, h.1)
+filled_set types cells (x ∷ xs) (suc i) cell h filled = (h.0, filled_set types cells xs i cell h.1 filled)
+
+-- A component gets another value of its kind.
+pub kinds_set : (cells : Cells) (cs : List ComponentForm) (vs : List Value) (c : ℕ) (kind : VariableKind) (v : Value) → HaveKinds cells cs vs → component_kind (slice_get cs c) ≡ Some kind → HasKind cells kind v → HaveKinds cells cs (slice_set vs c v)
+kinds_set cells [] [] c kind v h is has = tt
+kinds_set cells [] (u ∷ vs) c kind v h is has = absurd h
+kinds_set cells (k ∷ cs) [] c kind v h is has = h
+kinds_set cells (k ∷ cs) (u ∷ vs) zero kind v h is has = let one : kind ≡ held_kind k.kind = cc in (subst (λ (q : VariableKind). HasKind cells q v) one has, h.1)
+kinds_set cells (k ∷ cs) (u ∷ vs) (suc c) kind v h is has = (h.0, kinds_set cells cs vs c kind v h.1 is has)
 
 filled_end : (types : List TypeForm) (cells : Cells) (c : Cell Value) (xs : Cells) → AreFilled types cells xs → IsFilled types cells c → AreFilled types cells (xs ++ c ∷ [])
 filled_end types cells c [] h i = (i, tt)
@@ -76,21 +126,8 @@ filled_end types cells c (x ∷ xs) h i = (h.0, filled_end types cells c xs h.1 
 -- A new object that is filled.
 pub filled_new : (types : List TypeForm) (cells : Cells) (c : Cell Value) (components : List ComponentForm) → AreFilled types cells cells → reached_components types c.access ≡ Some components → HaveKinds cells components c.values → AreFilled types (cells ++ c ∷ []) (cells ++ c ∷ [])
 filled_new types cells c components h is k =
-    filled_end types (cells ++ c ∷ []) c cells (filled_more types cells c cells h) (components, is, kinds_more cells c components c.values k)
-
-held_more : (cells : Cells) (c : Cell Value) (xs : List VariableForm) (vs : List Value) → AreHeld cells xs vs → AreHeld (cells ++ c ∷ []) xs vs
-held_more cells c [] vs h = tt
-held_more cells c (x ∷ xs) [] h = h
-held_more cells c (x ∷ xs) (v ∷ vs) h = (kind_more cells c x.kind v h.0, held_more cells c xs vs h.1)
-
-computed_more : (cells : Cells) (c : Cell Value) (kinds : List VariableKind) (vs : List Value) → AreComputed cells kinds vs → AreComputed (cells ++ c ∷ []) kinds vs
-computed_more cells c [] vs h = tt
-computed_more cells c (kind ∷ kinds) [] h = h
-computed_more cells c (kind ∷ kinds) (v ∷ vs) h = (kind_more cells c kind v h.0, computed_more cells c kinds vs h.1)
-
-pub active_more : (cells : Cells) (c : Cell Value) (xs : List VariableForm) (kinds : List VariableKind) (acts : List (Activation Value)) → IsActive cells xs kinds acts → IsActive (cells ++ c ∷ []) xs kinds acts
-active_more cells c xs kinds [] h = h
-active_more cells c xs kinds (a ∷ suspended) h = (held_more cells c xs a.places h.0, computed_more cells c kinds a.operands h.1)
+    let stay = designated_more cells c in
+    filled_end types (cells ++ c ∷ []) c cells (filled_later cells (cells ++ c ∷ []) stay types cells h) (components, is, kinds_later cells (cells ++ c ∷ []) stay components c.values k)
 
 -- The newest name is that of the new object.
 pub newest_name : (cells : Cells) (c : Cell Value) → slice_get (cells ++ c ∷ []) (length cells) ≡ Some c

@@ -20,8 +20,8 @@ pub fn objects_have_their_kinds()
     ensures { ObjectsHaveTheirKinds }
 {}
 
-/// The premise is met: a well-formed program declares, allocates, follows, repeats, counts, compares with null, chooses,
-/// reads, writes, frees, exits, raises an exception in a block and handles it, and comes to its end.
+/// The premise is met: a well-formed program declares, allocates, follows, assigns, repeats, counts, compares with null,
+/// chooses, reads, writes, frees, exits, raises an exception in a block and handles it, and comes to its end.
 pub fn a_well_formed_program_finishes()
     ensures { AWellFormedProgramFinishes }
 {}

@@ -1,7 +1,7 @@
 -- What fits stays so as types, variables, exceptions and texts are added behind those that are there.
 
 use Rattle.std.proofs.Common.{◌≡◌, ℕ, ◌<◌, ◌≤◌, Bool, true, false, cond, List, [], ◌∷◌, length, refl, subst, arith, eqb}
-use Rattle.std.specs.Prelude.{Option, Some, None, ◌&&◌, is_some}
+use Rattle.std.specs.Prelude.{Option, Some, None, ◌&&◌, ◌||◌, is_some}
 use Rattle.std.specs.List.{list_all, slice_get}
 use Rattle.std.proofs.lemmas.Bool.{lt-ltb, ltb-true}
 use Rattle.ada_program.specs.declared.program.Choice.{Choice}
@@ -243,6 +243,22 @@ module _ (types more : List TypeForm) (variables others : List VariableForm) (ts
   integer_at None found w h = absurd (cc h)
   integer_at (Some k) found w h = rw (w k refl) h
 
+  -- what is assigned to
+  scalar_at : (o found : Option VariableKind) → ((k : VariableKind) → o ≡ Some k → found ≡ Some k) → is_some (fits.scalar_of o) ≡ true → is_some (fits.scalar_of found) ≡ true
+  scalar_at None found w h = absurd (cc h)
+  scalar_at (Some k) found w h = rw (w k refl) h
+
+  target_stays : (path : PathForm) → fits.names_target types variables path ≡ true → fits.names_target more others path ≡ true
+  target_stays path h = alone_or (fits.names_variable path) h
+    where
+      alone_or : (b : Bool) → (b || (fits.follows_at_most_one path && is_some (fits.scalar_of (fits.path_kind types variables path)))) ≡ true → (b || (fits.follows_at_most_one path && is_some (fits.scalar_of (fits.path_kind more others path)))) ≡ true
+      alone_or true h = refl
+      alone_or false h =
+          both_parts (fits.follows_at_most_one path) (is_some (fits.scalar_of (fits.path_kind more others path)))
+          (first_part (fits.follows_at_most_one path) (is_some (fits.scalar_of (fits.path_kind types variables path))) h)
+          (scalar_at (fits.path_kind types variables path) (fits.path_kind more others path) (λ k e. path_stays path k e)
+          (second_part (fits.follows_at_most_one path) (is_some (fits.scalar_of (fits.path_kind types variables path))) h))
+
   condition_stays : (o : Option ExpressionForm) → fits.condition_fits types variables o ≡ true → fits.condition_fits more others o ≡ true
   condition_stays None h = refl
   condition_stays (Some e) h = has_type_stays Boolean e h
@@ -268,18 +284,18 @@ module _ (types more : List TypeForm) (variables others : List VariableForm) (ts
       pub statement_stays : (inside : Bool) (f : StmtForm) → fits.statement_fits types variables texts exceptions inside f ≡ true → fits.statement_fits more others longer raised inside f ≡ true
       statement_stays inside skips h = refl
       statement_stays inside (assigns target s) h =
-          both_parts (fits.names_variable target) (fits.right_fits more others (fits.path_kind more others target) s)
-          (first_part (fits.names_variable target) (fits.right_fits types variables (fits.path_kind types variables target) s) h)
-          (assigned_stays target s (second_part (fits.names_variable target) (fits.right_fits types variables (fits.path_kind types variables target) s) h))
+          both_parts (fits.names_target more others target) (fits.right_fits more others (fits.path_kind more others target) s)
+          (target_stays target (first_part (fits.names_target types variables target) (fits.right_fits types variables (fits.path_kind types variables target) s) h))
+          (assigned_stays target s (second_part (fits.names_target types variables target) (fits.right_fits types variables (fits.path_kind types variables target) s) h))
       statement_stays inside (frees access path) h =
           both_parts (fits.names_variable path) (fits.is_freed_by more access (fits.path_access more others path))
           (first_part (fits.names_variable path) (fits.is_freed_by types access (fits.path_access types variables path)) h)
           (freed_stays access path (second_part (fits.names_variable path) (fits.is_freed_by types access (fits.path_access types variables path)) h))
       statement_stays inside (gets target) h =
-          both_parts (fits.names_variable target) (fits.is_type Integer (fits.scalar_of (fits.path_kind more others target)))
-          (first_part (fits.names_variable target) (fits.is_type Integer (fits.scalar_of (fits.path_kind types variables target))) h)
+          both_parts (fits.follows_at_most_one target) (fits.is_type Integer (fits.scalar_of (fits.path_kind more others target)))
+          (first_part (fits.follows_at_most_one target) (fits.is_type Integer (fits.scalar_of (fits.path_kind types variables target))) h)
           (integer_at (fits.path_kind types variables target) (fits.path_kind more others target) (λ k e. path_stays target k e)
-          (second_part (fits.names_variable target) (fits.is_type Integer (fits.scalar_of (fits.path_kind types variables target))) h))
+          (second_part (fits.follows_at_most_one target) (fits.is_type Integer (fits.scalar_of (fits.path_kind types variables target))) h))
       statement_stays inside (writes e) h = has_type_stays Integer e h
       statement_stays inside (writes_text text) h =
           let there : text < length texts = ltb-true text (length texts) h in lt-ltb text (length longer) (omega arith)

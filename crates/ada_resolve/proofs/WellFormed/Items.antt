@@ -69,7 +69,7 @@ component_is : (at : ℕ) (cs : List ComponentForm) (o : Option ComponentForm) �
 component_is at cs None is = tt
 component_is at cs (Some c) is = (at, c, omega arith, is, refl)
 
-for_is : (cs : List ComponentForm) (label : Option Ident) (at : ℕ) → IsComponentOf cs 0 (component_for cs label at)
+pub for_is : (cs : List ComponentForm) (label : Option Ident) (at : ℕ) → IsComponentOf cs 0 (component_for cs label at)
 for_is cs (Some label) at = named_at 0 label.text cs
 for_is cs None at = component_is at cs (slice_get cs at) refl
 

@@ -21,8 +21,9 @@ use Rattle.ada_resolve.specs.declared.library.LibraryName.TheVariants.{PutLine, 
 use Rattle.ada_resolve.specs.declared.scope.Entity.{Entity}
 use Rattle.ada_resolve.specs.declared.scope.Entity.TheVariants as entity
 use Rattle.ada_resolve.specs.Arguments.{image_value_remark}
+use Rattle.ada_resolve.specs.Assignments.{target_found, kind_of_target, assignment_remark, assignment_of, assignment_found}
 use Rattle.ada_resolve.specs.Lines.{line_remark, line_found, put_line_remark, put_line_found}
-use Rattle.ada_resolve.specs.Calls.{freed_wanted, got_wanted, actual_wanted, actual_remark, freeing, getting, taking, actual_found, taker_remark, taker_found, library_call_remark, library_call_found, own_call_remark, own_call_found}
+use Rattle.ada_resolve.specs.Calls.{freed_wanted, actual_wanted, actual_remark, freeing, getting, taking, actual_found, taker_remark, taker_found, library_call_remark, library_call_found, own_call_remark, own_call_found}
 use Rattle.ada_resolve.specs.declared.calls.Callee.{Callee}
 use Rattle.ada_resolve.specs.declared.calls.Callee.TheVariants as callee
 use Rattle.ada_resolve.specs.Exceptions.{exception_found, raising}
@@ -34,14 +35,14 @@ use Rattle.ada_resolve.specs.Paths.{Meant, access_variable, integer_value, path_
 use Rattle.ada_resolve.specs.Rights.{right_found, right_remark}
 use Rattle.ada_resolve.specs.Remark.{Remark, wrong, node, ◌also◌}
 use Rattle.ada_resolve.specs.Spots.{expression_spot}
-use Rattle.ada_resolve.specs.Statements.{target_found, target_remark, kind_of_target, assignment_remark, assignment_of, assignment_found, bound_remark, bound_meant, condition_remark, condition_meant, optional_condition_remark, optional_condition_meant, exit_remark, exit_found, statement_remark, statement_found, text_in, simple_texts, form_or_null, statement_meant}
+use Rattle.ada_resolve.specs.Statements.{bound_remark, bound_meant, condition_remark, condition_meant, optional_condition_remark, optional_condition_meant, exit_remark, exit_found, statement_remark, statement_found, text_in, simple_texts, form_or_null, statement_meant}
 use Rattle.ada_resolve.proofs.WellFormed.Remarks.{Quiet, quiet_unless}
 use Rattle.ada_resolve.proofs.WellFormed.Names.{EntityFits, PartsFit, visible_fits}
 use Rattle.ada_resolve.proofs.WellFormed.Exceptions.{PartsRaised, FoundIs, found_is}
 use Rattle.ada_resolve.proofs.WellFormed.Tables.{both_parts}
 use Rattle.ada_resolve.proofs.WellFormed.Typing.{is_of_type}
 use Rattle.ada_resolve.proofs.WellFormed.Meanings.{MeantFits, path_fits, expression_fits, integer_is, boolean_is}
-use Rattle.ada_resolve.proofs.WellFormed.Values.{IsTargetIn, found_target, IsSourceFor, right_fits}
+use Rattle.ada_resolve.proofs.WellFormed.Values.{IsTargetIn, found_target, read_is, IsSourceFor, right_fits}
 
 -- what a statement does, where that is known, has the types that it wants, and creates nothing
 abbrev pub FormFits : Known → List (List ℕ) → (inside : Bool) → Option StmtForm → Type 0
@@ -49,21 +50,18 @@ FormFits k texts inside None = Unit {0}
 FormFits k texts inside (Some f) = (fits.statement_fits k.types k.variables texts k.exceptions inside f ≡ true) × (fits.created_by f ≡ [])
 
 -- `X := ..;`
-value_fits : (k : Known) (texts : List (List ℕ)) (inside : Bool) (spot : Spot) (found : VariableNo × VariableKind) (s : Option RightForm) → IsTargetIn k.variables (Some found) → IsSourceFor k.types k.variables found.1 s → FormFits k texts inside (assignment_of spot (Some found) s)
-value_fits k texts inside spot found None h f = tt
-value_fits k texts inside spot found (Some s) h f = (rw h f, refl)
+value_fits : (k : Known) (texts : List (List ℕ)) (inside : Bool) (found : PathForm × VariableKind) (s : Option RightForm) → IsTargetIn k.types k.variables (Some found) → IsSourceFor k.types k.variables found.1 s → FormFits k texts inside (assignment_of (Some found) s)
+value_fits k texts inside found None h f = tt
+value_fits k texts inside found (Some s) h f =
+    (both_parts (fits.names_target k.types k.variables found.0) (fits.right_fits k.types k.variables (fits.path_kind k.types k.variables found.0) s) h.0 (rw h.1 f), refl)
 
-assigned_fits : (k : Known) (texts : List (List ℕ)) (inside : Bool) (spot : Spot) (o : Option (VariableNo × VariableKind)) (value : RightTree) → PartsFit k.types k.variables (parts k) → IsTargetIn k.variables o → Quiet (right_remark k (kind_of_target o) value) → FormFits k texts inside (assignment_of spot o (right_found k (kind_of_target o) value))
-assigned_fits k texts inside spot None value w h q = tt
-assigned_fits k texts inside spot (Some found) value w h q = value_fits k texts inside spot found (right_found k (Some found.1) value) h (right_fits k found.1 value w q)
-
-assignment_by : (k : Known) (texts : List (List ℕ)) (inside : Bool) (target : PathTree) (value : RightTree) (b : Bool) → PartsFit k.types k.variables (parts k) → Quiet (cond b (node target.root.spot also target_remark k target.root also right_remark k (kind_of_target (target_found k target.root)) value) (wrong target.root.spot NotInProfile)) → FormFits k texts inside (cond b (assignment_of target.root.spot (target_found k target.root) (right_found k (kind_of_target (target_found k target.root)) value)) None)
-assignment_by k texts inside target value true w q = assigned_fits k texts inside target.root.spot (target_found k target.root) value w (found_target k target.root w) q.1.1
-assignment_by k texts inside target value false w q = tt
+assigned_fits : (k : Known) (texts : List (List ℕ)) (inside : Bool) (o : Option (PathForm × VariableKind)) (value : RightTree) → PartsFit k.types k.variables (parts k) → IsTargetIn k.types k.variables o → Quiet (right_remark k (kind_of_target o) value) → FormFits k texts inside (assignment_of o (right_found k (kind_of_target o) value))
+assigned_fits k texts inside None value w h q = tt
+assigned_fits k texts inside (Some found) value w h q = value_fits k texts inside found (right_found k (Some found.1) value) h (right_fits k found.1 value w q)
 
 assignment_fits : (k : Known) (texts : List (List ℕ)) (inside : Bool) (target : PathTree) (value : RightTree) → PartsFit k.types k.variables (parts k) → Quiet (assignment_remark k target value) → FormFits k texts inside (assignment_found k target value)
 unfolding assignment_remark assignment_found
-assignment_fits k texts inside target value w q = assignment_by k texts inside target value (is_empty target.selectors) w q
+assignment_fits k texts inside target value w q = assigned_fits k texts inside (target_found k target) value w (found_target k target w q.1.0) q.1.1
 
 -- `Free (X);`
 freed_of : (d : Option ℕ) → is_some d ≡ true → fits.same_record d d ≡ true
@@ -77,17 +75,11 @@ freeing_fits k texts inside access (access_variable path t) spot a h q =
 freeing_fits k texts inside access m spot a h q = tt
 
 -- `Run_Input.Get (X);`
-integer_held : (types : List TypeForm) (variables : List VariableForm) (path : PathForm) (b : Bool) → cond b (fits.scalar_of (fits.path_kind types variables path)) None ≡ Some Integer → fits.is_type Integer (fits.scalar_of (fits.path_kind types variables path)) ≡ true
-integer_held types variables path true is = rw is refl
-integer_held types variables path false is = absurd (cc is)
-
-getting_fits : (k : Known) (texts : List (List ℕ)) (inside : Bool) (m : Meant) (spot : Spot) → MeantFits k.types k.variables m → Quiet (got_wanted m spot) → FormFits k texts inside (getting m)
-getting_fits k texts inside (integer_value (reads path)) spot h q = (
-  both_parts (fits.names_variable path) (fits.is_type Integer (fits.scalar_of (fits.path_kind k.types k.variables path))) (quiet_unless (fits.names_variable path) spot NotInProfile q)
-      (integer_held k.types k.variables path (fits.follows_at_most_one path) h),
-  refl,
-)
-getting_fits k texts inside m spot h q = tt
+getting_fits : (k : Known) (texts : List (List ℕ)) (inside : Bool) (m : Meant) → MeantFits k.types k.variables m → FormFits k texts inside (getting m)
+getting_fits k texts inside (integer_value (reads path)) h =
+    let read = read_is (fits.follows_at_most_one path) (fits.scalar_of (fits.path_kind k.types k.variables path)) Integer h in
+    (both_parts (fits.follows_at_most_one path) (fits.is_type Integer (fits.scalar_of (fits.path_kind k.types k.variables path))) read.0 (rw read.1 refl), refl)
+getting_fits k texts inside m h = tt
 
 -- what is taken is a variable
 abbrev Takes : Known → Callee → Type 0
@@ -96,7 +88,7 @@ Takes k callee.Get = Unit {0}
 
 taking_fits : (k : Known) (texts : List (List ℕ)) (inside : Bool) (taker : Callee) (m : Meant) (spot : Spot) → Takes k taker → MeantFits k.types k.variables m → Quiet (actual_wanted taker m spot) → FormFits k texts inside (taking taker m)
 taking_fits k texts inside (callee.Free access) m spot a h q = freeing_fits k texts inside access m spot a h q
-taking_fits k texts inside callee.Get m spot a h q = getting_fits k texts inside m spot h q
+taking_fits k texts inside callee.Get m spot a h q = getting_fits k texts inside m h
 
 actual_fits : (k : Known) (texts : List (List ℕ)) (inside : Bool) (taker : Callee) (argument : ArgumentTree) → PartsFit k.types k.variables (parts k) → Takes k taker → Quiet (actual_remark k taker argument) → FormFits k texts inside (actual_found k taker argument)
 unfolding expression_remark

@@ -1,54 +1,95 @@
 -- What is assigned where nothing is wrong is of the type of its object.
 
-use Rattle.std.proofs.Common.{◌≡◌, ℕ, Bool, true, false, List, map, refl, sym, cond, ap, eqb, eq-eqb, eqb-true}
-use Rattle.std.specs.Prelude.{Option, Some, None}
+use Rattle.std.proofs.Common.{◌≡◌, ℕ, Bool, true, false, ◌&&◌, ◌||◌, List, map, refl, sym, cond, ap, eqb, eq-eqb, eqb-true}
+use Rattle.std.specs.Prelude.{Option, Some, None, is_some}
 use Rattle.std.specs.List.{slice_get}
 use Rattle.ada_text.specs.declared.spot.Spot.{Spot}
 use Rattle.ada_program.specs.declared.program.VariableKind.{VariableKind}
 use Rattle.ada_program.specs.declared.program.VariableKind.TheVariants as variable
-use Rattle.ada_program.specs.declared.program.VariableNo.{VariableNo}
+use Rattle.ada_program.specs.declared.program.ScalarType.{ScalarType}
 use Rattle.ada_program.specs.declared.program.ScalarType.TheVariants.{Integer, Boolean}
 use Rattle.ada_program.specs.declared.program.TypeNo.{TypeNo}
-use Rattle.ada_program.specs.Form.{RightForm}
-use Rattle.ada_tree.specs.Names.{Ident}
+use Rattle.ada_program.specs.Form.{PathForm, RightForm, reads}
+use Rattle.ada_tree.specs.Names.{Ident, PathTree}
 use Rattle.ada_tree.specs.Expressions.{ItemsTree, RightTree, expression_right, allocator_right, creation_right}
 use Rattle.ada_program.specs.ProgramForm.{ComponentForm, TypeForm, record_of, access_to, VariableForm}
 use Rattle.ada_program.specs.WellFormed as fits
 use Rattle.ada_resolve.specs.declared.fault.NameRule.TheVariants.{WrongType, NotInProfile}
 use Rattle.ada_resolve.specs.declared.scope.Entity.{Entity}
 use Rattle.ada_resolve.specs.declared.scope.Entity.TheVariants as entity
-use Rattle.ada_resolve.specs.Known.{Known, visible, parts}
+use Rattle.ada_resolve.specs.Known.{Known, visible, is_empty, parts}
 use Rattle.ada_resolve.specs.Types.{is_access_to, designates}
-use Rattle.ada_resolve.specs.Paths.{Meant, unknown, null_value, access_variable, integer_value, boolean_value, components_of}
+use Rattle.ada_resolve.specs.Paths.{Meant, unknown, null_value, access_variable, integer_value, boolean_value, path_meant, path_remark, components_of}
 use Rattle.ada_resolve.specs.Items.{items_remark, first_filling, names_component, count_remark, item_or_null, filling_of}
 use Rattle.ada_resolve.specs.Allocators.{allocated_wanted, allocated_remark, complete_in, allocated_found, filled_components, aggregate_remark, allocation, aggregate_found, is_in_use, allocator_remark, allocator_found}
 use Rattle.ada_resolve.specs.Expressions.{expression_meant}
+use Rattle.ada_resolve.specs.Assignments.{component_target, scalar_component_wanted, target_found, target_remark, variable_target, variable_wanted}
 use Rattle.ada_resolve.specs.Rights.{assigned_wanted, assigned, right_remark, right_found}
-use Rattle.ada_resolve.specs.Statements.{variable_in, target_found}
-use Rattle.ada_resolve.specs.Remark.{wrong}
+use Rattle.ada_resolve.specs.Remark.{wrong, ◌also◌}
 use Rattle.ada_resolve.specs.Spots.{expression_spot}
 use Rattle.ada_resolve.proofs.WellFormed.Remarks.{Quiet, quiet_unless}
 use Rattle.ada_resolve.proofs.WellFormed.Tables.{both_parts}
 use Rattle.ada_resolve.proofs.WellFormed.Names.{EntityFits, PartsFit, visible_fits, kind_there}
 use Rattle.ada_resolve.proofs.WellFormed.Typing.{is_of_type}
-use Rattle.ada_resolve.proofs.WellFormed.Meanings.{MeantFits, expression_fits}
+use Rattle.ada_resolve.proofs.WellFormed.Meanings.{MeantFits, path_fits, expression_fits}
 use Rattle.ada_resolve.proofs.WellFormed.Items.{items_fit}
 
--- an object that is assigned to is there, with what it holds
-abbrev pub IsTargetIn : List VariableForm → Option (VariableNo × VariableKind) → Type 0
-IsTargetIn variables None = Unit {0}
-IsTargetIn variables (Some found) = fits.variable_kind variables found.0.0 ≡ Some found.1
+-- what is assigned to is a target, and is there, with what it holds
+abbrev pub IsTargetIn : List TypeForm → List VariableForm → Option (PathForm × VariableKind) → Type 0
+IsTargetIn types variables None = Unit {0}
+IsTargetIn types variables (Some found) = (fits.names_target types variables found.0 ≡ true) × (fits.path_kind types variables found.0 ≡ Some found.1)
 
-target_one : (types : List TypeForm) (variables : List VariableForm) (text : List ℕ) (e : Entity) → EntityFits types variables text e → IsTargetIn variables (variable_in (Some e))
-target_one types variables text (entity.Variable x kind) f = kind_there variables x.0 text kind f.0
-target_one types variables text e f = tt
+variable_one : (types : List TypeForm) (variables : List VariableForm) (text : List ℕ) (spot : Spot) (e : Entity) → EntityFits types variables text e → IsTargetIn types variables (variable_target spot (Some e))
+variable_one types variables text spot (entity.Variable x kind) f = (refl, kind_there variables x.0 text kind f.0)
+variable_one types variables text spot e f = tt
 
-target_named : (types : List TypeForm) (variables : List VariableForm) (text : List ℕ) (o : Option Entity) → ((e : Entity) → o ≡ Some e → EntityFits types variables text e) → IsTargetIn variables (variable_in o)
-target_named types variables text None w = tt
-target_named types variables text (Some e) w = target_one types variables text e (w e refl)
+variable_named : (types : List TypeForm) (variables : List VariableForm) (text : List ℕ) (spot : Spot) (o : Option Entity) → ((e : Entity) → o ≡ Some e → EntityFits types variables text e) → IsTargetIn types variables (variable_target spot o)
+variable_named types variables text spot None w = tt
+variable_named types variables text spot (Some e) w = variable_one types variables text spot e (w e refl)
 
-pub found_target : (k : Known) (name : Ident) → PartsFit k.types k.variables (parts k) → IsTargetIn k.variables (target_found k name)
-found_target k name w = target_named k.types k.variables name.text (visible k name.text) (visible_fits k w name.text)
+integer_kind : (o : Option VariableKind) → fits.scalar_of o ≡ Some Integer → o ≡ Some variable.Integer
+integer_kind None e = absurd (cc e)
+integer_kind (Some variable.Integer) e = refl
+integer_kind (Some variable.Boolean) e = absurd (cc e)
+integer_kind (Some (variable.Access access)) e = absurd (cc e)
+
+boolean_kind : (o : Option VariableKind) → fits.scalar_of o ≡ Some Boolean → o ≡ Some variable.Boolean
+boolean_kind None e = absurd (cc e)
+boolean_kind (Some variable.Integer) e = absurd (cc e)
+boolean_kind (Some variable.Boolean) e = refl
+boolean_kind (Some (variable.Access access)) e = absurd (cc e)
+
+-- a path that is read is there, and has its type
+pub read_is : (b : Bool) (o : Option ScalarType) (t : ScalarType) → cond b o None ≡ Some t → (b ≡ true) × (o ≡ Some t)
+read_is true o t e = (refl, e)
+read_is false o t e = absurd (cc e)
+
+or_part : (a b : Bool) → b ≡ true → (a || b) ≡ true
+or_part true b e = refl
+or_part false b e = e
+
+scalar_target : (types : List TypeForm) (variables : List VariableForm) (path : PathForm) (t : ScalarType) (kind : VariableKind) → fits.type_of types variables (reads path) ≡ Some t → (fits.scalar_of (fits.path_kind types variables path) ≡ Some t → fits.path_kind types variables path ≡ Some kind) → IsTargetIn types variables (Some (path, kind))
+scalar_target types variables path t kind f is =
+    let read = read_is (fits.follows_at_most_one path) (fits.scalar_of (fits.path_kind types variables path)) t f in (
+      or_part (fits.names_variable path) (fits.follows_at_most_one path && is_some (fits.scalar_of (fits.path_kind types variables path)))
+          (both_parts (fits.follows_at_most_one path) (is_some (fits.scalar_of (fits.path_kind types variables path))) read.0 (rw read.1 refl)),
+      is read.1,
+    )
+
+component_fits : (types : List TypeForm) (variables : List VariableForm) (m : Meant) → MeantFits types variables m → IsTargetIn types variables (component_target m)
+component_fits types variables (integer_value (reads path)) f =
+    scalar_target types variables path Integer variable.Integer f (λ e. integer_kind (fits.path_kind types variables path) e)
+component_fits types variables (boolean_value (reads path)) f =
+    scalar_target types variables path Boolean variable.Boolean f (λ e. boolean_kind (fits.path_kind types variables path) e)
+component_fits types variables m f = tt
+
+pub found_target : (k : Known) (target : PathTree) → PartsFit k.types k.variables (parts k) → Quiet (target_remark k target) → IsTargetIn k.types k.variables (target_found k target)
+unfolding target_remark target_found
+found_target k target w q = target_by (is_empty target.selectors) q
+  where
+    target_by : (b : Bool) → Quiet (cond b (variable_wanted (visible k target.root.text) target.root) (path_remark k target also scalar_component_wanted (path_meant k target) target.root.spot)) → IsTargetIn k.types k.variables (cond b (variable_target target.root.spot (visible k target.root.text)) (component_target (path_meant k target)))
+    target_by true q = variable_named k.types k.variables target.root.text target.root.spot (visible k target.root.text) (visible_fits k w target.root.text)
+    target_by false q = component_fits k.types k.variables (path_meant k target) (path_fits k target w q.0)
 
 -- what is assigned is known, and fits what the object holds
 abbrev pub IsSourceFor : List TypeForm → List VariableForm → VariableKind → Option RightForm → Type 0

@@ -1,10 +1,11 @@
-use Rattle.std.proofs.Common.{◌≡◌, ◌<◌, ◌∙◌, sym, inr, true, false, arith}
+use Rattle.std.proofs.Common.{◌≡◌, ◌-◌, ◌<◌, ◌∙◌, sym, inr, true, false, arith}
 use Rattle.std.proofs.lemmas.Result.{err_from_is_err_and}
 use Rattle.ada_meaning.specs.State.{begins}
+use Rattle.ada_interpreter.specs.CommonSteps.{GoesQuietly}
 use Rattle.ada_interpreter.specs.Machine.{state_in, choices_of}
 use Rattle.ada_serve.specs.Runner.{StepsOn, EndsIn}
 use Rattle.ada_serve.proofs.Writing.{idle, works_both, writes_after, writes_fault}
-use Rattle.ada_serve.proofs.Steps.{reaches_first, reaches_step, reaches_statement, step_broken, statement_broken, reaches_end, reaches_limit}
+use Rattle.ada_serve.proofs.Steps.{Reaches, reaches_first, reaches_step, reaches_statement, reaches_quietly, reaches_fault, step_broken, statement_broken, reaches_end, reaches_limit}
 use Rattle.ada_serve.proofs.serve.take_turns.Goals as goal
 
 pub statements-init : goal.statements-init
@@ -89,9 +90,31 @@ statements-preserved g c =
     let some : 0 < c.statements.left = omega arith in
     let made : StepsOn c.args.program.now (choices_of c.steps.machine).left (choices_of c.take_turn-in-statements.new.machine).left (state_in c.steps.machine) (state_in c.take_turn-in-statements.new.machine) (g.W.ByteWriter.contents c.steps.out) (g.W.ByteWriter.contents c.take_turn-in-statements.new.out) =
     rw c.in_default-2.is at c.in_ok-status-2.ensures.text in
+    let begun : Reaches c.args.program.now (state_in c.args.machine.now).input c.args.options.now.steps c.args.options.now.refuse (c.statements.left - 1) (choices_of c.take_turn-in-statements.new.machine).left (state_in c.take_turn-in-statements.new.machine) (g.W.ByteWriter.contents c.args.out.now) (g.W.ByteWriter.contents c.take_turn-in-statements.new.out) =
+    reaches_statement c.args.program.now (state_in c.args.machine.now).input c.args.options.now.steps c.args.options.now.refuse c.statements.left (choices_of c.steps.machine).left (choices_of c.take_turn-in-statements.new.machine).left (state_in c.steps.machine) (state_in c.take_turn-in-statements.new.machine) (g.W.ByteWriter.contents c.args.out.now) (g.W.ByteWriter.contents c.steps.out) (g.W.ByteWriter.contents c.take_turn-in-statements.new.out) c.steps.invariant.reaches starts some made in
+    let quiet : GoesQuietly c.args.program.now (state_in c.take_turn-in-statements.new.machine) (c.statements.left - 1 - c.in_ok-left.left) (state_in c.make_common_steps.new.self) =
+    rw c.take_turn-in-statements.ensures.same at c.in_ok-left.ensures.steps in
+    let asked : choices_of c.make_common_steps.new.self ≡ choices_of c.take_turn-in-statements.new.machine = c.make_common_steps.ensures.choices in
     record {
-      reaches = reaches_statement c.args.program.now (state_in c.args.machine.now).input c.args.options.now.steps c.args.options.now.refuse c.statements.left (choices_of c.steps.machine).left (choices_of c.take_turn-in-statements.new.machine).left (state_in c.steps.machine) (state_in c.take_turn-in-statements.new.machine) (g.W.ByteWriter.contents c.args.out.now) (g.W.ByteWriter.contents c.steps.out) (g.W.ByteWriter.contents c.take_turn-in-statements.new.out) c.steps.invariant.reaches starts some made;
+      reaches =
+          rw asked (reaches_quietly c.args.program.now (state_in c.args.machine.now).input c.args.options.now.steps c.args.options.now.refuse (c.statements.left - 1) c.in_ok-left.left (choices_of c.take_turn-in-statements.new.machine).left (state_in c.take_turn-in-statements.new.machine) (state_in c.make_common_steps.new.self) (g.W.ByteWriter.contents c.args.out.now) (g.W.ByteWriter.contents c.take_turn-in-statements.new.out) begun quiet c.in_ok-left.ensures.left);
       calls = works_both g.W.ByteWriter.writes c.args.out.now c.steps.out c.take_turn-in-statements.new.out c.steps.invariant.calls c.in_ok-status-2.ensures.writer;
-      runs = c.in_ok-status-2.ensures.runs c.in_default-2.is;
-      same = c.take_turn-in-statements.ensures.same;
+      runs = c.in_ok-left.ensures.halted ∙ c.in_ok-status-2.ensures.runs c.in_default-2.is;
+      same = c.make_common_steps.ensures.program ∙ c.take_turn-in-statements.ensures.same;
     }
+
+pub returns-in_err-left-clause-text : goal.returns-in_err-left-clause-text
+returns-in_err-left-clause-text g c =
+    let starts : begins (state_in c.steps.machine) ≡ true = sym (c.begins.ensures.runs c.steps.invariant.runs) ∙ c.steps-test.false in
+    let some : 0 < c.statements.left = omega arith in
+    let made : StepsOn c.args.program.now (choices_of c.steps.machine).left (choices_of c.take_turn-in-statements.new.machine).left (state_in c.steps.machine) (state_in c.take_turn-in-statements.new.machine) (g.W.ByteWriter.contents c.steps.out) (g.W.ByteWriter.contents c.take_turn-in-statements.new.out) =
+    rw c.in_default-2.is at c.in_ok-status-2.ensures.text in
+    let begun : Reaches c.args.program.now (state_in c.args.machine.now).input c.args.options.now.steps c.args.options.now.refuse (c.statements.left - 1) (choices_of c.take_turn-in-statements.new.machine).left (state_in c.take_turn-in-statements.new.machine) (g.W.ByteWriter.contents c.args.out.now) (g.W.ByteWriter.contents c.take_turn-in-statements.new.out) =
+    reaches_statement c.args.program.now (state_in c.args.machine.now).input c.args.options.now.steps c.args.options.now.refuse c.statements.left (choices_of c.steps.machine).left (choices_of c.take_turn-in-statements.new.machine).left (state_in c.steps.machine) (state_in c.take_turn-in-statements.new.machine) (g.W.ByteWriter.contents c.args.out.now) (g.W.ByteWriter.contents c.steps.out) (g.W.ByteWriter.contents c.take_turn-in-statements.new.out) c.steps.invariant.reaches starts some made in
+    let p = err_from_is_err_and c.from_residual-in_err-left.result c.from_residual-in_err-left.ensures.1 in
+    rw (p.1) (inr (reaches_fault c.steps_make_lighter.ensures c.states_go_on.ensures c.args.program.now (state_in c.args.machine.now).input c.args.options.now.steps c.args.options.now.refuse (c.statements.left - 1) (choices_of c.take_turn-in-statements.new.machine).left (state_in c.take_turn-in-statements.new.machine) (g.W.ByteWriter.contents c.args.out.now) (g.W.ByteWriter.contents c.take_turn-in-statements.new.out) begun))
+
+pub returns-in_err-left-clause-writer : goal.returns-in_err-left-clause-writer
+returns-in_err-left-clause-writer g c =
+    let p = err_from_is_err_and c.from_residual-in_err-left.result c.from_residual-in_err-left.ensures.1 in
+    rw (p.1, p.2) (works_both g.W.ByteWriter.writes c.args.out.now c.steps.out c.take_turn-in-statements.new.out c.steps.invariant.calls c.in_ok-status-2.ensures.writer)

@@ -1,6 +1,7 @@
--- By ten programs and their runs.
+-- By eleven programs and their runs.
 use Rattle.ada_sound.proofs.Example as example
 use Rattle.ada_sound.proofs.ExampleBlocks as blocks
+use Rattle.ada_sound.proofs.ExampleTargets as targets
 use Rattle.ada_sound.proofs.laws.premises_are_met.Goals as goal
 
 pub returns-clause-begins : goal.returns-clause-begins
@@ -32,3 +33,6 @@ returns-clause-unwinds c = (blocks.unwinding, blocks.unwinding_form, blocks.unwi
 
 pub returns-clause-counts : goal.returns-clause-counts
 returns-clause-counts c = (blocks.counting, blocks.counting_form, blocks.counting_handles, blocks.counting_obeys, blocks.counts)
+
+pub returns-clause-fills : goal.returns-clause-fills
+returns-clause-fills c = (targets.filling, targets.filling_form, targets.filling_obeys, targets.fills)

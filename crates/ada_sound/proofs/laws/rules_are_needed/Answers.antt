@@ -1,6 +1,7 @@
--- By nine programs and their runs.
+-- By ten programs and their runs.
 use Rattle.ada_sound.proofs.Example as example
 use Rattle.ada_sound.proofs.ExampleBlocks as blocks
+use Rattle.ada_sound.proofs.ExampleTargets as targets
 use Rattle.ada_sound.proofs.laws.rules_are_needed.Goals as goal
 
 pub returns-clause-follows : goal.returns-clause-follows
@@ -36,3 +37,6 @@ returns-clause-escapes c = (blocks.escaping, blocks.escaping_form, blocks.escapi
 
 pub returns-clause-mistypes : goal.returns-clause-mistypes
 returns-clause-mistypes c = (blocks.mistyping, blocks.mistyping_form, blocks.mistyping_breaks, blocks.mistypes)
+
+pub returns-clause-stores : goal.returns-clause-stores
+returns-clause-stores c = (targets.storing, targets.storing_form, targets.storing_breaks, targets.stores)

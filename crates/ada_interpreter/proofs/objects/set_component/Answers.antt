@@ -1,0 +1,14 @@
+-- The object of the name is the only one that changes.
+use Rattle.std.proofs.Common.{◌≡◌, length, refl, ◌∙◌, arith}
+use Rattle.std.proofs.lemmas.List.{with_items_is, length-set}
+use Rattle.ada_meaning.specs.Named.{filled}
+use Rattle.ada_interpreter.proofs.ChangeLemmas.{changed_object}
+use Rattle.ada_interpreter.proofs.objects.set_component.Goals as goal
+
+pub returns-then-o-len : goal.returns-then-o-len
+returns-then-o-len c =
+    let before = c.index_mut-object.result.now.cell.values in
+    let as_many : length c.set_value.new.values ≡ before.len =
+    rw c.set_value.ensures (length-set c.as_mut_slice.result.now c.args.component.0 c.args.value ∙ c.as_mut_slice.ensures.len) in
+    let values = with_items_is before c.set_value.new.values as_many in
+    changed_object (filled c.args.component.0 c.args.value) c.args.objects.now.items c.args.o c.index_mut-object.result.now _ (omega arith) c.index_mut-object.ensures.value (rw (values, c.set_value.ensures, c.as_mut_slice.ensures.value) refl)

@@ -1,0 +1,83 @@
+-- Where collections are created: the objects that an object's components name belong to a master that lasts at least as long as its own (3.10.2).
+
+use Rattle.std.specs.Prelude.{◌≡◌, ℕ, Bool, true, false, ◌&&◌, ◌||◌, ◌==◌, not, List, [], ◌∷◌, ◌++◌, Option, Some, None}
+use Rattle.std.specs.List.{list_all}
+use Rattle.ada_program.specs.declared.program.ComponentKind.{ComponentKind}
+use Rattle.ada_program.specs.declared.program.ComponentKind.TheVariants as component
+use Rattle.ada_program.specs.Form.{DeclarationForm, collects, declares, StmtForm, skips, assigns, frees, gets, writes, writes_text, chooses, repeats, counts, exits, returns, raises, encloses, StmtsForm, no_stmts, a_stmt, BranchesForm, otherwise, a_branch, HandlersForm, no_handlers, a_handler}
+use Rattle.ada_program.specs.ProgramForm.{ComponentForm, TypeForm, ProgramForm}
+use Rattle.ada_program.specs.WellFormed.{reached_components}
+
+-- The access types whose collections declarations create (7.6.1).
+abbrev pub collected : List DeclarationForm → List ℕ
+collected [] = []
+collected (collects access ∷ ds) = access ∷ collected ds
+collected (declares x right ∷ ds) = collected ds
+
+-- Is the number one of these?
+abbrev pub is_one_of : List ℕ → ℕ → Bool
+is_one_of [] t = false
+is_one_of (u ∷ us) t = (u == t) || is_one_of us t
+
+-- A component holds no access value (3.8), or values of an access type whose collection is open.
+abbrev pub kind_is_open : (there : List ℕ) → ComponentKind → Bool
+kind_is_open there (component.Integer initial) = true
+kind_is_open there (component.Boolean initial) = true
+kind_is_open there (component.Access access) = is_one_of there access.0
+
+-- So does each component.
+abbrev pub component_is_open : (there : List ℕ) → ComponentForm → Bool
+component_is_open there c = kind_is_open there c.kind
+
+-- So does each component of an object, if the type is an access type.
+abbrev pub are_open : (there : List ℕ) → Option (List ComponentForm) → Bool
+are_open there None = true
+are_open there (Some components) = list_all (component_is_open there) components
+
+-- The collection of an access type is created in a part, where these are open around it, and those of the part with them: it is not open around
+-- it already, and what the components of its objects name lies in collections that are open then.
+abbrev pub collection_nests : List TypeForm → (around there : List ℕ) → (access : ℕ) → Bool
+collection_nests types around there access = not (is_one_of around access) && are_open there (reached_components types access)
+
+-- So are all collections of a declarative part.
+abbrev pub part_nests : List TypeForm → (around : List ℕ) → List DeclarationForm → Bool
+part_nests types around ds = list_all (collection_nests types around (collected ds ++ around)) (collected ds)
+
+abbrev mutual
+  -- So are the collections of the blocks in a statement (5.6), where these are open around it.
+  pub statement_nests : List TypeForm → (around : List ℕ) → StmtForm → Bool
+  statement_nests types around skips = true
+  statement_nests types around (assigns target right) = true
+  statement_nests types around (frees access path) = true
+  statement_nests types around (gets target) = true
+  statement_nests types around (writes e) = true
+  statement_nests types around (writes_text text) = true
+  statement_nests types around (chooses branches) = branches_nest types around branches
+  statement_nests types around (repeats condition fs end_spot) = statements_nest types around fs
+  statement_nests types around (counts x low high fs end_spot) = statements_nest types around fs
+  statement_nests types around (exits condition spot) = true
+  statement_nests types around (returns spot) = true
+  statement_nests types around (raises e) = true
+  statement_nests types around (encloses ds fs hs) =
+      part_nests types around ds && statements_nest types (collected ds ++ around) fs && handlers_nest types (collected ds ++ around) hs
+
+  -- The collections of the blocks in statements.
+  pub statements_nest : List TypeForm → (around : List ℕ) → StmtsForm → Bool
+  statements_nest types around no_stmts = true
+  statements_nest types around (a_stmt f fs) = statement_nests types around f && statements_nest types around fs
+
+  -- The collections of the blocks in branches.
+  pub branches_nest : List TypeForm → (around : List ℕ) → BranchesForm → Bool
+  branches_nest types around (otherwise fs) = statements_nest types around fs
+  branches_nest types around (a_branch e fs branches) = statements_nest types around fs && branches_nest types around branches
+
+  -- The collections of the blocks in handlers.
+  pub handlers_nest : List TypeForm → (around : List ℕ) → HandlersForm → Bool
+  handlers_nest types around no_handlers = true
+  handlers_nest types around (a_handler choices fs hs) = statements_nest types around fs && handlers_nest types around hs
+
+-- All collections of a program: no object lies in a collection that lasts longer than one in which its components' objects lie (3.10.2, 7.6.1).
+pub record CollectionsNest (p : ProgramForm) : Type 0 where
+  pub declarations : part_nests p.types [] p.declarations ≡ true
+  pub statements : statements_nest p.types (collected p.declarations) p.statements ≡ true
+  pub handlers : handlers_nest p.types (collected p.declarations) p.handlers ≡ true

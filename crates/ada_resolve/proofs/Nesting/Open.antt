@@ -1,0 +1,180 @@
+-- Which collections are open at a place (7.6.1): those of the parts around it. What is said of a place names them, by the numbers of their
+-- access types, in the list `around`. All are created before the place, so their numbers are below that of any type that is declared from there on.
+
+use Rattle.std.proofs.Common.{◌≡◌, ◌∙◌, ℕ, ◌<◌, ◌≤◌, Bool, true, false, cond, List, [], ◌∷◌, ◌++◌, length, refl, sym, ap, eqb, arith}
+use Rattle.std.specs.Prelude.{Option, Some, None, ◌||◌, bytes_eq, codes}
+use Rattle.std.specs.List.{list_all, slice_get}
+use Rattle.ada_program.specs.declared.program.ComponentKind.{ComponentKind}
+use Rattle.ada_program.specs.declared.program.ComponentKind.TheVariants as component
+use Rattle.ada_program.specs.declared.program.Exception.TheVariants.{ConstraintError, ProgramError, StorageError}
+use Rattle.ada_program.specs.Nested.{is_one_of, kind_is_open, component_is_open}
+use Rattle.ada_program.specs.ProgramForm.{ComponentForm, TypeForm, record_of, access_to}
+use Rattle.ada_resolve.specs.declared.scope.Entity.{Entity}
+use Rattle.ada_resolve.specs.declared.scope.Entity.TheVariants as entity
+use Rattle.ada_resolve.specs.Known.{Known, Named, Part, named, named_in, inner_first, visible, parts}
+use Rattle.ada_resolve.specs.Library.{predefined}
+use Rattle.ada_resolve.proofs.WellFormed.Names.{first_of_two}
+use Rattle.ada_resolve.proofs.WellFormed.Tables.{all_weaker}
+
+-- the record type of a number is there, and its components name collections that are open around
+abbrev pub RecordOpen : (around : List ℕ) → List TypeForm → ℕ → Type 0
+RecordOpen around types t =
+    (name : List ℕ) × (cs : List ComponentForm) × (slice_get types t ≡ Some (record_of name cs)) × (list_all (component_is_open around) cs ≡ true)
+
+-- what a name of a part around stands for: an access type whose collection is open, or a record type that names such ones alone
+abbrev pub EntityOpen : (around : List ℕ) → List TypeForm → Entity → Type 0
+EntityOpen around types (entity.Incomplete t) = ⊥
+EntityOpen around types (entity.Record t) = RecordOpen around types t.0
+EntityOpen around types (entity.Access t) = is_one_of around t.0 ≡ true
+EntityOpen around types e = Unit {0}
+
+-- so each name
+abbrev pub NamesOpen : (around : List ℕ) → List TypeForm → List Named → Type 0
+NamesOpen around types names = (text : List ℕ) (e : Entity) → named text names ≡ Some e → EntityOpen around types e
+
+-- so each name of each part
+abbrev pub PartsOpen : (around : List ℕ) → List TypeForm → List Part → Type 0
+PartsOpen around types [] = Unit {0}
+PartsOpen around types (part ∷ outer) = NamesOpen around types part.names × PartsOpen around types outer
+
+-- where statements stand, these collections are open: they are those of access types that are there, and what is visible names no others
+pub record OpenAt (around : List ℕ) (k : Known) : Type 0 where
+  pub before : (a : ℕ) → is_one_of around a ≡ true → a < length k.types
+  pub names : PartsOpen around k.types (parts k)
+
+-- a component names an access type of the part whose first type has this number, or one whose collection is open around the part
+abbrev pub KindLies : (around : List ℕ) → ℕ → ComponentKind → Type 0
+KindLies around n (component.Integer initial) = Unit {0}
+KindLies around n (component.Boolean initial) = Unit {0}
+KindLies around n (component.Access t) = t.0 < n → is_one_of around t.0 ≡ true
+
+-- so each component
+abbrev pub ComponentsLie : (around : List ℕ) → ℕ → List ComponentForm → Type 0
+ComponentsLie around n [] = Unit {0}
+ComponentsLie around n (c ∷ cs) = KindLies around n c.kind × ComponentsLie around n cs
+
+-- a type of the part: a record type with such components, or an access type to a record type of the part or to one that is open around it
+abbrev pub FormLies : (around : List ℕ) → ℕ → List TypeForm → TypeForm → Type 0
+FormLies around n types (record_of name cs) = ComponentsLie around n cs
+FormLies around n types (access_to name d) = d < n → RecordOpen around types d
+
+-- so each type of the part
+abbrev pub FormsLie : (around : List ℕ) → ℕ → List TypeForm → Type 0
+FormsLie around n types = (t : ℕ) (form : TypeForm) → n ≤ t → slice_get types t ≡ Some form → FormLies around n types form
+
+-- what a name of the part stands for: a type of the part, if it is a type
+abbrev pub IsOwnType : ℕ → Entity → Type 0
+IsOwnType n (entity.Incomplete t) = n ≤ t.0
+IsOwnType n (entity.Record t) = n ≤ t.0
+IsOwnType n (entity.Access t) = n ≤ t.0
+IsOwnType n e = Unit {0}
+
+-- among the declarations of a part, these collections are open around it: those of access types before the part's first, all that is visible of
+-- the parts around; and what its own types name is its own, or open around it
+pub record OpenAround (around : List ℕ) (k : Known) : Type 0 where
+  pub before : (a : ℕ) → is_one_of around a ≡ true → a < k.here.first_type
+  pub outer : PartsOpen around k.types k.outer
+  pub own : (text : List ℕ) (e : Entity) → named text k.here.names ≡ Some e → IsOwnType k.here.first_type e
+  pub forms : FormsLie around k.here.first_type k.types
+
+-- what is visible among the declarations of a part: of the part, or open around it
+abbrev pub EntityLies : (around : List ℕ) → ℕ → List TypeForm → Entity → Type 0
+EntityLies around n types (entity.Incomplete t) = t.0 < n → RecordOpen around types t.0
+EntityLies around n types (entity.Record t) = t.0 < n → RecordOpen around types t.0
+EntityLies around n types (entity.Access t) = t.0 < n → is_one_of around t.0 ≡ true
+EntityLies around n types e = Unit {0}
+
+own_lies : (around : List ℕ) (n : ℕ) (types : List TypeForm) (e : Entity) → IsOwnType n e → EntityLies around n types e
+own_lies around n types (entity.Incomplete t) own = λ less. absurd (omega (arith, own, less))
+own_lies around n types (entity.Record t) own = λ less. absurd (omega (arith, own, less))
+own_lies around n types (entity.Access t) own = λ less. absurd (omega (arith, own, less))
+own_lies around n types e own = tt
+
+open_lies : (around : List ℕ) (n : ℕ) (types : List TypeForm) (e : Entity) → EntityOpen around types e → EntityLies around n types e
+open_lies around n types (entity.Incomplete t) w = absurd w
+open_lies around n types (entity.Record t) w = λ less. w
+open_lies around n types (entity.Access t) w = λ less. w
+open_lies around n types e w = tt
+
+parts_lie : (around : List ℕ) (n : ℕ) (types : List TypeForm) (ps : List Part) → PartsOpen around types ps → (text : List ℕ) (e : Entity) → named_in text ps ≡ Some e → EntityLies around n types e
+parts_lie around n types [] w text e is = absurd (cc is)
+parts_lie around n types (p ∷ ps) w text e is =
+    first_of_two (EntityLies around n types) (named text p.names) (named_in text ps) e (λ x there. open_lies around n types x (w.0 text x there))
+    (parts_lie around n types ps w.1 text) is
+
+-- nothing predefined is a record type or an access type
+standard_lies : (around : List ℕ) (n : ℕ) (types : List TypeForm) (x : Entity) (a b c d f g h : Bool) → cond a (Some entity.Integer) (cond b (Some entity.Boolean) (cond c (Some (entity.Truth true)) (cond d (Some (entity.Truth false)) (cond f (Some (entity.Exception ConstraintError)) (cond g (Some (entity.Exception ProgramError)) (cond h (Some (entity.Exception StorageError)) None)))))) ≡ Some x → EntityLies around n types x
+standard_lies around n types x true b c d f g h e = let is : entity.Integer ≡ x = cc e in rw (sym is) tt
+standard_lies around n types x false true c d f g h e = let is : entity.Boolean ≡ x = cc e in rw (sym is) tt
+standard_lies around n types x false false true d f g h e = let is : entity.Truth true ≡ x = cc e in rw (sym is) tt
+standard_lies around n types x false false false true f g h e = let is : entity.Truth false ≡ x = cc e in rw (sym is) tt
+standard_lies around n types x false false false false true g h e = let is : entity.Exception ConstraintError ≡ x = cc e in rw (sym is) tt
+standard_lies around n types x false false false false false true h e = let is : entity.Exception ProgramError ≡ x = cc e in rw (sym is) tt
+standard_lies around n types x false false false false false false true e = let is : entity.Exception StorageError ≡ x = cc e in rw (sym is) tt
+standard_lies around n types x false false false false false false false e = absurd (cc e)
+
+predefined_lies : (around : List ℕ) (n : ℕ) (types : List TypeForm) (text : List ℕ) (x : Entity) → predefined text ≡ Some x → EntityLies around n types x
+unfolding predefined
+predefined_lies around n types text x e =
+    standard_lies around n types x (bytes_eq text (codes "INTEGER")) (bytes_eq text (codes "BOOLEAN")) (bytes_eq text (codes "TRUE")) (bytes_eq text (codes "FALSE"))
+    (bytes_eq text (codes "CONSTRAINT_ERROR")) (bytes_eq text (codes "PROGRAM_ERROR")) (bytes_eq text (codes "STORAGE_ERROR")) e
+
+inner_lies : (around : List ℕ) (n : ℕ) (types : List TypeForm) (text : List ℕ) (x : Entity) (own : Option Entity) (b : Bool) → ((y : Entity) → own ≡ Some y → EntityLies around n types y) → inner_first own b (predefined text) ≡ Some x → EntityLies around n types x
+inner_lies around n types text x (Some y) b w e = let is : y ≡ x = cc e in rw (sym is) (w y refl)
+inner_lies around n types text x None true w e = let is : entity.Procedure ≡ x = cc e in rw (sym is) tt
+inner_lies around n types text x None false w e = predefined_lies around n types text x e
+
+-- what is visible among the declarations of a part
+pub visible_lies : (around : List ℕ) (k : Known) → OpenAround around k → (text : List ℕ) (e : Entity) → visible k text ≡ Some e → EntityLies around k.here.first_type k.types e
+unfolding visible
+visible_lies around k w text e is =
+    let n = k.here.first_type in
+    inner_lies around n k.types text e (named_in text (parts k)) (bytes_eq text k.procedure)
+    (λ x there. first_of_two (EntityLies around n k.types) (named text k.here.names) (named_in text k.outer) x
+    (λ y at. own_lies around n k.types y (w.own text y at)) (parts_lie around n k.types k.outer w.outer text) there) is
+
+-- more collections that are open
+one_or : (b c d : Bool) → (b || (c || d)) ≡ ((b || c) || d)
+one_or true c d = refl
+one_or false c d = refl
+
+pub one_of_both : (us vs : List ℕ) (t : ℕ) → is_one_of (us ++ vs) t ≡ (is_one_of us t || is_one_of vs t)
+one_of_both [] vs t = refl
+one_of_both (u ∷ us) vs t = ap (λ b. eqb u t || b) (one_of_both us vs t) ∙ one_or (eqb u t) (is_one_of us t) (is_one_of vs t)
+
+left_or : (b c : Bool) → b ≡ true → (b || c) ≡ true
+left_or true c e = refl
+left_or false c e = absurd (cc e)
+
+right_or : (b c : Bool) → c ≡ true → (b || c) ≡ true
+right_or true c e = refl
+right_or false c e = e
+
+pub one_of_first : (us vs : List ℕ) (t : ℕ) → is_one_of us t ≡ true → is_one_of (us ++ vs) t ≡ true
+one_of_first us vs t e = one_of_both us vs t ∙ left_or (is_one_of us t) (is_one_of vs t) e
+
+pub one_of_second : (us vs : List ℕ) (t : ℕ) → is_one_of vs t ≡ true → is_one_of (us ++ vs) t ≡ true
+one_of_second us vs t e = one_of_both us vs t ∙ right_or (is_one_of us t) (is_one_of vs t) e
+
+kind_opener : (us vs : List ℕ) (k : ComponentKind) → kind_is_open vs k ≡ true → kind_is_open (us ++ vs) k ≡ true
+kind_opener us vs (component.Integer initial) e = refl
+kind_opener us vs (component.Boolean initial) e = refl
+kind_opener us vs (component.Access t) e = one_of_second us vs t.0 e
+
+pub record_opener : (us vs : List ℕ) (types : List TypeForm) (t : ℕ) → RecordOpen vs types t → RecordOpen (us ++ vs) types t
+record_opener us vs types t w =
+    (w.0, w.1, w.2, all_weaker (component_is_open vs) (component_is_open (us ++ vs)) (λ c. kind_opener us vs c.kind) w.1 w.3)
+
+entity_opener : (us vs : List ℕ) (types : List TypeForm) (e : Entity) → EntityOpen vs types e → EntityOpen (us ++ vs) types e
+entity_opener us vs types (entity.Incomplete t) w = w
+entity_opener us vs types (entity.Record t) w = record_opener us vs types t.0 w
+entity_opener us vs types (entity.Access t) w = one_of_second us vs t.0 w
+entity_opener us vs types e w = tt
+
+pub parts_opener : (us vs : List ℕ) (types : List TypeForm) (ps : List Part) → PartsOpen vs types ps → PartsOpen (us ++ vs) types ps
+parts_opener us vs types [] w = tt
+parts_opener us vs types (p ∷ ps) w = (λ text e is. entity_opener us vs types e (w.0 text e is), parts_opener us vs types ps w.1)
+
+-- where types stay, records stay open
+pub record_later : (around : List ℕ) (types more : List TypeForm) (t : ℕ) → ((form : TypeForm) → slice_get types t ≡ Some form → slice_get more t ≡ Some form) → RecordOpen around types t → RecordOpen around more t
+record_later around types more t g w = (w.0, w.1, g (record_of w.0 w.1) w.2, w.3)

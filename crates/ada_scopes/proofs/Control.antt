@@ -1,0 +1,188 @@
+-- What is left to do nests in the masters that are entered: the statements of each frame were written where the collections are open that
+-- its master and the outer ones have.
+
+use Rattle.std.proofs.Common.{◌≡◌, ℕ, zero, suc, ◌+◌, ◌≤◌, Bool, true, false, List, [], ◌∷◌, ◌++◌, arith, refl, ap}
+use Rattle.std.specs.List.{list_all}
+use Rattle.ada_program.specs.Form.{DeclarationForm, StmtsForm, HandlersForm}
+use Rattle.ada_program.specs.ProgramForm.{TypeForm}
+use Rattle.ada_program.specs.WellFormed.{reached_components, is_object, collections_first}
+use Rattle.ada_program.specs.Nested.{collected, are_open}
+use Rattle.ada_meaning.specs.declared.state.Value.{Value}
+use Rattle.ada_meaning.specs.declared.state.Mode.TheVariants.{Running}
+use Rattle.ada_meaning.specs.Frame.{Frame, is_master}
+use Rattle.ada_meaning.specs.Frame as frame
+use Rattle.ada_meaning.specs.State.{declared, Master}
+use Rattle.ada_meaning.specs.Step.{older, owning, shorter}
+use Rattle.ada_meaning.specs.Named.{Object, State}
+use Rattle.ada_meaning.specs.Law.{items_of}
+use Rattle.ada_scopes.proofs.Counts.{times, times_append, Within, open_within, opened, Scopes, scopes, all_of, scopes_declared, fewer, fewer_older}
+use Rattle.ada_scopes.proofs.Texts.{PartNests, StatementsNest, BranchesNest, HandlersNest}
+use Rattle.ada_scopes.proofs.Homes.{Housed, housed_after, housed_owning}
+
+-- Two lists have each number equally often.
+abbrev pub Alike : List ℕ → List ℕ → Type 0
+Alike us vs = (t : ℕ) → times t us ≡ times t vs
+
+-- It was written where collections were open like these.
+abbrev pub Where : List ℕ → (List ℕ → Type 0) → Type 0
+Where us P = (around : List ℕ) × Alike around us × P around
+
+-- What a frame holds was written where these are open. Frames without statements nest everywhere; a part that is under way has created all
+-- its collections; and no master but the innermost one is being left.
+abbrev pub FrameNests : List TypeForm → List ℕ → Frame Value → Type 0
+FrameNests types us (frame.Elaborates ds fs hs) =
+    (list_all is_object ds ≡ true) × Where us (λ around. StatementsNest types around fs × HandlersNest types around hs)
+FrameNests types us (frame.Does fs) = Where us (λ around. StatementsNest types around fs)
+FrameNests types us (frame.Decides fs branches) = Where us (λ around. StatementsNest types around fs × BranchesNest types around branches)
+FrameNests types us (frame.Repeats condition fs) = Where us (λ around. StatementsNest types around fs)
+FrameNests types us (frame.Turns condition fs) = Where us (λ around. StatementsNest types around fs)
+FrameNests types us (frame.Ranges x fs) = Where us (λ around. StatementsNest types around fs)
+FrameNests types us (frame.Counts x value last fs) = Where us (λ around. StatementsNest types around fs)
+FrameNests types us (frame.Handles hs) = Where us (λ around. HandlersNest types around hs)
+FrameNests types us (frame.Leaves mode) = ⊥
+FrameNests types us f = Unit {0}
+
+-- What is open behind a frame: that of a master is the last one of its master.
+abbrev pub behind : (master : Bool) → Scopes → Scopes
+behind true ss = older ss
+behind false ss = ss
+
+-- What is left to do nests, where masters have opened these.
+abbrev pub Nests : List TypeForm → Scopes → List (Frame Value) → Type 0
+Nests types ss [] = Unit {0}
+Nests types ss (f ∷ k) = FrameNests types (all_of ss) f × Nests types (behind (is_master f) ss) k
+
+-- The innermost master is being left, and what is behind that nests.
+abbrev pub Goes : List TypeForm → Scopes → List (Frame Value) → Type 0
+Goes types ss [] = ⊥
+Goes types ss (frame.Leaves mode ∷ k) = Nests types (older ss) k
+Goes types ss (frame.Ends v ∷ k) = Goes types ss k
+Goes types ss (frame.GivesBack v cause pool ∷ k) = Goes types ss k
+Goes types ss (f ∷ k) = ⊥
+
+-- What the components of an access type's objects name lies in collections that are open.
+abbrev pub NeedsOpen : List TypeForm → List ℕ → List ℕ → Type 0
+NeedsOpen types us there = (t : ℕ) → 1 ≤ times t us → are_open there (reached_components types t) ≡ true
+
+-- So it is of each master's collections, with those of the outer ones.
+abbrev pub AreOpen : List TypeForm → Scopes → Type 0
+AreOpen types [] = Unit {0}
+AreOpen types (us ∷ ss) = NeedsOpen types us (us ++ all_of ss) × AreOpen types ss
+
+pub open_older : (types : List TypeForm) (ss : Scopes) → AreOpen types ss → AreOpen types (older ss)
+open_older types [] h = h
+open_older types (us ∷ ss) h = h.1
+
+-- No access type is opened twice.
+abbrev pub Lone : Scopes → Type 0
+Lone ss = (t : ℕ) → times t (all_of ss) ≤ 1
+
+pub lone_older : (ss : Scopes) → Lone ss → Lone (older ss)
+lone_older ss lone t = let all = lone t in let less = fewer_older t ss in omega (arith, all, less)
+
+pub lone_shorter : (ms : List Master) → Lone (scopes ms) → Lone (scopes (shorter ms))
+lone_shorter ms lone t = let all = lone t in let less = fewer t ms in omega (arith, all, less)
+
+-- Masters that have created all their collections, and none of which is being left.
+pub record Whole (types : List TypeForm) (ms : List Master) (heap : List Object) : Type 0 where
+  pub lone : Lone (scopes ms)
+  pub needs : AreOpen types (scopes ms)
+  pub housed : Housed heap (items_of ms)
+
+-- Masters of which the innermost one is being left.
+pub record Parting (types : List TypeForm) (ms : List Master) (heap : List Object) : Type 0 where
+  pub lone : Lone (scopes ms)
+  pub needs : AreOpen types (older (scopes ms))
+  pub housed : Housed heap (items_of ms)
+
+-- Masters of which the innermost one has these declarations left to elaborate. It opens the collections of `there`, with those that were open
+-- around it: they are those that it has, those that are left, and those of the outer masters. No object lies in one of its own yet.
+pub record Growing (types : List TypeForm) (m : Master) (rest : List Master) (heap : List Object) (ds : List DeclarationForm) (there : List ℕ) : Type 0 where
+  pub first : collections_first ds ≡ true
+  pub once : (t : ℕ) → times t there ≤ 1
+  pub all : (t : ℕ) → times t there ≡ times t (collected ds) + (times t (opened m.items) + times t (all_of (scopes rest)))
+  pub left : NeedsOpen types (collected ds) there
+  pub here : NeedsOpen types (opened m.items) there
+  pub outer : AreOpen types (scopes rest)
+  pub housed : Housed heap (items_of rest)
+
+-- A part that is beginning.
+pub record Begins (types : List TypeForm) (s : State) : Type 0 where
+  pub m : Master
+  pub rest : List Master
+  pub ds : List DeclarationForm
+  pub fs : StmtsForm
+  pub hs : HandlersForm
+  pub k : List (Frame Value)
+  pub there : List ℕ
+  pub masters : s.masters ≡ m ∷ rest
+  pub control : s.control ≡ frame.Elaborates ds fs hs ∷ k
+  pub runs : s.mode ≡ Running
+  pub growing : Growing types m rest s.heap ds there
+  pub statements : StatementsNest types there fs
+  pub handlers : HandlersNest types there hs
+  pub nests : Nests types (scopes rest) k
+
+-- A state of a run: what is left to do nests, whether or not a jump is on its way; or a part begins; or the innermost master is being left.
+pub data Nested (types : List TypeForm) (s : State) : Type 0 where
+  standing : Whole types s.masters s.heap → Nests types (scopes s.masters) s.control → Nested types s
+  beginning : Begins types s → Nested types s
+  parting : Parting types s.masters s.heap → s.mode ≡ Running → Goes types (scopes s.masters) s.control → Nested types s
+
+-- How masters change.
+pub whole_declared : (types : List TypeForm) (number x : ℕ) (ms : List Master) (heap : List Object) → Whole types ms heap → Whole types (owning (record { number = number; owned = declared x }) ms) heap
+whole_declared types number x ms heap w = record {
+  lone = rw (scopes_declared number x ms) w.lone;
+  needs = rw (scopes_declared number x ms) w.needs;
+  housed = housed_owning heap (record { number = number; owned = declared x }) ms w.housed;
+}
+
+pub nests_declared : (types : List TypeForm) (number x : ℕ) (ms : List Master) (k : List (Frame Value)) → Nests types (scopes ms) k → Nests types (scopes (owning (record { number = number; owned = declared x }) ms)) k
+nests_declared types number x ms k n = rw (scopes_declared number x ms) n
+
+pub whole_heap : (types : List TypeForm) (ms : List Master) (before after : List Object) → Housed after (items_of ms) → Whole types ms before → Whole types ms after
+whole_heap types ms before after housed w = record { lone = w.lone; needs = w.needs; housed = housed }
+
+pub parting_heap : (types : List TypeForm) (ms : List Master) (before after : List Object) → Housed after (items_of ms) → Parting types ms before → Parting types ms after
+parting_heap types ms before after housed w = record { lone = w.lone; needs = w.needs; housed = housed }
+
+pub whole_parts : (types : List TypeForm) (ms : List Master) (heap : List Object) → Whole types ms heap → Parting types ms heap
+whole_parts types ms heap w = record { lone = w.lone; needs = open_older types (scopes ms) w.needs; housed = w.housed }
+
+-- A part begins.
+once_there : (us vs : List ℕ) (t : ℕ) → (times t us ≡ 0 → times t (us ++ vs) ≤ 1) → times t us ≤ 1 → (1 ≤ times t us → times t vs ≡ 0) → times t (us ++ vs) ≤ 1
+once_there us vs t none le away = split (times t us) refl
+  where
+    split : (n : ℕ) → times t us ≡ n → times t (us ++ vs) ≤ 1
+    split zero is = none is
+    split (suc n) is = let apart = away (omega (arith, is)) in let all = times_append t us vs in omega (arith, all, apart, le)
+
+pub grows : (types : List TypeForm) (number : ℕ) (rest : List Master) (heap : List Object) (ds : List DeclarationForm) (around : List ℕ) → PartNests types around ds → Alike around (all_of (scopes rest)) → Whole types rest heap → Growing types (record { number = number; items = [] }) rest heap ds (collected ds ++ around)
+grows types number rest heap ds around part alike w = record {
+  first = part.first;
+  once = λ t. once_there (collected ds) around t
+      (λ none. let all = times_append t (collected ds) around in let same = alike t in let once = w.lone t in omega (arith, all, same, once, none))
+      (part.once t) (part.away t);
+  all = λ t. let all = times_append t (collected ds) around in let same = alike t in omega (arith, all, same);
+  left = part.needs;
+  here = λ t le. absurd (omega (arith, le));
+  outer = w.needs;
+  housed = w.housed;
+}
+
+-- All its collections have been created.
+pub grown : (types : List TypeForm) (m : Master) (rest : List Master) (heap : List Object) (ds : List DeclarationForm) (there : List ℕ) → collected ds ≡ [] → Growing types m rest heap ds there → Whole types (m ∷ rest) heap × Alike there (all_of (scopes (m ∷ rest)))
+grown types m rest heap ds there none g = (record { lone = lone; needs = (λ t le. open_within there (opened m.items ++ all_of (scopes rest)) (reached_components types t) within (g.here t le), g.outer); housed = housed_after heap m.items (items_of rest) g.housed }, alike)
+  where
+    alike : Alike there (all_of (scopes (m ∷ rest)))
+    alike t =
+        let all = g.all t in
+        let nothing : times t (collected ds) ≡ 0 = ap (times t) none in
+        let sum = times_append t (opened m.items) (all_of (scopes rest)) in
+        omega (arith, all, nothing, sum)
+
+    lone : Lone (scopes (m ∷ rest))
+    lone t = let same = alike t in let once = g.once t in omega (arith, same, once)
+
+    within : Within there (opened m.items ++ all_of (scopes rest))
+    within t le = let same = alike t in omega (arith, same, le)

@@ -1,0 +1,239 @@
+-- What nests in the text of a program: each part opens collections once, none that is open around it, and those of components with them.
+
+use Rattle.std.proofs.Common.{◌≡◌, ℕ, zero, suc, ◌+◌, ◌≤◌, ◌==◌, ◌&&◌, cond, not, count_by, Bool, true, false, List, [], ◌∷◌, ◌++◌, map, arith, refl, sym, ap, ◌∙◌, subst}
+use Rattle.std.specs.Prelude.{is_some}
+use Rattle.std.proofs.lemmas.Bool.{eqb-true}
+use Rattle.std.proofs.lemmas.List.Sums.{sum_by-cons}
+use Rattle.std.specs.List.{slice_get, list_all}
+use Rattle.ada_program.specs.declared.program.ScalarType.TheVariants.{Integer, Boolean}
+use Rattle.ada_program.specs.Form.{DeclarationForm, collects, declares, StmtForm, skips, assigns, frees, gets, writes, writes_text, chooses, repeats, counts, exits, returns, raises, encloses, StmtsForm, no_stmts, a_stmt, BranchesForm, otherwise, a_branch, HandlersForm, no_handlers, a_handler}
+use Rattle.ada_program.specs.ProgramForm.{TypeForm, record_of, access_to, VariableForm, ProgramForm}
+use Rattle.ada_program.specs.WellFormed.{IsWellFormed, Creation, of_collection, of_variable, creation, created_by, created_by_all, created_by_branches, created_by_handlers, creations, is_access, designated_in, collections_first, collection_fits, is_collection, has_collections, has_type, initial_fits, declarations_fit, is_type, scalar_of, variable_kind, condition_fits, has_statement, choice_fits, statement_fits, stmts_fit, branches_fit, handlers_fit, reached_components}
+use Rattle.ada_program.specs.Nested.{collected, is_one_of, are_open, collection_nests, part_nests, statement_nests, statements_nest, branches_nest, handlers_nest, CollectionsNest}
+use Rattle.ada_scopes.proofs.Counts.{and_left, and_right, one, times, times_of, times_none, all_times}
+
+-- A part where these are open around it: its collections come before its first variable, each once, none of them is open around it, and those
+-- that its objects' components need are open with them.
+pub record PartNests (types : List TypeForm) (around : List ℕ) (ds : List DeclarationForm) : Type 0 where
+  pub first : collections_first ds ≡ true
+  pub once : (t : ℕ) → times t (collected ds) ≤ 1
+  pub away : (t : ℕ) → 1 ≤ times t (collected ds) → times t around ≡ 0
+  pub needs : (t : ℕ) → 1 ≤ times t (collected ds) → are_open (collected ds ++ around) (reached_components types t) ≡ true
+
+abbrev mutual
+  pub StatementNests : List TypeForm → List ℕ → StmtForm → Type 0
+  StatementNests types around skips = Unit {0}
+  StatementNests types around (assigns target right) = Unit {0}
+  StatementNests types around (frees access path) = Unit {0}
+  StatementNests types around (gets target) = Unit {0}
+  StatementNests types around (writes e) = Unit {0}
+  StatementNests types around (writes_text text) = Unit {0}
+  StatementNests types around (chooses branches) = BranchesNest types around branches
+  StatementNests types around (repeats condition fs end_spot) = StatementsNest types around fs
+  StatementNests types around (counts x low high fs end_spot) = StatementsNest types around fs
+  StatementNests types around (exits condition spot) = Unit {0}
+  StatementNests types around (returns spot) = Unit {0}
+  StatementNests types around (raises e) = Unit {0}
+  StatementNests types around (encloses ds fs hs) =
+      PartNests types around ds × StatementsNest types (collected ds ++ around) fs × HandlersNest types (collected ds ++ around) hs
+
+  pub StatementsNest : List TypeForm → List ℕ → StmtsForm → Type 0
+  StatementsNest types around no_stmts = Unit {0}
+  StatementsNest types around (a_stmt f fs) = StatementNests types around f × StatementsNest types around fs
+
+  pub BranchesNest : List TypeForm → List ℕ → BranchesForm → Type 0
+  BranchesNest types around (otherwise fs) = StatementsNest types around fs
+  BranchesNest types around (a_branch e fs branches) = StatementsNest types around fs × BranchesNest types around branches
+
+  pub HandlersNest : List TypeForm → List ℕ → HandlersForm → Type 0
+  HandlersNest types around no_handlers = Unit {0}
+  HandlersNest types around (a_handler choices fs hs) = StatementsNest types around fs × HandlersNest types around hs
+
+-- How often creations create the collection of a type.
+abbrev pub makes_by : ℕ → Creation → ℕ
+makes_by t (of_collection access) = one (access == t)
+makes_by t (of_variable x) = 0
+
+abbrev pub makes : ℕ → List Creation → ℕ
+makes t [] = 0
+makes t (c ∷ cs) = makes_by t c + makes t cs
+
+makes_append : (t : ℕ) (bs cs : List Creation) → makes t (bs ++ cs) ≡ makes t bs + makes t cs
+makes_append t [] cs = omega arith
+makes_append t (b ∷ bs) cs = let h = makes_append t bs cs in omega (arith, h)
+
+one_is : (b : Bool) → one b ≡ cond b 1 0
+one_is true = refl
+one_is false = refl
+
+makes_one : (t : ℕ) (c : Creation) → makes_by t c ≡ cond (is_collection t c) 1 0
+makes_one t (of_collection access) = one_is (access == t)
+makes_one t (of_variable x) = refl
+
+makes_is : (t : ℕ) (cs : List Creation) → makes t cs ≡ count_by (is_collection t) cs
+makes_is t [] = refl
+makes_is t (c ∷ cs) =
+    let all = sum_by-cons (λ x. cond (is_collection t x) 1 0) c cs in
+    let head = makes_one t c in
+    let rest = makes_is t cs in
+    omega (arith, all, head, rest)
+
+times_makes : (t : ℕ) (ds : List DeclarationForm) → makes t (map creation ds) ≡ times t (collected ds)
+times_makes t [] = refl
+times_makes t (collects access ∷ ds) = let h = times_makes t ds in omega (arith, h)
+times_makes t (declares x right ∷ ds) = let h = times_makes t ds in omega (arith, h)
+
+-- No access type's collection is created twice.
+abbrev pub Once : List TypeForm → List Creation → Type 0
+Once types cs = (t : ℕ) → is_access types t ≡ true → makes t cs ≤ 1
+
+once_left : (types : List TypeForm) (bs cs : List Creation) → Once types (bs ++ cs) → Once types bs
+once_left types bs cs once t is = let h = once t is in let all = makes_append t bs cs in omega (arith, h, all)
+
+once_right : (types : List TypeForm) (bs cs : List Creation) → Once types (bs ++ cs) → Once types cs
+once_right types bs cs once t is = let h = once t is in let all = makes_append t bs cs in omega (arith, h, all)
+
+-- A well-formed program creates each collection once.
+this_one : (cs : List Creation) (k i : ℕ) (types : List TypeForm) → has_collections cs k types ≡ true → is_some (designated_in (slice_get types i)) ≡ true → count_by (is_collection (k + i)) cs ≡ 1
+this_one cs k i [] has is = absurd (cc)
+this_one cs k zero (record_of name components ∷ types) has is = absurd (cc)
+this_one cs k zero (access_to name designated ∷ types) has is =
+    let at_k : count_by (is_collection k) cs ≡ 1 = eqb-true (count_by (is_collection k) cs) 1 (and_left (count_by (is_collection k) cs == 1) (has_collections cs (k + 1) types) has) in
+    let same : k + 0 ≡ k = omega arith in
+    ap (λ n. count_by (is_collection n) cs) same ∙ at_k
+this_one cs k (suc i) (record_of name components ∷ types) has is =
+    let same : k + suc i ≡ (k + 1) + i = omega arith in
+    ap (λ n. count_by (is_collection n) cs) same ∙ this_one cs (k + 1) i types has is
+this_one cs k (suc i) (access_to name designated ∷ types) has is =
+    let same : k + suc i ≡ (k + 1) + i = omega arith in
+    ap (λ n. count_by (is_collection n) cs) same ∙ this_one cs (k + 1) i types (and_right (count_by (is_collection k) cs == 1) (has_collections cs (k + 1) types) has) is
+
+all_once : (p : ProgramForm) → IsWellFormed p → Once p.types (creations p)
+all_once p well t is =
+    let same : 0 + t ≡ t = omega arith in
+    let counted = this_one (creations p) 0 t p.types well.has_one_each is in
+    let named : count_by (is_collection t) (creations p) ≡ 1 = ap (λ n. count_by (is_collection n) (creations p)) (sym same) ∙ counted in
+    let made = makes_is t (creations p) in
+    omega (arith, made, named)
+
+-- What a part collects is of access types.
+access_by : (types : List TypeForm) (access t n : ℕ) (b : Bool) → (access == t) ≡ b → is_access types access ≡ true → (1 ≤ n → is_access types t ≡ true) → 1 ≤ one b + n → is_access types t ≡ true
+access_by types access t n true same is later le = subst (λ u. is_access types u ≡ true) (eqb-true access t same) is
+access_by types access t n false same is later le = later (omega (arith, le))
+
+collected_access : (types : List TypeForm) (ds : List DeclarationForm) (t : ℕ) → list_all (collection_fits types) ds ≡ true → 1 ≤ times t (collected ds) → is_access types t ≡ true
+collected_access types [] t fits le = absurd (omega (arith, le))
+collected_access types (declares x right ∷ ds) t fits le = collected_access types ds t fits le
+collected_access types (collects access ∷ ds) t fits le =
+    access_by types access t (times t (collected ds)) (access == t) refl (and_left (is_access types access) (list_all (collection_fits types) ds) fits)
+    (collected_access types ds t (and_right (is_access types access) (list_all (collection_fits types) ds) fits)) le
+
+-- What a part's check says.
+not_true : (b : Bool) → not b ≡ true → b ≡ false
+not_true true is = absurd (cc)
+not_true false is = refl
+
+once_by : (types : List TypeForm) (ds : List DeclarationForm) (t : ℕ) (b : Bool) → is_one_of (collected ds) t ≡ b → list_all (collection_fits types) ds ≡ true → Once types (map creation ds) → times t (collected ds) ≤ 1
+once_by types ds t true is fits once =
+    let made = once t (collected_access types ds t fits (times_of (collected ds) t is)) in
+    let same = times_makes t ds in
+    omega (arith, made, same)
+once_by types ds t false is fits once = let none = times_none (collected ds) t is in omega (arith, none)
+
+part_holds : (types : List TypeForm) (around : List ℕ) (ds : List DeclarationForm) → collections_first ds ≡ true → list_all (collection_fits types) ds ≡ true → Once types (map creation ds) → part_nests types around ds ≡ true → PartNests types around ds
+part_holds types around ds first fits once nests = record {
+  first = first;
+  once = λ t. once_by types ds t (is_one_of (collected ds) t) refl fits once;
+  away = λ t le. times_none around t (not_true (is_one_of around t) (and_left (not (is_one_of around t)) (are_open (collected ds ++ around) (reached_components types t)) (all_times (collection_nests types around (collected ds ++ around)) (collected ds) nests t le)));
+  needs = λ t le. and_right (not (is_one_of around t)) (are_open (collected ds ++ around) (reached_components types t)) (all_times (collection_nests types around (collected ds ++ around)) (collected ds) nests t le);
+}
+
+-- So it is of statements.
+module _ (types : List TypeForm) (variables : List VariableForm) (texts exceptions : List (List ℕ)) where
+  mutual
+    statement_holds : (f : StmtForm) (inside : Bool) (around : List ℕ) → statement_fits types variables texts exceptions inside f ≡ true → Once types (created_by f) → statement_nests types around f ≡ true → StatementNests types around f
+    statement_holds skips inside around fits once nests = tt
+    statement_holds (assigns target right) inside around fits once nests = tt
+    statement_holds (frees access path) inside around fits once nests = tt
+    statement_holds (gets target) inside around fits once nests = tt
+    statement_holds (writes e) inside around fits once nests = tt
+    statement_holds (writes_text text) inside around fits once nests = tt
+    statement_holds (chooses branches) inside around fits once nests = branches_hold branches inside around fits once nests
+    statement_holds (repeats condition fs end_spot) inside around fits once nests =
+        statements_hold fs true around (and_right (condition_fits types variables condition && has_statement fs) (stmts_fit types variables texts exceptions true fs) fits) once nests
+    statement_holds (counts x low high fs end_spot) inside around fits once nests =
+        statements_hold fs true around
+        (and_right (is_type Integer (scalar_of (variable_kind variables x)) && has_type types variables Integer low && has_type types variables Integer high && has_statement fs) (stmts_fit types variables texts exceptions true fs) fits)
+        (λ t is. let h = once t is in omega (arith, h)) nests
+    statement_holds (exits condition spot) inside around fits once nests = tt
+    statement_holds (returns spot) inside around fits once nests = tt
+    statement_holds (raises e) inside around fits once nests = tt
+    statement_holds (encloses ds fs hs) inside around fits once nests =
+        let part = part_nests types around ds in
+        let inner = statements_nest types (collected ds ++ around) fs in
+        let handled = handlers_nest types (collected ds ++ around) hs in
+        let part_fits = declarations_fit types variables ds in
+        let inner_fits = stmts_fit types variables texts exceptions inside fs in
+        let handled_fits = handlers_fit types variables texts exceptions inside hs in
+        let first_two = and_left (part && inner) handled nests in
+        let fit_two = and_left (part_fits && inner_fits) handled_fits fits in
+        let own_fits = and_left part_fits inner_fits fit_two in
+        let leading = and_left (collections_first ds && list_all (collection_fits types) ds) (list_all (initial_fits types variables) ds) own_fits in
+        let before = once_left types (map creation ds ++ created_by_all fs) (created_by_handlers hs) once in (
+          part_holds types around ds (and_left (collections_first ds) (list_all (collection_fits types) ds) leading) (and_right (collections_first ds) (list_all (collection_fits types) ds) leading)
+              (once_left types (map creation ds) (created_by_all fs) before) (and_left part inner first_two),
+          statements_hold fs inside (collected ds ++ around) (and_right part_fits inner_fits fit_two) (once_right types (map creation ds) (created_by_all fs) before) (and_right part inner first_two),
+          handlers_hold hs inside (collected ds ++ around) (and_right (part_fits && inner_fits) handled_fits fits) (once_right types (map creation ds ++ created_by_all fs) (created_by_handlers hs) once) (and_right (part && inner) handled nests),
+        )
+
+    statements_hold : (fs : StmtsForm) (inside : Bool) (around : List ℕ) → stmts_fit types variables texts exceptions inside fs ≡ true → Once types (created_by_all fs) → statements_nest types around fs ≡ true → StatementsNest types around fs
+    statements_hold no_stmts inside around fits once nests = tt
+    statements_hold (a_stmt f fs) inside around fits once nests = (
+      statement_holds f inside around (and_left (statement_fits types variables texts exceptions inside f) (stmts_fit types variables texts exceptions inside fs) fits) (once_left types (created_by f) (created_by_all fs) once)
+          (and_left (statement_nests types around f) (statements_nest types around fs) nests),
+      statements_hold fs inside around (and_right (statement_fits types variables texts exceptions inside f) (stmts_fit types variables texts exceptions inside fs) fits) (once_right types (created_by f) (created_by_all fs) once)
+          (and_right (statement_nests types around f) (statements_nest types around fs) nests),
+    )
+
+    branches_hold : (branches : BranchesForm) (inside : Bool) (around : List ℕ) → branches_fit types variables texts exceptions inside branches ≡ true → Once types (created_by_branches branches) → branches_nest types around branches ≡ true → BranchesNest types around branches
+    branches_hold (otherwise fs) inside around fits once nests = statements_hold fs inside around fits once nests
+    branches_hold (a_branch e fs branches) inside around fits once nests =
+        let own = has_type types variables Boolean e in
+        let inner = stmts_fit types variables texts exceptions inside fs in
+        let others = branches_fit types variables texts exceptions inside branches in (
+          statements_hold fs inside around (and_right own inner (and_left (own && inner) others fits)) (once_left types (created_by_all fs) (created_by_branches branches) once)
+              (and_left (statements_nest types around fs) (branches_nest types around branches) nests),
+          branches_hold branches inside around (and_right (own && inner) others fits) (once_right types (created_by_all fs) (created_by_branches branches) once)
+              (and_right (statements_nest types around fs) (branches_nest types around branches) nests),
+        )
+
+    handlers_hold : (hs : HandlersForm) (inside : Bool) (around : List ℕ) → handlers_fit types variables texts exceptions inside hs ≡ true → Once types (created_by_handlers hs) → handlers_nest types around hs ≡ true → HandlersNest types around hs
+    handlers_hold no_handlers inside around fits once nests = tt
+    handlers_hold (a_handler choices fs hs) inside around fits once nests =
+        let chosen = list_all (choice_fits exceptions) choices && has_statement fs in
+        let inner = stmts_fit types variables texts exceptions inside fs in
+        let others = handlers_fit types variables texts exceptions inside hs in (
+          statements_hold fs inside around (and_right chosen inner (and_left (chosen && inner) others fits)) (once_left types (created_by_all fs) (created_by_handlers hs) once)
+              (and_left (statements_nest types around fs) (handlers_nest types around hs) nests),
+          handlers_hold hs inside around (and_right (chosen && inner) others fits) (once_right types (created_by_all fs) (created_by_handlers hs) once)
+              (and_right (statements_nest types around fs) (handlers_nest types around hs) nests),
+        )
+
+-- The declarations, the statements and the handlers of a program.
+pub record ProgramNests (p : ProgramForm) : Type 0 where
+  pub part : PartNests p.types [] p.declarations
+  pub statements : StatementsNest p.types (collected p.declarations) p.statements
+  pub handlers : HandlersNest p.types (collected p.declarations) p.handlers
+
+pub program_nests : (p : ProgramForm) → IsWellFormed p → CollectionsNest p → ProgramNests p
+program_nests p well nest =
+    let once = all_once p well in
+    let before = once_left p.types (map creation p.declarations ++ created_by_all p.statements) (created_by_handlers p.handlers) once in
+    record {
+      part = part_holds p.types [] p.declarations well.collections_first well.collections_fit
+          (once_left p.types (map creation p.declarations) (created_by_all p.statements) before) nest.declarations;
+      statements = statements_hold p.types p.variables p.texts p.exceptions p.statements false (collected p.declarations) well.statements_fit
+          (once_right p.types (map creation p.declarations) (created_by_all p.statements) before) nest.statements;
+      handlers = handlers_hold p.types p.variables p.texts p.exceptions p.handlers false (collected p.declarations) well.handlers_fit
+          (once_right p.types (map creation p.declarations ++ created_by_all p.statements) (created_by_handlers p.handlers) once) nest.handlers;
+    }

@@ -1,0 +1,55 @@
+-- The premises are met, and they are needed.
+
+use Rattle.std.specs.Prelude.{◌≡◌, ℕ, [], ◌∷◌}
+use Rattle.ada_program.specs.declared.program.Program.{Program}
+use Rattle.ada_program.specs.declared.program.TypeNo.{TypeNo}
+use Rattle.ada_program.specs.ProgramForm.{program_form}
+use Rattle.ada_program.specs.WellFormed.{IsWellFormed}
+use Rattle.ada_program.specs.Nested.{CollectionsNest}
+use Rattle.ada_meaning.specs.declared.state.Id.{Id}
+use Rattle.ada_meaning.specs.State.{Master}
+use Rattle.ada_meaning.specs.Named.{Object, State}
+use Rattle.ada_order.specs.Example.{InSomeRun}
+use Rattle.ada_scopes.specs.Scopes.{lasting, IsOpenIn, IsListed, HoldsNames, ComponentsAreOutlivedIn}
+
+-- A block is entered inside the main procedure. An object's first component is of an access type of the main procedure, and its second one of an
+-- access type of the block.
+pub record HoldsNearAndFar (program : Program) (s : State) : Type 0 where
+  pub block : Master
+  pub main : Master
+  pub o : Id
+  pub object : Object
+  pub far : TypeNo
+  pub near : TypeNo
+  pub entered : s.masters ≡ block ∷ main ∷ []
+  pub listed : IsListed s.heap o object
+  pub first : HoldsNames (program_form program).types object.cell.access 0 far
+  pub second : HoldsNames (program_form program).types object.cell.access 1 near
+  pub far_is_open : IsOpenIn (main ∷ []) far.0
+  pub near_is_open : IsOpenIn (block ∷ []) near.0
+
+-- A well-formed program whose collections nest has a run that comes to such an object.
+abbrev pub CollectionsOfBlocksNest : Type 0
+CollectionsOfBlocksNest =
+    (program : Program) × IsWellFormed (program_form program) × CollectionsNest (program_form program)
+    × InSomeRun program (λ events last. HoldsNearAndFar program last)
+
+-- A well-formed program has an object that lasts longer than what its component names: the component's type has its collection in a block.
+abbrev pub NestingIsNeeded : Type 0
+NestingIsNeeded = (program : Program) × IsWellFormed (program_form program) × (ComponentsAreOutlivedIn program → ⊥)
+
+-- An object is in its collection, while the collection of what its component names is gone.
+pub record OutlastsTarget (program : Program) (s : State) : Type 0 where
+  pub o : Id
+  pub object : Object
+  pub c : ℕ
+  pub target : TypeNo
+  pub listed : IsListed s.heap o object
+  pub names : HoldsNames (program_form program).types object.cell.access c target
+  pub gone : IsOpenIn (lasting object.cell.home.item s.masters) target.0 → ⊥
+
+-- A well-formed program whose collections nest has a run that comes to such an object: its main procedure is being left, newest collection first.
+abbrev pub CollectionsGoOneByOne : Type 0
+CollectionsGoOneByOne =
+    (program : Program) × IsWellFormed (program_form program) × CollectionsNest (program_form program)
+    × InSomeRun program (λ events last. OutlastsTarget program last)

@@ -1,0 +1,140 @@
+-- What holds of objects and collections in every run of a program whose collections nest, whatever its input and whatever is granted and picked.
+
+use Rattle.std.specs.Prelude.{◌≡◌, ◌⊎◌, ℕ, ℤ, Bool, true, false, ◌||◌, ◌==◌, if◌then◌else◌, List, [], ◌∷◌, Option, Some, None, AllPairs, Contains}
+use Rattle.std.specs.List.{slice_get}
+use Rattle.ada_program.specs.declared.program.Program.{Program}
+use Rattle.ada_program.specs.declared.program.TypeNo.{TypeNo}
+use Rattle.ada_program.specs.declared.program.VariableKind.TheVariants as variable
+use Rattle.ada_program.specs.ProgramForm.{TypeForm, program_form}
+use Rattle.ada_program.specs.WellFormed.{IsWellFormed, reached_components, kind_among}
+use Rattle.ada_program.specs.Nested.{CollectionsNest}
+use Rattle.ada_meaning.specs.declared.state.Id.{Id}
+use Rattle.ada_meaning.specs.declared.state.Value.{Value}
+use Rattle.ada_meaning.specs.declared.state.Value.TheVariants.{Names}
+use Rattle.ada_meaning.specs.Frame.{Frame, is_master}
+use Rattle.ada_meaning.specs.Frame as frame
+use Rattle.ada_meaning.specs.State.{Owned, declared, collection, Item, Master}
+use Rattle.ada_meaning.specs.Named.{Object, State, object_at}
+use Rattle.ada_meaning.specs.Run.{Event, Run, first_state}
+use Rattle.ada_meaning.specs.Law.{Differ, items_of}
+
+-- Each state that a run of the program comes to has a property.
+abbrev pub InItsRuns : Program → (State → Type 0) → Type 0
+InItsRuns program P =
+    (input : List ℤ) (events : List Event) (last : State) → Run program (first_state program input) events last → P last
+
+-- Each program that is well formed and whose collections nest has a property.
+abbrev pub WhereCollectionsNest : (Program → Type 0) → Type 0
+WhereCollectionsNest P =
+    (program : Program) → IsWellFormed (program_form program) → CollectionsNest (program_form program) → P program
+
+-- The access type whose collection a master owns by an item, if that is what the item is (7.6.1).
+abbrev pub type_collected : Owned → Option ℕ
+type_collected (declared x) = None
+type_collected (collection access) = Some access
+
+-- Two items are not collections of one access type.
+abbrev pub CollectTwoTypes : Item → Item → Type 0
+CollectTwoTypes i j = Differ (type_collected i.owned) (type_collected j.owned)
+
+-- No access type has two collections at a time (7.6.1).
+abbrev pub TypesHaveOneCollection : Type 0
+TypesHaveOneCollection =
+    WhereCollectionsNest (λ program. InItsRuns program (λ last. AllPairs CollectTwoTypes (items_of last.masters)))
+
+-- Is this the number of one of these items?
+abbrev pub is_number_of : List Item → ℕ → Bool
+is_number_of [] n = false
+is_number_of (i ∷ is) n = (i.number == n) || is_number_of is n
+
+-- The masters that last as long as an item of this number: the one that owns it, and the outer ones (7.6.1).
+abbrev pub lasting : ℕ → List Master → List Master
+lasting n [] = []
+lasting n (m ∷ ms) = if is_number_of m.items n then m ∷ ms else lasting n ms
+
+-- One of these masters owns the collection of an access type.
+abbrev pub IsOpenIn : List Master → ℕ → Type 0
+IsOpenIn masters access = (i : Item) × Contains (items_of masters) i × (i.owned ≡ collection access)
+
+-- Is the innermost master being left? The first frame that belongs to a master says so (7.6.1).
+abbrev pub is_leaving : List (Frame Value) → Bool
+is_leaving [] = false
+is_leaving (frame.Leaves mode ∷ k) = true
+is_leaving (f ∷ k) = if is_master f then false else is_leaving k
+
+-- Is an item of this number one of the innermost master?
+abbrev pub is_innermost : List Master → ℕ → Bool
+is_innermost [] n = false
+is_innermost (m ∷ ms) n = is_number_of m.items n
+
+-- The innermost master is being left, and it owns the item of this number.
+abbrev pub IsGoing : State → ℕ → Type 0
+IsGoing s n = (is_leaving s.control ≡ true) × (is_innermost s.masters n ≡ true)
+
+-- This object has this name, and is in its collection.
+abbrev pub IsListed : List Object → Id → Object → Type 0
+IsListed heap o object = (object_at heap o ≡ Some object) × (object.listed ≡ true)
+
+-- The home of an object is an item of a master that is entered: the collection of its own access type.
+abbrev pub IsInCollection : List Master → Object → Type 0
+IsInCollection masters object =
+    (i : Item) × Contains (items_of masters) i × (i.number ≡ object.cell.home.item) × (i.owned ≡ collection object.cell.access)
+
+-- Each object that is in its collection has that one as its home.
+abbrev pub AreInCollections : State → Type 0
+AreInCollections s = (o : Id) (object : Object) → IsListed s.heap o object → IsInCollection s.masters object
+
+-- Each object that is in its collection lies in one that is open, and that is of its own access type (7.6.1).
+abbrev pub ObjectsLieInCollections : Type 0
+ObjectsLieInCollections = WhereCollectionsNest (λ program. InItsRuns program AreInCollections)
+
+-- The component of this number holds access values of a type, in the objects that another access type designates (3.8).
+abbrev pub HoldsNames : List TypeForm → (access c : ℕ) → (target : TypeNo) → Type 0
+HoldsNames types access c target = kind_among (reached_components types access) c ≡ Some (variable.Access target)
+
+-- The collection of an access type lasts as long as an object: it is open, and the master of the object's home owns it, or an outer one. While
+-- that master is being left, its collections go one after the other, and this one may have gone first.
+abbrev pub IsOutlived : State → Object → ℕ → Type 0
+IsOutlived s object target =
+    IsGoing s object.cell.home.item ⊎ IsOpenIn (lasting object.cell.home.item s.masters) target
+
+-- For each object in its collection, the collection of each access type that one of its components has lasts as long.
+abbrev pub AreOutlived : List TypeForm → State → Type 0
+AreOutlived types s =
+    (o : Id) (object : Object) (c : ℕ) (target : TypeNo)
+    → IsListed s.heap o object → HoldsNames types object.cell.access c target → IsOutlived s object target.0
+
+-- In the runs of this program collections last as long as the objects whose components need them.
+abbrev pub ComponentsAreOutlivedIn : Program → Type 0
+ComponentsAreOutlivedIn program = InItsRuns program (AreOutlived (program_form program).types)
+
+-- Collections last as long as the objects whose components need them (3.10.2, 7.6.1).
+abbrev pub ComponentsAreOutlived : Type 0
+ComponentsAreOutlived = WhereCollectionsNest ComponentsAreOutlivedIn
+
+-- A component of the one object names the other, and both are in their collections.
+abbrev pub Holds : List Object → (holder held : Object) → Type 0
+Holds heap holder held =
+    (o : Id) × (p : Id) × (c : ℕ)
+    × IsListed heap o holder × IsListed heap p held × (slice_get holder.cell.values c ≡ Some (Names p))
+
+-- Where a component names an object, that one's home is an item of the master of the holder's home, or of an outer one.
+abbrev pub HeldOutside : State → Type 0
+HeldOutside s =
+    (holder held : Object)
+    → Holds s.heap holder held → is_number_of (items_of (lasting holder.cell.home.item s.masters)) held.cell.home.item ≡ true
+
+-- No component names an object of a master further in than that of its own object.
+abbrev pub NamesStayOutside : Type 0
+NamesStayOutside = WhereCollectionsNest (λ program. InItsRuns program HeldOutside)
+
+-- Whatever object holds the name of one whose home is an item of the innermost master has its own home there.
+abbrev pub InnermostHeldInside : State → Type 0
+InnermostHeldInside s =
+    (holder held : Object)
+    → Holds s.heap holder held → is_innermost s.masters held.cell.home.item ≡ true
+    → is_innermost s.masters holder.cell.home.item ≡ true
+
+-- No object of an outer master has a component that names an object of the innermost one.
+abbrev pub InnermostIsNotNamed : Type 0
+InnermostIsNotNamed = WhereCollectionsNest (λ program. InItsRuns program InnermostHeldInside)

@@ -1,0 +1,48 @@
+//! The laws of collections that nest. Each is a function that does nothing, and whose contract is the theorem.
+
+ghost use Rattle.ada_scopes.specs.Example.{CollectionsOfBlocksNest, NestingIsNeeded, CollectionsGoOneByOne};
+ghost use Rattle.ada_scopes.specs.Scopes.{TypesHaveOneCollection, ObjectsLieInCollections, ComponentsAreOutlived};
+ghost use Rattle.ada_scopes.specs.Scopes.{NamesStayOutside, InnermostIsNotNamed};
+
+/// No two items of the masters that are entered are collections of one access type (7.6.1).
+pub fn types_have_one_collection()
+    ensures { TypesHaveOneCollection }
+{}
+
+/// The home of an object that is in its collection is an item of a master that is entered: the collection of its own
+/// access type (7.6.1).
+pub fn objects_lie_in_collections()
+    ensures { ObjectsLieInCollections }
+{}
+
+/// The collection of what a component names is open, in the master of the object's home or in an outer one (3.10.2). Only
+/// while that very master is being left, it may have gone before the object's own.
+pub fn components_are_outlived()
+    ensures { ComponentsAreOutlived }
+{}
+
+/// What a component names lies in a collection of the same master as the object, or of an outer one. So when the innermost
+/// master is left, no object of an outer one has a component that names an object of the innermost one. No component names
+/// an object in a run yet: the law rests on the types of components, not on that.
+pub fn names_stay_outside()
+    ensures home { NamesStayOutside }
+    ensures innermost { InnermostIsNotNamed }
+{}
+
+/// The premises are met: in a run of a program a block has an object with a component of an access type of the main
+/// procedure, and one of its own.
+pub fn collections_of_blocks_nest()
+    ensures { CollectionsOfBlocksNest }
+{}
+
+/// They are needed: where an outer access type's objects have components of an access type of a block, an object is there
+/// without a collection for what its component names that lasts as long.
+pub fn nesting_is_needed()
+    ensures { NestingIsNeeded }
+{}
+
+/// While a master is being left, its collections go one by one: an object may outlast the collection of what its component
+/// names, where both are of that master.
+pub fn collections_go_one_by_one()
+    ensures { CollectionsGoOneByOne }
+{}

@@ -1,0 +1,71 @@
+-- What is left to do fits as well once objects have come to be or have changed.
+
+use Rattle.ada_typed.specs.Holding.{Cells}
+use Rattle.std.proofs.Common.{Bool, true, false, List, [], ◌∷◌, Option, Some, None}
+use Rattle.ada_program.specs.declared.program.VariableKind.{VariableKind}
+use Rattle.ada_program.specs.declared.program.VariableKind.TheVariants as variable
+use Rattle.ada_program.specs.Form.{HandlersForm}
+use Rattle.ada_program.specs.ProgramForm.{ProgramForm}
+use Rattle.ada_meaning.specs.declared.state.Value.{Value}
+use Rattle.ada_meaning.specs.declared.state.Mode.TheVariants.{Running, Raising, Exiting, Returning}
+use Rattle.ada_meaning.specs.Frame.{Frame, is_loop}
+use Rattle.ada_meaning.specs.Frame as frame
+use Rattle.ada_typed.proofs.Values.{StayDesignated, access_later, kind_of}
+use Rattle.ada_typed.proofs.Control.{onto, AtLoop, WhereInside, handlers_in, AtHandlers, Fits, Lands, Catches}
+
+inside_later : (inside : Bool) (lands later : Type 0) → (lands → later) → WhereInside inside lands → WhereInside inside later
+inside_later true lands later f h = f h
+inside_later false lands later f h = tt
+
+loop_later : (loop : Bool) (behind further behind_later further_later : Type 0) → (behind → behind_later) → (further → further_later) → AtLoop loop behind further → AtLoop loop behind_later further_later
+loop_later true behind further behind_later further_later f g h = f h
+loop_later false behind further behind_later further_later f g h = g h
+
+handlers_later : (p : ProgramForm) (o : Option HandlersForm) (lands behind further lands_after behind_after further_after : Type 0) → (lands → lands_after) → (behind → behind_after) → (further → further_after) → AtHandlers p o lands behind further → AtHandlers p o lands_after behind_after further_after
+handlers_later p None lands behind further lands_after behind_after further_after f g i h = i h
+handlers_later p (Some hs) lands behind further lands_after behind_after further_after f g i h = (h.0, h.1, inside_later h.0 lands lands_after f h.2, g h.3)
+
+module _ (p : ProgramForm) (cells after : Cells) (stay : StayDesignated cells after) where
+  mutual
+    pub fits_later : (k : List (Frame Value)) (kinds : List VariableKind) → Fits p cells kinds k → Fits p after kinds k
+    fits_later [] kinds h = tt
+    fits_later (frame.Elaborates ds fs hs ∷ k) kinds h = (h.0, h.1, h.2, h.3, h.4, inside_later h.1 (Lands p cells k) (Lands p after k) (lands_later k) h.5, fits_later k [] h.6)
+    fits_later (frame.Does fs ∷ k) kinds h = (h.0, h.1, h.2, inside_later h.1 (Lands p cells k) (Lands p after k) (lands_later k) h.3, fits_later k [] h.4)
+    fits_later (frame.Decides fs branches ∷ k) kinds h = (h.0, h.1, h.2, h.3, inside_later h.1 (Lands p cells k) (Lands p after k) (lands_later k) h.4, fits_later k [] h.5)
+    fits_later (frame.Repeats condition fs ∷ k) kinds h = (h.0, h.1, h.2, h.3, fits_later k [] h.4)
+    fits_later (frame.Turns e fs ∷ k) kinds h = (h.0, h.1, h.2, h.3, fits_later k [] h.4)
+    fits_later (frame.Ranges x fs ∷ k) kinds h = (h.0, h.1, h.2, h.3, fits_later k [] h.4)
+    fits_later (frame.Counts x value last fs ∷ k) kinds h = (h.0, h.1, h.2, h.3, fits_later k [] h.4)
+    fits_later (frame.Exits ∷ k) kinds h = (h.0, lands_later k h.1, fits_later k [] h.2)
+    fits_later (frame.Handles hs ∷ k) kinds h = (h.0, h.1, h.2, inside_later h.1 (Lands p cells k) (Lands p after k) (lands_later k) h.3, fits_later k [] h.4)
+    fits_later (frame.Closes ∷ k) kinds h = fits_later k kinds h
+    fits_later (frame.Leaves Running ∷ k) kinds h = fits_later k kinds h
+    fits_later (frame.Leaves (Raising e) ∷ k) kinds h = catches_later k h
+    fits_later (frame.Leaves Exiting ∷ k) kinds h = (lands_later k h.0, catches_later k h.1)
+    fits_later (frame.Leaves Returning ∷ k) kinds h = catches_later k h
+    fits_later (frame.Evaluates right ∷ k) kinds h = (h.0, h.1, fits_later k (h.0 ∷ kinds) h.2)
+    fits_later (frame.Computes e ∷ k) kinds h = (h.0, h.1, fits_later k (kind_of h.0 ∷ kinds) h.2)
+    fits_later (frame.Follows cs ∷ k) kinds h = (h.0, h.1, h.2, h.3, h.4, fits_later k (h.2 ∷ h.0) h.5)
+    fits_later (frame.TestsNull equal ∷ k) kinds h = (h.0, h.1, h.2, fits_later k (variable.Boolean ∷ h.0) h.3)
+    fits_later (frame.Continues links ∷ k) kinds h = (h.0, h.1, h.2, h.3, h.4, fits_later k (kind_of h.2 ∷ h.0) h.5)
+    fits_later (frame.Applies operator ∷ k) kinds h = (h.0, h.1, h.2, h.3, h.4, h.5, fits_later k (kind_of h.3 ∷ h.0) h.6)
+    fits_later (frame.AppliesAlone operator ∷ k) kinds h = (h.0, h.1, h.2, h.3, h.4, fits_later k (kind_of h.2 ∷ h.0) h.5)
+    fits_later (frame.Fills items ∷ k) kinds h = (h.0, h.1, fits_later k (onto h.0 kinds) h.2)
+    fits_later (frame.Creates access count ∷ k) kinds h = (h.0, h.1, h.2, h.3, h.4, fits_later k (variable.Access (record { 0 = access }) ∷ h.0) h.5)
+    fits_later (frame.Stores x ∷ k) kinds h = (h.0, h.1, h.2, h.3, fits_later k h.0 h.4)
+    fits_later (frame.Targets c right ∷ k) kinds h = (h.0, h.1, h.2, h.3, h.4, h.5, fits_later k h.0 h.6)
+    fits_later (frame.StoresIn object c ∷ k) kinds h = (h.0, h.1, h.2, h.3, h.4, access_later cells after stay h.1.0 object h.5, h.6, fits_later k h.0 h.7)
+    fits_later (frame.Receives c ∷ k) kinds h = (h.0, h.1, h.2, h.3, fits_later k h.0 h.4)
+    fits_later (frame.Declares x ∷ k) kinds h = (h.0, h.1, h.2, h.3, fits_later k h.0 h.4)
+    fits_later (frame.Writes ∷ k) kinds h = (h.0, h.1, fits_later k h.0 h.2)
+    fits_later (frame.Ends v ∷ k) kinds h = (h.0, fits_later k kinds h.1)
+    fits_later (frame.GivesBack v cause pool ∷ k) kinds h = (h.0, fits_later k kinds h.1)
+    fits_later (frame.Clears x ∷ k) kinds h = (h.0, h.1, fits_later k kinds h.2)
+
+    lands_later : (k : List (Frame Value)) → Lands p cells k → Lands p after k
+    lands_later [] h = h
+    lands_later (f ∷ k) h = loop_later (is_loop f) (Fits p cells [] k) (Lands p cells k) (Fits p after [] k) (Lands p after k) (fits_later k []) (lands_later k) h
+
+    catches_later : (k : List (Frame Value)) → Catches p cells k → Catches p after k
+    catches_later [] h = tt
+    catches_later (f ∷ k) h = handlers_later p (handlers_in f) (Lands p cells k) (Fits p cells [] k) (Catches p cells k) (Lands p after k) (Fits p after [] k) (Catches p after k) (lands_later k) (fits_later k []) (catches_later k) h

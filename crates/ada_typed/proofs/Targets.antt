@@ -1,0 +1,143 @@
+-- What is assigned to a component, or taken for it from the input, is of its kind.
+
+use Rattle.ada_typed.specs.Holding.{Cells, Designates, IsAccess, HasKind, cells_of}
+use Rattle.std.proofs.Common.{◌≡◌, ℕ, ℤ, true, List, [], ◌∷◌, Option, Some, None, refl, sym, ap, ◌∙◌, subst}
+use Rattle.std.proofs.lemmas.List.{map-set}
+use Rattle.std.specs.List.{slice_get, slice_set}
+use Rattle.ada_program.specs.declared.program.Exception.TheVariants.{ConstraintError, EndError}
+use Rattle.ada_program.specs.declared.program.TypeNo.{TypeNo}
+use Rattle.ada_program.specs.declared.program.VariableKind.{VariableKind}
+use Rattle.ada_program.specs.declared.program.VariableKind.TheVariants as variable
+use Rattle.ada_program.specs.Form.{RightForm}
+use Rattle.ada_program.specs.ProgramForm.{TypeForm, ComponentForm, ProgramForm}
+use Rattle.ada_program.specs.WellFormed.{reached_components, component_kind, kind_among, selected_kind, selectors_kind, kind_takes}
+use Rattle.ada_meaning.specs.declared.state.Id.{Id}
+use Rattle.ada_meaning.specs.declared.state.Value.{Value}
+use Rattle.ada_meaning.specs.declared.state.Value.TheVariants.{Null, Names, Scalar}
+use Rattle.ada_meaning.specs.declared.state.Stage.{Stage}
+use Rattle.ada_meaning.specs.declared.state.Stage.TheVariants.{Building, Existing, Gone}
+use Rattle.ada_meaning.specs.Frame.{Frame}
+use Rattle.ada_meaning.specs.Frame as frame
+use Rattle.ada_meaning.specs.Heap.{Cell}
+use Rattle.ada_meaning.specs.Step.{before_last, last_of, target_next, stored_next, store_next, received_next, receive_next}
+use Rattle.ada_meaning.specs.Named.{Object, State, named, look, seen, existing, changed, filled, store, an_integer}
+use Rattle.ada_typed.proofs.Values.{AreFilled, IsActive, StayDesignated, kinds_later, filled_later, active_later, designated_set, filled_set, kinds_set, component_held, filled_at}
+use Rattle.ada_typed.proofs.Later.{fits_later}
+use Rattle.ada_typed.proofs.Control.{IsName, Fits, Ready, running}
+use Rattle.ada_typed.proofs.Evaluations.{Fine, cell_at, own_access, ready_at, raises}
+
+-- Before the last component of a path there is an access value.
+pub split_kind : (types : List TypeForm) (from : Option VariableKind) (c : ℕ) (cs : List ℕ) (to : VariableKind) → selectors_kind types from (c ∷ cs) ≡ Some to → (access : TypeNo) × (selectors_kind types from (before_last c cs) ≡ Some (variable.Access access)) × (selected_kind types (Some (variable.Access access)) (last_of c cs) ≡ Some to)
+split_kind types None c [] to h = absurd (cc)
+split_kind types (Some variable.Integer) c [] to h = absurd (cc)
+split_kind types (Some variable.Boolean) c [] to h = absurd (cc)
+split_kind types (Some (variable.Access access)) c [] to h = (access, refl, h)
+split_kind types from c (d ∷ cs) to h = split_kind types (selected_kind types from c) d cs to h
+
+-- The cell of an object whose component has another value.
+abbrev filled_cell : ℕ → Value → Cell Value → Cell Value
+filled_cell c v cell = record cell { values = slice_set cell.values c v }
+
+module _ (p : ProgramForm) where
+  -- The object is there whose component is assigned to.
+  target_stage : (stage : Stage) (o : Id) (access : TypeNo) (c : ℕ) (right : RightForm) (kind : VariableKind) (object : Object) (s : State) (kinds : List VariableKind) → Ready p kinds s → Designates (cells_of s.heap) access.0 o → selected_kind p.types (Some (variable.Access access)) c ≡ Some kind → kind_takes p.types p.variables kind right ≡ true → Fits p (cells_of s.heap) kinds s.control → Fine p (target_next named (Names o) c right (existing object stage) s)
+  target_stage Gone o access c right kind object s kinds ready has leads takes fits = tt
+  target_stage Building o access c right kind object s kinds ready has leads takes fits =
+      running kinds (ready_at p kinds s (frame.Evaluates right ∷ frame.StoresIn (Names o) c ∷ s.control) ready ready.deep) (kind, takes, (kinds, access, kind, refl, tt, has, leads, fits))
+  target_stage Existing o access c right kind object s kinds ready has leads takes fits =
+      running kinds (ready_at p kinds s (frame.Evaluates right ∷ frame.StoresIn (Names o) c ∷ s.control) ready ready.deep) (kind, takes, (kinds, access, kind, refl, tt, has, leads, fits))
+
+  target_seen : (at_o : Option Object) (o : Id) (access : TypeNo) (c : ℕ) (right : RightForm) (kind : VariableKind) (s : State) (kinds : List VariableKind) → Ready p kinds s → Designates (cells_of s.heap) access.0 o → selected_kind p.types (Some (variable.Access access)) c ≡ Some kind → kind_takes p.types p.variables kind right ≡ true → Fits p (cells_of s.heap) kinds s.control → Fine p (target_next named (Names o) c right (seen at_o) s)
+  target_seen None o access c right kind s kinds ready has leads takes fits = tt
+  target_seen (Some object) o access c right kind s kinds ready has leads takes fits = target_stage object.stage o access c right kind object s kinds ready has leads takes fits
+
+  pub target_fine : (v : Value) (access : TypeNo) (c : ℕ) (right : RightForm) (kind : VariableKind) (s : State) (kinds : List VariableKind) → Ready p kinds s → HasKind (cells_of s.heap) (variable.Access access) v → selected_kind p.types (Some (variable.Access access)) c ≡ Some kind → kind_takes p.types p.variables kind right ≡ true → Fits p (cells_of s.heap) kinds s.control → Fine p (target_next named v c right (look s.heap v) s)
+  target_fine Null access c right kind s kinds ready has leads takes fits = raises p kinds kinds ConstraintError s ready fits
+  target_fine (Names o) access c right kind s kinds ready has leads takes fits = target_seen (slice_get s.heap o.0) o access c right kind s kinds ready has leads takes fits
+  target_fine (Scalar v) access c right kind s kinds ready has leads takes fits = absurd has
+
+  -- A component gets a value of its kind: then each object has what its type says, and what is left to do fits.
+  pub record Stored (kinds : List VariableKind) (s : State) (heap : List Object) : Type 0 where
+    pub filled : AreFilled p.types (cells_of heap) (cells_of heap)
+    pub active : IsActive (cells_of heap) p.variables kinds s.activations
+    pub fits : Fits p (cells_of heap) kinds s.control
+
+  stored_at : (o : Id) (access : TypeNo) (c : ℕ) (v : Value) (kind : VariableKind) (object : Object) (s : State) (kinds : List VariableKind) (heap : List Object) → Ready p kinds s → Designates (cells_of s.heap) access.0 o → slice_get s.heap o.0 ≡ Some object → selected_kind p.types (Some (variable.Access access)) c ≡ Some kind → HasKind (cells_of s.heap) kind v → Fits p (cells_of s.heap) kinds s.control → cells_of heap ≡ slice_set (cells_of s.heap) o.0 (filled_cell c v object.cell) → Stored kinds s heap
+  stored_at o access c v kind object s kinds heap ready has is leads fitting fits are =
+      let cells = cells_of s.heap in
+      let cell = filled_cell c v object.cell in
+      let after = slice_set cells o.0 cell in
+      let there : slice_get cells o.0 ≡ Some object.cell = cell_at s.heap o.0 object is in
+      let stay : StayDesignated cells after = designated_set cells o.0 object.cell cell there refl in
+      let own = filled_at p.types cells cells o.0 object.cell ready.filled there in
+      let reached : reached_components p.types access.0 ≡ Some own.0 = ap (reached_components p.types) (sym (own_access s.heap o access.0 object has is)) ∙ own.1 in
+      let here : component_kind (slice_get own.0 c) ≡ Some kind = sym (ap (λ (found : Option (List ComponentForm)). kind_among found c) reached) ∙ leads in
+      let values = kinds_later cells after stay own.0 cell.values (kinds_set cells own.0 object.cell.values c kind v own.2 here fitting) in
+      record {
+        filled = subst (λ (cs : Cells). AreFilled p.types cs cs) (sym are) (filled_set p.types after cells o.0 cell (filled_later cells after stay p.types cells ready.filled) (own.0, own.1, values));
+        active = subst (λ (cs : Cells). IsActive cs p.variables kinds s.activations) (sym are) (active_later cells after stay p.variables kinds s.activations ready.active);
+        fits = subst (λ (cs : Cells). Fits p cs kinds s.control) (sym are) (fits_later p cells after stay s.control kinds fits);
+      }
+
+  stored : (o : Id) (access : TypeNo) (c : ℕ) (v : Value) (kind : VariableKind) (object : Object) (s : State) (kinds : List VariableKind) → Ready p kinds s → Designates (cells_of s.heap) access.0 o → slice_get s.heap o.0 ≡ Some object → selected_kind p.types (Some (variable.Access access)) c ≡ Some kind → HasKind (cells_of s.heap) kind v → Fits p (cells_of s.heap) kinds s.control → Stored kinds s (store s.heap (Names o) c v)
+  stored o access c v kind object s kinds ready has is leads fitting fits =
+      let found : store s.heap (Names o) c v ≡ slice_set s.heap o.0 (filled c v object) = ap (λ (at_o : Option Object). changed (filled c v) at_o s.heap o) is in
+      stored_at o access c v kind object s kinds (store s.heap (Names o) c v) ready has is leads fitting fits
+      (ap cells_of found ∙ map-set (λ (x : Object). x.cell) s.heap o.0 (filled c v object))
+
+  -- The component is there.
+  component_there : (o : Id) (access : TypeNo) (c : ℕ) (kind : VariableKind) (object : Object) (s : State) (kinds : List VariableKind) → Ready p kinds s → Designates (cells_of s.heap) access.0 o → slice_get s.heap o.0 ≡ Some object → selected_kind p.types (Some (variable.Access access)) c ≡ Some kind → (v : Value) × (slice_get object.cell.values c ≡ Some v)
+  component_there o access c kind object s kinds ready has is leads =
+      let cells = cells_of s.heap in
+      let own = filled_at p.types cells cells o.0 object.cell ready.filled (cell_at s.heap o.0 object is) in
+      let reached : reached_components p.types access.0 ≡ Some own.0 = ap (reached_components p.types) (sym (own_access s.heap o access.0 object has is)) ∙ own.1 in
+      let here : component_kind (slice_get own.0 c) ≡ Some kind = sym (ap (λ (found : Option (List ComponentForm)). kind_among found c) reached) ∙ leads in
+      let held = component_held cells own.0 object.cell.values c kind own.2 here in
+      (held.0, held.1)
+
+  stored_fine : (o : Id) (access : TypeNo) (c : ℕ) (v : Value) (kind : VariableKind) (object : Object) (s : State) (kinds : List VariableKind) → Ready p kinds s → Designates (cells_of s.heap) access.0 o → slice_get s.heap o.0 ≡ Some object → selected_kind p.types (Some (variable.Access access)) c ≡ Some kind → HasKind (cells_of s.heap) kind v → Fits p (cells_of s.heap) kinds s.control → Fine p (stored_next named (Names o) c v (slice_get object.cell.values c) s)
+  stored_fine o access c v kind object s kinds ready has is leads fitting fits =
+      let before = component_there o access c kind object s kinds ready has is leads in
+      let after = stored o access c v kind object s kinds ready has is leads fitting fits in
+      subst (λ (found : Option Value). Fine p (stored_next named (Names o) c v found s)) (sym before.1)
+      (running kinds (record { filled = after.filled; active = after.active; runs = ready.runs; deep = ready.deep }) after.fits)
+
+  store_stage : (stage : Stage) (o : Id) (access : TypeNo) (c : ℕ) (v : Value) (kind : VariableKind) (object : Object) (s : State) (kinds : List VariableKind) → Ready p kinds s → Designates (cells_of s.heap) access.0 o → slice_get s.heap o.0 ≡ Some object → selected_kind p.types (Some (variable.Access access)) c ≡ Some kind → HasKind (cells_of s.heap) kind v → Fits p (cells_of s.heap) kinds s.control → Fine p (store_next named (Names o) c v (existing object stage) s)
+  store_stage Gone o access c v kind object s kinds ready has is leads fitting fits = tt
+  store_stage Building o access c v kind object s kinds ready has is leads fitting fits = stored_fine o access c v kind object s kinds ready has is leads fitting fits
+  store_stage Existing o access c v kind object s kinds ready has is leads fitting fits = stored_fine o access c v kind object s kinds ready has is leads fitting fits
+
+  store_seen : (at_o : Option Object) (o : Id) (access : TypeNo) (c : ℕ) (v : Value) (kind : VariableKind) (s : State) (kinds : List VariableKind) → Ready p kinds s → Designates (cells_of s.heap) access.0 o → slice_get s.heap o.0 ≡ at_o → selected_kind p.types (Some (variable.Access access)) c ≡ Some kind → HasKind (cells_of s.heap) kind v → Fits p (cells_of s.heap) kinds s.control → Fine p (store_next named (Names o) c v (seen at_o) s)
+  store_seen None o access c v kind s kinds ready has is leads fitting fits = tt
+  store_seen (Some object) o access c v kind s kinds ready has is leads fitting fits = store_stage object.stage o access c v kind object s kinds ready has is leads fitting fits
+
+  pub store_fine : (u : Value) (access : TypeNo) (c : ℕ) (v : Value) (kind : VariableKind) (s : State) (kinds : List VariableKind) → IsName u → Ready p kinds s → IsAccess (cells_of s.heap) access.0 u → selected_kind p.types (Some (variable.Access access)) c ≡ Some kind → HasKind (cells_of s.heap) kind v → Fits p (cells_of s.heap) kinds s.control → Fine p (store_next named u c v (look s.heap u) s)
+  store_fine Null access c v kind s kinds name ready has leads fitting fits = absurd name
+  store_fine (Names o) access c v kind s kinds name ready has leads fitting fits = store_seen (slice_get s.heap o.0) o access c v kind s kinds ready has refl leads fitting fits
+  store_fine (Scalar w) access c v kind s kinds name ready has leads fitting fits = absurd name
+
+  -- A component takes the next number of the input.
+  taken_fine : (input : List ℤ) (before : Value) (o : Id) (access : TypeNo) (c : ℕ) (object : Object) (s : State) (kinds : List VariableKind) → Ready p kinds s → Designates (cells_of s.heap) access.0 o → slice_get s.heap o.0 ≡ Some object → selected_kind p.types (Some (variable.Access access)) c ≡ Some variable.Integer → Fits p (cells_of s.heap) kinds s.control → Fine p (received_next named (Names o) c input (Some before) s)
+  taken_fine [] before o access c object s kinds ready has is leads fits = raises p kinds kinds EndError s ready fits
+  taken_fine (i ∷ input) before o access c object s kinds ready has is leads fits =
+      let after = stored o access c (an_integer i) variable.Integer object s kinds ready has is leads tt fits in
+      running kinds (record { filled = after.filled; active = after.active; runs = ready.runs; deep = ready.deep }) after.fits
+
+  received_fine : (o : Id) (access : TypeNo) (c : ℕ) (object : Object) (s : State) (kinds : List VariableKind) → Ready p kinds s → Designates (cells_of s.heap) access.0 o → slice_get s.heap o.0 ≡ Some object → selected_kind p.types (Some (variable.Access access)) c ≡ Some variable.Integer → Fits p (cells_of s.heap) kinds s.control → Fine p (received_next named (Names o) c s.input (slice_get object.cell.values c) s)
+  received_fine o access c object s kinds ready has is leads fits =
+      let before = component_there o access c variable.Integer object s kinds ready has is leads in
+      subst (λ (found : Option Value). Fine p (received_next named (Names o) c s.input found s)) (sym before.1) (taken_fine s.input before.0 o access c object s kinds ready has is leads fits)
+
+  receive_stage : (stage : Stage) (o : Id) (access : TypeNo) (c : ℕ) (object : Object) (s : State) (kinds : List VariableKind) → Ready p kinds s → Designates (cells_of s.heap) access.0 o → slice_get s.heap o.0 ≡ Some object → selected_kind p.types (Some (variable.Access access)) c ≡ Some variable.Integer → Fits p (cells_of s.heap) kinds s.control → Fine p (receive_next named (Names o) c (existing object stage) s)
+  receive_stage Gone o access c object s kinds ready has is leads fits = tt
+  receive_stage Building o access c object s kinds ready has is leads fits = received_fine o access c object s kinds ready has is leads fits
+  receive_stage Existing o access c object s kinds ready has is leads fits = received_fine o access c object s kinds ready has is leads fits
+
+  receive_seen : (at_o : Option Object) (o : Id) (access : TypeNo) (c : ℕ) (s : State) (kinds : List VariableKind) → Ready p kinds s → Designates (cells_of s.heap) access.0 o → slice_get s.heap o.0 ≡ at_o → selected_kind p.types (Some (variable.Access access)) c ≡ Some variable.Integer → Fits p (cells_of s.heap) kinds s.control → Fine p (receive_next named (Names o) c (seen at_o) s)
+  receive_seen None o access c s kinds ready has is leads fits = tt
+  receive_seen (Some object) o access c s kinds ready has is leads fits = receive_stage object.stage o access c object s kinds ready has is leads fits
+
+  pub receive_fine : (v : Value) (access : TypeNo) (c : ℕ) (s : State) (kinds : List VariableKind) → Ready p kinds s → HasKind (cells_of s.heap) (variable.Access access) v → selected_kind p.types (Some (variable.Access access)) c ≡ Some variable.Integer → Fits p (cells_of s.heap) kinds s.control → Fine p (receive_next named v c (look s.heap v) s)
+  receive_fine Null access c s kinds ready has leads fits = raises p kinds kinds ConstraintError s ready fits
+  receive_fine (Names o) access c s kinds ready has leads fits = receive_seen (slice_get s.heap o.0) o access c s kinds ready has refl leads fits
+  receive_fine (Scalar v) access c s kinds ready has leads fits = absurd has
