@@ -71,6 +71,7 @@ fn item_raises(item: &Item) -> bool
 {
     match item {
         Item::Null => false,
+        Item::Path(path) => path_raises(path),
         Item::Value(expression) => expression_raises(expression),
     }
 }

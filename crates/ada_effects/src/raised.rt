@@ -32,7 +32,7 @@ fn right_raises(right: &Right, taken: &Taken) -> bool
 {
     match right {
         Right::Null => false,
-        Right::Variable(path) => constraint_error_leaves(taken) && path_raises(path),
+        Right::Path(path) => constraint_error_leaves(taken) && path_raises(path),
         Right::Allocator { access: _, items } => {
             !taken.contains(Exception::StorageError)
                 || constraint_error_leaves(taken) && items_raise(items)

@@ -5,15 +5,15 @@ use Rattle.std.specs.List.{slice_index_or, slice_set}
 use Rattle.std.proofs.Math.ListN.{replicate}
 use Rattle.ada_text.specs.declared.spot.Spot.{Spot}
 use Rattle.ada_program.specs.declared.program.Program.{Program}
-use Rattle.ada_program.specs.Form.{PathForm, ExpressionForm, integer, boolean, reads, is_null, applied_to, chained, LinksForm, no_more_links, a_link, ItemForm, null_item, item_of_value, RightForm, nothing, value_of, allocates, computes, StmtForm, skips, assigns, frees, gets, writes, writes_text, chooses, repeats, counts, exits, returns, raises, encloses, StmtsForm, no_stmts, a_stmt, BranchesForm, otherwise, a_branch, HandlersForm, no_handlers, a_handler, DeclarationForm, collects, declares, declaration_forms, stmt_forms, handler_forms}
+use Rattle.ada_program.specs.Form.{PathForm, ExpressionForm, integer, boolean, reads, is_null, applied_to, chained, LinksForm, no_more_links, a_link, ItemForm, null_item, item_of_path, item_of_value, RightForm, nothing, value_of, allocates, computes, StmtForm, skips, assigns, frees, gets, writes, writes_text, chooses, repeats, counts, exits, returns, raises, encloses, StmtsForm, no_stmts, a_stmt, BranchesForm, otherwise, a_branch, HandlersForm, no_handlers, a_handler, DeclarationForm, collects, declares, declaration_forms, stmt_forms, handler_forms}
 use Rattle.ada_program.specs.ProgramForm.{VariableForm, variable_form}
 use Rattle.ada_program.specs.WellFormed.{access_of, variable_kind, is_this}
-use Rattle.ada_effects.specs.Effects.{expression_raises, passes}
+use Rattle.ada_effects.specs.Effects.{expression_raises, path_raises, passes}
 use Rattle.ada_flow.specs.declared.rule.Hold.{Hold}
 use Rattle.ada_flow.specs.declared.rule.Hold.TheVariants.{Null, Own, Alias, Lost}
 use Rattle.ada_flow.specs.declared.rule.Region.TheVariants.{Whole}
 use Rattle.ada_flow.specs.declared.rule.Rule.{Rule}
-use Rattle.ada_flow.specs.declared.rule.Rule.TheVariants.{LostValue, AliasMoved, LoopState}
+use Rattle.ada_flow.specs.declared.rule.Rule.TheVariants.{LostValue, AliasMoved, TakePair, LoopState}
 
 -- What the variables of a body hold, by their numbers.
 abbrev pub Holds : Type 0
@@ -78,12 +78,15 @@ raising_if true holds = Some holds
 abbrev pub ends_with : Bool → (before after : Holds) → Outcome
 ends_with may_raise before after = goes (Some after) (raising_if may_raise before)
 
--- Paths that are used (4.1, 4.5.2).
+-- Paths that are used (4.1, 4.5.2, 5.2).
 
--- A path in an expression: its value is read, or an access value is compared with null.
+-- A path that a statement uses: its value is read, or an access value is compared with null, or moved: out of a variable, or out of a component,
+-- which the next statement clears then, or does not; or it is moved though an item before it moves it already (4.8).
 pub data Use : Type 0 where
   reads_it : PathForm → Use
   compares_it : PathForm → Use
+  moves_it : (cleared : Bool) → PathForm → Use
+  moves_again : PathForm → Use
 
 unfoldable mutual
   -- The paths in an expression, in text order.
@@ -100,62 +103,119 @@ unfoldable mutual
   uses_in_links no_more_links = []
   uses_in_links (a_link operator e links) = uses_in e ++ uses_in_links links
 
--- The paths in an item of an aggregate, and in items.
-abbrev pub uses_in_item : ItemForm → List Use
-uses_in_item null_item = []
-uses_in_item (item_of_value e) = uses_in e
+-- Is a number among these?
+abbrev pub is_one_of : List ℕ → ℕ → Bool
+is_one_of [] x = false
+is_one_of (y ∷ ys) x = (y == x) || is_one_of ys x
 
--- The uses of variables in items, from left to right.
-abbrev pub uses_in_items : List ItemForm → List Use
-uses_in_items [] = []
-uses_in_items (i ∷ is) = uses_in_item i ++ uses_in_items is
+-- The variable that a path is, where it is no component.
+abbrev pub variable_of : List ℕ → (root : ℕ) → List ℕ
+variable_of [] x = x ∷ []
+variable_of (c ∷ cs) x = []
+
+-- The variable that an item moves, if it moves one.
+abbrev pub moved_by_item : ItemForm → List ℕ
+moved_by_item null_item = []
+moved_by_item (item_of_path path) = variable_of path.selectors path.root
+moved_by_item (item_of_value e) = []
+
+-- Is a path one of these variables?
+abbrev pub is_moved : List ℕ → List ℕ → (root : ℕ) → Bool
+is_moved earlier [] x = is_one_of earlier x
+is_moved earlier (c ∷ cs) x = false
+
+-- How an item moves what its path names, behind items that move these variables: each variable once (4.8).
+abbrev pub item_move : (earlier : List ℕ) → PathForm → Use
+item_move earlier path = if is_moved earlier path.selectors path.root then moves_again path else moves_it false path
+
+-- The paths in an item of an aggregate, behind items that move these variables.
+abbrev pub uses_in_item : (earlier : List ℕ) → ItemForm → List Use
+uses_in_item earlier null_item = []
+uses_in_item earlier (item_of_path path) = item_move earlier path ∷ []
+uses_in_item earlier (item_of_value e) = uses_in e
+
+-- The paths in items, in the order of the components.
+abbrev pub uses_in_items : (earlier : List ℕ) → List ItemForm → List Use
+uses_in_items earlier [] = []
+uses_in_items earlier (i ∷ is) = uses_in_item earlier i ++ uses_in_items (moved_by_item i ++ earlier) is
+
+-- The paths in what is assigned, where the next statement clears what is moved, or does not.
+abbrev pub uses_in_right : (cleared : Bool) → RightForm → List Use
+uses_in_right cleared nothing = []
+uses_in_right cleared (value_of path) = moves_it cleared path ∷ []
+uses_in_right cleared (allocates access items) = uses_in_items [] items
+uses_in_right cleared (computes e) = uses_in e
+
+-- The path of a target is followed up to the object in which its component lies (5.2); a variable is not.
+abbrev pub uses_in_target : PathForm → List Use
+uses_in_target path = reads_it path ∷ []
 
 -- A spot stands before another in the text.
 abbrev pub is_left_of : Spot → Spot → Bool
 is_left_of a b = nat_lt a.line b.line || ((a.line == b.line) && nat_lt a.column b.column)
 
--- The leftmost of two spots, where they are there.
-abbrev pub leftmost : Option Spot → Option Spot → Option Spot
+-- A rule that is broken, and where.
+abbrev pub Breach : Type 0
+Breach = Spot × Rule
+
+-- The leftmost of two breaches, where they are there.
+abbrev pub leftmost : Option Breach → Option Breach → Option Breach
 leftmost None b = b
 leftmost (Some a) None = Some a
-leftmost (Some a) (Some b) = if is_left_of b a then Some b else Some a
+leftmost (Some a) (Some b) = if is_left_of b.0 a.0 then Some b else Some a
 
--- Where a variable that is followed is lost.
-abbrev pub lost_by : Hold → Spot → Option Spot
+-- What is lost is neither followed nor compared (4.1).
+abbrev pub lost_by : Hold → Spot → Option Breach
 lost_by Null spot = None
 lost_by (Own r) spot = None
 lost_by (Alias r) spot = None
-lost_by Lost spot = Some spot
+lost_by Lost spot = Some (spot, LostValue)
 
--- Where a path follows a lost value: its variable's, or that of a component, on which nothing relies before components own what they hold.
-abbrev pub lost_behind : List ℕ → Hold → Spot → Option Spot
+-- Where a path follows the value of its variable, that is not lost; components own what they hold, and are never lost.
+abbrev pub lost_behind : List ℕ → Hold → Spot → Option Breach
 lost_behind [] hold spot = None
-lost_behind (c ∷ []) hold spot = lost_by hold spot
-lost_behind (c ∷ d ∷ cs) hold spot = Some spot
+lost_behind (c ∷ cs) hold spot = lost_by hold spot
 
--- Where a path meets a lost value, if it is followed up to its end and the value there is compared: a variable's own value counts, too.
-abbrev pub lost_up_to : List ℕ → Hold → Spot → Option Spot
-lost_up_to [] hold spot = lost_by hold spot
-lost_up_to (c ∷ cs) hold spot = lost_behind (c ∷ cs) hold spot
+-- A value that is moved out of a variable is neither lost nor an alias.
+abbrev pub moved_by : Hold → Spot → Option Breach
+moved_by Null spot = None
+moved_by (Own r) spot = None
+moved_by (Alias r) spot = Some (spot, AliasMoved)
+moved_by Lost spot = Some (spot, LostValue)
 
--- Where a use of a variable meets a lost value.
-abbrev pub lost_in : Holds → Use → Option Spot
-lost_in holds (reads_it path) = lost_behind path.selectors (hold_at holds path.root) path.spot
-lost_in holds (compares_it path) = lost_up_to path.selectors (hold_at holds path.root) path.spot
+-- A value that is moved out of a component is not found behind a lost one, and the next statement clears the component.
+abbrev pub taken_by : (cleared : Bool) → Hold → Spot → Option Breach
+taken_by true hold spot = lost_by hold spot
+taken_by false Null spot = Some (spot, TakePair)
+taken_by false (Own r) spot = Some (spot, TakePair)
+taken_by false (Alias r) spot = Some (spot, TakePair)
+taken_by false Lost spot = Some (spot, LostValue)
 
--- The leftmost of the paths that use a lost value.
-abbrev pub lost_among : Holds → List Use → Option Spot
-lost_among holds [] = None
-lost_among holds (u ∷ us) = leftmost (lost_in holds u) (lost_among holds us)
+-- What is wrong with a value that is moved, if anything is.
+abbrev pub moved_behind : (cleared : Bool) → List ℕ → Hold → Spot → Option Breach
+moved_behind cleared [] hold spot = moved_by hold spot
+moved_behind cleared (c ∷ cs) hold spot = taken_by cleared hold spot
 
--- What is lost is not followed (4.1); else this comes.
-abbrev pub unless_lost : Option Spot → Outcome → Outcome
-unless_lost None more = more
-unless_lost (Some spot) more = faults spot LostValue
+-- The rule that a use of a path breaks, if it breaks one: of two items that move one variable, the second moves what is lost.
+abbrev pub broken_in : Holds → Use → Option Breach
+broken_in holds (reads_it path) = lost_behind path.selectors (hold_at holds path.root) path.spot
+broken_in holds (compares_it path) = lost_by (hold_at holds path.root) path.spot
+broken_in holds (moves_it cleared path) = moved_behind cleared path.selectors (hold_at holds path.root) path.spot
+broken_in holds (moves_again path) = Some (path.spot, LostValue)
+
+-- The leftmost of the rules that paths break.
+abbrev pub broken_among : Holds → List Use → Option Breach
+broken_among holds [] = None
+broken_among holds (u ∷ us) = leftmost (broken_in holds u) (broken_among holds us)
+
+-- Where a rule is broken, that is the fault; else this comes.
+abbrev pub unless_broken : Option Breach → Outcome → Outcome
+unless_broken None more = more
+unless_broken (Some breach) more = faults breach.0 breach.1
 
 -- After paths are used.
 abbrev pub using_paths : List Use → Holds → Outcome → Outcome
-using_paths uses holds more = unless_lost (lost_among holds uses) more
+using_paths uses holds more = unless_broken (broken_among holds uses) more
 
 -- After an expression is evaluated, which changes nothing (4.4).
 abbrev pub computed : ExpressionForm → Holds → Outcome
@@ -163,7 +223,7 @@ computed e holds = using_paths (uses_in e) holds (ends_with (expression_raises e
 
 -- Assignments and initial values (3.3.1, 5.2).
 
--- A variable relies on a value of its own access type alone (3.10); any other is lost to it.
+-- A hold, if it stays.
 abbrev pub if_own : Bool → Hold → Hold
 if_own true hold = hold
 if_own false hold = Lost
@@ -172,31 +232,67 @@ if_own false hold = Lost
 abbrev pub variable_access : List VariableForm → ℕ → Option ℕ
 variable_access variables x = access_of (variable_kind variables x)
 
--- What a variable holds with a value of this access type, if it is one.
-abbrev pub held_as : List VariableForm → Option ℕ → (x : ℕ) → Hold → Hold
-held_as variables None x hold = Lost
-held_as variables (Some access) x hold = if_own (is_this access (variable_access variables x)) hold
+-- What is left of a hold once its value was moved: an owner owns nothing any more.
+abbrev pub left_by_move : Hold → Hold
+left_by_move Null = Null
+left_by_move (Own r) = Lost
+left_by_move (Alias r) = Alias r
+left_by_move Lost = Lost
 
--- After X := Y, by what Y holds: what Y owned goes to X; neither a lost value nor an alias is moved.
-abbrev pub moves : List VariableForm → (x y : ℕ) → Spot → Holds → Hold → Outcome
-moves variables x y spot holds Null = ends_with false holds (slice_set holds x Null)
-moves variables x y spot holds (Own r) =
-    ends_with false holds (slice_set (slice_set holds y Lost) x (held_as variables (variable_access variables y) x (Own r)))
-moves variables x y spot holds (Alias r) = faults spot AliasMoved
-moves variables x y spot holds Lost = faults spot LostValue
+-- A variable whose value was moved.
+abbrev pub without_value : ℕ → Holds → Holds
+without_value x holds = slice_set holds x (left_by_move (hold_at holds x))
 
--- What is moved is a variable: a component is not, before components own what they hold.
-abbrev pub moves_path : List VariableForm → (x : ℕ) → List ℕ → PathForm → Holds → Outcome
-moves_path variables x [] path holds = moves variables x path.root path.spot holds (hold_at holds path.root)
-moves_path variables x (c ∷ cs) path holds = faults path.spot LostValue
+-- Variables whose values were moved.
+abbrev pub without_values : List ℕ → Holds → Holds
+without_values [] holds = holds
+without_values (x ∷ xs) holds = without_values xs (without_value x holds)
 
--- Null is held, or what was moved, or a new object is owned, for which there may be no storage; an Integer or a Boolean is not relied on.
-abbrev pub gives : List VariableForm → (x : ℕ) → RightForm → Holds → Outcome
-gives variables x nothing holds = ends_with false holds (slice_set holds x Null)
-gives variables x (value_of path) holds = moves_path variables x path.selectors path holds
-gives variables x (allocates access items) holds =
-    using_paths (uses_in_items items) holds (ends_with true holds (slice_set holds x (held_as variables (Some access) x (Own Whole))))
-gives variables x (computes e) holds = using_paths (uses_in e) holds (ends_with (expression_raises e) holds (slice_set holds x Lost))
+-- The variables that items move.
+abbrev pub moved_by_items : List ItemForm → List ℕ
+moved_by_items [] = []
+moved_by_items (i ∷ is) = moved_by_item i ++ moved_by_items is
+
+-- The variables that an assignment moves (5.2); items move theirs once the object is there (4.8).
+abbrev pub moved_by_right : RightForm → List ℕ
+moved_by_right nothing = []
+moved_by_right (value_of path) = variable_of path.selectors path.root
+moved_by_right (allocates access items) = moved_by_items items
+moved_by_right (computes e) = []
+
+-- What the value of a path is relied on for: a variable's own hold; a component owns its value, which is null where the variable is.
+abbrev pub value_hold : List ℕ → Hold → Hold
+value_hold [] hold = hold
+value_hold (c ∷ cs) Null = Null
+value_hold (c ∷ cs) (Own r) = Own r
+value_hold (c ∷ cs) (Alias r) = Own r
+value_hold (c ∷ cs) Lost = Lost
+
+-- What a variable holds with what is assigned: an Integer or a Boolean is not relied on.
+abbrev pub right_hold : RightForm → Holds → Hold
+right_hold nothing holds = Null
+right_hold (value_of path) holds = value_hold path.selectors (hold_at holds path.root)
+right_hold (allocates access items) holds = Own Whole
+right_hold (computes e) holds = Lost
+
+-- Whether an assignment may raise an exception where it evaluates what is assigned: there may be no storage.
+abbrev pub evaluation_raises : RightForm → Bool
+evaluation_raises nothing = false
+evaluation_raises (value_of path) = path_raises path.selectors
+evaluation_raises (allocates access items) = true
+evaluation_raises (computes e) = expression_raises e
+
+-- After a variable gets a value (3.3.1, 5.2): what was moved goes there.
+abbrev pub gives : (cleared : Bool) → (x : ℕ) → RightForm → Holds → Outcome
+gives cleared x right holds =
+    using_paths (uses_in_right cleared right) holds
+    (ends_with (evaluation_raises right) holds (slice_set (without_values (moved_by_right right) holds) x (right_hold right holds)))
+
+-- After a component gets a value (5.2), whose object is found first: it owns what it gets, and no variable changes but those that are moved.
+abbrev pub gives_component : (cleared : Bool) → PathForm → RightForm → Holds → Outcome
+gives_component cleared path right holds =
+    using_paths (uses_in_target path ++ uses_in_right cleared right) holds
+    (ends_with true holds (without_values (moved_by_right right) holds))
 
 -- Statements (5.1).
 
@@ -207,26 +303,48 @@ released x spot holds (Own r) = ends_with false holds (slice_set holds x Null)
 released x spot holds (Alias r) = faults spot AliasMoved
 released x spot holds Lost = faults spot LostValue
 
--- What a component is given, which its path names (5.2): an Integer or a Boolean, which changes no variable; the object is found first. No
--- component is given an access value, before components own what they hold.
-abbrev pub gives_component : PathForm → RightForm → Holds → Outcome
-gives_component path nothing holds = faults path.spot LostValue
-gives_component path (value_of other) holds = faults path.spot LostValue
-gives_component path (allocates access items) holds = faults path.spot LostValue
-gives_component path (computes e) holds = using_paths (reads_it path ∷ uses_in e) holds (ends_with true holds holds)
-
 -- A target: a variable, or a component.
-abbrev pub gives_path : List VariableForm → List ℕ → PathForm → RightForm → Holds → Outcome
-gives_path variables [] path right holds = gives variables path.root right holds
-gives_path variables (c ∷ cs) path right holds = gives_component path right holds
+abbrev pub gives_path : (cleared : Bool) → List ℕ → PathForm → RightForm → Holds → Outcome
+gives_path cleared [] path right holds = gives cleared path.root right holds
+gives_path cleared (c ∷ cs) path right holds = gives_component cleared path right holds
+
+-- A take pair (5.2): `T := P.C;` and `P.C := null;`, one behind the other, move a value out of a component.
+
+-- Are these the same selectors?
+abbrev pub same_selectors : List ℕ → List ℕ → Bool
+same_selectors [] [] = true
+same_selectors [] (d ∷ ds) = false
+same_selectors (c ∷ cs) [] = false
+same_selectors (c ∷ cs) (d ∷ ds) = (c == d) && same_selectors cs ds
+
+-- Are two paths one?
+abbrev pub same_path : PathForm → PathForm → Bool
+same_path a b = (a.root == b.root) && same_selectors a.selectors b.selectors
+
+-- The target of a take pair changes nothing that the path follows: it is another variable than the path's, or a component, where the path
+-- follows the value of its variable alone.
+abbrev pub leaves_path : (target selectors : List ℕ) → Bool → Bool
+leaves_path [] cs other = other
+leaves_path (d ∷ ds) (c ∷ []) other = true
+leaves_path (d ∷ ds) cs other = false
+
+-- Does this statement set a path to null?
+abbrev pub clears : PathForm → StmtsForm → Bool
+clears path (a_stmt (assigns target nothing) fs) = same_path target path
+clears path fs = false
+
+-- Is a statement the first one of a take pair, if these come behind it?
+abbrev pub begins_pair : StmtForm → StmtsForm → Bool
+begins_pair (assigns target (value_of path)) fs =
+    leaves_path target.selectors path.selectors (not (target.root == path.root)) && clears path fs
+begins_pair f fs = false
 
 -- The next number of the input goes to a variable, or to a component (Run_Input.Get); there may be none.
 abbrev pub gets_path : List ℕ → PathForm → Holds → Outcome
 gets_path [] path holds = ends_with true holds (slice_set holds path.root Lost)
-gets_path (c ∷ cs) path holds = using_paths (reads_it path ∷ []) holds (ends_with true holds holds)
+gets_path (c ∷ cs) path holds = using_paths (uses_in_target path) holds (ends_with true holds holds)
 
--- What freeing does that a path names: its variable owns nothing any more. What is freed is a variable: a component is not, before components
--- own what they hold.
+-- What freeing does that a path names: its variable owns nothing any more. In use so far: what is freed is a variable.
 abbrev pub frees_path : List ℕ → PathForm → Holds → Outcome
 frees_path [] path holds = released path.root path.spot holds (hold_at holds path.root)
 frees_path (c ∷ cs) path holds = faults path.spot LostValue
@@ -432,7 +550,7 @@ exit_flow variables (Some start) inside condition spot holds = unless_worse star
 -- Declarations, in order (3.11).
 abbrev pub declaration_flow : List VariableForm → DeclarationForm → Holds → Outcome
 declaration_flow variables (collects access) holds = ends_with false holds holds
-declaration_flow variables (declares x right) holds = gives variables x right holds
+declaration_flow variables (declares x right) holds = gives false x right holds
 
 -- The flow of declarations, in order (3.11).
 abbrev pub declarations_flow : List VariableForm → List DeclarationForm → Holds → Outcome
@@ -448,24 +566,24 @@ abbrev pub counting_start : (parameter : ℕ) → StmtsForm → Holds → Holds
 counting_start x fs holds = slice_set (opened_by_all fs holds) x Lost
 
 abbrev mutual
-  -- After a statement.
-  pub stmt_flow : List VariableForm → Around → StmtForm → Holds → Outcome
-  stmt_flow variables around skips holds = ends_with false holds holds
-  stmt_flow variables around (assigns target right) holds = gives_path variables target.selectors target right holds
-  stmt_flow variables around (frees access variable) holds = frees_path variable.selectors variable holds
-  stmt_flow variables around (gets target) holds = gets_path target.selectors target holds
-  stmt_flow variables around (writes e) holds = computed e holds
-  stmt_flow variables around (writes_text text) holds = ends_with false holds holds
-  stmt_flow variables around (chooses branches) holds = branches_flow variables around branches holds
-  stmt_flow variables around (repeats condition fs end_spot) holds =
+  -- After a statement, which is the first one of a take pair, or is not.
+  pub stmt_flow : List VariableForm → Around → (cleared : Bool) → StmtForm → Holds → Outcome
+  stmt_flow variables around cleared skips holds = ends_with false holds holds
+  stmt_flow variables around cleared (assigns target right) holds = gives_path cleared target.selectors target right holds
+  stmt_flow variables around cleared (frees access variable) holds = frees_path variable.selectors variable holds
+  stmt_flow variables around cleared (gets target) holds = gets_path target.selectors target holds
+  stmt_flow variables around cleared (writes e) holds = computed e holds
+  stmt_flow variables around cleared (writes_text text) holds = ends_with false holds holds
+  stmt_flow variables around cleared (chooses branches) holds = branches_flow variables around branches holds
+  stmt_flow variables around cleared (repeats condition fs end_spot) holds =
       loop_flow condition (is_left condition fs) end_spot (λ start hs. stmts_flow variables (in_loop start) fs hs) (opened_by_all fs holds)
-  stmt_flow variables around (counts x low high fs end_spot) holds =
+  stmt_flow variables around cleared (counts x low high fs end_spot) holds =
       then_flow (bounds_flow low high holds)
       (λ hs. loop_flow None true end_spot (λ start hs. stmts_flow variables (in_loop start) fs hs) (counting_start x fs hs))
-  stmt_flow variables around (exits condition spot) holds = exit_flow variables around.start around.inside condition spot holds
-  stmt_flow variables around (returns spot) holds = goes None None
-  stmt_flow variables around (raises e) holds = goes None (Some holds)
-  stmt_flow variables around (encloses ds fs hs) holds =
+  stmt_flow variables around cleared (exits condition spot) holds = exit_flow variables around.start around.inside condition spot holds
+  stmt_flow variables around cleared (returns spot) holds = goes None None
+  stmt_flow variables around cleared (raises e) holds = goes None (Some holds)
+  stmt_flow variables around cleared (encloses ds fs hs) holds =
       leaves_block variables (collected ds)
       (then_flow (declarations_flow variables ds holds)
       (λ at. handled (passes fs hs) (handlers_flow variables (in_block (collected ds) around) hs)
@@ -474,7 +592,7 @@ abbrev mutual
   -- After statements, in order.
   pub stmts_flow : List VariableForm → Around → StmtsForm → Holds → Outcome
   stmts_flow variables around no_stmts holds = ends_with false holds holds
-  stmts_flow variables around (a_stmt f fs) holds = then_flow (stmt_flow variables around f holds) (stmts_flow variables around fs)
+  stmts_flow variables around (a_stmt f fs) holds = then_flow (stmt_flow variables around (begins_pair f fs) f holds) (stmts_flow variables around fs)
 
   -- After an `if` (5.3): each branch begins behind the conditions up to its own.
   pub branches_flow : List VariableForm → Around → BranchesForm → Holds → Outcome

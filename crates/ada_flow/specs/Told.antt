@@ -15,7 +15,6 @@ use Rattle.ada_flow.specs.declared.raised.Raised.{Raised}
 use Rattle.ada_flow.specs.declared.raised.Raised.TheVariants.{Unwanted, Wanted}
 use Rattle.ada_flow.specs.declared.rule.Hold.{Hold}
 use Rattle.ada_flow.specs.declared.rule.Rule.{Rule}
-use Rattle.ada_flow.specs.declared.rule.Rule.TheVariants.{LostValue}
 use Rattle.ada_program.specs.declared.program.Program.{Program}
 use Rattle.ada_program.specs.declared.program.Branch.{Branch}
 use Rattle.ada_program.specs.declared.program.Declaration.{Declaration}
@@ -166,10 +165,10 @@ end_handled before passes handlers normal (wanted (Some raising)) =
 abbrev pub Handles : Result (Option (Vec Hold)) FlowFault → (after : Raised) → Result (Option Holds × Noted) (Spot × Rule) → Type 0
 Handles answer after end = Exactly (λ normal. (held normal, noted after)) breach_of answer end
 
--- The answer for paths that are followed names the leftmost place where one follows a lost value, if there is one.
-abbrev pub Follows : {X : Type 0} → Result X Breach → Option Spot → Type 0
-Follows (Ok x) lost = lost ≡ None
-Follows (Err breach) lost = (lost ≡ Some breach.spot) × (breach.rule ≡ LostValue)
+-- The answer for paths that are used names the leftmost rule that one breaks, and where, if there is one.
+abbrev pub Follows : {X : Type 0} → Result X Breach → Option (Spot × Rule) → Type 0
+Follows (Ok x) broken = broken ≡ None
+Follows (Err breach) broken = broken ≡ Some (breach.spot, breach.rule)
 
 -- Before the condition of an exit: less may not be known of a variable, behind the blocks that are left, than at the start of the loop.
 abbrev pub exit_begins : List VariableForm → Option Holds → (inside : List ℕ) → Spot → Holds → Outcome
@@ -206,10 +205,9 @@ loop_of variables condition body end holds =
 abbrev pub for_of : List Variable → (parameter : ℕ) → List Stmt → Spot → Holds → Outcome
 for_of variables parameter body end holds = turns_of variables None true body end (counting_start parameter (stmts_form body) holds)
 
--- An assignment.
-abbrev pub assignment_of : List Variable → Path → Right → Holds → Outcome
-assignment_of variables target value holds =
-    gives_path (map variable_form variables) (path_form target).selectors (path_form target) (right_form value) holds
+-- An assignment, which is the first one of a take pair, or is not.
+abbrev pub assignment_of : (cleared : Bool) → Path → Right → Holds → Outcome
+assignment_of cleared target value holds = gives_path cleared (path_form target).selectors (path_form target) (right_form value) holds
 
 -- Declarations, in order.
 abbrev pub declarations_of : List Variable → List Declaration → Holds → Outcome

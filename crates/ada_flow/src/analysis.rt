@@ -75,7 +75,7 @@ fn give(
 {
     match value {
         Right::Null => put(holds, target, Hold::Null),
-        Right::Variable(path) => move_value(variables, holds, target, path)?,
+        Right::Path(path) => move_value(variables, holds, target, path)?,
         Right::Allocator { access, items } => {
             follow_items(holds, items)?;
             raised.note(alloc, holds)?;
@@ -112,7 +112,7 @@ fn give_component(
             raised.note(alloc, holds)?;
             Ok(())
         }
-        Right::Null | Right::Variable(_) | Right::Allocator { .. } => {
+        Right::Null | Right::Path(_) | Right::Allocator { .. } => {
             Err(broken(target, Rule::LostValue).into())
         }
     }

@@ -12,7 +12,7 @@ pub enum Region {
 pub enum Hold {
     /// It holds null.
     Null,
-    /// It holds null, or owns the object that it names: no other variable and no component does.
+    /// It holds null, or owns the object that it names: no other variable and no component owns it.
     Own(Region),
     /// It holds null, or names an object that exists; another owns it. No variable holds one yet.
     Alias(Region),
@@ -23,10 +23,12 @@ pub enum Hold {
 /// A rule of the flow of values.
 #[derive(Clone, Copy)]
 pub enum Rule {
-    /// A value that may be gone is followed, moved or freed; so is, as yet, each access value that a component holds.
+    /// A value that may be gone is followed, moved or freed.
     LostValue,
     /// A variable is moved or freed whose object another variable owns.
     AliasMoved,
+    /// A value is moved out of a component that the next statement does not set to null.
+    TakePair,
     /// At the end of a loop's body, or at an exit, less is known of a variable than at the loop's start.
     LoopState,
 }

@@ -45,6 +45,10 @@ impl<'a> Process<'a> {
                 self.keep(Value::Null)?;
                 Ok(QUIET)
             }
+            Item::Path(path) => {
+                self.replace(rest)?;
+                self.read(path)
+            }
             Item::Value(expression) => {
                 self.replace_by_two(Frame::Computes(expression), rest)?;
                 Ok(QUIET)

@@ -28,7 +28,7 @@ impl<'a> Process<'a> {
                 self.replace(Frame::Computes(expression))?;
                 Ok(true)
             }
-            Some(Right::Variable(path)) => self.read_next(path),
+            Some(Right::Path(path)) => self.read_next(path),
             _ => Ok(false),
         }
     }

@@ -235,7 +235,7 @@ impl<'a> Process<'a> {
                 self.give(Value::Null)?;
                 Ok(QUIET)
             }
-            Right::Variable(path) => self.read(path),
+            Right::Path(path) => self.read(path),
             Right::Allocator { access, items } => {
                 self.replace_by_two(
                     Frame::Fills(items.as_slice()),

@@ -2,7 +2,7 @@
 
 use Rattle.std.specs.Prelude.{◌≡◌, ◌≢◌, ℕ, Bool, true, false, ◌||◌, ◌+◌, ◌<◌, ◌≤◌, if◌then◌else◌, List, [], ◌∷◌, length, Option, Some, None}
 use Rattle.ada_program.specs.declared.program.Program.{Program}
-use Rattle.ada_program.specs.Form.{PathForm, ExpressionForm, integer, boolean, reads, is_null, applied_to, chained, LinksForm, no_more_links, a_link, ItemForm, null_item, item_of_value, RightForm, nothing, value_of, allocates, computes, a_stmt, BranchesForm, otherwise, a_branch, DeclarationForm, collects, declares}
+use Rattle.ada_program.specs.Form.{PathForm, ExpressionForm, integer, boolean, reads, is_null, applied_to, chained, LinksForm, no_more_links, a_link, ItemForm, null_item, item_of_path, item_of_value, RightForm, nothing, value_of, allocates, computes, a_stmt, BranchesForm, otherwise, a_branch, DeclarationForm, collects, declares}
 use Rattle.ada_meaning.specs.declared.event.Halt.TheVariants.{Memory}
 use Rattle.ada_meaning.specs.declared.state.Value.{Value}
 use Rattle.ada_meaning.specs.declared.state.Mode.{Mode}
@@ -36,6 +36,7 @@ abbrev mutual
 -- An item of an allocator.
 abbrev pub item_weight : ItemForm → ℕ
 item_weight null_item = 1
+item_weight (item_of_path path) = path_weight path
 item_weight (item_of_value e) = 1 + expression_weight e
 
 -- All of them, and a step where none is left.

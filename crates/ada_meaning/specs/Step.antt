@@ -7,7 +7,7 @@ use Rattle.ada_values.specs.declared.operator.BinaryOperator.TheVariants as bina
 use Rattle.ada_values.specs.declared.fault.OperatorFault.{OperatorFault}
 use Rattle.ada_values.specs.declared.fault.OperatorFault.TheVariants.{Overflow, DivisionByZero, WrongType}
 use Rattle.ada_program.specs.declared.program.TypeDefinition.{TypeDefinition}
-use Rattle.ada_program.specs.Form.{ExpressionForm, integer, boolean, reads, is_null, applied_to, chained, LinksForm, no_more_links, a_link, ItemForm, null_item, item_of_value, RightForm, nothing, value_of, allocates, computes, StmtForm, skips, assigns, frees, gets, writes, writes_text, chooses, repeats, counts, exits, returns, raises, encloses, StmtsForm, no_stmts, a_stmt, BranchesForm, otherwise, a_branch, HandlersForm, DeclarationForm, collects, declares}
+use Rattle.ada_program.specs.Form.{ExpressionForm, integer, boolean, reads, is_null, applied_to, chained, LinksForm, no_more_links, a_link, ItemForm, null_item, item_of_path, item_of_value, RightForm, nothing, value_of, allocates, computes, StmtForm, skips, assigns, frees, gets, writes, writes_text, chooses, repeats, counts, exits, returns, raises, encloses, StmtsForm, no_stmts, a_stmt, BranchesForm, otherwise, a_branch, HandlersForm, DeclarationForm, collects, declares}
 use Rattle.ada_program.specs.Typed.{words_of}
 use Rattle.ada_meaning.specs.declared.state.Mode.{Mode}
 use Rattle.ada_meaning.specs.declared.state.Mode.TheVariants.{Running, Raising, Exiting, Returning}
@@ -216,6 +216,7 @@ module _ {V H : Type 0} (ops : Ops V H) where
   -- Allocators (4.8): their items are evaluated one by one, in the order of the components, before the object is asked for.
   abbrev pub item_next : ItemForm → State V H → Next V H
   item_next null_item s = moves Quiet (computed ops.null s)
+  item_next (item_of_path path) s = path_next path.selectors (held s path.root) s
   item_next (item_of_value e) s = moves Quiet (at (frame.Computes e ∷ s.control) s)
 
   abbrev pub items_next : List ItemForm → State V H → Next V H

@@ -52,9 +52,10 @@ mutual
     no_more_links : LinksForm
     a_link : BinaryOperator → ExpressionForm → LinksForm → LinksForm
 
--- An item of an aggregate (4.3.1): null, or an expression.
+-- An item of an aggregate (4.3.1): null, the access value that a path names, or an expression.
 pub data ItemForm : Type 0 where
   null_item : ItemForm
+  item_of_path : PathForm → ItemForm
   item_of_value : ExpressionForm → ItemForm
 
 -- What is assigned (5.2): null, the access value that a path names, a new object of an access type (4.8), or an expression.
@@ -135,12 +136,13 @@ links_form (link ∷ links) = a_link link.operator (expression_form link.operand
 -- An item.
 abbrev pub item_form : Item → ItemForm
 item_form item.Null = null_item
+item_form (item.Path path) = item_of_path (path_form path)
 item_form (item.Value e) = item_of_value (expression_form e)
 
 -- What a right side assigns.
 abbrev pub right_form : Right → RightForm
 right_form right.Null = nothing
-right_form (right.Variable path) = value_of (path_form path)
+right_form (right.Path path) = value_of (path_form path)
 right_form (right.Allocator access items) = allocates access.0 (map item_form items.items)
 right_form (right.Value e) = computes (expression_form e)
 

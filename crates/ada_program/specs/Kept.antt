@@ -134,11 +134,6 @@ initial_fits types variables d =
 abbrev pub declarations_fit : List TypeDefinition → List Variable → List Declaration → Bool
 declarations_fit types variables ds = fits.declarations_fit (types_in types) (variables_in variables) (map declaration_form ds)
 
--- Whether a path is a variable, or an Integer or a Boolean component of the object that a variable gives access to (5.2).
-abbrev pub names_target : List TypeDefinition → List Variable → Path → Bool
-names_target types variables path =
-    fits.names_target (types_in types) (variables_in variables) (path_form path)
-
 -- Whether a path is an Integer, to which what the input gives may go.
 abbrev pub is_integer_target : List TypeDefinition → List Variable → Path → Bool
 is_integer_target types variables path =

@@ -1,6 +1,6 @@
 -- What a well-formed program is: each number is that of something there, and each form has the types that it wants.
 
-use Rattle.std.specs.Prelude.{◌≡◌, ℕ, ◌+◌, Bool, true, false, ◌&&◌, ◌||◌, ◌==◌, nat_lt, nat_le, if◌then◌else◌, List, [], ◌∷◌, ◌++◌, length, map, count_by, Option, Some, None, is_some}
+use Rattle.std.specs.Prelude.{◌≡◌, ℕ, ◌+◌, Bool, true, false, ◌&&◌, ◌||◌, ◌==◌, nat_lt, if◌then◌else◌, List, [], ◌∷◌, ◌++◌, length, map, count_by, Option, Some, None, is_some}
 use Rattle.std.specs.List.{list_all, slice_get}
 use Rattle.ada_values.specs.declared.operator.UnaryOperator.{UnaryOperator}
 use Rattle.ada_values.specs.declared.operator.UnaryOperator.TheVariants as unary
@@ -16,7 +16,7 @@ use Rattle.ada_program.specs.declared.program.VariableKind.{VariableKind}
 use Rattle.ada_program.specs.declared.program.VariableKind.TheVariants as variable
 use Rattle.ada_program.specs.declared.program.ScalarType.{ScalarType}
 use Rattle.ada_program.specs.declared.program.ScalarType.TheVariants.{Integer, Boolean}
-use Rattle.ada_program.specs.Form.{PathForm, ExpressionForm, integer, boolean, reads, is_null, applied_to, chained, LinksForm, no_more_links, a_link, ItemForm, null_item, item_of_value, RightForm, nothing, value_of, allocates, computes, StmtForm, skips, assigns, frees, gets, writes, writes_text, chooses, repeats, counts, exits, returns, raises, encloses, StmtsForm, no_stmts, a_stmt, BranchesForm, otherwise, a_branch, HandlersForm, no_handlers, a_handler, DeclarationForm, collects, declares}
+use Rattle.ada_program.specs.Form.{PathForm, ExpressionForm, integer, boolean, reads, is_null, applied_to, chained, LinksForm, no_more_links, a_link, ItemForm, null_item, item_of_path, item_of_value, RightForm, nothing, value_of, allocates, computes, StmtForm, skips, assigns, frees, gets, writes, writes_text, chooses, repeats, counts, exits, returns, raises, encloses, StmtsForm, no_stmts, a_stmt, BranchesForm, otherwise, a_branch, HandlersForm, no_handlers, a_handler, DeclarationForm, collects, declares}
 use Rattle.ada_program.specs.ProgramForm.{ComponentForm, TypeForm, record_of, access_to, VariableForm, ProgramForm}
 
 -- The type that an access type designates (3.10): none, if it is no access type.
@@ -227,18 +227,9 @@ abbrev pub is_this : ℕ → Option ℕ → Bool
 is_this access None = false
 is_this access (Some t) = t == access
 
--- In use so far: an expression reads what a variable holds, or a component of the object that a variable gives access to.
-abbrev pub follows_at_most_one : PathForm → Bool
-follows_at_most_one path = nat_le (length path.selectors) 1
-
--- In use so far: an access value that is moved, and what is freed, are variables, and no components.
+-- In use so far: what is freed, and an access value that goes to a new object, are variables, and no components.
 abbrev pub names_variable : PathForm → Bool
 names_variable path = length path.selectors == 0
-
--- In use so far: what is assigned to is a variable, or an Integer or a Boolean component of the object that a variable gives access to (5.2).
-abbrev pub names_target : List TypeForm → List VariableForm → PathForm → Bool
-names_target types variables path =
-    names_variable path || (follows_at_most_one path && is_some (scalar_of (path_kind types variables path)))
 
 -- Whether there is a type, and it is this one.
 abbrev pub is_type : ScalarType → Option ScalarType → Bool
@@ -290,12 +281,11 @@ binary_type binary.Remainder left right = given_two Integer Integer left right
 
 -- The type of what an expression reads (4.4).
 abbrev pub read_type : List TypeForm → List VariableForm → PathForm → Option ScalarType
-read_type types variables path = if follows_at_most_one path then scalar_of (path_kind types variables path) else None
+read_type types variables path = scalar_of (path_kind types variables path)
 
 -- A value that is compared with null is an access value; the comparison gives a Boolean (4.5.2).
 abbrev pub null_test_type : List TypeForm → List VariableForm → PathForm → Option ScalarType
-null_test_type types variables path =
-    if follows_at_most_one path && is_some (path_access types variables path) then Some Boolean else None
+null_test_type types variables path = if is_some (path_access types variables path) then Some Boolean else None
 
 abbrev mutual
   -- The type of an expression (4.4): none, where an operand has none or a wrong one.
@@ -316,13 +306,18 @@ abbrev mutual
 abbrev pub has_type : List TypeForm → List VariableForm → ScalarType → ExpressionForm → Bool
 has_type types variables type e = is_type type (type_of types variables e)
 
--- An item of an aggregate is null for an access component, and else an expression of the component's type (4.3.1).
+-- An item of an aggregate is null or a variable of the component's very type for an access component, and else an expression of the component's
+-- type (4.3.1).
 abbrev pub item_fits : List TypeForm → List VariableForm → ComponentKind → ItemForm → Bool
 item_fits types variables (component.Integer initial) null_item = false
+item_fits types variables (component.Integer initial) (item_of_path path) = false
 item_fits types variables (component.Integer initial) (item_of_value e) = has_type types variables Integer e
 item_fits types variables (component.Boolean initial) null_item = false
+item_fits types variables (component.Boolean initial) (item_of_path path) = false
 item_fits types variables (component.Boolean initial) (item_of_value e) = has_type types variables Boolean e
 item_fits types variables (component.Access access) null_item = true
+item_fits types variables (component.Access access) (item_of_path path) =
+    names_variable path && is_this access.0 (path_access types variables path)
 item_fits types variables (component.Access access) (item_of_value e) = false
 
 -- There is one item for each component, in order (4.3.1).
@@ -337,10 +332,10 @@ abbrev pub is_filled : List TypeForm → List VariableForm → Option (List Comp
 is_filled types variables None items = false
 is_filled types variables (Some components) items = items_fit types variables components items
 
--- What is assigned where an access value is held (4.8, 5.2): null, a variable of that very type, or a new object of that type.
+-- What is assigned where an access value is held (4.8, 5.2): null, a value of that very type, or a new object of that type.
 abbrev pub access_fits : List TypeForm → List VariableForm → ℕ → RightForm → Bool
 access_fits types variables access nothing = true
-access_fits types variables access (value_of path) = names_variable path && is_this access (path_access types variables path)
+access_fits types variables access (value_of path) = is_this access (path_access types variables path)
 access_fits types variables access (allocates t items) = (t == access) && is_filled types variables (reached_components types access) items
 access_fits types variables access (computes e) = false
 
@@ -380,6 +375,7 @@ abbrev mutual
 -- An item names only such variables.
 abbrev pub item_before : ℕ → ItemForm → Bool
 item_before x null_item = true
+item_before x (item_of_path path) = nat_lt path.root x
 item_before x (item_of_value e) = expression_before x e
 
 -- An initial value names only variables that are declared before (8.3).
@@ -427,9 +423,9 @@ abbrev pub choice_fits : (exceptions : List (List ℕ)) → Choice → Bool
 choice_fits exceptions (choice.Exception e) = exception_fits exceptions e
 choice_fits exceptions choice.Others = true
 
--- What the input gives goes to an Integer: a variable, or a component of the object that a variable gives access to.
+-- What the input gives goes to an Integer: a variable, or a component.
 abbrev pub is_integer_target : List TypeForm → List VariableForm → PathForm → Bool
-is_integer_target types variables path = follows_at_most_one path && is_type Integer (scalar_of (path_kind types variables path))
+is_integer_target types variables path = is_type Integer (scalar_of (path_kind types variables path))
 
 -- A part creates its collections first, each of an access type, and its variables, whose initial values fit (3.11).
 abbrev pub declarations_fit : List TypeForm → List VariableForm → List DeclarationForm → Bool
@@ -443,7 +439,7 @@ abbrev mutual
   pub statement_fits : List TypeForm → List VariableForm → (texts exceptions : List (List ℕ)) → (inside_loop : Bool) → StmtForm → Bool
   statement_fits types variables texts exceptions inside_loop skips = true
   statement_fits types variables texts exceptions inside_loop (assigns target right) =
-      names_target types variables target && right_fits types variables (path_kind types variables target) right
+      right_fits types variables (path_kind types variables target) right
   statement_fits types variables texts exceptions inside_loop (frees access path) =
       names_variable path && is_freed_by types access (path_access types variables path)
   statement_fits types variables texts exceptions inside_loop (gets target) = is_integer_target types variables target

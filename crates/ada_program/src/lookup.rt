@@ -145,13 +145,6 @@ pub(crate) fn path_access(
     access_of(path_kind(types, variables, path))
 }
 
-/// Whether a path leads to what a variable holds, or to a component of the object that it gives access to.
-pub(crate) fn follows_at_most_one(path: &Path) -> bool
-    ensures { result ≡ fits.follows_at_most_one (path_form path.now) }
-{
-    path.selectors.len() <= 1
-}
-
 /// Whether a path is a variable, and no component.
 pub(crate) fn names_variable(path: &Path) -> bool
     ensures { result ≡ fits.names_variable (path_form path.now) }

@@ -137,7 +137,7 @@ pub enum Stmt {
         access: TypeNo,
         variable: Path,
     },
-    /// `Run_Input.Get (..);` The next number of the input goes to an Integer variable.
+    /// `Run_Input.Get (..);` The next number of the input goes to an Integer.
     Get(Path),
     /// `Ada.Text_IO.Put_Line (Integer'Image (..));` (A.10.7)
     PutImage(Expression),
@@ -201,8 +201,8 @@ pub struct Handler {
 #[derive(Drop)]
 pub enum Right {
     Null,
-    /// The value of a declared object of an access type.
-    Variable(Path),
+    /// The access value that a path names: that of a variable, or of a component.
+    Path(Path),
     /// A new object of the type that the access type designates; its items in the order of the components (4.8).
     Allocator { access: TypeNo, items: Vec<Item> },
     /// An Integer or a Boolean (4.4).
@@ -213,6 +213,8 @@ pub enum Right {
 #[derive(Drop)]
 pub enum Item {
     Null,
+    /// The access value that a path names: that of a variable.
+    Path(Path),
     /// An Integer or a Boolean (4.4).
     Value(Expression),
 }

@@ -5,19 +5,9 @@ ghost use Rattle.ada_program.specs.Kept as kept;
 ghost use Rattle.ada_program.specs.Kept.{types_in};
 ghost use Rattle.ada_program.specs.WellFormed as fits;
 
-use crate::lookup::{
-    designated_type, follows_at_most_one, is_this, names_variable, path_kind, scalar_of,
-};
+use crate::lookup::{designated_type, is_this, path_kind, scalar_of};
 use crate::program::{Path, ScalarType, TypeDefinition, Variable};
 use crate::typing::is_type;
-
-/// Whether a path is a variable, or an Integer or a Boolean component of the object that a variable gives access to.
-pub(crate) fn names_target(types: &[TypeDefinition], variables: &[Variable], path: &Path) -> bool
-    ensures { result ≡ kept.names_target types.now variables.now path.now }
-{
-    names_variable(path)
-        || (follows_at_most_one(path) && scalar_of(path_kind(types, variables, path)).is_some())
-}
 
 /// Whether a path is an Integer, to which a number of the input may go: a variable, or a component.
 pub(crate) fn is_integer_target(
@@ -27,11 +17,10 @@ pub(crate) fn is_integer_target(
 ) -> bool
     ensures { result ≡ kept.is_integer_target types.now variables.now path.now }
 {
-    follows_at_most_one(path)
-        && is_type(
-            ScalarType::Integer,
-            scalar_of(path_kind(types, variables, path)),
-        )
+    is_type(
+        ScalarType::Integer,
+        scalar_of(path_kind(types, variables, path)),
+    )
 }
 
 /// Whether a variable's access type and that of an instance designate one record type (13.11.2).

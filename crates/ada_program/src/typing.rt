@@ -4,7 +4,7 @@ ghost use Rattle.std.specs.Prelude.{◌≡◌};
 ghost use Rattle.ada_program.specs.Kept as kept;
 ghost use Rattle.ada_program.specs.WellFormed as fits;
 
-use crate::lookup::{follows_at_most_one, path_access, path_kind, scalar_of};
+use crate::lookup::{path_access, path_kind, scalar_of};
 use crate::program::{Expression, Link, Path, ScalarType, TypeDefinition, Variable};
 use ada_values::operator::{BinaryOperator, UnaryOperator};
 
@@ -50,11 +50,7 @@ fn type_of(
 fn read_type(types: &[TypeDefinition], variables: &[Variable], path: &Path) -> Option<ScalarType>
     ensures { result ≡ kept.read_type types.now variables.now path.now }
 {
-    if follows_at_most_one(path) {
-        scalar_of(path_kind(types, variables, path))
-    } else {
-        None
-    }
+    scalar_of(path_kind(types, variables, path))
 }
 
 /// The type of a comparison with null.
@@ -65,7 +61,7 @@ fn null_test_type(
 ) -> Option<ScalarType>
     ensures { result ≡ kept.null_test_type types.now variables.now path.now }
 {
-    if follows_at_most_one(path) && path_access(types, variables, path).is_some() {
+    if path_access(types, variables, path).is_some() {
         Some(ScalarType::Boolean)
     } else {
         None

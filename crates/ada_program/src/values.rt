@@ -6,9 +6,7 @@ ghost use Rattle.ada_program.specs.Form.{expression_form, item_form, links_form,
 ghost use Rattle.ada_program.specs.Kept as kept;
 ghost use Rattle.ada_program.specs.WellFormed as fits;
 
-use crate::lookup::{
-    held_kind, is_this, names_variable, path_access, reached_components, scalar_of,
-};
+use crate::lookup::{is_this, names_variable, path_access, reached_components};
 use crate::program::{
     Component, ComponentKind, Expression, Item, Link, Right, ScalarType, TypeDefinition, Variable,
     VariableKind,
@@ -43,7 +41,7 @@ fn scalar_fits(
 {
     match value {
         Right::Value(expression) => has_type(types, variables, wanted, expression),
-        Right::Null | Right::Variable(_) | Right::Allocator { .. } => false,
+        Right::Null | Right::Path(_) | Right::Allocator { .. } => false,
     }
 }
 
@@ -58,8 +56,7 @@ fn access_fits(
 {
     match value {
         Right::Null => true,
-        Right::Variable(path) => names_variable(path)
-            && is_this(access, path_access(types, variables, path)),
+        Right::Path(path) => is_this(access, path_access(types, variables, path)),
         Right::Allocator {
             access: created,
             items,
@@ -113,10 +110,27 @@ fn item_fits(
 ) -> bool
     ensures { result ≡ kept.item_fits types.now variables.now kind item.now }
 {
-    match (scalar_of(Some(held_kind(kind))), item) {
-        (None, Item::Null) => true,
-        (Some(wanted), Item::Value(expression)) => has_type(types, variables, wanted, expression),
-        (None, Item::Value(_)) | (Some(_), Item::Null) => false,
+    match (kind, item) {
+        (ComponentKind::Access(_), Item::Null) => true,
+        (ComponentKind::Access(access), Item::Path(path)) => names_variable(path)
+            && is_this(access.0, path_access(types, variables, path)),
+        (ComponentKind::Integer { initial: _ }, Item::Value(expression)) => has_type(
+            types,
+            variables,
+            ScalarType::Integer,
+            expression,
+        ),
+        (ComponentKind::Boolean { initial: _ }, Item::Value(expression)) => has_type(
+            types,
+            variables,
+            ScalarType::Boolean,
+            expression,
+        ),
+        (ComponentKind::Access(_), Item::Value(_)) => false,
+        (
+            ComponentKind::Integer { initial: _ } | ComponentKind::Boolean { initial: _ },
+            Item::Null | Item::Path(_),
+        ) => false,
     }
 }
 
@@ -127,7 +141,7 @@ pub(crate) fn names_before(number: usize, value: &Right) -> bool
 {
     match value {
         Right::Null => true,
-        Right::Variable(path) => path.root.0 < number,
+        Right::Path(path) => path.root.0 < number,
         Right::Allocator { access: _, items } => items_before(number, items),
         Right::Value(expression) => expression_before(number, expression),
     }
@@ -146,6 +160,7 @@ fn item_before(number: usize, item: &Item) -> bool
 {
     match item {
         Item::Null => true,
+        Item::Path(path) => path.root.0 < number,
         Item::Value(expression) => expression_before(number, expression),
     }
 }

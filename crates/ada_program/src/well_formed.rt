@@ -17,7 +17,7 @@ use crate::program::{
     Branch, Choice, Component, ComponentKind, Declaration, Exception, Expression, Handler, Program,
     ScalarType, Stmt, TypeDefinition, Variable, VariableKind,
 };
-use crate::targets::{is_freed_by, is_integer_target, names_target};
+use crate::targets::{is_freed_by, is_integer_target};
 use crate::typing::{has_type, is_type};
 use crate::values::{names_before, right_fits};
 
@@ -230,8 +230,12 @@ fn statement_fits(
 {
     match statement {
         Stmt::Null | Stmt::Return(_) => true,
-        Stmt::Assign { target, value } => names_target(types, variables, target)
-            && right_fits(types, variables, path_kind(types, variables, target), value),
+        Stmt::Assign { target, value } => right_fits(
+            types,
+            variables,
+            path_kind(types, variables, target),
+            value,
+        ),
         Stmt::Free { access, variable } => names_variable(variable)
             && is_freed_by(types, access.0, path_access(types, variables, variable)),
         Stmt::Get(target) => is_integer_target(types, variables, target),

@@ -106,7 +106,7 @@ fn assigned(value: Meant) -> Option<program::Right>
 {
     match value {
         Meant::Null => Some(program::Right::Null),
-        Meant::Variable(path, _) => Some(program::Right::Variable(path)),
+        Meant::Variable(path, _) => Some(program::Right::Path(path)),
         Meant::Integer(expression) | Meant::Boolean(expression) => {
             Some(program::Right::Value(expression))
         }

@@ -5,7 +5,7 @@ use Rattle.std.specs.Prelude.{int_le}
 use Rattle.std.specs.List.{slice_get, slice_index_or, list_all}
 use Rattle.ada_program.specs.declared.program.TypeDefinition.{TypeDefinition}
 use Rattle.ada_program.specs.declared.program.Exception.{Exception}
-use Rattle.ada_program.specs.Form.{ExpressionForm, integer, boolean, reads, is_null, applied_to, chained, LinksForm, no_more_links, a_link, ItemForm, null_item, item_of_value, RightForm, nothing, value_of, allocates, computes, StmtForm, skips, assigns, frees, gets, writes, writes_text, chooses, repeats, counts, exits, returns, raises, encloses, StmtsForm, no_stmts, a_stmt, BranchesForm, otherwise, a_branch, HandlersForm, no_handlers, a_handler, DeclarationForm, collects, declares}
+use Rattle.ada_program.specs.Form.{ExpressionForm, integer, boolean, reads, is_null, applied_to, chained, LinksForm, no_more_links, a_link, ItemForm, null_item, item_of_path, item_of_value, RightForm, nothing, value_of, allocates, computes, StmtForm, skips, assigns, frees, gets, writes, writes_text, chooses, repeats, counts, exits, returns, raises, encloses, StmtsForm, no_stmts, a_stmt, BranchesForm, otherwise, a_branch, HandlersForm, no_handlers, a_handler, DeclarationForm, collects, declares}
 use Rattle.ada_program.specs.Handling.{some_takes, handler_of}
 use Rattle.ada_program.specs.ProgramForm.{TypeForm}
 use Rattle.ada_program.specs.Typed.{words_of}
@@ -121,6 +121,7 @@ module _ (types : List TypeForm) where
   -- Allocators, and what is assigned: a new object lies in the collection of its access type.
   item_good : (item : ItemForm) (s : State) → Stands types s → Good types (item_next named item s)
   item_good null_item s h = standing h.0 h.1
+  item_good (item_of_path path) s h = path_good path.selectors (held named s path.root) s h
   item_good (item_of_value e) s h = standing h.0 (tt, h.1)
 
   items_good : (items : List ItemForm) (s : State) → Stands types s → Good types (items_next named items s)

@@ -105,7 +105,7 @@ x_is_eight = stmt.Assign x (right.Allocator (record { 0 = 1 }) (vec (item.Value 
 
 -- Y := X;
 abbrev pub y_is_x : Stmt
-y_is_x = stmt.Assign y (right.Variable x)
+y_is_x = stmt.Assign y (right.Path x)
 
 -- X := new Cell'(Value => 7); Y := X; X := new Cell'(Value => 8); Put_Line (Integer'Image (Y.Value)); Free (Y);
 abbrev pub program : Program
@@ -248,7 +248,7 @@ counting_loop =
 
 -- X := Y;
 abbrev x_is_y : Stmt
-x_is_y = stmt.Assign x (right.Variable y)
+x_is_y = stmt.Assign x (right.Path y)
 
 -- Y := new Cell'(Value => 7); and the same with 8
 abbrev y_is_new : ℕ → Stmt

@@ -358,7 +358,7 @@ escapes =
 abbrev mistyping_block : Stmt
 mistyping_block =
     stmt.Block (vec enclosed_declarations (omega arith))
-    (vec (y_is_inner ∷ stmt.Assign x (right.Variable y) ∷ []) (omega arith)) (vec [] (omega arith))
+    (vec (y_is_inner ∷ stmt.Assign x (right.Path y) ∷ []) (omega arith)) (vec [] (omega arith))
 
 abbrev pub mistyping : Program
 mistyping = two_access_program_of outer_declarations (omega arith) (mistyping_block ∷ stmt.PutImage (Reads value_of_x) ∷ []) (omega arith)
