@@ -1,0 +1,13 @@
+with Ada.Text_IO; with Ada.Unchecked_Deallocation;
+procedure Main is
+type Node; type Link is access Node;
+type Node is record Value : Integer := 0; Next : Link; end record;
+procedure Free is new Ada.Unchecked_Deallocation (Node, Link);
+A : Link := new Node'(1, null); B : Link;
+begin
+begin
+B := new Node'(2, A);
+Ada.Text_IO.Put_Line (Integer'Image (B.Next.Next.Value));
+exception when Constraint_Error => Ada.Text_IO.Put_Line (Integer'Image (A.Value));
+end;
+end Main;
