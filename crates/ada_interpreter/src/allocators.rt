@@ -45,10 +45,7 @@ impl<'a> Process<'a> {
                 self.keep(Value::Null)?;
                 Ok(QUIET)
             }
-            Item::Path(path) => {
-                self.replace(rest)?;
-                self.read(path)
-            }
+            Item::Path(path) => self.read_then(path, rest),
             Item::Value(expression) => {
                 self.replace_by_two(Frame::Computes(expression), rest)?;
                 Ok(QUIET)

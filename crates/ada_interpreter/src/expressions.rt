@@ -50,7 +50,9 @@ impl<'a> Process<'a> {
                 Ok(QUIET)
             }
             Expression::Path(path) => self.read(path),
-            Expression::NullTest { path, equal } => self.read_for_test(path, *equal),
+            Expression::NullTest { path, equal } => {
+                self.read_then(path, Frame::TestsNull { equal: *equal })
+            }
             Expression::Unary { operator, operand } => {
                 self.compute_then(operand, Frame::AppliesAlone(*operator))
             }
@@ -105,9 +107,9 @@ impl<'a> Process<'a> {
         }
     }
 
-    /// A path is read whose value is tested against null then (4.5.2).
-    fn read_for_test(&mut self, path: &'a Path, equal: bool) -> Result<Turn, AllocError>
-        ensures { let s = replaced (frame.TestsNull equal) (state_of self.old) in
+    /// A path is read, and then something is to be done with its value, in place of the first of what is left to do.
+    pub(crate) fn read_then(&mut self, path: &'a Path, then: Frame<'a>) -> Result<Turn, AllocError>
+        ensures { let s = replaced (frame_of then.entry) (state_of self.old) in
             let form = path_form path.now in
             Turns (step.path_next named form.selectors (step.held named s form.root) s)
             (state_of self.old) result (state_of self.new) }
@@ -116,7 +118,7 @@ impl<'a> Process<'a> {
         match self.reach(value, path.selectors.as_slice()) {
             Err(halt) => Ok(Turn::Halts(halt)),
             Ok(outcome) => {
-                self.replace(Frame::TestsNull { equal })?;
+                self.replace(then)?;
                 Ok(Turn::Moves(self.proceed(outcome)?))
             }
         }

@@ -2,7 +2,7 @@
 
 use Rattle.ada_typed.specs.Stuck.{EndsByTheLanguage}
 use Rattle.ada_typed.specs.Holding.{Cells, Designates, HasKind, HaveKinds, cells_of}
-use Rattle.std.proofs.Common.{◌≡◌, ℕ, zero, suc, ◌<◌, ◌≤◌, ◌==◌, if◌then◌else◌, Bool, true, false, ◌&&◌, List, [], ◌∷◌, ◌++◌, length, take, drop, reverse, Option, Some, None, Result, Ok, Err, arith, refl, sym, ap, ◌∙◌, subst}
+use Rattle.std.proofs.Common.{◌≡◌, ℕ, zero, suc, ◌<◌, ◌≤◌, ◌==◌, if◌then◌else◌, Bool, true, false, List, [], ◌∷◌, ◌++◌, length, take, drop, reverse, Option, Some, None, Result, Ok, Err, arith, refl, sym, ap, ◌∙◌, subst}
 use Rattle.std.specs.Prelude.{is_some}
 use Rattle.std.proofs.lemmas.Bool.{eqb-true}
 use Rattle.std.specs.List.{slice_get, slice_set}
@@ -13,9 +13,9 @@ use Rattle.ada_program.specs.declared.program.ScalarType.TheVariants.{Integer, B
 use Rattle.ada_program.specs.declared.program.TypeNo.{TypeNo}
 use Rattle.ada_program.specs.declared.program.VariableKind.{VariableKind}
 use Rattle.ada_program.specs.declared.program.VariableKind.TheVariants as variable
-use Rattle.ada_program.specs.Form.{ExpressionForm, integer, boolean, reads, is_null, applied_to, chained, LinksForm, no_more_links, a_link, ItemForm, null_item, item_of_value, RightForm, nothing, value_of, allocates, computes}
+use Rattle.ada_program.specs.Form.{ExpressionForm, integer, boolean, reads, is_null, applied_to, chained, LinksForm, no_more_links, a_link, ItemForm, null_item, item_of_path, item_of_value, RightForm, nothing, value_of, allocates, computes}
 use Rattle.ada_program.specs.ProgramForm.{TypeForm, ComponentForm, VariableForm, ProgramForm}
-use Rattle.ada_program.specs.WellFormed.{reached_components, held_kind, component_kind, kind_among, selected_kind, selectors_kind, variable_kind, path_kind, path_access, access_of, scalar_of, is_this, follows_at_most_one, names_variable, type_of, chain_type, unary_type, binary_type, item_fits, items_fit, is_filled, kind_takes}
+use Rattle.ada_program.specs.WellFormed.{reached_components, held_kind, component_kind, kind_among, selected_kind, selectors_kind, variable_kind, path_kind, path_access, access_of, scalar_of, is_this, names_variable, type_of, chain_type, unary_type, binary_type, item_fits, items_fit, is_filled, kind_takes}
 use Rattle.ada_values.specs.declared.value.Value.TheVariants as scalar
 use Rattle.ada_values.specs.declared.operator.BinaryOperator.{BinaryOperator}
 use Rattle.ada_values.specs.declared.fault.OperatorFault.{OperatorFault}
@@ -226,20 +226,12 @@ module _ (p : ProgramForm) where
   scalar_kind (Some variable.Boolean) Boolean h = refl
   scalar_kind (Some (variable.Access access)) t h = absurd (cc)
 
-  read_kind : (short : Bool) (kind : Option VariableKind) (t : ScalarType) → (if short then scalar_of kind else None) ≡ Some t → kind ≡ Some (kind_of t)
-  read_kind true kind t h = scalar_kind kind t h
-  read_kind false kind t h = absurd (cc)
-
   -- What is compared with null is an access value.
   tested_access : (kind : Option VariableKind) (t : ScalarType) → (if is_some (access_of kind) then Some Boolean else None) ≡ Some t → (access : TypeNo) × (kind ≡ Some (variable.Access access)) × (Boolean ≡ t)
   tested_access None t h = absurd (cc)
   tested_access (Some variable.Integer) t h = absurd (cc)
   tested_access (Some variable.Boolean) t h = absurd (cc)
   tested_access (Some (variable.Access access)) t h = (access, refl, cc)
-
-  tested_kind : (short : Bool) (kind : Option VariableKind) (t : ScalarType) → (if short && is_some (access_of kind) then Some Boolean else None) ≡ Some t → (access : TypeNo) × (kind ≡ Some (variable.Access access)) × (Boolean ≡ t)
-  tested_kind true kind t h = tested_access kind t h
-  tested_kind false kind t h = absurd (cc)
 
   pub null_test_fine : (equal : Bool) (access : TypeNo) (v : Value) (s : State) (kinds : List VariableKind) (cells : Cells) → HasKind cells (variable.Access access) v → Ready p kinds s → Fits p (cells_of s.heap) (variable.Boolean ∷ kinds) s.control → Fine p (null_test_next named equal (reads_null v) s)
   null_test_fine true access Null s kinds cells has ready fits = running (variable.Boolean ∷ kinds) (ready_push kinds s variable.Boolean (Scalar (scalar.Boolean true)) ready tt) fits
@@ -255,9 +247,9 @@ module _ (p : ProgramForm) where
   expression_fine (boolean b) Integer s kinds ready is fits = absurd (cc)
   expression_fine (reads path) t s kinds ready is fits =
       root_fine (variable_kind p.variables path.root) path.selectors path.root (kind_of t) s kinds ready refl
-      (read_kind (follows_at_most_one path) (path_kind p.types p.variables path) t is) fits
+      (scalar_kind (path_kind p.types p.variables path) t is) fits
   expression_fine (is_null equal path) t s kinds ready is fits =
-      let tested = tested_kind (follows_at_most_one path) (path_kind p.types p.variables path) t is in
+      let tested = tested_access (path_kind p.types p.variables path) t is in
       root_fine (variable_kind p.variables path.root) path.selectors path.root (variable.Access tested.0) (at (frame.TestsNull equal ∷ s.control) s) kinds
       (ready_at kinds s (frame.TestsNull equal ∷ s.control) ready ready.deep) refl tested.1
       (kinds, tested.0, refl, subst (λ (q : ScalarType). Fits p (cells_of s.heap) (kind_of q ∷ kinds) s.control) (sym tested.2) fits)
@@ -296,15 +288,27 @@ module _ (p : ProgramForm) where
   outcome_fine (Err DivisionByZero) t s ks ready gives fits = raises ks (kind_of t ∷ ks) ConstraintError s ready fits
   outcome_fine (Err WrongType) t s ks ready gives fits = absurd gives
 
+  -- A value of an access type.
+  this_kind : (kind : Option VariableKind) (access : TypeNo) → is_this access.0 (access_of kind) ≡ true → kind ≡ Some (variable.Access access)
+  this_kind None access h = absurd (cc)
+  this_kind (Some variable.Integer) access h = absurd (cc)
+  this_kind (Some variable.Boolean) access h = absurd (cc)
+  this_kind (Some (variable.Access other)) access h = ap (λ (i : ℕ). Some (variable.Access (record { 0 = i }))) (eqb-true other.0 access.0 h)
+
   -- Allocators.
   item_fine : (kind : ComponentKind) (item : ItemForm) (s : State) (kinds : List VariableKind) → Ready p kinds s → item_fits p.types p.variables kind item ≡ true → Fits p (cells_of s.heap) (held_kind kind ∷ kinds) s.control → Fine p (item_next named item s)
   item_fine (component.Integer initial) null_item s kinds ready is fits = absurd (cc)
+  item_fine (component.Integer initial) (item_of_path path) s kinds ready is fits = absurd (cc)
   item_fine (component.Integer initial) (item_of_value e) s kinds ready is fits =
       running kinds (ready_at kinds s (frame.Computes e ∷ s.control) ready ready.deep) (Integer, typed Integer (type_of p.types p.variables e) is, fits)
   item_fine (component.Boolean initial) null_item s kinds ready is fits = absurd (cc)
+  item_fine (component.Boolean initial) (item_of_path path) s kinds ready is fits = absurd (cc)
   item_fine (component.Boolean initial) (item_of_value e) s kinds ready is fits =
       running kinds (ready_at kinds s (frame.Computes e ∷ s.control) ready ready.deep) (Boolean, typed Boolean (type_of p.types p.variables e) is, fits)
   item_fine (component.Access access) null_item s kinds ready is fits = running (variable.Access access ∷ kinds) (ready_push kinds s (variable.Access access) Null ready tt) fits
+  item_fine (component.Access access) (item_of_path path) s kinds ready is fits =
+      root_fine (variable_kind p.variables path.root) path.selectors path.root (variable.Access access) s kinds ready refl
+      (this_kind (path_kind p.types p.variables path) access (and_right (names_variable path) (is_this access.0 (path_access p.types p.variables path)) is)) fits
   item_fine (component.Access access) (item_of_value e) s kinds ready is fits = absurd (cc)
 
   pub items_fine : (items : List ItemForm) (cs : List ComponentForm) (s : State) (kinds : List VariableKind) → Ready p kinds s → items_fit p.types p.variables cs items ≡ true → Fits p (cells_of s.heap) (onto cs kinds) s.control → Fine p (items_next named items s)
@@ -345,12 +349,6 @@ module _ (p : ProgramForm) where
   new_fine (Some item) access words s ks cs ready reached fits = answered_fine access item words s ks cs ready reached fits
 
   -- What is assigned.
-  this_kind : (kind : Option VariableKind) (access : TypeNo) → is_this access.0 (access_of kind) ≡ true → kind ≡ Some (variable.Access access)
-  this_kind None access h = absurd (cc)
-  this_kind (Some variable.Integer) access h = absurd (cc)
-  this_kind (Some variable.Boolean) access h = absurd (cc)
-  this_kind (Some (variable.Access other)) access h = ap (λ (i : ℕ). Some (variable.Access (record { 0 = i }))) (eqb-true other.0 access.0 h)
-
   filled_items : (o : Option (List ComponentForm)) (vs : List VariableForm) (items : List ItemForm) → is_filled p.types vs o items ≡ true → (cs : List ComponentForm) × (o ≡ Some cs) × (items_fit p.types vs cs items ≡ true)
   filled_items None vs items h = absurd (cc)
   filled_items (Some cs) vs items h = (cs, refl, h)
@@ -375,7 +373,7 @@ module _ (p : ProgramForm) where
   right_fine nothing (variable.Access access) s kinds ready is fits = running (variable.Access access ∷ kinds) (ready_push kinds s (variable.Access access) Null ready tt) fits
   right_fine (value_of path) (variable.Access access) s kinds ready is fits =
       root_fine (variable_kind p.variables path.root) path.selectors path.root (variable.Access access) s kinds ready refl
-      (this_kind (path_kind p.types p.variables path) access (and_right (names_variable path) (is_this access.0 (path_access p.types p.variables path)) is)) fits
+      (this_kind (path_kind p.types p.variables path) access is) fits
   right_fine (allocates t items) (variable.Access access) s kinds ready is fits =
       let same : t ≡ access.0 = eqb-true t access.0 (and_left (t == access.0) (is_filled p.types p.variables (reached_components p.types access.0) items) is) in
       let filled = filled_items (reached_components p.types access.0) p.variables items (and_right (t == access.0) (is_filled p.types p.variables (reached_components p.types access.0) items) is) in

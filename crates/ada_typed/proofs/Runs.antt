@@ -1,16 +1,17 @@
 -- So no run of a well-formed program is stuck.
 
-use Rattle.ada_typed.specs.Holding.{cells_of, ObjectsHaveTheirKinds}
-use Rattle.std.proofs.Common.{ℤ, false, List, [], ◌∷◌, refl, subst, arith}
+use Rattle.ada_typed.specs.Holding.{cells_of, HoldsKind, ObjectsHaveTheirKinds, VariablesHaveTheirKinds}
+use Rattle.std.proofs.Common.{◌≡◌, ℕ, ℤ, false, List, [], ◌∷◌, Some, refl, subst, arith}
 use Rattle.ada_program.specs.declared.program.Program.{Program}
 use Rattle.ada_program.specs.ProgramForm.{ProgramForm, program_form}
-use Rattle.ada_program.specs.WellFormed.{IsWellFormed}
+use Rattle.ada_program.specs.declared.program.VariableKind.{VariableKind}
+use Rattle.ada_program.specs.WellFormed.{IsWellFormed, variable_kind}
 use Rattle.ada_meaning.specs.declared.event.Halt.TheVariants.{Stuck}
 use Rattle.ada_meaning.specs.Step.{halts, moves, tells, asks, picks}
 use Rattle.ada_meaning.specs.Named.{State, Next, next}
 use Rattle.ada_meaning.specs.Run.{Event, Choice, settled, grants, takes, Leads, Run, here, there, first_state}
 use Rattle.ada_typed.specs.Stuck.{WellFormedProgramsAreNeverStuck, WellFormedProgramsEndByTheLanguage}
-use Rattle.ada_typed.proofs.Values.{AreFilled, held_blank, filled_at}
+use Rattle.ada_typed.proofs.Values.{AreFilled, IsActive, active_placed, active_held, held_blank, filled_at}
 use Rattle.ada_typed.proofs.Control.{Typed, running, on_jump}
 use Rattle.ada_typed.proofs.Evaluations.{Fine, cell_at}
 use Rattle.ada_typed.proofs.Steps.{next_fine}
@@ -60,3 +61,16 @@ objects_have_their_kinds program well input events last o object run is =
     let p = program_form program in
     let typed = run_typed p program (first_state program input) last events (first_typed program input well) run in
     filled_at p.types (cells_of last.heap) (cells_of last.heap) o.0 object.cell (filled_in p last typed) (cell_at last.heap o.0 object is)
+
+active_holds : (p : ProgramForm) (s : State) (kinds : List VariableKind) (x : ℕ) (kind : VariableKind) → IsActive (cells_of s.heap) p.variables kinds s.activations → variable_kind p.variables x ≡ Some kind → HoldsKind s x kind
+active_holds p s kinds x kind active is =
+    (active_placed (cells_of s.heap) p.variables kinds s.activations x kind active is, active_held (cells_of s.heap) p.variables kinds s.activations x kind active is)
+
+holds_in : (p : ProgramForm) (s : State) (x : ℕ) (kind : VariableKind) → Typed p s → variable_kind p.variables x ≡ Some kind → HoldsKind s x kind
+holds_in p s x kind (running kinds ready fits) is = active_holds p s kinds x kind ready.active is
+holds_in p s x kind (on_jump mode jumps goes) is = active_holds p s [] x kind jumps.active is
+
+pub variables_have_their_kinds : VariablesHaveTheirKinds
+variables_have_their_kinds program well input events last x kind run is =
+    let p = program_form program in
+    holds_in p last x kind (run_typed p program (first_state program input) last events (first_typed program input well) run) is

@@ -14,7 +14,7 @@ use Rattle.ada_program.specs.Form.{ExpressionForm, RightForm, StmtForm, skips, a
 use Rattle.ada_program.specs.Handling.{some_takes, handler_of}
 use Rattle.ada_program.specs.ProgramForm.{VariableForm, ProgramForm}
 use Rattle.ada_program.specs.Typed.{words_of}
-use Rattle.ada_program.specs.WellFormed.{selectors_kind, variable_kind, path_kind, path_access, access_of, scalar_of, follows_at_most_one, names_variable, names_target, is_type, type_of, kind_takes, right_fits, is_freed_by, collections_first, collection_fits, initial_fits, declarations_fit, has_type, condition_fits, has_statement, choice_fits, statement_fits, stmts_fit, branches_fit, handlers_fit, names_before}
+use Rattle.ada_program.specs.WellFormed.{selectors_kind, variable_kind, path_access, access_of, scalar_of, names_variable, is_type, type_of, kind_takes, right_fits, is_freed_by, collections_first, collection_fits, initial_fits, declarations_fit, has_type, condition_fits, has_statement, choice_fits, statement_fits, stmts_fit, branches_fit, handlers_fit, names_before}
 use Rattle.ada_values.specs.declared.value.Value.TheVariants as scalar
 use Rattle.ada_meaning.specs.declared.state.Id.{Id}
 use Rattle.ada_meaning.specs.declared.state.Value.{Value}
@@ -238,15 +238,13 @@ module _ (p : ProgramForm) where
   stmt_fine : (f : StmtForm) (inside : Bool) (s : State) → Ready p [] s → statement_fits p.types p.variables p.texts p.exceptions inside f ≡ true → WhereInside inside (Lands p (cells_of s.heap) s.control) → Fits p (cells_of s.heap) [] s.control → Fine p (stmt_next named f s)
   stmt_fine skips inside s ready is lands fits = running [] ready fits
   stmt_fine (assigns target right) inside s ready is lands fits =
-      assign_fine target.selectors target.root right s [] ready
-      (and_right (names_target p.types p.variables target) (right_fits p.types p.variables (path_kind p.types p.variables target) right) is) fits
+      assign_fine target.selectors target.root right s [] ready is fits
   stmt_fine (frees access path) inside s ready is lands fits =
       frees_fine path.selectors access path.root s [] ready
       (and_left (names_variable path) (is_freed_by p.types access (path_access p.types p.variables path)) is)
       (and_right (names_variable path) (is_freed_by p.types access (path_access p.types p.variables path)) is) fits
   stmt_fine (gets target) inside s ready is lands fits =
-      gets_fine target.selectors target.root s.input s ready
-      (and_right (follows_at_most_one target) (is_type Integer (scalar_of (path_kind p.types p.variables target))) is) fits
+      gets_fine target.selectors target.root s.input s ready is fits
   stmt_fine (writes e) inside s ready is lands fits =
       running [] (ready_at p [] s (frame.Computes e ∷ frame.Writes ∷ s.control) ready ready.deep) (Integer, typed Integer (type_of p.types p.variables e) is, ([], refl, fits))
   stmt_fine (writes_text text) inside s ready is lands fits = running [] ready fits

@@ -141,6 +141,16 @@ held_at cells (y ∷ xs) [] x kind h is = absurd h
 held_at cells (y ∷ xs) (v ∷ vs) zero kind h is = let one : y.kind ≡ kind = cc in subst (λ (k : VariableKind). HasKind cells k v) one h.0
 held_at cells (y ∷ xs) (v ∷ vs) (suc x) kind h is = held_at cells xs vs x kind h.1 is
 
+placed_at : (cells : Cells) (xs : List VariableForm) (vs : List Value) (x : ℕ) (kind : VariableKind) → AreHeld cells xs vs → variable_kind xs x ≡ Some kind → slice_get vs x ≡ Some (slice_index_or vs x Null)
+placed_at cells [] vs x kind h is = absurd (cc)
+placed_at cells (y ∷ xs) [] x kind h is = absurd h
+placed_at cells (y ∷ xs) (v ∷ vs) zero kind h is = refl
+placed_at cells (y ∷ xs) (v ∷ vs) (suc x) kind h is = placed_at cells xs vs x kind h.1 is
+
+pub active_placed : (cells : Cells) (xs : List VariableForm) (kinds : List VariableKind) (acts : List (Activation Value)) (x : ℕ) (kind : VariableKind) → IsActive cells xs kinds acts → variable_kind xs x ≡ Some kind → slice_get (places_of acts) x ≡ Some (slice_index_or (places_of acts) x Null)
+active_placed cells xs kinds [] x kind h is = absurd h
+active_placed cells xs kinds (a ∷ suspended) x kind h is = placed_at cells xs a.places x kind h.0 is
+
 pub active_held : (cells : Cells) (xs : List VariableForm) (kinds : List VariableKind) (acts : List (Activation Value)) (x : ℕ) (kind : VariableKind) → IsActive cells xs kinds acts → variable_kind xs x ≡ Some kind → HasKind cells kind (slice_index_or (places_of acts) x Null)
 active_held cells xs kinds [] x kind h is = absurd h
 active_held cells xs kinds (a ∷ suspended) x kind h is = held_at cells xs a.places x kind h.0 is

@@ -1,6 +1,6 @@
 //! What types promise about runs, by the definitions alone.
 
-ghost use Rattle.ada_typed.specs.Holding.{ObjectsHaveTheirKinds};
+ghost use Rattle.ada_typed.specs.Holding.{ObjectsHaveTheirKinds, VariablesHaveTheirKinds};
 ghost use Rattle.ada_typed.specs.Stuck.{WellFormedProgramsAreNeverStuck, WellFormedProgramsEndByTheLanguage, AWellFormedProgramFinishes, AnIllTypedProgramGetsStuck, AnEmptyHandlerGetsStuck};
 
 /// A well-formed program is never stuck: in each of its runs the next action has a meaning.
@@ -18,6 +18,12 @@ pub fn well_formed_programs_end_by_the_language()
 /// designates: a value of its kind for each component, in order.
 pub fn objects_have_their_kinds()
     ensures { ObjectsHaveTheirKinds }
+{}
+
+/// In every run of a well-formed program, each variable of the running activation holds a value of its kind, whether or
+/// not its declaration has been elaborated.
+pub fn variables_have_their_kinds()
+    ensures { VariablesHaveTheirKinds }
 {}
 
 /// The premise is met: a well-formed program declares, allocates, follows, assigns, repeats, counts, compares with null,

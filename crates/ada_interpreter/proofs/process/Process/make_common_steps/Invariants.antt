@@ -1,4 +1,4 @@
-use Rattle.std.proofs.Common.{◌≡◌, ◌≤◌, ◌-◌}
+use Rattle.std.proofs.Common.{◌≤◌, ◌-◌}
 use Rattle.ada_meaning.specs.Ending.{weight}
 use Rattle.ada_interpreter.specs.CommonSteps.{GoesQuietly}
 use Rattle.ada_interpreter.specs.Process.{state_of}
