@@ -2,7 +2,7 @@
 
 use Rattle.std.proofs.Common.{◌≡◌, ℕ, zero, suc, ◌+◌, ◌<◌, ◌≤◌, Bool, true, false, not, List, [], ◌∷◌, get_or, length, take, drop, map, Option, Some, None, refl, sym, ap, ◌∙◌}
 use Rattle.std.specs.Prelude.{slice_get, if◌then◌else◌}
-use Rattle.std.proofs.lemmas.Option.{slice_get-map, slice_get-get_or, slice_get_past}
+use Rattle.std.proofs.lemmas.Option.{slice_get-get_or, slice_get_past}
 use Rattle.std.proofs.Math.Seq.{drop-cons}
 use Rattle.std.proofs.Common.{add-one}
 use Rattle.ada_text.specs.declared.spot.Spot.{Spot}
@@ -103,5 +103,3 @@ left_next vs marks hs i v h a b = rw (add-one, drop-cons vs i v, drop-cons hs i 
 pub ruleset losing_steps = (left_short, left_nothing, left_next)
 
 pub ruleset leaving_steps = (left_alone)
-
-pub ruleset kind_steps = (slice_get-map)

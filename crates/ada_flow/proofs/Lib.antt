@@ -1,5 +1,7 @@
--- the leftmost place where a lost value is followed
+-- the leftmost of the rules that paths break
 pub mod Leftmost
+-- items that move variables
+pub mod Moved
 -- ways that join
 pub mod Joined
 -- what is noted of where exceptions are raised

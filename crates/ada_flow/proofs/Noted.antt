@@ -8,7 +8,7 @@ use Rattle.ada_program.specs.declared.program.Choice.{Choice}
 use Rattle.ada_program.specs.declared.program.Handler.{Handler}
 use Rattle.ada_flow.specs.declared.rule.Rule.{Rule}
 use Rattle.ada_flow.specs.declared.rule.Rule.TheVariants.{LoopState}
-use Rattle.ada_flow.specs.Flow.{Holds, Outcome, faults, goes, Around, join_option, left_option, either_of, also_raises, then_flow, computed, stmt_flow, stmts_flow, branches_flow, handlers_flow, handled, leaves_block, raising_if, left_with, ends_turn, unless_worse, are_as_good, condition_flow, loop_flow, in_loop, in_block, collected, declaration_flow, declarations_flow}
+use Rattle.ada_flow.specs.Flow.{Holds, Outcome, faults, goes, Around, begins_pair, join_option, left_option, either_of, also_raises, then_flow, computed, stmt_flow, stmts_flow, branches_flow, handlers_flow, handled, leaves_block, raising_if, left_with, ends_turn, unless_worse, are_as_good, condition_flow, loop_flow, in_loop, in_block, collected, declaration_flow, declarations_flow}
 use Rattle.ada_flow.specs.Told.{Noted, unwanted, wanted, also_noted, noted_behind, emptied, ending, end_handled, joined_end, judgement, noted_for}
 use Rattle.ada_flow.proofs.Joined.{join_option_of_three, join_option_none}
 use Rattle.ada_program.specs.Form.{StmtForm, StmtsForm, a_stmt, BranchesForm, a_branch, ExpressionForm, HandlersForm, no_handlers, a_handler, DeclarationForm, encloses, handlers_form}
@@ -75,8 +75,8 @@ joined_to_none (Ok end) = refl
 
 -- statements end as the first, or else as the others
 pub statements_end : (n : Noted) (variables : List VariableForm) (around : Around) (f : StmtForm) (fs : StmtsForm) (holds : Holds) →
-    ending n (stmts_flow variables around (a_stmt f fs) holds) ≡ then_end (ending n (stmt_flow variables around f holds)) (stmts_flow variables around fs)
-statements_end n variables around f fs holds = then_ends n (stmt_flow variables around f holds) (stmts_flow variables around fs)
+    ending n (stmts_flow variables around (a_stmt f fs) holds) ≡ then_end (ending n (stmt_flow variables around (begins_pair f fs) f holds)) (stmts_flow variables around fs)
+statements_end n variables around f fs holds = then_ends n (stmt_flow variables around (begins_pair f fs) f holds) (stmts_flow variables around fs)
 
 -- an `if` ends as its first branch behind its condition, joined with the others
 abbrev pub branch_end : (so_far : Option Holds) (variables : List VariableForm) (around : Around) → StmtsForm → BranchesForm → End → End
@@ -267,41 +267,41 @@ turn_stops leaves n m k condition spot variables fs start tests turns =
     ∙ turn_stays m k start spot (stmts_flow variables (in_loop (Some start)) fs start) turns)
 
 -- a block ends as its statements do with their handlers, behind its declarations
-enclosed_ends : (n : Noted) (variables : List VariableForm) (around : Around) (ds : List DeclarationForm) (fs : StmtsForm) (hs : HandlersForm) (holds : Holds) →
-    ending n (stmt_flow variables around (encloses ds fs hs) holds)
+enclosed_ends : (n : Noted) (variables : List VariableForm) (around : Around) (cleared : Bool) (ds : List DeclarationForm) (fs : StmtsForm) (hs : HandlersForm) (holds : Holds) →
+    ending n (stmt_flow variables around cleared (encloses ds fs hs) holds)
     ≡ left_end n variables (collected ds)
     (then_handled variables (in_block (collected ds) around) (passes fs hs) fs hs (ending (emptied n) (declarations_flow variables ds holds)))
-enclosed_ends n variables around ds fs hs holds =
+enclosed_ends n variables around cleared ds fs hs holds =
     block_ends n variables (collected ds) (then_flow (declarations_flow variables ds holds) (λ at. handled (passes fs hs) (handlers_flow variables (in_block (collected ds) around) hs) (stmts_flow variables (in_block (collected ds) around) fs at)))
     ∙ ap (left_end n variables (collected ds)) (body_ends (emptied n) variables (in_block (collected ds) around) (passes fs hs) ds fs hs holds)
 
 -- its declarations break a rule
-pub block_declares_badly : (n : Noted) (variables : List VariableForm) (around : Around) (ds : List DeclarationForm) (fs : StmtsForm) (hs : HandlersForm) (holds : Holds) (breach : Spot × Rule) →
+pub block_declares_badly : (n : Noted) (variables : List VariableForm) (around : Around) (cleared : Bool) (ds : List DeclarationForm) (fs : StmtsForm) (hs : HandlersForm) (holds : Holds) (breach : Spot × Rule) →
     ending (emptied n) (declarations_flow variables ds holds) ≡ Err breach →
-    ending n (stmt_flow variables around (encloses ds fs hs) holds) ≡ Err breach
-block_declares_badly n variables around ds fs hs holds breach declares =
-    enclosed_ends n variables around ds fs hs holds
+    ending n (stmt_flow variables around cleared (encloses ds fs hs) holds) ≡ Err breach
+block_declares_badly n variables around cleared ds fs hs holds breach declares =
+    enclosed_ends n variables around cleared ds fs hs holds
     ∙ ap (λ e. left_end n variables (collected ds) (then_handled variables (in_block (collected ds) around) (passes fs hs) fs hs e)) declares
 
 -- its statements do
-pub block_breaks : (n m : Noted) (variables : List VariableForm) (around : Around) (types : List ℕ) (ds : List DeclarationForm) (fs : StmtsForm) (hs : HandlersForm) (holds at : Holds) (breach : Spot × Rule) →
+pub block_breaks : (n m : Noted) (variables : List VariableForm) (around : Around) (cleared : Bool) (types : List ℕ) (ds : List DeclarationForm) (fs : StmtsForm) (hs : HandlersForm) (holds at : Holds) (breach : Spot × Rule) →
     types ≡ collected ds → ending (emptied n) (declarations_flow variables ds holds) ≡ Ok (Some at, m) →
     ending (noted_for m hs) (stmts_flow variables (in_block types around) fs at) ≡ Err breach →
-    ending n (stmt_flow variables around (encloses ds fs hs) holds) ≡ Err breach
-block_breaks n m variables around types ds fs hs holds at breach same declares breaks =
-    enclosed_ends n variables around ds fs hs holds
+    ending n (stmt_flow variables around cleared (encloses ds fs hs) holds) ≡ Err breach
+block_breaks n m variables around cleared types ds fs hs holds at breach same declares breaks =
+    enclosed_ends n variables around cleared ds fs hs holds
     ∙ ap (λ e. left_end n variables (collected ds) (then_handled variables (in_block (collected ds) around) (passes fs hs) fs hs e)) declares
     ∙ ap (λ ts. left_end n variables (collected ds) (handled_end m (passes fs hs) (handlers_flow variables (in_block (collected ds) around) hs) (ending (noted_for m hs) (stmts_flow variables (in_block ts around) fs at)))) (sym same)
     ∙ ap (λ e. left_end n variables (collected ds) (handled_end m (passes fs hs) (handlers_flow variables (in_block (collected ds) around) hs) e)) breaks
 
 -- its statements end, and its handlers do, or break a rule
-pub block_handles : (n m k : Noted) (variables : List VariableForm) (around : Around) (types : List ℕ) (ds : List DeclarationForm) (fs : StmtsForm) (hs : HandlersForm) (holds at : Holds) (normal : Option Holds) (end : End) →
+pub block_handles : (n m k : Noted) (variables : List VariableForm) (around : Around) (cleared : Bool) (types : List ℕ) (ds : List DeclarationForm) (fs : StmtsForm) (hs : HandlersForm) (holds at : Holds) (normal : Option Holds) (end : End) →
     types ≡ collected ds → ending (emptied n) (declarations_flow variables ds holds) ≡ Ok (Some at, m) →
     ending (noted_for m hs) (stmts_flow variables (in_block types around) fs at) ≡ Ok (normal, k) →
     end_handled m (passes fs hs) (handlers_flow variables (in_block types around) hs) normal k ≡ end →
-    ending n (stmt_flow variables around (encloses ds fs hs) holds) ≡ left_end n variables types end
-block_handles n m k variables around types ds fs hs holds at normal end same declares ends handles =
-    enclosed_ends n variables around ds fs hs holds
+    ending n (stmt_flow variables around cleared (encloses ds fs hs) holds) ≡ left_end n variables types end
+block_handles n m k variables around cleared types ds fs hs holds at normal end same declares ends handles =
+    enclosed_ends n variables around cleared ds fs hs holds
     ∙ ap (λ e. left_end n variables (collected ds) (then_handled variables (in_block (collected ds) around) (passes fs hs) fs hs e)) declares
     ∙ ap (λ ts. left_end n variables ts (handled_end m (passes fs hs) (handlers_flow variables (in_block ts around) hs) (ending (noted_for m hs) (stmts_flow variables (in_block ts around) fs at)))) (sym same)
     ∙ ap (λ e. left_end n variables types (handled_end m (passes fs hs) (handlers_flow variables (in_block types around) hs) e)) ends

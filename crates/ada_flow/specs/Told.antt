@@ -52,6 +52,11 @@ abbrev pub held : Option (Vec Hold) → Option Holds
 held None = None
 held (Some holds) = Some holds.items
 
+-- The rule that is broken, and where, if one is.
+abbrev pub broken : Option Breach → Option (Spot × Rule)
+broken None = None
+broken (Some breach) = Some (breach.spot, breach.rule)
+
 -- The number of a type.
 abbrev pub type_number : TypeNo → ℕ
 type_number t = t.0

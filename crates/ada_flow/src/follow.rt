@@ -1,14 +1,14 @@
-//! The paths that expressions follow: where one follows a lost value, the leftmost place where that is.
+//! The paths that expressions follow: the leftmost rule that one breaks, and where.
 
-ghost use Rattle.std.specs.Prelude.{◌≡◌, [], ◌∷◌, map};
+ghost use Rattle.std.specs.Prelude.{◌≡◌};
 ghost use Rattle.ada_flow.specs.Flow as rules;
-ghost use Rattle.ada_flow.specs.Told.{Follows};
-ghost use Rattle.ada_program.specs.Form.{path_form, expression_form, item_form, links_form};
+ghost use Rattle.ada_flow.specs.Told.{Follows, broken};
+ghost use Rattle.ada_program.specs.Form.{path_form, expression_form, links_form};
 
 use crate::fault::Breach;
 use crate::holds::hold_of;
 use crate::rule::{Hold, Rule};
-use ada_program::program::{Expression, Item, Link};
+use ada_program::program::{Expression, Link};
 use ada_program::{Path, Spot};
 
 /// Follows the paths of an expression.
@@ -17,156 +17,115 @@ use ada_program::{Path, Spot};
 /// The leftmost place where a path follows a lost value.
 pub(crate) fn follow(holds: &[Hold], expression: &Expression) -> Result<(), Breach>
     ensures { Follows result
-        (rules.lost_among holds.now (rules.uses_in (expression_form expression.now))) }
+        (rules.broken_among holds.now (rules.uses_in (expression_form expression.now))) }
 {
-    unless_lost(lost_in(holds, expression))
+    unless_broken(broken_in(holds, expression))
 }
 
-/// Follows a path.
+/// Follows the path of a target up to the object in which its component lies.
 ///
 /// # Errors
 /// Where it follows a lost value.
-pub(crate) fn follow_path(holds: &[Hold], path: &Path) -> Result<(), Breach>
+pub(crate) fn follow_target(holds: &[Hold], target: &Path) -> Result<(), Breach>
     ensures { Follows result
-        (rules.lost_among holds.now (rules.reads_it (path_form path.now) ∷ [])) }
+        (rules.broken_among holds.now (rules.uses_in_target (path_form target.now))) }
 {
-    unless_lost(leftmost(lost_in_path(holds, path), None))
+    unless_broken(broken_in_target(holds, target))
 }
 
-/// Follows the path of a component that is assigned to, and the paths of the expression that goes there.
-///
-/// # Errors
-/// The leftmost place where a path follows a lost value.
-pub(crate) fn follow_target(
-    holds: &[Hold],
-    target: &Path,
-    expression: &Expression,
-) -> Result<(), Breach>
-    ensures { Follows result (rules.lost_among holds.now (rules.reads_it (path_form target.now) ∷ rules.uses_in (expression_form expression.now))) }
+/// A rule that is broken is told.
+pub(crate) fn unless_broken(breach: Option<Breach>) -> Result<(), Breach>
+    ensures { Follows result (broken breach) }
 {
-    unless_lost(leftmost(lost_in_path(holds, target), lost_in(holds, expression)))
-}
-
-/// Follows the paths of the items of an allocator.
-///
-/// # Errors
-/// The leftmost place where a path follows a lost value.
-pub(crate) fn follow_items(holds: &[Hold], items: &[Item]) -> Result<(), Breach>
-    ensures { Follows result
-        (rules.lost_among holds.now (rules.uses_in_items (map item_form items.now))) }
-{
-    unless_lost(lost_in_items(holds, items))
-}
-
-/// A place where a lost value is followed breaks a rule.
-fn unless_lost(lost: Option<Spot>) -> Result<(), Breach>
-    ensures { Follows result lost }
-{
-    match lost {
+    match breach {
         None => Ok(()),
-        Some(spot) => Err(Breach {
+        Some(breach) => Err(breach),
+    }
+}
+
+/// The leftmost rule that the path of a target breaks.
+pub(crate) fn broken_in_target(holds: &[Hold], target: &Path) -> Option<Breach>
+    ensures { broken result
+        ≡ rules.broken_among holds.now (rules.uses_in_target (path_form target.now)) }
+{
+    leftmost(broken_in_path(holds, target), None)
+}
+
+/// The leftmost rule that an expression breaks.
+#[cycle(following)]
+#[tactic(auto, using(std::proofs::lemmas::Grind::common_steps, ada_program::specs::Form::expression_rules, crate::proofs::Leftmost::broken_steps))]
+pub(crate) fn broken_in(holds: &[Hold], expression: &Expression) -> Option<Breach>
+    ensures { broken result
+        ≡ rules.broken_among holds.now (rules.uses_in (expression_form expression.now)) }
+{
+    match expression {
+        Expression::Integer(_) | Expression::Boolean(_) => None,
+        Expression::Path(path) => broken_in_path(holds, path),
+        Expression::NullTest { path, equal: _ } => broken_in_test(holds, path),
+        Expression::Unary {
+            operator: _,
+            operand,
+        } => broken_in(holds, operand),
+        Expression::Chain { first, links } => leftmost(
+            broken_in(holds, first),
+            broken_in_links(holds, links),
+        ),
+    }
+}
+
+/// The leftmost rule that the operands behind the first one break.
+#[cycle(following)]
+#[tactic(auto, using(std::proofs::lemmas::Grind::common_steps, ada_program::specs::Form::expression_rules, crate::proofs::Leftmost::broken_steps))]
+fn broken_in_links(holds: &[Hold], links: &[Link]) -> Option<Breach>
+    ensures { broken result
+        ≡ rules.broken_among holds.now (rules.uses_in_links (links_form links.now)) }
+{
+    let mut found = None;
+    'links: for link in links {
+        found = leftmost(found, broken_in(holds, &link.operand));
+    }
+    found
+}
+
+/// The rule that reading a path breaks: a component is not found behind a lost value.
+fn broken_in_path(holds: &[Hold], path: &Path) -> Option<Breach>
+    ensures { broken result ≡ rules.broken_in holds.now (rules.reads_it (path_form path.now)) }
+{
+    if path.selectors.is_empty() {
+        None
+    } else {
+        lost_by(hold_of(holds, path.root), path.spot)
+    }
+}
+
+/// The rule that comparing a path with null breaks: a variable's own value must not be lost either.
+fn broken_in_test(holds: &[Hold], path: &Path) -> Option<Breach>
+    ensures { broken result ≡ rules.broken_in holds.now (rules.compares_it (path_form path.now)) }
+{
+    lost_by(hold_of(holds, path.root), path.spot)
+}
+
+/// What is lost is neither followed nor compared.
+pub(crate) fn lost_by(hold: Hold, spot: Spot) -> Option<Breach>
+    ensures { broken result ≡ rules.lost_by hold spot }
+{
+    match hold {
+        Hold::Null | Hold::Own(_) | Hold::Alias(_) => None,
+        Hold::Lost => Some(Breach {
             spot,
             rule: Rule::LostValue,
         }),
     }
 }
 
-/// The leftmost place where items follow a lost value.
-#[tactic(auto, using(std::proofs::lemmas::Grind::common_steps, crate::proofs::Leftmost::lost_steps))]
-fn lost_in_items(holds: &[Hold], items: &[Item]) -> Option<Spot>
-    ensures { result ≡ rules.lost_among holds.now (rules.uses_in_items (map item_form items.now)) }
-{
-    let mut found = None;
-    'items: for item in items {
-        found = leftmost(found, lost_in_item(holds, item));
-    }
-    found
-}
-
-/// The leftmost place where an item follows a lost value.
-fn lost_in_item(holds: &[Hold], item: &Item) -> Option<Spot>
-    ensures { result ≡ rules.lost_among holds.now (rules.uses_in_item (item_form item.now)) }
-{
-    match item {
-        Item::Null => None,
-        Item::Value(expression) => lost_in(holds, expression),
-    }
-}
-
-/// The leftmost place where an expression follows a lost value.
-#[cycle(following)]
-#[tactic(auto, using(std::proofs::lemmas::Grind::common_steps, ada_program::specs::Form::expression_rules, crate::proofs::Leftmost::lost_steps))]
-fn lost_in(holds: &[Hold], expression: &Expression) -> Option<Spot>
-    ensures { result ≡ rules.lost_among holds.now (rules.uses_in (expression_form expression.now)) }
-{
-    match expression {
-        Expression::Integer(_) | Expression::Boolean(_) => None,
-        Expression::Path(path) => lost_in_path(holds, path),
-        Expression::NullTest { path, equal: _ } => lost_in_test(holds, path),
-        Expression::Unary {
-            operator: _,
-            operand,
-        } => lost_in(holds, operand),
-        Expression::Chain { first, links } => leftmost(
-            lost_in(holds, first),
-            lost_in_links(holds, links),
-        ),
-    }
-}
-
-/// The leftmost place where the operands behind the first one follow a lost value.
-#[cycle(following)]
-#[tactic(auto, using(std::proofs::lemmas::Grind::common_steps, ada_program::specs::Form::expression_rules, crate::proofs::Leftmost::lost_steps))]
-fn lost_in_links(holds: &[Hold], links: &[Link]) -> Option<Spot>
-    ensures { result ≡ rules.lost_among holds.now (rules.uses_in_links (links_form links.now)) }
-{
-    let mut found = None;
-    'links: for link in links {
-        found = leftmost(found, lost_in(holds, &link.operand));
-    }
-    found
-}
-
-/// Where a path follows a lost value: that of its variable, or of a component.
-fn lost_in_path(holds: &[Hold], path: &Path) -> Option<Spot>
-    ensures { result ≡ rules.lost_in holds.now (rules.reads_it (path_form path.now)) }
-{
-    match path.selectors.len() {
-        0 => None,
-        1 => lost_by(hold_of(holds, path.root), path.spot),
-        _ => Some(path.spot),
-    }
-}
-
-/// Where a path that is compared with null uses a lost value: a variable's own value must not be lost either.
-fn lost_in_test(holds: &[Hold], path: &Path) -> Option<Spot>
-    ensures { result ≡ rules.lost_in holds.now (rules.compares_it (path_form path.now)) }
-{
-    if path.selectors.is_empty() {
-        lost_by(hold_of(holds, path.root), path.spot)
-    } else {
-        lost_in_path(holds, path)
-    }
-}
-
-/// Where a variable that is followed is lost.
-fn lost_by(hold: Hold, spot: Spot) -> Option<Spot>
-    ensures { result ≡ rules.lost_by hold spot }
-{
-    match hold {
-        Hold::Null | Hold::Own(_) | Hold::Alias(_) => None,
-        Hold::Lost => Some(spot),
-    }
-}
-
-/// The leftmost of two places, where they are there.
-fn leftmost(one: Option<Spot>, other: Option<Spot>) -> Option<Spot>
-    ensures { result ≡ rules.leftmost one other }
+/// The leftmost of two breaches, where they are there.
+pub(crate) fn leftmost(one: Option<Breach>, other: Option<Breach>) -> Option<Breach>
+    ensures { broken result ≡ rules.leftmost (broken one) (broken other) }
 {
     match (one, other) {
         (None, other) => other,
-        (Some(spot), None) => Some(spot),
-        (Some(spot), Some(another)) => if is_left_of(another, spot) {
+        (Some(breach), None) => Some(breach),
+        (Some(breach), Some(another)) => if is_left_of(another.spot, breach.spot) {
             other
         } else {
             one

@@ -1,7 +1,6 @@
-//! The access types of variables: which values a variable relies on, and what is known of it behind a block.
+//! The access types of variables: what is known of each behind a block whose collections are gone.
 
 ghost use Rattle.std.specs.Prelude.{◌≡◌, IfOk, map, not, Some};
-ghost use Rattle.std.specs.Option.{option_map};
 ghost use Rattle.ada_flow.specs.Flow as rules;
 ghost use Rattle.ada_flow.specs.Told.{held, is_marked, left_marked, type_number};
 ghost use Rattle.ada_program.specs.ProgramForm.{variable_form};
@@ -13,39 +12,6 @@ use crate::rule::Hold;
 use ada_program::program::{Variable, VariableKind};
 use ada_program::{TypeNo, VariableNo};
 use std::alloc::{AllocError, Global};
-
-/// The access type of a variable: none, if it is an Integer or a Boolean.
-#[tactic(auto, using(std::proofs::lemmas::Grind::common_steps, crate::proofs::Behind::kind_steps))]
-pub(crate) fn variable_access(variables: &[Variable], variable: VariableNo) -> Option<TypeNo>
-    ensures { option_map type_number result
-        ≡ rules.variable_access (map variable_form variables.now) variable.0 }
-{
-    match variables.get(variable.0) {
-        Some(
-            Variable {
-                name: _,
-                kind: VariableKind::Access(access),
-            },
-        ) => Some(*access),
-        _ => None,
-    }
-}
-
-/// What a variable holds with a value of this access type: any other than its own is lost to it.
-pub(crate) fn held_as(
-    variables: &[Variable],
-    access: Option<TypeNo>,
-    variable: VariableNo,
-    hold: Hold,
-) -> Hold
-    ensures { result ≡ rules.held_as (map variable_form variables.now)
-        (option_map type_number access) variable.0 hold }
-{
-    match (access, variable_access(variables, variable)) {
-        (Some(access), Some(own)) if access == own => hold,
-        _ => Hold::Lost,
-    }
-}
 
 /// What is known of one variable behind a block with the collections of the marked types.
 fn left_hold(marks: &Marks, kind: VariableKind, hold: Hold) -> Hold

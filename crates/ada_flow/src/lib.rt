@@ -2,14 +2,16 @@
 //!
 //! `flow` goes through the declarations, the statements and the handlers in order and answers exactly: either no rule is
 //! broken, or this is the rule that is broken first, and where, want of memory aside. A value that may be gone is neither
-//! read through, compared, moved nor freed (S1), what another variable owns is neither moved nor freed (S2), and no way
-//! leads back to a loop's start, or out of the loop, with less than is known at that start (S5). A variable relies on a
-//! value of its own access type alone. Behind a block the variables of the access types whose collections it created are
-//! lost, and a handler begins with what is known wherever its statements may raise an exception (11.4).
+//! read through, compared, moved nor freed (S1), what another variable owns is neither moved nor freed (S2), a value is
+//! moved out of a component only where the next statement sets that component to null (S3), and no way leads back to a
+//! loop's start, or out of the loop, with less than is known at that start (S5). Of the rules that one simple statement
+//! breaks the leftmost is told. Behind a block the variables of the access types whose collections it created are lost,
+//! and a handler begins with what is known wherever its statements may raise an exception (11.4).
 //!
-//! A statement costs no more than its size, and so it does once more for each loop around it; a branch, a loop, an exit
-//! and a handler cost the number of variables besides, since each way begins with a copy of what is known and ends where
-//! it is joined or compared. A block, and an exit from blocks, marks the access types of the blocks that are left by their
+//! A statement costs no more than its size, and so it does once more for each loop around it; an allocator costs the number
+//! of its items besides for each variable that they move, since none is moved twice; a branch, a loop, an exit and a
+//! handler cost the number of variables besides, since each way begins with a copy of what is known and ends where it is
+//! joined or compared. A block, and an exit from blocks, marks the access types of the blocks that are left by their
 //! numbers, and then goes over the variables once: that costs the number of types besides. Where a handler around wants to
 //! know it, each place that may raise an exception costs the number of variables, too, and each block around its size
 //! once more, to tell what its handlers let pass; elsewhere nothing is noted.
@@ -26,6 +28,8 @@ mod joins;
 mod kinds;
 mod loops;
 mod marks;
+mod moves;
+mod pairs;
 mod raised;
 mod repetition;
 mod rule;

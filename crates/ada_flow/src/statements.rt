@@ -13,6 +13,7 @@ use crate::fault::FlowFault;
 use crate::joins::join_ends;
 use crate::kinds::leave_end;
 use crate::marks::Marks;
+use crate::pairs::begins_pair;
 use crate::raised::Raised;
 use crate::repetition::{count, keeps_start, repeat};
 use crate::rule::Hold;
@@ -43,7 +44,7 @@ fn exit(
     }
 }
 
-/// One statement.
+/// One statement, which is the first one of a take pair, or is not.
 #[cycle(flowing)]
 #[tactic(auto, using(std::proofs::lemmas::Grind::common_steps, ada_program::specs::Form::statement_rules, crate::proofs::Noted::noted_steps, crate::proofs::Noted::block_steps, crate::proofs::Noted::then_ends))]
 fn statement(
@@ -51,15 +52,16 @@ fn statement(
     around: &Around<'_>,
     mut holds: Vec<Hold>,
     raised: &mut Raised,
+    cleared: bool,
     statement: &Stmt,
 ) -> Result<Option<Vec<Hold>>, FlowFault>
     ensures { Ends result raised.old raised.new
-        (stmt_flow (variables_in around.now) (around_of around.now) (stmt_form statement.now) holds.items) }
+        (stmt_flow (variables_in around.now) (around_of around.now) cleared (stmt_form statement.now) holds.items) }
 {
     match statement {
         Stmt::Null | Stmt::PutText(_) => {}
         Stmt::Assign { target, value } => {
-            assign(alloc, around.variables, &mut holds, raised, target, value)?;
+            assign(alloc, &mut holds, raised, cleared, target, value)?;
         }
         Stmt::Free {
             access: _,
@@ -128,7 +130,7 @@ fn statement(
                 inside: &inside,
             };
             let mut own = raised.emptied();
-            declare(alloc, around.variables, &mut holds, &mut own, declarations)?;
+            declare(alloc, &mut holds, &mut own, declarations)?;
             let mut inner = own.with_handlers(handlers);
             let end = self::statements(alloc, &within, holds, &mut inner, statements)?;
             let end = handled(alloc, &within, inner, end, &mut own, handlers, statements)?;
@@ -152,8 +154,9 @@ pub(crate) fn statements(
     ensures { Ends result raised.old raised.new
         (stmts_flow (variables_in around.now) (around_of around.now) (stmts_form statements.now) holds.items) }
 {
-    'statements: for one in statements {
-        match statement(alloc, around, holds, raised, one)? {
+    for (number, one) in statements.iter().enumerate() {
+        let cleared = begins_pair(one, &statements[number + 1..]);
+        match statement(alloc, around, holds, raised, cleared, one)? {
             None => return Ok(None),
             Some(after) => holds = after,
         }

@@ -131,49 +131,49 @@ stands_in : (types inside : List ℕ) (around : Around) → inside ≡ types ++ 
 stands_in types inside around e = ap (stands around.start) e
 
 -- its declarations break a rule
-declares_badly : (fault : FlowFault) (n own : Noted) (variables : List VariableForm) (around : Around) (f : StmtForm) (ds ds' : List DeclarationForm) (fs : StmtsForm) (hs : HandlersForm) (holds first : Holds) →
+declares_badly : (fault : FlowFault) (n own : Noted) (variables : List VariableForm) (cleared : Bool) (around : Around) (f : StmtForm) (ds ds' : List DeclarationForm) (fs : StmtsForm) (hs : HandlersForm) (holds first : Holds) →
     f ≡ encloses ds fs hs → own ≡ emptied n → ds' ≡ ds → first ≡ holds →
     IfSome (breach_of fault) (λ breach. ending own (declarations_flow variables ds' first) ≡ Err breach) →
-    IfSome (breach_of fault) (λ breach. ending n (stmt_flow variables around f holds) ≡ Err breach)
-declares_badly NoMemory n own variables around f ds ds' fs hs holds first form own_is ds_is first_is breaks = tt
-declares_badly (Broken spot rule) n own variables around f ds ds' fs hs holds first form own_is ds_is first_is breaks =
-    subst (λ (g : StmtForm). ending n (stmt_flow variables around g holds) ≡ Err (spot, rule)) (sym form)
-    (block_declares_badly n variables around ds fs hs holds (spot, rule) (declared n own variables ds ds' holds first (Err (spot, rule)) own_is ds_is first_is breaks))
+    IfSome (breach_of fault) (λ breach. ending n (stmt_flow variables around cleared f holds) ≡ Err breach)
+declares_badly NoMemory n own variables cleared around f ds ds' fs hs holds first form own_is ds_is first_is breaks = tt
+declares_badly (Broken spot rule) n own variables cleared around f ds ds' fs hs holds first form own_is ds_is first_is breaks =
+    subst (λ (g : StmtForm). ending n (stmt_flow variables around cleared g holds) ≡ Err (spot, rule)) (sym form)
+    (block_declares_badly n variables around cleared ds fs hs holds (spot, rule) (declared n own variables ds ds' holds first (Err (spot, rule)) own_is ds_is first_is breaks))
 
 -- its statements do
-inner_breaks : (fault : FlowFault) (n own m inner : Noted) (variables : List VariableForm) (around within : Around) (types : List ℕ) (f : StmtForm) (ds ds' : List DeclarationForm) (fs fs' : StmtsForm) (hs hs' : HandlersForm) (holds first after at : Holds) →
+inner_breaks : (fault : FlowFault) (n own m inner : Noted) (variables : List VariableForm) (cleared : Bool) (around within : Around) (types : List ℕ) (f : StmtForm) (ds ds' : List DeclarationForm) (fs fs' : StmtsForm) (hs hs' : HandlersForm) (holds first after at : Holds) →
     f ≡ encloses ds fs hs → types ≡ collected ds → own ≡ emptied n → ds' ≡ ds → first ≡ holds →
     ending own (declarations_flow variables ds' first) ≡ Ok (Some after, m) →
     within ≡ in_block types around → inner ≡ noted_for m hs' → hs' ≡ hs → fs' ≡ fs → at ≡ after →
     IfSome (breach_of fault) (λ breach. ending inner (stmts_flow variables within fs' at) ≡ Err breach) →
-    IfSome (breach_of fault) (λ breach. ending n (stmt_flow variables around f holds) ≡ Err breach)
-inner_breaks NoMemory n own m inner variables around within types f ds ds' fs fs' hs hs' holds first after at form types_is own_is ds_is first_is declares within_is inner_is hs_is fs_is at_is breaks = tt
-inner_breaks (Broken spot rule) n own m inner variables around within types f ds ds' fs fs' hs hs' holds first after at form types_is own_is ds_is first_is declares within_is inner_is hs_is fs_is at_is breaks =
-    subst (λ (g : StmtForm). ending n (stmt_flow variables around g holds) ≡ Err (spot, rule)) (sym form)
-    (block_breaks n m variables around types ds fs hs holds after (spot, rule) types_is
+    IfSome (breach_of fault) (λ breach. ending n (stmt_flow variables around cleared f holds) ≡ Err breach)
+inner_breaks NoMemory n own m inner variables cleared around within types f ds ds' fs fs' hs hs' holds first after at form types_is own_is ds_is first_is declares within_is inner_is hs_is fs_is at_is breaks = tt
+inner_breaks (Broken spot rule) n own m inner variables cleared around within types f ds ds' fs fs' hs hs' holds first after at form types_is own_is ds_is first_is declares within_is inner_is hs_is fs_is at_is breaks =
+    subst (λ (g : StmtForm). ending n (stmt_flow variables around cleared g holds) ≡ Err (spot, rule)) (sym form)
+    (block_breaks n m variables around cleared types ds fs hs holds after (spot, rule) types_is
     (declared n own variables ds ds' holds first (Ok (Some after, m)) own_is ds_is first_is declares)
     (inner_ends m inner variables around within types fs fs' hs hs' after at (Err (spot, rule)) within_is inner_is hs_is fs_is at_is breaks))
 
 -- and where nothing does
-block_is_left : (n own m inner k l raised : Noted) (variables : List VariableForm) (around within : Around) (types behind left : List ℕ) (f : StmtForm) (ds ds' : List DeclarationForm) (fs fs' fs'' : StmtsForm) (hs hs' hs'' : HandlersForm) (holds first after at : Holds) (normal end leaves : Option Holds) →
+block_is_left : (n own m inner k l raised : Noted) (variables : List VariableForm) (cleared : Bool) (around within : Around) (types behind left : List ℕ) (f : StmtForm) (ds ds' : List DeclarationForm) (fs fs' fs'' : StmtsForm) (hs hs' hs'' : HandlersForm) (holds first after at : Holds) (normal end leaves : Option Holds) →
     f ≡ encloses ds fs hs → types ≡ collected ds → own ≡ emptied n → ds' ≡ ds → first ≡ holds →
     ending own (declarations_flow variables ds' first) ≡ Ok (Some after, m) →
     within ≡ in_block types around → inner ≡ noted_for m hs' → hs' ≡ hs → fs' ≡ fs → at ≡ after →
     ending inner (stmts_flow variables within fs' at) ≡ Ok (normal, k) →
     fs'' ≡ fs → hs'' ≡ hs → end_handled m (passes fs'' hs'') (handlers_flow variables within hs'') normal k ≡ Ok (end, l) →
     behind ≡ types → raised ≡ noted_behind n variables behind l → left ≡ types → leaves ≡ left_option variables left end →
-    ending n (stmt_flow variables around f holds) ≡ Ok (leaves, raised)
-block_is_left n own m inner k l raised variables around within types behind left f ds ds' fs fs' fs'' hs hs' hs'' holds first after at normal end leaves form types_is own_is ds_is first_is declares within_is inner_is hs_is fs_is at_is ends fs_is' hs_is' handles behind_is raised_is left_is leaves_is =
+    ending n (stmt_flow variables around cleared f holds) ≡ Ok (leaves, raised)
+block_is_left n own m inner k l raised variables cleared around within types behind left f ds ds' fs fs' fs'' hs hs' hs'' holds first after at normal end leaves form types_is own_is ds_is first_is declares within_is inner_is hs_is fs_is at_is ends fs_is' hs_is' handles behind_is raised_is left_is leaves_is =
     let handlers_end : end_handled m (passes fs hs) (handlers_flow variables (in_block types around) hs) normal k ≡ Ok (end, l) =
     subst (λ (p : Around). end_handled m (passes fs hs) (handlers_flow variables p hs) normal k ≡ Ok (end, l)) within_is
     (subst (λ (h : HandlersForm). end_handled m (passes fs h) (handlers_flow variables within h) normal k ≡ Ok (end, l)) hs_is'
     (subst (λ (g : StmtsForm). end_handled m (passes g hs'') (handlers_flow variables within hs'') normal k ≡ Ok (end, l)) fs_is' handles)) in
     let raised_so : raised ≡ noted_behind n variables types l = raised_is ∙ ap (λ (ts : List ℕ). noted_behind n variables ts l) behind_is in
     let leaves_so : leaves ≡ left_option variables types end = leaves_is ∙ ap (λ (ts : List ℕ). left_option variables ts end) left_is in
-    subst (λ (x : Option Holds). ending n (stmt_flow variables around f holds) ≡ Ok (x, raised)) (sym leaves_so)
-    (subst (λ (x : Noted). ending n (stmt_flow variables around f holds) ≡ Ok (left_option variables types end, x)) (sym raised_so)
-    (subst (λ (g : StmtForm). ending n (stmt_flow variables around g holds) ≡ Ok (left_option variables types end, noted_behind n variables types l)) (sym form)
-    (block_handles n m k variables around types ds fs hs holds after normal (Ok (end, l)) types_is
+    subst (λ (x : Option Holds). ending n (stmt_flow variables around cleared f holds) ≡ Ok (x, raised)) (sym leaves_so)
+    (subst (λ (x : Noted). ending n (stmt_flow variables around cleared f holds) ≡ Ok (left_option variables types end, x)) (sym raised_so)
+    (subst (λ (g : StmtForm). ending n (stmt_flow variables around cleared g holds) ≡ Ok (left_option variables types end, noted_behind n variables types l)) (sym form)
+    (block_handles n m k variables around cleared types ds fs hs holds after normal (Ok (end, l)) types_is
     (declared n own variables ds ds' holds first (Ok (Some after, m)) own_is ds_is first_is declares)
     (inner_ends m inner variables around within types fs fs' hs hs' after at (Ok (normal, k)) within_is inner_is hs_is fs_is at_is ends)
     handlers_end)))
@@ -184,9 +184,9 @@ statements::statement-returns-in_err-declare-in-Block t c =
     let form : stmt_form c.args.statement.now ≡ encloses (map declaration_form c.in-Block.declarations.items) (stmts_form c.in-Block.statements.items) (handlers_form c.in-Block.handlers.items) =
     ap stmt_form c.in-Block.is ∙ encloses_form c.in-Block.declarations c.in-Block.statements c.in-Block.handlers in
     let p = err_from_is_err_and c.from_residual-in_err-declare-in-Block.result c.from_residual-in_err-declare-in-Block.ensures.1 in
-    rw (p.1, p.2) (declares_badly c.in_err-declare-in-Block.field-0.0 (noted c.args.raised.now) (noted c.emptied-own.result) (variables_in c.args.around.now) (around_of c.args.around.now) (stmt_form c.args.statement.now)
+    rw (p.1, p.2) (declares_badly c.in_err-declare-in-Block.field-0.0 (noted c.args.raised.now) (noted c.emptied-own.result) (variables_in c.args.around.now) c.args.cleared (around_of c.args.around.now) (stmt_form c.args.statement.now)
     (map declaration_form c.in-Block.declarations.items) (map declaration_form c.deref-in-Block-4.result.now) (stmts_form c.in-Block.statements.items) (handlers_form c.in-Block.handlers.items)
-    c.args.holds.items c.deref_mut-in-Block.result.now form c.emptied-own.ensures (ap (map declaration_form) c.deref-in-Block-4.ensures.value) c.deref_mut-in-Block.ensures.value c.in_err-declare-in-Block.ensures)
+    c.args.holds.items c.deref_mut-in-Block.result.now form c.emptied-own.ensures (ap (map declaration_form) c.deref-in-Block-4.ensures.value) c.deref_mut-in-Block.ensures.value (c.in_err-declare-in-Block.ensures c.args.around.now.variables.now))
 
 pub statements::statement-returns-in_err-end-in-Block :
     goal.statements::statement-returns-in_err-end-in-Block
@@ -199,11 +199,11 @@ statements::statement-returns-in_err-end-in-Block t c =
     ap (map type_number) c.deref-in-Block-3.ensures.value ∙ c.in_ok-inside-in-Block.ensures ∙ ap (λ (ts : List ℕ). ts ++ map type_number c.args.around.now.inside.now) (ap (map type_number) c.deref-in-Block-2.ensures.value) in
     let long : length c.declare.new.holds ≡ c.args.holds.len = first_of (cc, omega arith, search rules, grind (arith, common_steps)) in
     let p = err_from_is_err_and c.from_residual-in_err-end-in-Block.result c.from_residual-in_err-end-in-Block.ensures.1 in
-    rw (p.1, p.2) (inner_breaks c.in_err-end-in-Block.field-0.0 (noted c.args.raised.now) (noted c.emptied-own.result) (noted c.declare.new.raised) (noted c.with_handlers-inner.result) (variables_in c.args.around.now) (around_of c.args.around.now)
+    rw (p.1, p.2) (inner_breaks c.in_err-end-in-Block.field-0.0 (noted c.args.raised.now) (noted c.emptied-own.result) (noted c.declare.new.raised) (noted c.with_handlers-inner.result) (variables_in c.args.around.now) c.args.cleared (around_of c.args.around.now)
     (stands (start_in c.args.around.now) (map type_number c.deref-in-Block-3.result.now)) (map type_number c.in_ok-types-in-Block.types.items) (stmt_form c.args.statement.now)
     (map declaration_form c.in-Block.declarations.items) (map declaration_form c.deref-in-Block-4.result.now) (stmts_form c.in-Block.statements.items) (stmts_form c.deref-in-Block-6.result.now)
     (handlers_form c.in-Block.handlers.items) (handlers_form c.deref-in-Block-5.result.now) c.args.holds.items c.deref_mut-in-Block.result.now c.declare.new.holds (take c.args.holds.len (c.declare.new.holds ++ drop (length c.declare.new.holds) c.args.holds.items))
-    form types_is c.emptied-own.ensures (ap (map declaration_form) c.deref-in-Block-4.ensures.value) c.deref_mut-in-Block.ensures.value c.in_ok-declare-in-Block.ensures
+    form types_is c.emptied-own.ensures (ap (map declaration_form) c.deref-in-Block-4.ensures.value) c.deref_mut-in-Block.ensures.value (c.in_ok-declare-in-Block.ensures c.args.around.now.variables.now)
     (stands_in (map type_number c.in_ok-types-in-Block.types.items) (map type_number c.deref-in-Block-3.result.now) (around_of c.args.around.now) inside_is)
     c.with_handlers-inner.ensures (ap handlers_form c.deref-in-Block-5.ensures.value) (ap stmts_form c.deref-in-Block-6.ensures.value) (written_back c.args.holds.len c.declare.new.holds c.args.holds.items long) c.in_err-end-in-Block.ensures)
 
@@ -217,7 +217,7 @@ statements::statement-returns-in-Block t c =
     ap (map type_number) c.deref-in-Block-3.ensures.value ∙ c.in_ok-inside-in-Block.ensures ∙ ap (λ (ts : List ℕ). ts ++ map type_number c.args.around.now.inside.now) (ap (map type_number) c.deref-in-Block-2.ensures.value) in
     let long : length c.declare.new.holds ≡ c.args.holds.len = first_of (cc, omega arith, search rules, grind (arith, common_steps)) in
     block_is_left (noted c.args.raised.now) (noted c.emptied-own.result) (noted c.declare.new.raised) (noted c.with_handlers-inner.result) (noted c.statements-in-Block.new.raised) (noted c.handled.new.raised) (noted c.add_behind.new.self)
-    (variables_in c.args.around.now) (around_of c.args.around.now)
+    (variables_in c.args.around.now) c.args.cleared (around_of c.args.around.now)
     (stands (start_in c.args.around.now) (map type_number c.deref-in-Block-3.result.now)) (map type_number c.in_ok-types-in-Block.types.items)
     (map type_number c.deref-in-Block-9.result.now) (map type_number c.deref-in-Block-10.result.now) (stmt_form c.args.statement.now)
     (map declaration_form c.in-Block.declarations.items) (map declaration_form c.deref-in-Block-4.result.now)
@@ -225,7 +225,7 @@ statements::statement-returns-in-Block t c =
     (handlers_form c.in-Block.handlers.items) (handlers_form c.deref-in-Block-5.result.now) (handlers_form c.deref-in-Block-7.result.now)
     c.args.holds.items c.deref_mut-in-Block.result.now c.declare.new.holds (take c.args.holds.len (c.declare.new.holds ++ drop (length c.declare.new.holds) c.args.holds.items))
     (held c.in_ok-end-in-Block.end) (held c.in_ok-end-in-Block-2.end) (held c.in_ok-leave_end-in-Block.field-0)
-    form types_is c.emptied-own.ensures (ap (map declaration_form) c.deref-in-Block-4.ensures.value) c.deref_mut-in-Block.ensures.value c.in_ok-declare-in-Block.ensures
+    form types_is c.emptied-own.ensures (ap (map declaration_form) c.deref-in-Block-4.ensures.value) c.deref_mut-in-Block.ensures.value (c.in_ok-declare-in-Block.ensures c.args.around.now.variables.now)
     (stands_in (map type_number c.in_ok-types-in-Block.types.items) (map type_number c.deref-in-Block-3.result.now) (around_of c.args.around.now) inside_is)
     c.with_handlers-inner.ensures (ap handlers_form c.deref-in-Block-5.ensures.value) (ap stmts_form c.deref-in-Block-6.ensures.value) (written_back c.args.holds.len c.declare.new.holds c.args.holds.items long) c.in_ok-end-in-Block.ensures
     (ap stmts_form c.deref-in-Block-8.ensures.value) (ap handlers_form c.deref-in-Block-7.ensures.value) c.in_ok-end-in-Block-2.ensures

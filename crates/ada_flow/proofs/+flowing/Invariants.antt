@@ -5,9 +5,9 @@ use Rattle.ada_program.specs.Form.{StmtsForm, stmts_form, branches_form, handler
 use Rattle.ada_flow.proofs.+flowing.Given as goal
 
 -- what is left, from what the variables hold now, ends as all end
-abbrev pub invariant-statements::statements-statements : goal.invariant-statements::statements-statements
-invariant-statements::statements-statements l =
-    ending (noted l.raised) (stmts_flow (variables_in l.around) (around_of l.around) (stmts_form (drop l.one-index l.statements)) l.holds.items)
+abbrev pub invariant-statements::statements-loop-number : goal.invariant-statements::statements-loop-number
+invariant-statements::statements-loop-number l =
+    ending (noted l.raised) (stmts_flow (variables_in l.around) (around_of l.around) (stmts_form (drop l.number l.statements)) l.holds.items)
     ≡ ending (noted l.fn.raised) (stmts_flow (variables_in l.around) (around_of l.around) (stmts_form l.statements) l.fn.holds.items)
 
 -- what is joined so far, with the ends of what is left, is what all end with

@@ -1,0 +1,251 @@
+//! What an assignment moves: the rules that moved paths break, and what is known behind the move.
+
+ghost use Rattle.std.specs.Prelude.{◌≡◌, [], ◌++◌, map};
+ghost use Rattle.ada_flow.specs.Flow as rules;
+ghost use Rattle.ada_flow.specs.Told.{Follows, broken};
+ghost use Rattle.ada_program.specs.Form.{path_form, item_form, right_form};
+
+use crate::fault::Breach;
+use crate::follow::{broken_in, broken_in_target, leftmost, lost_by, unless_broken};
+use crate::holds::{hold_of, put};
+use crate::rule::{Hold, Region, Rule};
+use ada_effects::expression_raises;
+use ada_program::program::{Item, Right};
+use ada_program::{Path, Spot, VariableNo};
+
+/// Uses what is assigned to a variable, where the next statement clears what is moved, or does not.
+///
+/// # Errors
+/// The leftmost rule that a path of it breaks.
+pub(crate) fn use_right(holds: &[Hold], cleared: bool, value: &Right) -> Result<(), Breach>
+    ensures { Follows result
+        (rules.broken_among holds.now (rules.uses_in_right cleared (right_form value.now))) }
+{
+    unless_broken(broken_in_right(holds, cleared, value))
+}
+
+/// Uses the path of a component that gets a value, and what is assigned to it.
+///
+/// # Errors
+/// The leftmost rule that a path breaks.
+pub(crate) fn use_assignment(
+    holds: &[Hold],
+    cleared: bool,
+    target: &Path,
+    value: &Right,
+) -> Result<(), Breach>
+    ensures { let place = rules.uses_in_target (path_form target.now) in
+        let assigned = rules.uses_in_right cleared (right_form value.now) in
+        Follows result (rules.broken_among holds.now (place ++ assigned)) }
+{
+    unless_broken(leftmost(
+        broken_in_target(holds, target),
+        broken_in_right(holds, cleared, value),
+    ))
+}
+
+/// The leftmost rule that what is assigned breaks.
+fn broken_in_right(holds: &[Hold], cleared: bool, value: &Right) -> Option<Breach>
+    ensures { broken result
+        ≡ rules.broken_among holds.now (rules.uses_in_right cleared (right_form value.now)) }
+{
+    match value {
+        Right::Null => None,
+        Right::Path(path) => leftmost(broken_in_move(holds, cleared, path), None),
+        Right::Allocator { access: _, items } => broken_in_items(holds, items),
+        Right::Value(expression) => broken_in(holds, expression),
+    }
+}
+
+/// The leftmost rule that the items of an allocator break.
+fn broken_in_items(holds: &[Hold], items: &[Item]) -> Option<Breach>
+    ensures { broken result
+        ≡ rules.broken_among holds.now (rules.uses_in_items [] (map item_form items.now)) }
+{
+    let mut found = None;
+    for (number, item) in items.iter().enumerate() {
+        found = leftmost(found, broken_in_item(holds, &items[..number], item));
+    }
+    found
+}
+
+/// The leftmost rule that an item breaks behind earlier items of its allocator.
+fn broken_in_item(holds: &[Hold], earlier: &[Item], item: &Item) -> Option<Breach>
+    ensures { let moved = rules.moved_by_items (map item_form earlier.now) in
+        let uses = rules.uses_in_item moved (item_form item.now) in
+        broken result ≡ rules.broken_among holds.now uses }
+{
+    match item {
+        Item::Null => None,
+        Item::Path(path) => leftmost(broken_in_item_move(holds, earlier, path), None),
+        Item::Value(expression) => broken_in(holds, expression),
+    }
+}
+
+/// The rule that an item breaks by moving a path: each variable is moved once.
+fn broken_in_item_move(holds: &[Hold], earlier: &[Item], path: &Path) -> Option<Breach>
+    ensures { let moved = rules.moved_by_items (map item_form earlier.now) in
+        broken result ≡ rules.broken_in holds.now (rules.item_move moved (path_form path.now)) }
+{
+    if path.selectors.is_empty() && is_moved_by(earlier, path.root) {
+        Some(Breach {
+            spot: path.spot,
+            rule: Rule::LostValue,
+        })
+    } else {
+        broken_in_move(holds, false, path)
+    }
+}
+
+/// Whether one of these items moves a variable.
+#[tactic(auto, using(std::proofs::lemmas::Grind::common_steps, crate::proofs::Moved::moved_steps))]
+fn is_moved_by(items: &[Item], variable: VariableNo) -> bool
+    ensures { result
+        ≡ rules.is_one_of (rules.moved_by_items (map item_form items.now)) variable.0 }
+{
+    'items: for item in items {
+        if item_moves(item, variable) {
+            return true;
+        }
+    }
+    false
+}
+
+/// Whether an item moves a variable.
+fn item_moves(item: &Item, variable: VariableNo) -> bool
+    ensures { result ≡ rules.is_one_of (rules.moved_by_item (item_form item.now)) variable.0 }
+{
+    match item {
+        Item::Path(path) => path.selectors.is_empty() && path.root == variable,
+        Item::Null | Item::Value(_) => false,
+    }
+}
+
+/// The rule that a moved path breaks, where the next statement clears it, or does not.
+fn broken_in_move(holds: &[Hold], cleared: bool, path: &Path) -> Option<Breach>
+    ensures { broken result
+        ≡ rules.broken_in holds.now (rules.moves_it cleared (path_form path.now)) }
+{
+    let hold = hold_of(holds, path.root);
+    if path.selectors.is_empty() {
+        moved_by(hold, path.spot)
+    } else {
+        taken_by(cleared, hold, path.spot)
+    }
+}
+
+/// A value that is moved out of a variable is neither lost nor an alias.
+fn moved_by(hold: Hold, spot: Spot) -> Option<Breach>
+    ensures { broken result ≡ rules.moved_by hold spot }
+{
+    match hold {
+        Hold::Null | Hold::Own(_) => None,
+        Hold::Alias(_) => Some(Breach {
+            spot,
+            rule: Rule::AliasMoved,
+        }),
+        Hold::Lost => lost_by(hold, spot),
+    }
+}
+
+/// A value that is moved out of a component is not found behind a lost one, and the next statement clears it.
+fn taken_by(cleared: bool, hold: Hold, spot: Spot) -> Option<Breach>
+    ensures { broken result ≡ rules.taken_by cleared hold spot }
+{
+    match hold {
+        Hold::Null | Hold::Own(_) | Hold::Alias(_) if !cleared => Some(Breach {
+            spot,
+            rule: Rule::TakePair,
+        }),
+        _ => lost_by(hold, spot),
+    }
+}
+
+/// What a variable holds with what is assigned to it.
+pub(crate) fn right_hold(holds: &[Hold], value: &Right) -> Hold
+    ensures { result ≡ rules.right_hold (right_form value.now) holds.now }
+{
+    match value {
+        Right::Null => Hold::Null,
+        Right::Path(path) => value_hold(path, hold_of(holds, path.root)),
+        Right::Allocator { .. } => Hold::Own(Region::Whole),
+        Right::Value(_) => Hold::Lost,
+    }
+}
+
+/// What the value of a path is relied on for: a variable's own hold; a component owns its value.
+fn value_hold(path: &Path, hold: Hold) -> Hold
+    ensures { result ≡ rules.value_hold (path_form path.now).selectors hold }
+{
+    match hold {
+        Hold::Alias(region) if !path.selectors.is_empty() => Hold::Own(region),
+        hold => hold,
+    }
+}
+
+/// Whether an assignment may raise an exception where it evaluates what is assigned.
+pub(crate) fn evaluation_raises(value: &Right) -> bool
+    ensures { result ≡ rules.evaluation_raises (right_form value.now) }
+{
+    match value {
+        Right::Null => false,
+        Right::Path(path) => !path.selectors.is_empty(),
+        Right::Allocator { .. } => true,
+        Right::Value(expression) => expression_raises(expression),
+    }
+}
+
+/// The variables that an assignment moves own nothing any more.
+pub(crate) fn lose_moved(holds: &mut [Hold], value: &Right)
+    ensures { holds.new
+        ≡ rules.without_values (rules.moved_by_right (right_form value.now)) holds.old }
+{
+    match value {
+        Right::Path(path) => lose_path(holds, path),
+        Right::Allocator { access: _, items } => lose_items(holds, items),
+        Right::Null | Right::Value(_) => {}
+    }
+}
+
+/// The variables that items move own nothing any more.
+#[tactic(auto, using(std::proofs::lemmas::Grind::common_steps, crate::proofs::Moved::losing_steps))]
+fn lose_items(holds: &mut [Hold], items: &[Item])
+    ensures { holds.new
+        ≡ rules.without_values (rules.moved_by_items (map item_form items.now)) holds.old }
+{
+    'items: for item in items {
+        lose_item(holds, item);
+    }
+}
+
+/// The variable that an item moves owns nothing any more.
+fn lose_item(holds: &mut [Hold], item: &Item)
+    ensures { holds.new
+        ≡ rules.without_values (rules.moved_by_item (item_form item.now)) holds.old }
+{
+    match item {
+        Item::Path(path) => lose_path(holds, path),
+        Item::Null | Item::Value(_) => {}
+    }
+}
+
+/// A variable that is moved owns nothing any more; a component is cleared by the next statement.
+fn lose_path(holds: &mut [Hold], path: &Path)
+    ensures { let moved = path_form path.now in
+        holds.new ≡ rules.without_values (rules.variable_of moved.selectors moved.root) holds.old }
+{
+    if path.selectors.is_empty() {
+        let hold = left_by_move(hold_of(holds, path.root));
+        put(holds, path.root, hold);
+    }
+}
+
+/// What is left of a hold once its value was moved.
+fn left_by_move(hold: Hold) -> Hold
+    ensures { result ≡ rules.left_by_move hold }
+{
+    match hold {
+        Hold::Own(_) => Hold::Lost,
+        hold => hold,
+    }
+}
