@@ -57,6 +57,7 @@ name_text name.Limit = rules.LIMIT.now
 abbrev pub rule_text : Rule → List ℕ
 rule_text rule.LostValue = rules.LOST_VALUE.now
 rule_text rule.AliasMoved = rules.ALIAS_MOVED.now
+rule_text rule.TakePair = rules.TAKE_PAIR.now
 rule_text rule.LoopState = rules.LOOP_STATE.now
 
 -- Where a source is refused, by which rule; nothing where memory ran out.

@@ -3,8 +3,10 @@
 ghost use Rattle.std.specs.Prelude.{◌≡◌, IfOk, IfErr};
 ghost use Rattle.ada_flow.specs.Flow.{ObeysRules};
 ghost use Rattle.ada_meaning.specs.Law.{Safe};
+ghost use Rattle.ada_program.specs.Nested.{CollectionsNest};
 ghost use Rattle.ada_program.specs.ProgramForm.{program_form};
 ghost use Rattle.ada_program.specs.WellFormed.{IsWellFormed};
+ghost use Rattle.ada_sound.specs.Always.{IsChecked};
 ghost use Rattle.ada_tree.specs.StatementView.{unit_of};
 ghost use Rattle.ada_verdict.specs.First.{IsAccepted, IsFirst, IsProgramOf, IsSourceOf, RefusesRightly};
 
@@ -13,13 +15,14 @@ use crate::laws::accepted_sources_have_no_fault;
 use ada_flow::flow;
 use ada_parser::parse;
 use ada_program::Program;
+use ada_resolve::laws::collections_nest;
 use ada_resolve::resolve;
 use ada_sound::laws::rules_imply_safety;
 use ada_tree::unit::Unit;
 use std::alloc::Global;
 use std::marker::Model;
 
-/// A program that obeys the rules. Only `check` makes one.
+/// A program that has passed all checks. Only `check` makes one.
 #[derive(Drop)]
 pub struct Accepted {
     program: Program,
@@ -34,13 +37,11 @@ impl Model for Accepted {
 
     ghost coded = { contract.the_row.coded };
 
-    ghost use Rattle.ada_flow.specs.Flow.{ObeysRules};
-    ghost use Rattle.ada_program.specs.ProgramForm.{program_form};
-    ghost use Rattle.ada_program.specs.WellFormed.{IsWellFormed};
+    ghost use Rattle.ada_sound.specs.Always.{IsChecked};
 
     ghost view = { λ a. a.program };
 
-    ghost invariant = { λ a. ObeysRules a.program × IsWellFormed (program_form a.program) };
+    ghost invariant = { λ a. IsChecked a.program };
 }
 
 impl Accepted {
@@ -81,6 +82,7 @@ pub fn check(alloc: Global, source: &[u8]) -> Result<Accepted, Verdict>
 /// The first fault, or want of memory.
 fn checked(alloc: Global, source: &[u8]) -> Result<Accepted, Verdict>
     ensures accepted { IfOk result (λ program. IsAccepted source.now program) }
+    ensures sound { IfOk result (λ program. IsChecked program) }
     ensures refused { IfErr result (λ verdict. IsFirst source.now verdict) }
 {
     let program = program_of(alloc, source)?;
@@ -95,6 +97,7 @@ fn checked(alloc: Global, source: &[u8]) -> Result<Accepted, Verdict>
 fn program_of(alloc: Global, source: &[u8]) -> Result<Program, Verdict>
     ensures meant { IfOk result (λ program. IsProgramOf source.now program) }
     ensures formed { IfOk result (λ program. IsWellFormed (program_form program)) }
+    ensures nests { IfOk result (λ program. CollectionsNest (program_form program)) }
     ensures refused { IfErr result (λ verdict. IsFirst source.now verdict) }
 {
     let tokens = ada_text::tokens(alloc, source)?;
@@ -110,7 +113,9 @@ fn meaning(alloc: Global, source: &[u8], unit: &Unit<'_>) -> Result<Program, Ver
     requires { IsSourceOf source.now (unit_of unit.now) }
     ensures meant { IfOk result (λ program. IsProgramOf source.now program) }
     ensures formed { IfOk result (λ program. IsWellFormed (program_form program)) }
+    ensures nests { IfOk result (λ program. CollectionsNest (program_form program)) }
     ensures refused { IfErr result (λ verdict. IsFirst source.now verdict) }
 {
+    collections_nest();
     Ok(resolve(alloc, unit)?)
 }

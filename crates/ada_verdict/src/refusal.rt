@@ -93,6 +93,7 @@ fn rule_text(rule: Rule) -> &'static str
     match rule {
         Rule::LostValue => rules::LOST_VALUE,
         Rule::AliasMoved => rules::ALIAS_MOVED,
+        Rule::TakePair => rules::TAKE_PAIR,
         Rule::LoopState => rules::LOOP_STATE,
     }
 }

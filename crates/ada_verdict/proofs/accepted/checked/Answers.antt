@@ -8,9 +8,13 @@ returns-in_err-flow-clause-refused c =
     first_told c.args.source.now (Flow c.in_err-flow.field-0.0) c.from_residual-in_err-flow.result
     (c.in_ok-program.program, c.in_ok-program.ensures.meant, c.in_err-flow.ensures) c.from_residual-in_err-flow.ensures.1
 
--- the program obeys the rules, and is well formed
+-- the program has passed all checks
 pub invariant_of-result : goal.invariant_of-result
-invariant_of-result c = (obeys c.in_ok-program.program c.in_ok-flow.ensures, c.in_ok-program.ensures.formed)
+invariant_of-result c = record {
+  well_formed = c.in_ok-program.ensures.formed;
+  nests = c.in_ok-program.ensures.nests;
+  obeys = obeys c.in_ok-program.program c.in_ok-flow.ensures;
+}
 
 -- it is the source's, and obeys the rules
 pub returns-clause-accepted : goal.returns-clause-accepted
