@@ -17,7 +17,7 @@ use Rattle.ada_resolve.specs.Known.{Known}
 use Rattle.ada_resolve.specs.Paths.{Meant}
 use Rattle.ada_resolve.specs.Reading.{how_many}
 use Rattle.ada_resolve.proofs.WellFormed.Remarks.{Quiet, quiet_if}
-use Rattle.ada_resolve.proofs.WellFormed.Meanings.{IsComponentOf}
+use Rattle.ada_resolve.proofs.WellFormed.Selected.{IsComponentOf}
 use Rattle.ada_resolve.proofs.WellFormed.Tables.{get_within}
 use Rattle.ada_resolve.proofs.WellFormed.Items.{for_is}
 

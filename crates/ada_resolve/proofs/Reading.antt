@@ -1,6 +1,6 @@
 -- What expressions, calls and other statements with no others in them mean is what they say at their place.
 
-use Rattle.std.proofs.Common.{◌≡◌, ◌∙◌, inl, inr, ℕ, ◌+◌, Bool, true, false, cond, List, [], ◌∷◌, length, refl, sym, ap, subst, zero, suc, arith, eqb, eqb-true, eq-eqb}
+use Rattle.std.proofs.Common.{◌≡◌, ◌∙◌, inl, inr, ℕ, ◌+◌, Bool, true, false, cond, List, [], ◌∷◌, ◌++◌, length, refl, sym, ap, subst, zero, suc, arith, eqb, eqb-true, eq-eqb}
 use Rattle.std.specs.Prelude.{codes, Option, Some, None, bytes_eq, is_some, not, map}
 use Rattle.std.specs.List.{slice_get, slice_set, list_all}
 use Rattle.std.proofs.Math.ListN.{replicate}
@@ -15,7 +15,6 @@ use Rattle.ada_tree.specs.Declarations.{ChoiceTree, named_choice, others_choice}
 use Rattle.ada_tree.specs.Expressions.{ArgumentTree, expression_argument, text_argument, attribute_argument, RightTree, expression_right, allocator_right, creation_right, ItemsTree, no_more_items, an_item, ExpressionTree, number_expression, null_expression, path_expression, aggregate_expression, enclosed_expression, unary_expression, binary_expression}
 use Rattle.ada_tree.specs.Statements.{StatementTree, null_statement, assignment, call, exit_statement, return_statement, raise_statement}
 use Rattle.ada_program.specs.declared.program.ComponentKind.{ComponentKind}
-use Rattle.ada_program.specs.declared.program.ComponentKind.TheVariants as kind
 use Rattle.ada_program.specs.declared.program.Exception.{Exception}
 use Rattle.ada_program.specs.declared.program.Exception.TheVariants as exception
 use Rattle.ada_program.specs.declared.program.VariableKind.{VariableKind}
@@ -23,15 +22,16 @@ use Rattle.ada_program.specs.declared.program.VariableKind.TheVariants as variab
 use Rattle.ada_program.specs.declared.program.VariableNo.{VariableNo}
 use Rattle.ada_program.specs.declared.program.TypeNo.{TypeNo}
 use Rattle.ada_program.specs.Form.{PathForm, reads, ItemForm, RightForm, StmtForm}
-use Rattle.ada_program.specs.ProgramForm.{ComponentForm, TypeForm, VariableForm, record_of, access_to}
+use Rattle.ada_program.specs.ProgramForm.{ComponentForm, TypeForm, VariableForm, record_of}
 use Rattle.ada_program.specs.WellFormed as fits
 use Rattle.ada_resolve.specs.declared.scope.Entity.{Entity}
 use Rattle.ada_resolve.specs.declared.scope.Entity.TheVariants as entity
+use Rattle.ada_resolve.specs.declared.selectors.Reached.{Reached}
+use Rattle.ada_resolve.specs.declared.selectors.Reached.TheVariants as reached
 use Rattle.ada_resolve.specs.declared.fault.NameRule.TheVariants.{UnknownName, WrongType, NotInProfile}
 use Rattle.ada_resolve.specs.Known.{Known, parts, visible, is_empty, is_with, if_with, parts_of, library_wrong, library_remark, library_found, library_path_remark, library_path_found}
 use Rattle.ada_resolve.specs.Library.{is_library_root, library_name}
-use Rattle.ada_resolve.specs.Paths as path
-use Rattle.ada_resolve.specs.Paths.{component_at, Meant, unknown, null_value, access_variable, other_access, integer_value, boolean_value, variable_path, component_path, components_of, designated_of, component_named, is_incomplete_type, selected, component_found_meant, component_if, component_within, selection_meant, alone_meant, variable_meant, entity_meant, named_meant, path_meant, component_wanted, component_within_remark, selection_remark, variable_path_remark, value_wanted, named_remark, library_is_no_value, path_remark}
+use Rattle.ada_resolve.specs.Paths.{component_at, Meant, unknown, null_value, access_value, integer_value, boolean_value, selected_path, variable_path, components_of, designated_of, is_incomplete_type, component_behind, held_in, object_in, selectors_reached, number_in, components_selected, reached_meant, variable_meant, entity_meant, named_meant, path_meant, selectors_remark, no_object, variable_path_remark, value_wanted, named_remark, path_remark}
 use Rattle.ada_resolve.specs.Operators.{Signature, arithmetic, ordering, equality, logical, signature_of, integer_in, boolean_in, asks_equal, equality_meant, binary_by, unary_meant, integer_wanted, boolean_wanted, equal_wanted, operands_by, operand_remark}
 use Rattle.ada_resolve.specs.Expressions.{expression_meant, expression_remark}
 use Rattle.ada_resolve.specs.declared.library.LibraryName.{LibraryName}
@@ -44,10 +44,10 @@ use Rattle.ada_resolve.specs.Exceptions.{exception_of_library, end_error_wanted,
 use Rattle.ada_resolve.specs.Lines.{line_remark, line_found, put_line_remark, put_line_found}
 use Rattle.ada_resolve.specs.Arguments.{image_wanted, image_remark, image_value_remark}
 use Rattle.ada_resolve.specs.Naming.{Context, IsExceptionNamed, IsInstanceNamed, IsVariableNamed, IsObjectNamed}
-use Rattle.ada_resolve.specs.Reading.{IsPutLine, IsGet, IsImage, IsComponentNamed, components_behind, AreSelectorsRead, IsPathRead, IsTargetRead, IsValueRead, read_path, read_number, read_truth, AsksEqual, null_on_right, null_on_left, IsExpressionRead, IsNull, IsMoveRead, IsConditionRead, IsItemRead, IsItemFor, at_place, by_name, further, AreItemsRead, IsRightRead, IsSimpleRead, IsChoiceRead, AreChoicesRead}
+use Rattle.ada_resolve.specs.Reading.{IsPutLine, IsGet, IsImage, IsComponentNamed, AreSelectorsRead, IsPathRead, IsTargetRead, IsValueRead, read_path, read_number, read_truth, AsksEqual, null_on_right, null_on_left, IsExpressionRead, IsNull, IsMoveRead, IsConditionRead, IsItemRead, IsItemFor, at_place, by_name, further, AreItemsRead, IsRightRead, IsSimpleRead, IsChoiceRead, AreChoicesRead}
 use Rattle.ada_resolve.specs.Allocators.{allocated_wanted, allocated_remark, complete_in, allocated_found, filled_components, aggregate_remark, allocation, aggregate_found, is_in_use, has_items, allocator_remark, allocator_found}
 use Rattle.ada_resolve.specs.Rights.{assigned_wanted, assigned, right_remark, right_found}
-use Rattle.ada_resolve.specs.Assignments.{variable_target, component_target, target_found, variable_wanted, scalar_component_wanted, target_remark, kind_of_target, assignment_remark, assignment_of, assignment_found}
+use Rattle.ada_resolve.specs.Assignments.{variable_target, component_target, target_found, variable_wanted, target_wanted, target_remark, kind_of_target, assignment_remark, assignment_of, assignment_found}
 use Rattle.ada_resolve.specs.Statements.{condition_remark, condition_meant, optional_condition_remark, optional_condition_meant, statement_remark, statement_found, statement_meant, form_or_null, text_in, simple_texts, bound_remark, bound_meant}
 use Rattle.ada_resolve.specs.Types.{designates}
 use Rattle.ada_resolve.specs.Remark.{Remark, wrong, ◌also◌, wrong_if}
@@ -57,7 +57,8 @@ use Rattle.ada_resolve.proofs.Agreeing.{Agrees, Ahead, EntityRead, Readable, vis
 use Rattle.ada_resolve.proofs.WellFormed.Remarks.{Quiet, quiet_unless}
 use Rattle.ada_resolve.proofs.WellFormed.Values.{access_designates, components_are}
 use Rattle.ada_resolve.proofs.WellFormed.Names.{EntityFits, PartsFit, visible_fits, kind_there, text_same}
-use Rattle.ada_resolve.proofs.WellFormed.Meanings.{MeantFits, designated_same, expression_fits, path_fits}
+use Rattle.ada_resolve.proofs.WellFormed.Meanings.{MeantFits, expression_fits, path_fits}
+use Rattle.ada_resolve.proofs.WellFormed.Selected.{IsNamedOf, name_at, designated_same, designated_more, IsReached, IsHeld, held_behind, held_reached, object_is}
 use Rattle.ada_resolve.proofs.WellFormed.Tables.{get_other}
 use Rattle.ada_resolve.proofs.WellFormed.Items.{items_there}
 use Rattle.ada_resolve.proofs.ItemCounts.{items_all}
@@ -70,8 +71,7 @@ IsMeant m = Unit {0}
 meant_is : (types : List TypeForm) (variables : List VariableForm) (m : Meant) → MeantFits types variables m → IsMeant m
 meant_is types variables unknown f = f
 meant_is types variables null_value f = tt
-meant_is types variables (access_variable path t) f = tt
-meant_is types variables (other_access path) f = tt
+meant_is types variables (access_value path t) f = tt
 meant_is types variables (integer_value e) f = tt
 meant_is types variables (boolean_value e) f = tt
 
@@ -85,146 +85,102 @@ path_known k tree w q = meant_is k.types k.variables (path_meant k tree) (path_f
 abbrev MeantRead : Context → ExpressionTree → Meant → Type 0
 MeantRead p e unknown = Unit {0}
 MeantRead p e null_value = IsNull e
-MeantRead p e (access_variable path t) = IsMoveRead p e path
-MeantRead p e (other_access path) = IsMoveRead p e path
+MeantRead p e (access_value path t) = IsMoveRead p e path
 MeantRead p e (integer_value form) = IsExpressionRead p e form
 MeantRead p e (boolean_value form) = IsExpressionRead p e form
 
--- a component that is found by a name has it, behind so many
-abbrev IsNamedOf : List ℕ → List ComponentForm → ℕ → Option (ℕ × ComponentKind) → Type 0
-IsNamedOf text cs at None = Unit {0}
-IsNamedOf text cs at (Some found) = (j : ℕ) × (c : ComponentForm) × (found.0 ≡ at + j) × (slice_get cs j ≡ Some c) × (c.name ≡ text)
+-- the component that is found has the name
+component_read : (p : Context) (of : Option VariableKind) (c : Ident) (found : ℕ × ComponentKind) → IsHeld p.types of c.text (Some found) → IsComponentNamed p of c.text found.0
+component_read p of c found h = (h.0, h.1, h.2, h.3, h.4)
 
-one_further : (text : List ℕ) (c : ComponentForm) (cs : List ComponentForm) (at : ℕ) (o : Option (ℕ × ComponentKind)) → IsNamedOf text cs (at + 1) o → IsNamedOf text (c ∷ cs) at o
-one_further text c cs at None h = tt
-one_further text c cs at (Some found) h = (suc h.0, h.1, h.2 ∙ omega arith, h.3, h.4)
+-- what stands behind what is reached; behind an object it stands behind `all`
+abbrev AreReadBehind : Context → Option VariableKind → Reached → List SelectorTree → List ℕ → Type 0
+AreReadBehind p of reached.Nothing ss cs = ⊥
+AreReadBehind p of (reached.Value kind) ss cs = AreSelectorsRead p of ss cs
+AreReadBehind p of (reached.Object t) ss cs = (spot : Spot) → AreSelectorsRead p of (dereference spot ∷ ss) cs
 
-name_at : (at : ℕ) (text : List ℕ) (cs : List ComponentForm) → IsNamedOf text cs at (component_named at text cs)
-name_at at text [] = tt
-name_at at text (c ∷ cs) = first_or (bytes_eq text c.name) refl (name_at (at + 1) text cs)
+held_read : (p : Context) (of : Option VariableKind) (c : Ident) (ss : List SelectorTree) (cs : List ℕ) (o : Option (ℕ × ComponentKind)) → IsHeld p.types of c.text o → AreReadBehind p (fits.selectors_kind p.types of (number_in o)) (held_in o) ss cs → AreSelectorsRead p of (component c ∷ ss) (number_in o ++ cs)
+held_read p of c ss cs None h r = absurd h
+held_read p of c ss cs (Some found) h r = (component_read p of c found h, r)
+
+held_read_behind : (p : Context) (of : Option VariableKind) (spot : Spot) (c : Ident) (ss : List SelectorTree) (cs : List ℕ) (o : Option (ℕ × ComponentKind)) → IsHeld p.types of c.text o → AreReadBehind p (fits.selectors_kind p.types of (number_in o)) (held_in o) ss cs → AreSelectorsRead p of (dereference spot ∷ (component c ∷ ss)) (number_in o ++ cs)
+held_read_behind p of spot c ss cs None h r = absurd h
+held_read_behind p of spot c ss cs (Some found) h r = (component_read p of c found h, r)
+
+-- `all` reaches no value
+no_value : (k : Known) (o : Option ℕ) (kind : VariableKind) → object_in k o ≡ reached.Value kind → ⊥
+no_value k None kind e = cc e
+no_value k (Some d) kind e = by_complete (is_incomplete_type k d) e
   where
-    first_or : (b : Bool) → bytes_eq text c.name ≡ b → IsNamedOf text cs (at + 1) (component_named (at + 1) text cs) → IsNamedOf text (c ∷ cs) at (cond b (Some (at, c.kind)) (component_named (at + 1) text cs))
-    first_or true same h = (0, c, omega arith, refl, sym (text_same text c.name same))
-    first_or false other h = one_further text c cs at (component_named (at + 1) text cs) h
+    by_complete : (b : Bool) → cond b reached.Nothing (reached.Object (record { 0 = d })) ≡ reached.Value kind → ⊥
+    by_complete true e = cc e
+    by_complete false e = cc e
 
--- where a type has a component, it is a record type with these
-has_components : (types : List TypeForm) (d j : ℕ) (c : ComponentForm) → slice_get (components_of types d) j ≡ Some c → fits.record_components types d ≡ Some (components_of types d)
-unfolding components_of
-has_components types d j c e = by_form (slice_get types d) e
-  where
-    by_form : (o : Option TypeForm) → slice_get (path.components_in o) j ≡ Some c → fits.components_in o ≡ Some (path.components_in o)
-    by_form None e = absurd (cc e)
-    by_form (Some (record_of name cs)) e = refl
-    by_form (Some (access_to name d)) e = absurd (cc e)
+object_read : (k : Known) (p : Context) (of : Option VariableKind) (spot : Spot) (o : Option ℕ) (at : Reached) (ss : List SelectorTree) (cs : List ℕ) → object_in k o ≡ at → AreReadBehind p of at ss cs → AreSelectorsRead p of (dereference spot ∷ ss) cs
+object_read k p of spot o reached.Nothing ss cs e r = absurd r
+object_read k p of spot o (reached.Value kind) ss cs e r = absurd (no_value k o kind e)
+object_read k p of spot o (reached.Object t) ss cs e r = r spot
 
--- the one component that is selected
-selected_read : (p : Context) (of : Option VariableKind) (ss : List SelectorTree) (c : Ident) (n : ℕ) → selected ss ≡ Some c → IsComponentNamed p of c.text n → AreSelectorsRead p of ss (n ∷ [])
-selected_read p of [] c n e h = absurd (cc e)
-selected_read p of (component i ∷ []) c n e h = let same : c ≡ i = cc e in (subst (λ (v : Ident). IsComponentNamed p of v.text n) same h, tt)
-selected_read p of (component i ∷ (s ∷ ss)) c n e h = absurd (cc e)
-selected_read p of (dereference spot ∷ []) c n e h = absurd (cc e)
-selected_read p of (dereference spot ∷ (dereference other ∷ ss)) c n e h = absurd (cc e)
-selected_read p of (dereference spot ∷ (component i ∷ [])) c n e h = let same : c ≡ i = cc e in (subst (λ (v : Ident). IsComponentNamed p of v.text n) same h, tt)
-selected_read p of (dereference spot ∷ (component i ∷ (s ∷ ss))) c n e h = absurd (cc e)
-
--- what is known stays
-components_more : (k : Known) (p : Context) (d j : ℕ) (c : ComponentForm) → Ahead k p → slice_get (components_of k.types d) j ≡ Some c → components_of p.types d ≡ components_of k.types d
-unfolding components_of
-components_more k p d j c w e = by_form (slice_get k.types d) refl e
-  where
-    by_form : (o : Option TypeForm) → slice_get k.types d ≡ o → slice_get (path.components_in o) j ≡ Some c → path.components_in (slice_get p.types d) ≡ path.components_in (slice_get k.types d)
-    by_form None is e = absurd (cc e)
-    by_form (Some form) is e = ap (λ (o : Option TypeForm). path.components_in o) (w.types d form is ∙ sym is)
-
-named_more : (k : Known) (p : Context) (text : List ℕ) (d : ℕ) (o : Option (ℕ × ComponentKind)) → Ahead k p → IsNamedOf text (components_of k.types d) 0 o → IsNamedOf text (components_of p.types d) 0 o
-named_more k p text d None w h = tt
-named_more k p text d (Some found) w h = (h.0, h.1, h.2, ap (λ cs. slice_get cs h.0) (components_more k p d h.0 h.1 w h.3) ∙ h.3, h.4)
-
-designated_more : (k : Known) (p : Context) (t d : ℕ) → Ahead k p → designated_of k.types t ≡ Some d → designated_of p.types t ≡ Some d
-unfolding designated_of
-designated_more k p t d w e = by_form (slice_get k.types t) refl e
-  where
-    by_form : (o : Option TypeForm) → slice_get k.types t ≡ o → path.designated_in o ≡ Some d → path.designated_in (slice_get p.types t) ≡ Some d
-    by_form None is e = absurd (cc e)
-    by_form (Some form) is e = ap (λ (o : Option TypeForm). path.designated_in o) (w.types t form is) ∙ e
-
--- `X.C`
-found_read : (p : Context) (x : VariableNo) (name c : Ident) (ss : List SelectorTree) (t : TypeNo) (d : ℕ) (o : Option (ℕ × ComponentKind)) → IsObjectNamed p name.text x.0 → fits.variable_kind p.variables x.0 ≡ Some (variable.Access t) → designated_of p.types t.0 ≡ Some d → selected ss ≡ Some c → IsNamedOf c.text (components_of p.types d) 0 o → MeantRead p (path_expression (record { root = name; selectors = ss })) (component_if x name.spot o)
-found_read p x name c ss t d None b v designates s i = tt
-found_read p x name c ss t d (Some found) b v designates s i = by_kind found.1
-  where
-    at : found.0 ≡ i.0
-    at = i.2 ∙ omega arith
-
-    behind : components_behind p.types (fits.access_of (fits.variable_kind p.variables x.0)) ≡ Some (components_of p.types d)
-    behind =
-        let there : fits.designated_type p.types t.0 ≡ Some d = sym (designated_same p.types t.0) ∙ designates in
-        rw v (rw there (has_components p.types d i.0 i.1 i.3))
-
-    named_so : IsComponentNamed p (fits.variable_kind p.variables x.0) c.text found.0
-    named_so = (components_of p.types d, i.1, behind, rw at i.3, i.4)
-
-    whole : IsPathRead p (record { root = name; selectors = ss }) (component_path x name.spot found.0)
-    whole = record {
-      root = b;
-      selectors = selected_read p (fits.variable_kind p.variables x.0) ss c found.0 s named_so;
-      spot = refl;
-    }
-
-    by_kind : (k : ComponentKind) → MeantRead p (path_expression (record { root = name; selectors = ss })) (component_found_meant x name.spot found.0 k)
-    by_kind (kind.Integer initial) = read_path whole
-    by_kind (kind.Boolean initial) = read_path whole
-    by_kind (kind.Access u) = whole
-
-within_read : (k : Known) (p : Context) (x : VariableNo) (name c : Ident) (ss : List SelectorTree) (t : TypeNo) (o : Option ℕ) → Ahead k p → IsObjectNamed p name.text x.0 → fits.variable_kind p.variables x.0 ≡ Some (variable.Access t) → designated_of k.types t.0 ≡ o → selected ss ≡ Some c → MeantRead p (path_expression (record { root = name; selectors = ss })) (component_within k x name.spot o c)
-within_read k p x name c ss t None w b v is s = tt
-within_read k p x name c ss t (Some d) w b v is s = complete_or (is_incomplete_type k d)
-  where
-    complete_or : (b : Bool) → MeantRead p (path_expression (record { root = name; selectors = ss })) (cond b unknown (component_if x name.spot (component_named 0 c.text (components_of k.types d))))
-    complete_or true = tt
-    complete_or false = found_read p x name c ss t d (component_named 0 c.text (components_of k.types d)) b v (designated_more k p t.0 d w is) s (named_more k p c.text d (component_named 0 c.text (components_of k.types d)) w (name_at 0 c.text (components_of k.types d)))
-
-selection_read : (k : Known) (p : Context) (x : VariableNo) (name : Ident) (ss : List SelectorTree) (t : TypeNo) (o : Option Ident) → Ahead k p → IsObjectNamed p name.text x.0 → fits.variable_kind p.variables x.0 ≡ Some (variable.Access t) → selected ss ≡ o → MeantRead p (path_expression (record { root = name; selectors = ss })) (selection_meant k x name.spot t o)
-selection_read k p x name ss t (Some c) w b v s = within_read k p x name c ss t (designated_of k.types t.0) w b v refl s
-selection_read k p x name ss t None w b v s = tt
+-- selectors, one behind the other
+selectors_read : (k : Known) (p : Context) (of : Option VariableKind) (spot : Spot) (at : Reached) (ss : List SelectorTree) → Ahead k p → IsReached p.types of at → Quiet (selectors_remark k spot at ss) → Quiet (no_object (selectors_reached k at ss) spot) → AreReadBehind p of at ss (components_selected k at ss)
+selectors_read k p of spot reached.Nothing ss w is q e = absurd is
+selectors_read k p of spot (reached.Value kind) [] w is q e = tt
+selectors_read k p of spot (reached.Object t) [] w is q e = absurd e
+selectors_read k p of spot (reached.Value kind) (component c ∷ ss) w is q e =
+    let found = component_behind k (reached.Value kind) c in
+    let held = held_behind k p.types of spot (reached.Value kind) c w.types is q.0 in
+    held_read p of c ss (components_selected k (held_in found) ss) found held
+    (selectors_read k p (fits.selectors_kind p.types of (number_in found)) spot (held_in found) ss w (held_reached p.types of c.text found held) q.1 e)
+selectors_read k p of spot (reached.Object t) (component c ∷ ss) w is q e = λ all.
+    let found = component_behind k (reached.Object t) c in
+    let held = held_behind k p.types of spot (reached.Object t) c w.types is q.0 in
+    held_read_behind p of all c ss (components_selected k (held_in found) ss) found held
+    (selectors_read k p (fits.selectors_kind p.types of (number_in found)) spot (held_in found) ss w (held_reached p.types of c.text found held) q.1 e)
+selectors_read k p of spot (reached.Value (variable.Access t)) (dereference all ∷ ss) w is q e =
+    let at = object_in k (designated_of k.types t.0) in
+    object_read k p of all (designated_of k.types t.0) at ss (components_selected k at ss) refl
+    (selectors_read k p of spot at ss w (object_is k p.types of spot (reached.Value (variable.Access t)) w.types is q.0) q.1 e)
+selectors_read k p of spot at (dereference all ∷ ss) w is q e = absurd q.0
 
 -- a variable alone
 variable_read : (p : Context) (x : VariableNo) (name : Ident) → IsObjectNamed p name.text x.0 → IsPathRead p (record { root = name; selectors = [] }) (variable_path x name.spot)
 variable_read p x name b = record { root = b; selectors = tt; spot = refl }
 
-alone_read : (p : Context) (x : VariableNo) (name : Ident) (of : VariableKind) → IsObjectNamed p name.text x.0 → MeantRead p (path_expression (record { root = name; selectors = [] })) (alone_meant x name.spot of)
-alone_read p x name variable.Integer b = read_path (variable_read p x name b)
-alone_read p x name variable.Boolean b = read_path (variable_read p x name b)
-alone_read p x name (variable.Access t) b = variable_read p x name b
+place_read : (k : Known) (p : Context) (x : VariableNo) (name : Ident) (of : VariableKind) (ss : List SelectorTree) → Ahead k p → IsObjectNamed p name.text x.0 → fits.variable_kind p.variables x.0 ≡ Some of → Quiet (variable_path_remark k name.spot of ss) → MeantRead p (path_expression (record { root = name; selectors = ss })) (variable_meant k x name.spot of ss)
+place_read k p x name of ss w b v q = by_reached (selectors_reached k (reached.Value of) ss)
+  where
+    whole : IsPathRead p (record { root = name; selectors = ss }) (selected_path x name.spot (components_selected k (reached.Value of) ss))
+    whole = record { root = b; selectors = selectors_read k p (fits.variable_kind p.variables x.0) name.spot (reached.Value of) ss w v q.0 q.1; spot = refl }
 
-place_read : (k : Known) (p : Context) (x : VariableNo) (name : Ident) (of : VariableKind) (ss : List SelectorTree) → Ahead k p → IsObjectNamed p name.text x.0 → fits.variable_kind p.variables x.0 ≡ Some of → MeantRead p (path_expression (record { root = name; selectors = ss })) (variable_meant k x name.spot of ss)
-place_read k p x name of [] w b v = alone_read p x name of b
-place_read k p x name variable.Integer (s ∷ ss) w b v = tt
-place_read k p x name variable.Boolean (s ∷ ss) w b v = tt
-place_read k p x name (variable.Access t) (s ∷ ss) w b v = selection_read k p x name (s ∷ ss) t (selected (s ∷ ss)) w b v refl
+    by_reached : (at : Reached) → MeantRead p (path_expression (record { root = name; selectors = ss })) (reached_meant (selected_path x name.spot (components_selected k (reached.Value of) ss)) at)
+    by_reached (reached.Value variable.Integer) = read_path whole
+    by_reached (reached.Value variable.Boolean) = read_path whole
+    by_reached (reached.Value (variable.Access t)) = whole
+    by_reached at = tt
 
 -- what a name stands for
-entity_read : (k : Known) (p : Context) (e : Entity) (name : Ident) (ss : List SelectorTree) → Ahead k p → EntityFits k.types k.variables name.text e → EntityRead p name.text e → MeantRead p (path_expression (record { root = name; selectors = ss })) (entity_meant k (Some e) name.spot ss)
-entity_read k p (entity.Variable x of) name ss w f t = place_read k p x name of ss w (inl t) (kind_there p.variables x.0 name.text of (w.variables x.0 (record { name = name.text; kind = of }) f.0))
-entity_read k p (entity.Parameter x) name ss w f t =
-    place_read k p x name variable.Integer ss w (inr t) (kind_there p.variables x.0 name.text variable.Integer (w.variables x.0 (record { name = name.text; kind = variable.Integer }) f))
-entity_read k p (entity.Number n) name [] w f t = read_number refl t
-entity_read k p (entity.Number n) name (s ∷ ss) w f t = tt
-entity_read k p (entity.Truth b) name [] w f t = read_truth refl t
-entity_read k p (entity.Truth b) name (s ∷ ss) w f t = tt
-entity_read k p e name ss w f t = tt
+entity_read : (k : Known) (p : Context) (e : Entity) (name : Ident) (ss : List SelectorTree) → Ahead k p → EntityFits k.types k.variables name.text e → EntityRead p name.text e → Quiet (value_wanted k (Some e) name ss) → MeantRead p (path_expression (record { root = name; selectors = ss })) (entity_meant k (Some e) name.spot ss)
+entity_read k p (entity.Variable x of) name ss w f t q =
+    place_read k p x name of ss w (inl t) (kind_there p.variables x.0 name.text of (w.variables x.0 (record { name = name.text; kind = of }) f.0)) q
+entity_read k p (entity.Parameter x) name ss w f t q =
+    place_read k p x name variable.Integer ss w (inr t) (kind_there p.variables x.0 name.text variable.Integer (w.variables x.0 (record { name = name.text; kind = variable.Integer }) f)) q
+entity_read k p (entity.Number n) name [] w f t q = read_number refl t
+entity_read k p (entity.Number n) name (s ∷ ss) w f t q = tt
+entity_read k p (entity.Truth b) name [] w f t q = read_truth refl t
+entity_read k p (entity.Truth b) name (s ∷ ss) w f t q = tt
+entity_read k p e name ss w f t q = tt
 
-named_read : (k : Known) (p : Context) (o : Option Entity) (name : Ident) (ss : List SelectorTree) → Ahead k p → ((e : Entity) → o ≡ Some e → EntityFits k.types k.variables name.text e) → ((e : Entity) → o ≡ Some e → EntityRead p name.text e) → MeantRead p (path_expression (record { root = name; selectors = ss })) (entity_meant k o name.spot ss)
-named_read k p None name ss w v t = tt
-named_read k p (Some e) name ss w v t = entity_read k p e name ss w (v e refl) (t e refl)
+named_read : (k : Known) (p : Context) (o : Option Entity) (name : Ident) (ss : List SelectorTree) → Ahead k p → ((e : Entity) → o ≡ Some e → EntityFits k.types k.variables name.text e) → ((e : Entity) → o ≡ Some e → EntityRead p name.text e) → Quiet (value_wanted k o name ss) → MeantRead p (path_expression (record { root = name; selectors = ss })) (entity_meant k o name.spot ss)
+named_read k p None name ss w v t q = tt
+named_read k p (Some e) name ss w v t q = entity_read k p e name ss w (v e refl) (t e refl) q
 
-path_read : (k : Known) (p : Context) (tree : PathTree) → Readable k p → MeantRead p (path_expression tree) (path_meant k tree)
-unfolding path_meant
-path_read k p tree w = by_root (is_library_root tree.root.text)
+path_read : (k : Known) (p : Context) (tree : PathTree) → Readable k p → Quiet (path_remark k tree) → MeantRead p (path_expression tree) (path_meant k tree)
+unfolding path_meant path_remark
+path_read k p tree w q = by_root (is_library_root tree.root.text) _ q
   where
-    by_root : (b : Bool) → MeantRead p (path_expression tree) (cond b unknown (entity_meant k (visible k tree.root.text) tree.root.spot tree.selectors))
-    by_root true = tt
-    by_root false = named_read k p (visible k tree.root.text) tree.root tree.selectors w.ahead (visible_fits k w.fits tree.root.text) (visible_read k p w.agrees tree.root.text)
+    by_root : (b : Bool) (other : Remark) → Quiet (cond b other (value_wanted k (visible k tree.root.text) tree.root tree.selectors)) → MeantRead p (path_expression tree) (cond b unknown (entity_meant k (visible k tree.root.text) tree.root.spot tree.selectors))
+    by_root true other q = tt
+    by_root false other q = named_read k p (visible k tree.root.text) tree.root tree.selectors w.ahead (visible_fits k w.fits tree.root.text) (visible_read k p w.agrees tree.root.text) q
 
 -- what is wanted is read
 integer_read : (p : Context) (e : ExpressionTree) (m : Meant) (spot : Spot) → IsMeant m → MeantRead p e m → Quiet (integer_wanted m spot) → IsExpressionRead p e (integer_in m)
@@ -245,10 +201,8 @@ asks_read o is = absurd (cc is)
 equality_read : (p : Context) (o : BinaryOperator) (e d : ExpressionTree) (left right : Meant) (at to : Spot) → signature_of o ≡ equality → IsMeant left → IsMeant right → MeantRead p e left → MeantRead p d right → Quiet (equal_wanted left at right to) → MeantRead p (binary_expression o e d) (equality_meant o left right)
 equality_read p o e d (integer_value a) (integer_value b) at to is f g r s q = inl (a, b, refl, r, s)
 equality_read p o e d (boolean_value a) (boolean_value b) at to is f g r s q = inl (a, b, refl, r, s)
-equality_read p o e d (access_variable path t) null_value at to is f g r s q = inr (null_on_right (asks_read o is) r s)
-equality_read p o e d (other_access path) null_value at to is f g r s q = inr (null_on_right (asks_read o is) r s)
-equality_read p o e d null_value (access_variable path t) at to is f g r s q = inr (null_on_left (asks_read o is) r s)
-equality_read p o e d null_value (other_access path) at to is f g r s q = inr (null_on_left (asks_read o is) r s)
+equality_read p o e d (access_value path t) null_value at to is f g r s q = inr (null_on_right (asks_read o is) r s)
+equality_read p o e d null_value (access_value path t) at to is f g r s q = inr (null_on_left (asks_read o is) r s)
 equality_read p o e d unknown right at to is f g r s q = absurd f
 equality_read p o e d left unknown at to is f g r s q = absurd g
 equality_read p o e d left right at to is f g r s q = absurd q
@@ -269,8 +223,7 @@ binary_read p o logical e d left right at to is f g r s q = inl (boolean_in left
 enclosed_read : (p : Context) (spot : Spot) (e : ExpressionTree) (m : Meant) → MeantRead p e m → MeantRead p (enclosed_expression spot e) m
 enclosed_read p spot e unknown r = tt
 enclosed_read p spot e null_value r = r
-enclosed_read p spot e (access_variable path t) r = r
-enclosed_read p spot e (other_access path) r = r
+enclosed_read p spot e (access_value path t) r = r
 enclosed_read p spot e (integer_value form) r = r
 enclosed_read p spot e (boolean_value form) r = r
 
@@ -279,7 +232,7 @@ expression_read : (k : Known) (p : Context) (e : ExpressionTree) → Readable k 
 unfolding expression_meant expression_remark
 expression_read k p (number_expression spot n) w q = refl
 expression_read k p (null_expression spot) w q = tt
-expression_read k p (path_expression tree) w q = path_read k p tree w
+expression_read k p (path_expression tree) w q = path_read k p tree w q.1
 expression_read k p (aggregate_expression type_name items) w q = absurd q
 expression_read k p (enclosed_expression spot inner) w q = enclosed_read p spot inner (expression_meant k inner) (expression_read k p inner w q)
 expression_read k p (unary_expression o spot operand) w q =
@@ -292,19 +245,17 @@ expression_read k p (binary_expression o left right) w q =
 item_read : (p : Context) (e : ExpressionTree) (k : ComponentKind) (m : Meant) (spot : Spot) → IsMeant m → MeantRead p e m → Quiet (fits_remark k m spot) → IsItemRead p e (item_meant m)
 item_read p e k (integer_value form) spot f r q = r
 item_read p e k (boolean_value form) spot f r q = r
+item_read p e k (access_value path t) spot f r q = r
 item_read p e k null_value spot f r q = r
 item_read p e k unknown spot f r q = absurd f
-item_read p e (kind.Integer initial) m spot f r q = absurd q
-item_read p e (kind.Boolean initial) m spot f r q = absurd q
-item_read p e (kind.Access t) m spot f r q = absurd q
 
 -- the component that an item is for
 component_there : (items : ItemsTree) (label : Option Ident) (e : ExpressionTree) (rest : ItemsTree) (cs : List ComponentForm) (at : ℕ) (found : ℕ × ComponentKind) → component_for cs label at ≡ Some found → (d : ComponentForm) × (slice_get cs found.0 ≡ Some d) × IsItemFor (an_item label e rest) at found.0 d.name e
 component_there items (Some label) e rest cs at found is =
-    let there = subst (λ o. IsNamedOf label.text cs 0 o) is (name_at 0 label.text cs) in
+    let there = subst (λ (o : Option (ℕ × ComponentKind)). IsNamedOf label.text cs 0 o) is (name_at 0 label.text cs) in
     let place : found.0 ≡ there.0 = there.2 ∙ omega arith in
     let here : IsItemFor (an_item (Some label) e rest) at found.0 label.text e = by_name in
-    (there.1, subst (λ (n : ℕ). slice_get cs n ≡ Some there.1) (sym place) there.3, subst (λ (name : List ℕ). IsItemFor (an_item (Some label) e rest) at found.0 name e) (sym there.4) here)
+    (there.1, subst (λ (n : ℕ). slice_get cs n ≡ Some there.1) (sym place) there.3, subst (λ (name : List ℕ). IsItemFor (an_item (Some label) e rest) at found.0 name e) (sym there.5) here)
 component_there items None e rest cs at found is = at_number (slice_get cs at) refl is
   where
     at_number : (o : Option ComponentForm) → slice_get cs at ≡ o → component_at at o ≡ Some found → (d : ComponentForm) × (slice_get cs found.0 ≡ Some d) × IsItemFor (an_item None e rest) at found.0 d.name e
@@ -393,16 +344,13 @@ FoundRight p right (Some form) = IsRightRead p right form
 
 assigned_read : (p : Context) (e : ExpressionTree) (of : VariableKind) (m : Meant) (spot : Spot) → IsMeant m → MeantRead p e m → Quiet (assigned_wanted (Some of) m spot) → FoundRight p (expression_right e) (assigned m)
 assigned_read p e of null_value spot f r q = r
-assigned_read p e of (access_variable path t) spot f r q = r
+assigned_read p e of (access_value path t) spot f r q = r
 assigned_read p e of (integer_value form) spot f r q = r
 assigned_read p e of (boolean_value form) spot f r q = r
 assigned_read p e of unknown spot f r q = absurd f
-assigned_read p e variable.Integer (other_access path) spot f r q = absurd q
-assigned_read p e variable.Boolean (other_access path) spot f r q = absurd q
-assigned_read p e (variable.Access t) (other_access path) spot f r q = absurd q
 
 type_designated : (k : Known) (p : Context) (t d : ℕ) → Ahead k p → fits.designated_type k.types t ≡ Some d → fits.designated_type p.types t ≡ Some d
-type_designated k p t d w e = sym (designated_same p.types t) ∙ designated_more k p t d w (designated_same k.types t ∙ e)
+type_designated k p t d w e = sym (designated_same p.types t) ∙ designated_more k.types p.types t d w.types (designated_same k.types t ∙ e)
 
 allocation_one : (k : Known) (p : Context) (e : Entity) (access : TypeNo) (at spot end_spot : Spot) (name : Ident) (items : ItemsTree) → Readable k p → EntityFits k.types k.variables name.text e → EntityRead p name.text e → Quiet (allocated_wanted (Some e) k.types (Some access) spot name) → Quiet (items_remark k (filled_components k (complete_in (Some e))) (names_component items) (first_filling (filled_components k (complete_in (Some e)))) items) → Quiet (count_remark (names_component items) (filling_of k (filled_components k (complete_in (Some e))) items) end_spot) → FoundRight p (allocator_right at None name items) (allocation k (Some access) (complete_in (Some e)) items)
 allocation_one k p (entity.Record t) access at spot end_spot name items w f r q i c = record {
@@ -466,7 +414,8 @@ variable_target_read p (Some e) root v q = variable_target_one p e root (v e ref
 -- what has components is no loop parameter
 no_part_of_parameter : (k : Known) (o : Option Entity) (root : Ident) (s : SelectorTree) (ss : List SelectorTree) (n : VariableNo) → o ≡ Some (entity.Parameter n) → Quiet (value_wanted k o root (s ∷ ss)) → ⊥
 no_part_of_parameter k None root s ss n is q = cc is
-no_part_of_parameter k (Some (entity.Parameter x)) root s ss n is q = q
+no_part_of_parameter k (Some (entity.Parameter x)) root (component c) ss n is q = q.0.0
+no_part_of_parameter k (Some (entity.Parameter x)) root (dereference all) ss n is q = q.0.0
 no_part_of_parameter k (Some e) root s ss n is q = cc is
 
 component_root : (k : Known) (p : Context) (root : Ident) (s : SelectorTree) (ss : List SelectorTree) (x : ℕ) → Readable k p → Quiet (path_remark k (record { root = root; selectors = s ∷ ss })) → IsMeant (path_meant k (record { root = root; selectors = s ∷ ss })) → IsObjectNamed p root.text x → IsVariableNamed p root.text x
@@ -478,9 +427,10 @@ component_root k p root s ss x w q m (inr b) = let n = parameter_visible k p w.a
     by_library true other n is q m = m
     by_library false other n is q m = no_part_of_parameter k (visible k root.text) root s ss n is q
 
-component_target_read : (p : Context) (tree : PathTree) (m : Meant) (spot : Spot) → IsMeant m → MeantRead p (path_expression tree) m → ((path : PathForm) → IsPathRead p tree path → IsTargetRead p tree path) → Quiet (scalar_component_wanted m spot) → FoundTarget p tree (component_target m)
+component_target_read : (p : Context) (tree : PathTree) (m : Meant) (spot : Spot) → IsMeant m → MeantRead p (path_expression tree) m → ((path : PathForm) → IsPathRead p tree path → IsTargetRead p tree path) → Quiet (target_wanted m spot) → FoundTarget p tree (component_target m)
 component_target_read p tree (integer_value (reads path)) spot f r target q = target path (path_of_value p tree path r)
 component_target_read p tree (boolean_value (reads path)) spot f r target q = target path (path_of_value p tree path r)
+component_target_read p tree (access_value path t) spot f r target q = target path r
 component_target_read p tree unknown spot f r target q = absurd f
 component_target_read p tree m spot f r target q = absurd q
 
@@ -492,9 +442,9 @@ found_target_read k p root (s ∷ ss) w q = longer_at (eqb (length (s ∷ ss)) 0
     tree : PathTree
     tree = record { root = root; selectors = s ∷ ss }
 
-    longer_at : (b : Bool) → b ≡ false → Quiet (cond b (variable_wanted (visible k root.text) root) (path_remark k tree also scalar_component_wanted (path_meant k tree) root.spot)) → FoundTarget p tree (cond b (variable_target root.spot (visible k root.text)) (component_target (path_meant k tree)))
+    longer_at : (b : Bool) → b ≡ false → Quiet (cond b (variable_wanted (visible k root.text) root) (path_remark k tree also target_wanted (path_meant k tree) root.spot)) → FoundTarget p tree (cond b (variable_target root.spot (visible k root.text)) (component_target (path_meant k tree)))
     longer_at true e q = absurd (cc e)
-    longer_at false e q = component_target_read p tree (path_meant k tree) root.spot (path_known k tree w.fits q.0) (path_read k p tree w) (λ path r. (r, component_root k p root s ss path.root w q.0 (path_known k tree w.fits q.0) r.root)) q.1
+    longer_at false e q = component_target_read p tree (path_meant k tree) root.spot (path_known k tree w.fits q.0) (path_read k p tree w q.0) (λ path r. (r, component_root k p root s ss path.root w q.0 (path_known k tree w.fits q.0) r.root)) q.1
 
 -- `X := ..;`
 value_read : (p : Context) (target : PathTree) (right : RightTree) (found : PathForm × VariableKind) (o : Option RightForm) → FoundTarget p target (Some found) → FoundRight p right o → FoundStatement p (assignment target right) (assignment_of (Some found) o)
@@ -527,7 +477,7 @@ target_read k p tree path w q r = by_object r.root
 
 -- `Free (X);`
 freed_read : (p : Context) (procedure tree : PathTree) (access : TypeNo) (m : Meant) (spot : Spot) → procedure.selectors ≡ [] → IsInstanceNamed p procedure.root.text access.0 → IsMeant m → MeantRead p (path_expression tree) m → ((path : PathForm) → IsPathRead p tree path → IsTargetRead p tree path) → Quiet (freed_wanted access m spot) → FoundStatement p (call procedure (expression_argument (path_expression tree) ∷ [])) (freeing access m)
-freed_read p procedure tree access (access_variable path t) spot alone called f r target q = (alone, called, target path r)
+freed_read p procedure tree access (access_value path t) spot alone called f r target q = (alone, called, target path r)
 freed_read p procedure tree access unknown spot alone called f r target q = absurd f
 freed_read p procedure tree access m spot alone called f r target q = absurd q
 
@@ -549,7 +499,7 @@ taken_read p procedure tree callee.Get m spot is f r target q = got_read p proce
 actual_read : (k : Known) (p : Context) (procedure : PathTree) (taker : Callee) (argument : ArgumentTree) → IsTaker p procedure taker → Readable k p → Quiet (actual_remark k taker argument) → FoundStatement p (call procedure (argument ∷ [])) (actual_found k taker argument)
 unfolding expression_remark
 actual_read k p procedure taker (expression_argument (path_expression tree)) is w q =
-    taken_read p procedure tree taker (path_meant k tree) tree.root.spot is (path_known k tree w.fits q.0.1) (path_read k p tree w)
+    taken_read p procedure tree taker (path_meant k tree) tree.root.spot is (path_known k tree w.fits q.0.1) (path_read k p tree w q.0.1)
     (λ path r. target_read k p tree path w.agrees q.1.1 r) q.1.0
 actual_read k p procedure taker argument is w q = absurd q.0
 

@@ -14,6 +14,8 @@ pub mod Types
 mod Typing
 -- what stays as more is declared
 pub mod Growing
+-- what is selected behind a variable
+pub mod Selected
 -- what an expression means
 pub mod Meanings
 -- the items of aggregates

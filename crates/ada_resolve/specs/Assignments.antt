@@ -7,11 +7,11 @@ use Rattle.ada_tree.specs.Expressions.{RightTree}
 use Rattle.ada_program.specs.Form.{ExpressionForm, PathForm, RightForm, StmtForm, assigns, reads}
 use Rattle.ada_program.specs.declared.program.VariableKind.{VariableKind}
 use Rattle.ada_program.specs.declared.program.VariableKind.TheVariants as variable
-use Rattle.ada_resolve.specs.declared.fault.NameRule.TheVariants.{WrongType, NotInProfile}
+use Rattle.ada_resolve.specs.declared.fault.NameRule.TheVariants.{WrongType}
 use Rattle.ada_resolve.specs.declared.scope.Entity.{Entity}
 use Rattle.ada_resolve.specs.declared.scope.Entity.TheVariants as entity
 use Rattle.ada_resolve.specs.Known.{Known, visible, missing, is_empty}
-use Rattle.ada_resolve.specs.Paths.{Meant, boolean_value, integer_value, other_access, path_meant, path_remark, unknown, variable_path}
+use Rattle.ada_resolve.specs.Paths.{Meant, access_value, boolean_value, integer_value, path_meant, path_remark, unknown, variable_path}
 use Rattle.ada_resolve.specs.Remark.{Remark, fine, wrong, node, ◌also◌}
 use Rattle.ada_resolve.specs.Rights.{right_found, right_remark}
 
@@ -26,10 +26,11 @@ abbrev pub read_target : VariableKind → ExpressionForm → Option (PathForm ×
 read_target kind (reads path) = Some (path, kind)
 read_target kind other = None
 
--- A component as a target: its path, and what it holds, an Integer or a Boolean.
+-- A component as a target: its path, and what it holds.
 abbrev pub component_target : Meant → Option (PathForm × VariableKind)
 component_target (integer_value e) = read_target variable.Integer e
 component_target (boolean_value e) = read_target variable.Boolean e
+component_target (access_value path t) = Some (path, variable.Access t)
 component_target other = None
 
 -- What is assigned to, and what that holds: a variable, or a component that is selected from one; `None` where something is wrong.
@@ -50,20 +51,20 @@ abbrev pub read_wanted : ExpressionForm → Spot → Remark
 read_wanted (reads path) spot = fine
 read_wanted other spot = wrong spot WrongType
 
--- An Integer or a Boolean component is wanted: no component of an access type is assigned to in the profile yet.
-abbrev pub scalar_component_wanted : Meant → Spot → Remark
-scalar_component_wanted unknown spot = fine
-scalar_component_wanted (integer_value e) spot = read_wanted e spot
-scalar_component_wanted (boolean_value e) spot = read_wanted e spot
-scalar_component_wanted (other_access path) spot = wrong spot NotInProfile
-scalar_component_wanted other spot = wrong spot WrongType
+-- A component is wanted, where the meaning is known.
+abbrev pub target_wanted : Meant → Spot → Remark
+target_wanted unknown spot = fine
+target_wanted (integer_value e) spot = read_wanted e spot
+target_wanted (boolean_value e) spot = read_wanted e spot
+target_wanted (access_value path t) spot = fine
+target_wanted other spot = wrong spot WrongType
 
 -- What is wrong with a path where something is assigned to (5.2).
 unfoldable pub target_remark : Known → PathTree → Remark
 target_remark known target =
     if is_empty target.selectors
     then variable_wanted (visible known target.root.text) target.root
-    else path_remark known target also scalar_component_wanted (path_meant known target) target.root.spot
+    else path_remark known target also target_wanted (path_meant known target) target.root.spot
 
 -- What the target holds, where it is known.
 abbrev pub kind_of_target : Option (PathForm × VariableKind) → Option VariableKind

@@ -20,13 +20,14 @@ use Rattle.ada_resolve.specs.Spots.{argument_spot, expression_spot}
 use Rattle.ada_resolve.specs.Arguments.{argument_remark, arguments_remark, none_wanted}
 use Rattle.ada_resolve.specs.Expressions.{expression_remark}
 use Rattle.ada_resolve.specs.Lines.{put_line_found, put_line_remark}
-use Rattle.ada_resolve.specs.Paths.{Meant, access_variable, integer_value, other_access, path_meant, unknown}
+use Rattle.ada_resolve.specs.Operators.{no_component_wanted}
+use Rattle.ada_resolve.specs.Paths.{Meant, access_value, integer_value, path_meant, unknown}
 
 -- `Free (X);` (13.11.2): the actual is a variable of the instance's access type.
 abbrev pub freed_wanted : TypeNo → Meant → Spot → Remark
 freed_wanted access unknown spot = fine
-freed_wanted access (access_variable path t) spot = wrong_if (not (t.0 == access.0)) spot WrongType
-freed_wanted access (other_access path) spot = wrong spot NotInProfile
+freed_wanted access (access_value path t) spot =
+    wrong_if (not (t.0 == access.0)) spot WrongType also no_component_wanted (access_value path t) spot
 freed_wanted access other spot = wrong spot WrongType
 
 -- `Run_Input.Get (X);`: the actual is an Integer, a variable or a component.
@@ -59,7 +60,7 @@ actual_remark known taker other = wrong (argument_spot other) WrongType also arg
 
 -- What the variable gives access to is freed, by the instance of this access type.
 abbrev pub freeing : TypeNo → Meant → Option StmtForm
-freeing access (access_variable path t) = Some (frees access.0 path)
+freeing access (access_value path t) = Some (frees access.0 path)
 freeing access other = None
 
 -- The next number of the input goes to the Integer.

@@ -4,7 +4,7 @@ use Rattle.std.specs.Prelude.{ℕ, ◌+◌, Bool, true, false, ◌==◌, ◌&&�
 use Rattle.std.specs.List.{slice_get, slice_set, slice_index_or, list_all}
 use Rattle.std.proofs.Math.ListN.{replicate}
 use Rattle.ada_text.specs.declared.spot.Spot.{Spot}
-use Rattle.ada_program.specs.Form.{ItemForm, null_item, item_of_value}
+use Rattle.ada_program.specs.Form.{ItemForm, null_item, item_of_path, item_of_value}
 use Rattle.ada_tree.specs.Names.{Ident}
 use Rattle.ada_tree.specs.Expressions.{ExpressionTree, ItemsTree, no_more_items, an_item}
 use Rattle.ada_program.specs.ProgramForm.{ComponentForm}
@@ -16,8 +16,8 @@ use Rattle.ada_resolve.specs.Library.{no_component_rule}
 use Rattle.ada_resolve.specs.Remark.{Remark, fine, wrong, ◌also◌, wrong_if}
 use Rattle.ada_resolve.specs.Spots.{expression_spot}
 use Rattle.ada_resolve.specs.Expressions.{expression_meant, expression_remark}
-use Rattle.ada_resolve.specs.Operators.{boolean_wanted, integer_wanted}
-use Rattle.ada_resolve.specs.Paths.{Meant, boolean_value, component_at, component_named, integer_value, null_value, other_access, unknown, access_variable}
+use Rattle.ada_resolve.specs.Operators.{access_wanted, boolean_wanted, integer_wanted, no_component_wanted}
+use Rattle.ada_resolve.specs.Paths.{Meant, access_value, boolean_value, component_at, component_named, integer_value}
 
 -- What is known before an item: how many items come before it, which components have their items, and whether each item so far names a
 -- component of its own.
@@ -40,22 +40,14 @@ item_spot None value = expression_spot value
 abbrev pub item_meant : Meant → ItemForm
 item_meant (integer_value e) = item_of_value e
 item_meant (boolean_value e) = item_of_value e
+item_meant (access_value path t) = item_of_path path
 item_meant other = null_item
 
--- An access component is given null; no other value of an access type is in the profile yet there.
-abbrev pub null_wanted : Meant → Spot → Remark
-null_wanted unknown spot = fine
-null_wanted null_value spot = fine
-null_wanted (access_variable path t) spot = wrong spot NotInProfile
-null_wanted (other_access path) spot = wrong spot NotInProfile
-null_wanted (integer_value e) spot = wrong spot WrongType
-null_wanted (boolean_value e) spot = wrong spot WrongType
-
--- A value is of its component's type.
+-- A value is of its component's type: an access component is given null, or what a variable of that very type holds.
 abbrev pub fits_remark : ComponentKind → Meant → Spot → Remark
 fits_remark (kind.Integer initial) value spot = integer_wanted value spot
 fits_remark (kind.Boolean initial) value spot = boolean_wanted value spot
-fits_remark (kind.Access t) value spot = null_wanted value spot
+fits_remark (kind.Access t) value spot = access_wanted t value spot also no_component_wanted value spot
 
 -- No component has that name (4.1.3), or there are too many items.
 abbrev pub no_component : Option Ident → ExpressionTree → Remark

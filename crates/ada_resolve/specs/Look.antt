@@ -1,13 +1,13 @@
 -- What a look at each part of a tree gives, by its parts as the code has them. The methods of the resolver that change nothing look so.
 
-use Rattle.std.specs.Prelude.{◌≡◌, ℕ, Bool, List, ◌∷◌, map, Option, Some, Result, Ok, Err}
+use Rattle.std.specs.Prelude.{◌≡◌, ℕ, Bool, List, ◌∷◌, map, Option, Result, Ok, Err}
 use denote.MutBor.{MutBor}
 use denote.Triple.Both.{Both}
 use Rattle.ada_text.specs.declared.spot.Spot.{Spot}
 use Rattle.ada_values.specs.declared.operator.UnaryOperator.{UnaryOperator}
 use Rattle.ada_tree.specs.ExpressionView.{argument_of, expression_of, items_of, optional_right_of, right_of}
 use Rattle.ada_tree.specs.Expressions.{expression_argument, unary_expression}
-use Rattle.ada_tree.specs.Names.{ident_of, optional_ident_of, path_of, selector_of}
+use Rattle.ada_tree.specs.Names.{ident_of, path_of, selector_of}
 use Rattle.ada_tree.specs.Records.{component_of, record_of}
 use Rattle.ada_tree.specs.Declarations.{choice_of}
 use Rattle.ada_tree.specs.StatementView.{condition_of, statement_of}
@@ -34,6 +34,7 @@ use Rattle.ada_resolve.specs.declared.fault.NameFault.{NameFault}
 use Rattle.ada_resolve.specs.declared.fault.NameFault.TheVariants.{NoMemory}
 use Rattle.ada_resolve.specs.declared.library.LibraryName.{LibraryName}
 use Rattle.ada_resolve.specs.declared.notes.Notes.{Notes}
+use Rattle.ada_resolve.specs.declared.selectors.Reached.{Reached}
 use Rattle.ada_resolve.specs.Allocators.{aggregate_found, aggregate_remark, filled_components}
 use Rattle.ada_resolve.specs.Arguments.{image_value_remark}
 use Rattle.ada_resolve.specs.Assignments.{assignment_found, assignment_remark, target_found, target_remark}
@@ -47,7 +48,7 @@ use Rattle.ada_resolve.specs.Lines.{line_found, line_remark, put_line_found, put
 use Rattle.ada_resolve.specs.Method.{Seen, known, IsNoted, kept_meant}
 use Rattle.ada_resolve.specs.Objects.{initial_found, initial_remark}
 use Rattle.ada_resolve.specs.Operators.{integer_in}
-use Rattle.ada_resolve.specs.Paths.{Meant, component_within, component_within_remark, named_meant, named_remark, path_meant, path_remark, selection_meant, selection_remark, variable_meant, variable_path_remark}
+use Rattle.ada_resolve.specs.Paths.{Meant, named_meant, named_remark, path_meant, path_remark, selector_reached, selector_remark, selectors_reached, selectors_remark, variable_meant, variable_path_remark}
 use Rattle.ada_resolve.specs.Records.{all_components_remark, components_written}
 use Rattle.ada_resolve.specs.Remark.{Remark}
 use Rattle.ada_resolve.specs.Rights.{right_found, right_remark}
@@ -102,18 +103,18 @@ variable_look seen x spot kind selectors = record {
   meaning = variable_meant (known seen) x spot kind (map selector_of selectors);
 }
 
--- What is selected from the object that a variable gives access to (4.1.3).
-abbrev pub selection_look : Seen → VariableNo → Spot → TypeNo → Option Identifier → Look Meant
-selection_look seen x spot access c = record {
-  remark = selection_remark (known seen) spot access (optional_ident_of c);
-  meaning = selection_meant (known seen) x spot access (optional_ident_of c);
+-- A selector behind what is reached (4.1), where the path stands at the spot.
+abbrev pub selector_look : Seen → Spot → Reached → Selector → Look Reached
+selector_look seen spot at s = record {
+  remark = selector_remark (known seen) spot at (selector_of s);
+  meaning = selector_reached (known seen) at (selector_of s);
 }
 
--- A component of an object of this type, by its name.
-abbrev pub within_look : Seen → VariableNo → Spot → TypeNo → Identifier → Look Meant
-within_look seen x spot t c = record {
-  remark = component_within_remark (known seen) spot (Some t.0) (ident_of c);
-  meaning = component_within (known seen) x spot (Some t.0) (ident_of c);
+-- Selectors, one behind the other.
+abbrev pub selectors_look : Seen → Spot → Reached → List Selector → Look Reached
+selectors_look seen spot at selectors = record {
+  remark = selectors_remark (known seen) spot at (map selector_of selectors);
+  meaning = selectors_reached (known seen) at (map selector_of selectors);
 }
 
 -- A path that begins with a root of the library.

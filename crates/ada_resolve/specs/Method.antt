@@ -1,8 +1,7 @@
 -- What the methods of the resolver promise, in a word each: what they answer, what is noted, and what is known after them.
 
-use Rattle.std.specs.Prelude.{◌≡◌, ◌++◌, ◌∷◌, ℕ, Bool, List, [], map, length, Option, Some, Result, IfOk, OnOk, String}
-use Rattle.std.specs.Global.{Global, Vec}
-use Rattle.std.specs.String.{string_bytes}
+use Rattle.std.specs.Prelude.{◌≡◌, ◌++◌, ◌∷◌, ℕ, Bool, List, [], map, Option, Some, Result, IfOk, OnOk}
+use Rattle.std.specs.Global.{Vec}
 use denote.MutBor.{MutBor}
 use denote.Ref.{Bor}
 use denote.Triple.Both.{Both}
@@ -26,11 +25,11 @@ use Rattle.ada_tree.specs.declared.records.StaticValue.{StaticValue}
 use Rattle.ada_tree.specs.declared.statements.Branch.{Branch}
 use Rattle.ada_tree.specs.declared.statements.Handler.{Handler}
 use Rattle.ada_tree.specs.declared.unit.Unit.{Unit as UnitOf}
-use Rattle.ada_program.specs.Form.{BranchesForm, DeclarationForm, ExpressionForm, HandlersForm, StmtForm, StmtsForm, declaration_form, declares}
+use Rattle.ada_program.specs.Form.{BranchesForm, DeclarationForm, component_number, declaration_form, declares}
 use Rattle.ada_program.specs.ProgramForm.{ComponentForm, ProgramForm, VariableForm}
 use Rattle.ada_program.specs.declared.program.Branch.{Branch as BranchOf}
-use Rattle.ada_program.specs.declared.program.Choice.{Choice as ChoiceOf}
 use Rattle.ada_program.specs.declared.program.ComponentKind.{ComponentKind}
+use Rattle.ada_program.specs.declared.program.ComponentNo.{ComponentNo}
 use Rattle.ada_program.specs.declared.program.Declaration.{Declaration}
 use Rattle.ada_program.specs.declared.program.Right.{Right as RightOf}
 use Rattle.ada_program.specs.declared.program.Stmt.{Stmt}
@@ -123,6 +122,10 @@ AddsComponent components c = forms_of components.exit.now ≡ with_component c (
 -- The call changes in this way what is known of the items of an aggregate.
 abbrev pub Fills : Both (MutBor FillingOf) (MutBor FillingOf) → (Filling → Filling) → Type 0
 Fills filling change = filling_in filling.exit.now ≡ change (filling_in filling.entry.now)
+
+-- The call adds the numbers of these components to those that are selected so far.
+abbrev pub Selects : Both (MutBor (Vec ComponentNo)) (MutBor (Vec ComponentNo)) → List ℕ → Type 0
+Selects components numbers = map component_number components.exit.now.items ≡ map component_number components.entry.now.items ++ numbers
 
 -- The components of a record type as the code keeps them: they are added one by one.
 abbrev pub kept_meant : Known → List ComponentTree → List ComponentForm

@@ -1,15 +1,17 @@
 -- Operators: what each means with its operands, and what is wrong with these.
 
-use Rattle.std.specs.Prelude.{Bool, true, false, pos}
+use Rattle.std.specs.Prelude.{Bool, true, false, ◌==◌, not, pos}
 use Rattle.ada_text.specs.declared.spot.Spot.{Spot}
 use Rattle.ada_values.specs.declared.operator.UnaryOperator.{UnaryOperator}
 use Rattle.ada_values.specs.declared.operator.UnaryOperator.TheVariants as unary
 use Rattle.ada_values.specs.declared.operator.BinaryOperator.{BinaryOperator}
 use Rattle.ada_values.specs.declared.operator.BinaryOperator.TheVariants as binary
 use Rattle.ada_program.specs.Form.{ExpressionForm, integer, boolean, is_null, applied_to, chained, LinksForm, no_more_links, a_link}
-use Rattle.ada_resolve.specs.declared.fault.NameRule.TheVariants.{WrongType}
-use Rattle.ada_resolve.specs.Remark.{Remark, fine, wrong, ◌also◌}
-use Rattle.ada_resolve.specs.Paths.{Meant, boolean_value, integer_value, null_value, other_access, unknown, access_variable}
+use Rattle.ada_program.specs.WellFormed.{names_variable}
+use Rattle.ada_program.specs.declared.program.TypeNo.{TypeNo}
+use Rattle.ada_resolve.specs.declared.fault.NameRule.TheVariants.{WrongType, NotInProfile}
+use Rattle.ada_resolve.specs.Remark.{Remark, fine, wrong, ◌also◌, wrong_if}
+use Rattle.ada_resolve.specs.Paths.{Meant, access_value, boolean_value, integer_value, null_value, unknown}
 
 -- The Integer of a meaning; 0 where it is none.
 abbrev pub integer_in : Meant → ExpressionForm
@@ -75,10 +77,8 @@ asks_equal operator = false
 
 -- What an equality means: a value of an access type is compared with null alone (4.5.2).
 abbrev pub equality_meant : BinaryOperator → Meant → Meant → Meant
-equality_meant operator (access_variable path t) null_value = boolean_value (is_null (asks_equal operator) path)
-equality_meant operator (other_access path) null_value = boolean_value (is_null (asks_equal operator) path)
-equality_meant operator null_value (access_variable path t) = boolean_value (is_null (asks_equal operator) path)
-equality_meant operator null_value (other_access path) = boolean_value (is_null (asks_equal operator) path)
+equality_meant operator (access_value path t) null_value = boolean_value (is_null (asks_equal operator) path)
+equality_meant operator null_value (access_value path t) = boolean_value (is_null (asks_equal operator) path)
 equality_meant operator left right = boolean_value (joined (scalar_in left) operator (scalar_in right))
 
 -- What an operator of a signature means with its operands.
@@ -110,6 +110,18 @@ boolean_wanted unknown spot = fine
 boolean_wanted (boolean_value e) spot = fine
 boolean_wanted other spot = wrong spot WrongType
 
+-- A value of this very access type is wanted, or null, which is of all access types, where the meaning is known.
+abbrev pub access_wanted : TypeNo → Meant → Spot → Remark
+access_wanted access unknown spot = fine
+access_wanted access null_value spot = fine
+access_wanted access (access_value path t) spot = wrong_if (not (access.0 == t.0)) spot WrongType
+access_wanted access other spot = wrong spot WrongType
+
+-- In use so far: what is freed, and an access value that goes to a new object, are variables, and no components.
+abbrev pub no_component_wanted : Meant → Spot → Remark
+no_component_wanted (access_value path t) spot = wrong_if (not (names_variable path)) spot NotInProfile
+no_component_wanted other spot = fine
+
 -- What can be compared for equality (4.5.2): an Integer, a Boolean, a value of an access type, or null, which is of all access types.
 pub data Comparable : Type 0 where
   any_value : Comparable
@@ -122,8 +134,7 @@ pub data Comparable : Type 0 where
 abbrev pub comparable : Meant → Comparable
 comparable unknown = any_value
 comparable null_value = the_null
-comparable (access_variable path t) = an_access
-comparable (other_access path) = an_access
+comparable (access_value path t) = an_access
 comparable (integer_value e) = an_integer
 comparable (boolean_value e) = a_boolean
 

@@ -1,41 +1,42 @@
 -- What paths mean where a value is wanted, and what is wrong with each.
 
-use Rattle.std.specs.Prelude.{ℕ, ◌+◌, Bool, false, ◌||◌, ◌==◌, if◌then◌else◌, List, [], ◌∷◌, slice_get, Option, Some, None, bytes_eq}
+use Rattle.std.specs.Prelude.{ℕ, ◌+◌, Bool, false, ◌||◌, ◌==◌, if◌then◌else◌, List, [], ◌∷◌, ◌++◌, slice_get, Option, Some, None, bytes_eq}
 use Rattle.ada_text.specs.declared.spot.Spot.{Spot}
 use Rattle.ada_tree.specs.Names.{Ident, SelectorTree, component, dereference, PathTree}
 use Rattle.ada_program.specs.Form.{PathForm, ExpressionForm, integer, boolean, reads}
 use Rattle.ada_program.specs.ProgramForm.{ComponentForm, TypeForm, record_of, access_to}
 use Rattle.ada_program.specs.declared.program.ComponentKind.{ComponentKind}
-use Rattle.ada_program.specs.declared.program.ComponentKind.TheVariants as kind
 use Rattle.ada_program.specs.declared.program.VariableKind.{VariableKind}
 use Rattle.ada_program.specs.declared.program.VariableKind.TheVariants as variable
 use Rattle.ada_program.specs.declared.program.VariableNo.{VariableNo}
 use Rattle.ada_program.specs.declared.program.TypeNo.{TypeNo}
+use Rattle.ada_program.specs.WellFormed.{held_kind}
 use Rattle.ada_resolve.specs.declared.fault.NameRule.TheVariants.{WrongType, NotInProfile}
 use Rattle.ada_resolve.specs.declared.library.LibraryName.{LibraryName}
 use Rattle.ada_resolve.specs.declared.scope.Entity.{Entity}
 use Rattle.ada_resolve.specs.declared.scope.Entity.TheVariants as entity
+use Rattle.ada_resolve.specs.declared.selectors.Reached.{Reached}
+use Rattle.ada_resolve.specs.declared.selectors.Reached.TheVariants as reached
 use Rattle.ada_resolve.specs.Known.{Known, Part, named, parts, visible, missing, library_path_remark, library_path_found}
 use Rattle.ada_resolve.specs.Library.{is_library_root, no_component_rule}
 use Rattle.ada_resolve.specs.Remark.{Remark, fine, wrong, ◌also◌, wrong_if}
 
--- What an expression means (4.4): null, the value of a variable of an access type, another value of an access type, an Integer or a Boolean;
--- unknown where something is wrong.
+-- What an expression means (4.4): null, the value of an access type that a path names, an Integer or a Boolean; unknown where something is
+-- wrong.
 pub data Meant : Type 0 where
   unknown : Meant
   null_value : Meant
-  access_variable : PathForm → TypeNo → Meant
-  other_access : PathForm → Meant
+  access_value : PathForm → TypeNo → Meant
   integer_value : ExpressionForm → Meant
   boolean_value : ExpressionForm → Meant
 
+-- The path of the components that are selected, one behind the other, from a variable, which stands at the spot (4.1.3).
+abbrev pub selected_path : VariableNo → Spot → List ℕ → PathForm
+selected_path x spot components = record { root = x.0; selectors = components; spot = spot }
+
 -- The path of a variable, which stands at the spot (4.1).
 abbrev pub variable_path : VariableNo → Spot → PathForm
-variable_path x spot = record { root = x.0; selectors = []; spot = spot }
-
--- The path of a component of the object that a variable gives access to (4.1.3).
-abbrev pub component_path : VariableNo → Spot → ℕ → PathForm
-component_path x spot c = record { root = x.0; selectors = c ∷ []; spot = spot }
+variable_path x spot = selected_path x spot []
 
 -- The components of a record type (3.8); none, if it is no record type.
 abbrev pub components_in : Option TypeForm → List ComponentForm
@@ -93,46 +94,69 @@ is_incomplete_named t None parts = false
 unfoldable pub is_incomplete_type : Known → ℕ → Bool
 is_incomplete_type known t = is_incomplete_named t (name_of_type (slice_get known.types t)) (parts known)
 
--- The one component that is selected from what an access value designates, with or without `all` (4.1.3); none for other paths.
-abbrev pub selected : List SelectorTree → Option Ident
-selected (component c ∷ []) = Some c
-selected (dereference spot ∷ (component c ∷ [])) = Some c
-selected other = None
+-- The component of a name in a record type, which is complete (4.1.3, 3.10.1): its number, and what it holds.
+abbrev pub component_in : Known → Option ℕ → Ident → Option (ℕ × ComponentKind)
+component_in known (Some t) c = if is_incomplete_type known t then None else component_named 0 c.text (components_of known.types t)
+component_in known None c = None
 
--- A component that is found, by what it holds.
-abbrev pub component_found_meant : VariableNo → Spot → ℕ → ComponentKind → Meant
-component_found_meant x spot c (kind.Integer initial) = integer_value (reads (component_path x spot c))
-component_found_meant x spot c (kind.Boolean initial) = boolean_value (reads (component_path x spot c))
-component_found_meant x spot c (kind.Access t) = other_access (component_path x spot c)
+-- The component of a name behind what is reached: of the object that an access value gives access to, or of the object itself.
+abbrev pub component_behind : Known → Reached → Ident → Option (ℕ × ComponentKind)
+component_behind known (reached.Value (variable.Access access)) c = component_in known (designated_of known.types access.0) c
+component_behind known (reached.Object t) c = component_in known (Some t.0) c
+component_behind known other c = None
 
--- What a selected component means, or unknown where the type has no such component.
-abbrev pub component_if : VariableNo → Spot → Option (ℕ × ComponentKind) → Meant
-component_if x spot (Some found) = component_found_meant x spot found.0 found.1
-component_if x spot None = unknown
+-- What a component holds is reached, where the component is found.
+abbrev pub held_in : Option (ℕ × ComponentKind) → Reached
+held_in (Some found) = reached.Value (held_kind found.1)
+held_in None = reached.Nothing
 
--- The component of an object of a type, by its name; unknown where the type isn't complete.
-abbrev pub component_within : Known → VariableNo → Spot → Option ℕ → Ident → Meant
-component_within known x spot (Some t) c =
-    if is_incomplete_type known t then unknown else component_if x spot (component_named 0 c.text (components_of known.types t))
-component_within known x spot None c = unknown
+-- The object of a record type is reached, which is complete (3.10.1).
+abbrev pub object_in : Known → Option ℕ → Reached
+object_in known (Some t) = if is_incomplete_type known t then reached.Nothing else reached.Object (record { 0 = t })
+object_in known None = reached.Nothing
 
--- What is selected from the object that a variable gives access to.
-abbrev pub selection_meant : Known → VariableNo → Spot → TypeNo → Option Ident → Meant
-selection_meant known x spot access (Some c) = component_within known x spot (designated_of known.types access.0) c
-selection_meant known x spot access None = unknown
+-- What `all` reaches (4.1): the object that an access value gives access to.
+abbrev pub object_behind : Known → Reached → Reached
+object_behind known (reached.Value (variable.Access access)) = object_in known (designated_of known.types access.0)
+object_behind known other = reached.Nothing
 
--- A variable alone, by what it holds.
-abbrev pub alone_meant : VariableNo → Spot → VariableKind → Meant
-alone_meant x spot variable.Integer = integer_value (reads (variable_path x spot))
-alone_meant x spot variable.Boolean = boolean_value (reads (variable_path x spot))
-alone_meant x spot (variable.Access t) = access_variable (variable_path x spot) t
+-- What a selector reaches.
+abbrev pub selector_reached : Known → Reached → SelectorTree → Reached
+selector_reached known at (component c) = held_in (component_behind known at c)
+selector_reached known at (dereference spot) = object_behind known at
+
+-- What selectors reach, one behind the other.
+abbrev pub selectors_reached : Known → Reached → List SelectorTree → Reached
+selectors_reached known at [] = at
+selectors_reached known at (s ∷ ss) = selectors_reached known (selector_reached known at s) ss
+
+-- The number of a component, where it is found.
+abbrev pub number_in : Option (ℕ × ComponentKind) → List ℕ
+number_in (Some found) = found.0 ∷ []
+number_in None = []
+
+-- The number of the component that a selector names: `all` names none.
+abbrev pub component_selected : Known → Reached → SelectorTree → List ℕ
+component_selected known at (component c) = number_in (component_behind known at c)
+component_selected known at (dereference spot) = []
+
+-- The numbers of the components that selectors name, one behind the other.
+abbrev pub components_selected : Known → Reached → List SelectorTree → List ℕ
+components_selected known at [] = []
+components_selected known at (s ∷ ss) = component_selected known at s ++ components_selected known (selector_reached known at s) ss
+
+-- What a path means, by what it reaches: no whole object is a value in the profile yet.
+abbrev pub reached_meant : PathForm → Reached → Meant
+reached_meant path (reached.Value variable.Integer) = integer_value (reads path)
+reached_meant path (reached.Value variable.Boolean) = boolean_value (reads path)
+reached_meant path (reached.Value (variable.Access t)) = access_value path t
+reached_meant path other = unknown
 
 -- A variable, by what it holds and what is selected from it.
 abbrev pub variable_meant : Known → VariableNo → Spot → VariableKind → List SelectorTree → Meant
-variable_meant known x spot kind [] = alone_meant x spot kind
-variable_meant known x spot variable.Integer (s ∷ ss) = unknown
-variable_meant known x spot variable.Boolean (s ∷ ss) = unknown
-variable_meant known x spot (variable.Access t) (s ∷ ss) = selection_meant known x spot t (selected (s ∷ ss))
+variable_meant known x spot kind selectors =
+    reached_meant (selected_path x spot (components_selected known (reached.Value kind) selectors))
+    (selectors_reached known (reached.Value kind) selectors)
 
 -- What a name stands for, with what is selected from it.
 abbrev pub entity_meant : Known → Option Entity → Spot → List SelectorTree → Meant
@@ -157,29 +181,53 @@ abbrev pub component_wanted : Option (ℕ × ComponentKind) → Ident → Remark
 component_wanted (Some found) c = fine
 component_wanted None c = wrong c.spot (no_component_rule c.text)
 
--- What is wrong with selecting a component from an object of a type: the type is complete (3.10.1), and has the component.
+-- What is wrong with selecting a component from an object of a type: there is a type, which is complete (3.10.1) and has the component.
 abbrev pub component_within_remark : Known → Spot → Option ℕ → Ident → Remark
 component_within_remark known spot (Some t) c =
     if is_incomplete_type known t then wrong spot WrongType
     else component_wanted (component_named 0 c.text (components_of known.types t)) c
-component_within_remark known spot None c = fine
+component_within_remark known spot None c = wrong spot WrongType
 
 -- The type that an access value designates has to be complete behind it (3.10.1): an incomplete one has no components.
 abbrev pub complete_behind : Known → Spot → Option ℕ → Remark
 complete_behind known spot (Some t) = wrong_if (is_incomplete_type known t) spot WrongType
-complete_behind known spot None = fine
+complete_behind known spot None = wrong spot WrongType
 
--- What is wrong with what is selected behind an access value: no path but X.C and X.all.C is in the profile yet.
-abbrev pub selection_remark : Known → Spot → TypeNo → Option Ident → Remark
-selection_remark known spot access (Some c) = component_within_remark known spot (designated_of known.types access.0) c
-selection_remark known spot access None = complete_behind known spot (designated_of known.types access.0) also wrong spot NotInProfile
+-- What is wrong with a component that is named behind what is reached: an Integer and a Boolean have none.
+abbrev pub component_behind_remark : Known → Spot → Reached → Ident → Remark
+component_behind_remark known spot reached.Nothing c = fine
+component_behind_remark known spot (reached.Value (variable.Access access)) c =
+    component_within_remark known spot (designated_of known.types access.0) c
+component_behind_remark known spot (reached.Object t) c = component_within_remark known spot (Some t.0) c
+component_behind_remark known spot other c = wrong spot WrongType
 
--- What is wrong with selecting from a variable: an Integer and a Boolean have no components.
+-- What is wrong with `all` behind what is reached: it names what an access value gives access to (4.1).
+abbrev pub all_remark : Known → Spot → Reached → Remark
+all_remark known spot reached.Nothing = fine
+all_remark known spot (reached.Value (variable.Access access)) = complete_behind known spot (designated_of known.types access.0)
+all_remark known spot other = wrong spot WrongType
+
+-- What is wrong with a selector behind what is reached.
+abbrev pub selector_remark : Known → Spot → Reached → SelectorTree → Remark
+selector_remark known spot at (component c) = component_behind_remark known spot at c
+selector_remark known spot at (dereference all) = all_remark known spot at
+
+-- What is wrong with selectors, one behind the other.
+abbrev pub selectors_remark : Known → Spot → Reached → List SelectorTree → Remark
+selectors_remark known spot at [] = fine
+selectors_remark known spot at (s ∷ ss) =
+    selector_remark known spot at s also selectors_remark known spot (selector_reached known at s) ss
+
+-- No whole object is in the profile yet where a value is wanted.
+abbrev pub no_object : Reached → Spot → Remark
+no_object (reached.Object t) spot = wrong spot NotInProfile
+no_object other spot = fine
+
+-- What is wrong with what is selected from a variable.
 abbrev pub variable_path_remark : Known → Spot → VariableKind → List SelectorTree → Remark
-variable_path_remark known spot kind [] = fine
-variable_path_remark known spot variable.Integer (s ∷ ss) = wrong spot WrongType
-variable_path_remark known spot variable.Boolean (s ∷ ss) = wrong spot WrongType
-variable_path_remark known spot (variable.Access t) (s ∷ ss) = selection_remark known spot t (selected (s ∷ ss))
+variable_path_remark known spot kind selectors =
+    selectors_remark known spot (reached.Value kind) selectors also
+    no_object (selectors_reached known (reached.Value kind) selectors) spot
 
 -- A value is wanted: another thing of that name is of the wrong kind (8.6).
 abbrev pub value_wanted : Known → Option Entity → Ident → List SelectorTree → Remark

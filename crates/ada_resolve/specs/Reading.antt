@@ -14,7 +14,7 @@ use Rattle.ada_program.specs.declared.program.Choice.{Choice}
 use Rattle.ada_program.specs.declared.program.Choice.TheVariants as choice
 use Rattle.ada_program.specs.declared.program.VariableKind.{VariableKind}
 use Rattle.ada_program.specs.declared.program.VariableKind.TheVariants as variable
-use Rattle.ada_program.specs.Form.{DeclarationForm, collects, declares, PathForm, ExpressionForm, integer, boolean, reads, is_null, applied_to, ItemForm, null_item, item_of_value, RightForm, nothing, value_of, allocates, computes, StmtForm, skips, assigns, frees, gets, writes, writes_text, chooses, repeats, counts, exits, returns, raises, encloses, StmtsForm, no_stmts, a_stmt, BranchesForm, otherwise, HandlersForm}
+use Rattle.ada_program.specs.Form.{DeclarationForm, collects, declares, PathForm, ExpressionForm, integer, boolean, reads, is_null, applied_to, ItemForm, null_item, item_of_path, item_of_value, RightForm, nothing, value_of, allocates, computes, StmtForm, skips, assigns, frees, gets, writes, writes_text, chooses, repeats, counts, exits, returns, raises, encloses, StmtsForm, no_stmts, a_stmt, BranchesForm, otherwise, HandlersForm}
 use Rattle.ada_program.specs.Form as form
 use Rattle.ada_program.specs.ProgramForm.{ComponentForm, TypeForm, record_of, ProgramForm}
 use Rattle.ada_program.specs.WellFormed as fits
@@ -107,9 +107,10 @@ IsExpressionRead p (binary_expression operator left right) form =
     ((a : ExpressionForm) × (b : ExpressionForm) × (form ≡ joined a operator b) × IsExpressionRead p left a × IsExpressionRead p right b) ⊎
     IsNullTest p operator left right form
 
--- What an item gives a component (4.3.1): null, or a value.
+-- What an item gives a component (4.3.1): null, the access value that a path names, or another value.
 abbrev pub IsItemRead : Context → ExpressionTree → ItemForm → Type 0
 IsItemRead p e null_item = IsNull e
+IsItemRead p e (item_of_path path) = IsMoveRead p e path
 IsItemRead p e (item_of_value form) = IsExpressionRead p e form
 
 -- Among items of which the first stands at a place, one is for the component of a number and a name (4.3.1): it has that name before `=>`, or

@@ -1,6 +1,6 @@
 -- What is assigned: what is wrong with it, and what it means.
 
-use Rattle.std.specs.Prelude.{◌==◌, not, Option, Some, None}
+use Rattle.std.specs.Prelude.{Option, Some, None}
 use Rattle.ada_text.specs.declared.spot.Spot.{Spot}
 use Rattle.ada_program.specs.Form.{RightForm, nothing, value_of, computes}
 use Rattle.ada_tree.specs.Expressions.{RightTree, expression_right, allocator_right, creation_right}
@@ -9,12 +9,12 @@ use Rattle.ada_program.specs.declared.program.VariableKind.TheVariants as variab
 use Rattle.ada_program.specs.declared.program.TypeNo.{TypeNo}
 use Rattle.ada_resolve.specs.declared.fault.NameRule.TheVariants.{WrongType, NotInProfile}
 use Rattle.ada_resolve.specs.Known.{Known}
-use Rattle.ada_resolve.specs.Remark.{Remark, fine, wrong, ◌also◌, wrong_if}
+use Rattle.ada_resolve.specs.Remark.{Remark, fine, wrong, ◌also◌}
 use Rattle.ada_resolve.specs.Spots.{expression_spot}
 use Rattle.ada_resolve.specs.Allocators.{allocator_found, allocator_remark}
 use Rattle.ada_resolve.specs.Expressions.{expression_meant, expression_remark}
-use Rattle.ada_resolve.specs.Operators.{boolean_wanted, integer_wanted}
-use Rattle.ada_resolve.specs.Paths.{Meant, boolean_value, integer_value, null_value, other_access, unknown, access_variable}
+use Rattle.ada_resolve.specs.Operators.{access_wanted, boolean_wanted, integer_wanted}
+use Rattle.ada_resolve.specs.Paths.{Meant, access_value, boolean_value, integer_value, null_value}
 
 -- The access type of an object of this kind.
 abbrev pub access_kind : Option VariableKind → Option TypeNo
@@ -23,16 +23,7 @@ access_kind (Some variable.Integer) = None
 access_kind (Some variable.Boolean) = None
 access_kind None = None
 
--- What is assigned to an access object: null, the value of an object of that very type, where it is in the profile.
-abbrev pub access_wanted : TypeNo → Meant → Spot → Remark
-access_wanted access unknown spot = fine
-access_wanted access null_value spot = fine
-access_wanted access (access_variable path t) spot = wrong_if (not (access.0 == t.0)) spot WrongType
-access_wanted access (other_access path) spot = wrong spot NotInProfile
-access_wanted access (integer_value e) spot = wrong spot WrongType
-access_wanted access (boolean_value e) spot = wrong spot WrongType
-
--- What is assigned is of the object's type, where that is known.
+-- What is assigned is of the object's type, where that is known: to an access object null, or a value of that very type.
 abbrev pub assigned_wanted : Option VariableKind → Meant → Spot → Remark
 assigned_wanted (Some variable.Integer) value spot = integer_wanted value spot
 assigned_wanted (Some variable.Boolean) value spot = boolean_wanted value spot
@@ -56,7 +47,7 @@ right_remark known kind (creation_right function argument) = wrong function.root
 -- What an expression assigns, or `None` where something is wrong.
 abbrev pub assigned : Meant → Option RightForm
 assigned null_value = Some nothing
-assigned (access_variable path t) = Some (value_of path)
+assigned (access_value path t) = Some (value_of path)
 assigned (integer_value e) = Some (computes e)
 assigned (boolean_value e) = Some (computes e)
 assigned other = None

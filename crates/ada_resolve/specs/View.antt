@@ -34,7 +34,7 @@ use Rattle.ada_resolve.specs.declared.library.Withs.{Withs}
 use Rattle.std.specs.Global.{Vec}
 use Rattle.std.specs.String.{string_bytes}
 use denote.Ref.{Bor}
-use Rattle.ada_resolve.specs.Paths.{Meant, boolean_value, integer_value, null_value, other_access, unknown, access_variable}
+use Rattle.ada_resolve.specs.Paths.{Meant, access_value, boolean_value, integer_value, null_value, unknown}
 use Rattle.ada_resolve.specs.Resolution.{At, IsFirstNameFault, LoopHead, on_condition, over_range, Others, Told, broken, gives, made_into}
 use Rattle.ada_resolve.specs.declared.loops.Head.{Head}
 use Rattle.ada_resolve.specs.declared.loops.Head.TheVariants as head
@@ -69,8 +69,7 @@ known_of r = record {
 abbrev pub meant_of : MeantOf → Meant
 meant_of meant.Unknown = unknown
 meant_of meant.Null = null_value
-meant_of (meant.Variable path access) = access_variable (path_form path) access
-meant_of (meant.OtherAccess path) = other_access (path_form path)
+meant_of (meant.Access path access) = access_value (path_form path) access
 meant_of (meant.Integer e) = integer_value (expression_form e)
 meant_of (meant.Boolean e) = boolean_value (expression_form e)
 

@@ -3,7 +3,7 @@
 ghost use Rattle.std.specs.Prelude.{◌≡◌};
 ghost use Rattle.ada_tree.specs.Names.{ident_of};
 ghost use Rattle.ada_program.specs.Form.{expression_form};
-ghost use Rattle.ada_resolve.specs.Assignments.{component_target, read_target, read_wanted, scalar_component_wanted, variable_target, variable_wanted};
+ghost use Rattle.ada_resolve.specs.Assignments.{component_target, read_target, read_wanted, target_wanted, variable_target, variable_wanted};
 ghost use Rattle.ada_resolve.specs.Look.{Looks, assignment_look, target_look};
 ghost use Rattle.ada_resolve.specs.Method.{entity_of, IsNoted};
 ghost use Rattle.ada_resolve.specs.View.{meant_of, stmt_in, target_in};
@@ -88,24 +88,21 @@ impl<'t> Resolver<'t> {
     }
 }
 
-/// A component that is assigned to is an Integer or a Boolean.
+/// The component that is assigned to, and what it holds.
 fn component_target(
     meant: Meant,
     spot: Spot,
     notes: &mut Notes,
 ) -> Option<(program::Path, VariableKind)>
     ensures found { target_in result ≡ component_target (meant_of meant) }
-    ensures remark { IsNoted notes (scalar_component_wanted (meant_of meant) spot) }
+    ensures remark { IsNoted notes (target_wanted (meant_of meant) spot) }
 {
     match meant {
         Meant::Unknown => None,
         Meant::Integer(value) => read_target(value, VariableKind::Integer, spot, notes),
         Meant::Boolean(value) => read_target(value, VariableKind::Boolean, spot, notes),
-        Meant::OtherAccess(_) => {
-            notes.note(spot, NameRule::NotInProfile);
-            None
-        }
-        Meant::Null | Meant::Variable(_, _) => {
+        Meant::Access(path, access) => Some((path, VariableKind::Access(access))),
+        Meant::Null => {
             notes.note(spot, NameRule::WrongType);
             None
         }

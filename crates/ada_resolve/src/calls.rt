@@ -213,7 +213,7 @@ fn getting(meant: Meant, spot: Spot, notes: &mut Notes) -> Option<Stmt>
     match meant {
         Meant::Unknown => None,
         Meant::Integer(value) => getting_integer(value, spot, notes),
-        Meant::Null | Meant::Variable(_, _) | Meant::OtherAccess(_) | Meant::Boolean(_) => {
+        Meant::Null | Meant::Access(_, _) | Meant::Boolean(_) => {
             notes.note(spot, NameRule::WrongType);
             None
         }
@@ -247,13 +247,10 @@ fn freeing(access: TypeNo, meant: Meant, spot: Spot, notes: &mut Notes) -> Optio
 {
     match meant {
         Meant::Unknown => None,
-        Meant::Variable(variable, found) => {
+        Meant::Access(variable, found) => {
             notes.note_if(found.0 != access.0, spot, NameRule::WrongType);
+            notes.note_if(!variable.selectors.is_empty(), spot, NameRule::NotInProfile);
             Some(Stmt::Free { access, variable })
-        }
-        Meant::OtherAccess(_) => {
-            notes.note(spot, NameRule::NotInProfile);
-            None
         }
         Meant::Null | Meant::Integer(_) | Meant::Boolean(_) => {
             notes.note(spot, NameRule::WrongType);

@@ -6,7 +6,7 @@ ghost use Rattle.std.proofs.Math.ListN.{replicate};
 ghost use Rattle.ada_tree.specs.ExpressionView.{items_of};
 ghost use Rattle.ada_tree.specs.Names.{optional_ident_of};
 ghost use Rattle.ada_program.specs.Form.{item_form};
-ghost use Rattle.ada_resolve.specs.Items.{component_for, count_remark, filled_for, fits_remark, is_filled, item_meant, item_or_null, item_spot, names_component, no_component, null_wanted, with_item};
+ghost use Rattle.ada_resolve.specs.Items.{component_for, count_remark, filled_for, fits_remark, is_filled, item_meant, item_or_null, item_spot, names_component, no_component, with_item};
 ghost use Rattle.ada_resolve.specs.Kept.{forms_in};
 ghost use Rattle.ada_resolve.specs.Look.{Looks, items_look};
 ghost use Rattle.ada_resolve.specs.Method.{known, Finds, IsNoted, Remarks, Fills, written_item_remark, written_for_remark, each, label_of, written_value, empty_filling, item_filling};
@@ -268,27 +268,20 @@ fn fits(kind: ComponentKind, value: &Meant, spot: Spot, notes: &mut Notes)
     match kind {
         ComponentKind::Integer { .. } => value.integer_wanted(spot, notes),
         ComponentKind::Boolean { .. } => value.boolean_wanted(spot, notes),
-        ComponentKind::Access(_) => null_wanted(value, spot, notes),
+        ComponentKind::Access(access) => {
+            value.access_wanted(access, spot, notes);
+            value.no_component_wanted(spot, notes);
+        }
     }
 }
 
-/// An access component is given null; no other value of an access type is in use there.
-fn null_wanted(value: &Meant, spot: Spot, notes: &mut Notes)
-    ensures { IsNoted notes (null_wanted (meant_of value.now) spot) }
-{
-    match value {
-        Meant::Unknown | Meant::Null => {}
-        Meant::Variable(..) | Meant::OtherAccess(_) => notes.note(spot, NameRule::NotInProfile),
-        Meant::Integer(_) | Meant::Boolean(_) => notes.note(spot, NameRule::WrongType),
-    }
-}
-
-/// What an item gives its component; null where its value is neither an Integer nor a Boolean.
+/// What an item gives its component; null where its value is null, or is unknown.
 fn item_meant(value: Meant) -> program::Item
     ensures { item_form result ≡ item_meant (meant_of value) }
 {
     match value {
         Meant::Integer(expression) | Meant::Boolean(expression) => program::Item::Value(expression),
+        Meant::Access(path, _) => program::Item::Path(path),
         _ => program::Item::Null,
     }
 }

@@ -28,6 +28,7 @@ mod records;
 mod resolver;
 mod rights;
 mod scope;
+mod selectors;
 mod spots;
 mod statements;
 mod statics;

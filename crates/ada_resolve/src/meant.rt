@@ -18,10 +18,8 @@ pub(crate) enum Meant {
     Unknown,
     /// `null`
     Null,
-    /// A declared object of an access type.
-    Variable(Path, TypeNo),
-    /// Another value of an access type: that of a component.
-    OtherAccess(Path),
+    /// The value of this access type that a path names.
+    Access(Path, TypeNo),
     /// A value of type Integer.
     Integer(Expression),
     /// A value of type Boolean.
@@ -62,6 +60,28 @@ impl Meant {
         }
     }
 
+    /// A value of this very access type is wanted, or null, where the meaning is known.
+    pub(crate) fn access_wanted(&self, access: TypeNo, spot: Spot, notes: &mut Notes)
+        ensures { IsNoted notes (rules.access_wanted access (meant_of self.now) spot) }
+    {
+        match self {
+            Meant::Unknown | Meant::Null => {}
+            Meant::Access(_, found) => {
+                notes.note_if(access.0 != found.0, spot, NameRule::WrongType);
+            }
+            Meant::Integer(_) | Meant::Boolean(_) => notes.note(spot, NameRule::WrongType),
+        }
+    }
+
+    /// The access value is that of a variable: no component is in use there.
+    pub(crate) fn no_component_wanted(&self, spot: Spot, notes: &mut Notes)
+        ensures { IsNoted notes (rules.no_component_wanted (meant_of self.now) spot) }
+    {
+        if let Meant::Access(path, _) = self {
+            notes.note_if(!path.selectors.is_empty(), spot, NameRule::NotInProfile);
+        }
+    }
+
     /// What it can be compared with for equality (4.5.2).
     pub(crate) fn comparable(&self) -> Comparable
         ensures { comparable_of result ≡ rules.comparable (meant_of self.now) }
@@ -69,7 +89,7 @@ impl Meant {
         match self {
             Meant::Unknown => Comparable::AnyValue,
             Meant::Null => Comparable::Null,
-            Meant::Variable(_, _) | Meant::OtherAccess(_) => Comparable::Access,
+            Meant::Access(_, _) => Comparable::Access,
             Meant::Integer(_) => Comparable::Integer,
             Meant::Boolean(_) => Comparable::Boolean,
         }

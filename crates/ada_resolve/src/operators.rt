@@ -88,10 +88,7 @@ fn equality_meant(
 {
     let equal = matches!(operator, BinaryOperator::Equal);
     match (left, right) {
-        (Meant::Variable(path, _), Meant::Null)
-        | (Meant::OtherAccess(path), Meant::Null)
-        | (Meant::Null, Meant::Variable(path, _))
-        | (Meant::Null, Meant::OtherAccess(path)) => {
+        (Meant::Access(path, _), Meant::Null) | (Meant::Null, Meant::Access(path, _)) => {
             Ok(Meant::Boolean(Expression::NullTest { path, equal }))
         }
         (left, right) => {

@@ -1,26 +1,27 @@
 //! Paths, where a value or a name of the library is wanted (4.1, 10.1.1).
 
 ghost use Rattle.std.specs.Prelude.{◌≡◌, map, slice_get, option_copied, IfErr};
-ghost use Rattle.ada_tree.specs.Names.{ident_of, optional_ident_of, selector_of};
+ghost use Rattle.ada_tree.specs.Names.{ident_of, selector_of};
+ghost use Rattle.ada_program.specs.Form.{path_form};
 ghost use Rattle.ada_resolve.specs.Kept.{forms_in};
 ghost use Rattle.ada_resolve.specs.Known.{parts_of};
-ghost use Rattle.ada_resolve.specs.Look.{Looks, library_path_look, named_look, path_look, selection_look, variable_look, within_look};
-ghost use Rattle.ada_resolve.specs.Method.{known, Finds, IsNoted, each};
-ghost use Rattle.ada_resolve.specs.Paths.{alone_meant, component_found_meant, component_named, components_of, complete_behind, designated_of, is_incomplete_type, name_of_type, selected};
+ghost use Rattle.ada_resolve.specs.Look.{Looks, library_path_look, named_look, path_look, variable_look};
+ghost use Rattle.ada_resolve.specs.Method.{known, Finds, each};
+ghost use Rattle.ada_resolve.specs.Paths.{component_named, components_of, designated_of, is_incomplete_type, name_of_type, reached_meant};
 ghost use Rattle.ada_resolve.specs.View.{meant_of, optional_number, itself};
 
 use crate::components::{Components, KnownType};
 use crate::fault::{NameFault, NameRule};
-use crate::library::{LibraryName, is_library_root, no_component_rule};
+use crate::library::{LibraryName, is_library_root};
 use crate::meant::Meant;
 use crate::notes::Notes;
 use crate::part::{is_incomplete_in, is_this_incomplete};
 use crate::resolver::Resolver;
 use crate::scope::Entity;
-use ada_program::program::{self, ComponentKind, ComponentNo, Expression, VariableKind};
+use crate::selectors::Reached;
+use ada_program::program::{self, ComponentKind, Expression, VariableKind};
 use ada_program::{Spot, TypeNo, VariableNo};
 use ada_tree::names::{Identifier, Path, Selector};
-use std::alloc::Global;
 
 impl<'t> Resolver<'t> {
     /// What a path means, where a value is wanted, with what is wrong with it noted. It is no node of the source by itself.
@@ -75,95 +76,47 @@ impl<'t> Resolver<'t> {
     /// What a variable means, with what is selected from it.
     fn variable_value(
         &self,
-        variable: VariableNo,
+        root: VariableNo,
         spot: Spot,
         kind: VariableKind,
         selectors: &[Selector<'t>],
         notes: &mut Notes,
     ) -> Result<Meant, NameFault>
-        ensures { Looks meant_of result notes
-            (variable_look self variable spot kind selectors.now) }
+        ensures { Looks meant_of result notes (variable_look self root spot kind selectors.now) }
     {
-        match (kind, selectors) {
-            (_, []) => Ok(alone_meant(self.alloc, variable, spot, kind)),
-            (VariableKind::Access(access), _) => {
-                self.selection(variable, spot, access, selected(selectors), notes)
-            }
-            (VariableKind::Integer | VariableKind::Boolean, _) => {
-                notes.note(spot, NameRule::WrongType);
-                Ok(Meant::Unknown)
-            }
-        }
-    }
-
-    /// What is selected from the object that a variable gives access to.
-    fn selection(
-        &self,
-        variable: VariableNo,
-        spot: Spot,
-        access: TypeNo,
-        component: Option<Identifier<'t>>,
-        notes: &mut Notes,
-    ) -> Result<Meant, NameFault>
-        ensures { Looks meant_of result notes
-            (selection_look self variable spot access component.entry) }
-    {
-        match (component, self.designated_type(access)) {
-            (Some(name), Some(number)) => {
-                self.component_value(variable, spot, number, name, notes)
-            }
-            (Some(_), None) => Ok(Meant::Unknown),
-            (None, designated) => {
-                self.complete_behind(spot, designated, notes);
-                notes.note(spot, NameRule::NotInProfile);
-                Ok(Meant::Unknown)
-            }
-        }
-    }
-
-    /// A component of an object of a record type, which is complete.
-    fn component_value(
-        &self,
-        variable: VariableNo,
-        spot: Spot,
-        number: TypeNo,
-        name: Identifier<'t>,
-        notes: &mut Notes,
-    ) -> Result<Meant, NameFault>
-        ensures { Looks meant_of result notes (within_look self variable spot number name.entry) }
-    {
-        if self.is_incomplete(number) {
-            notes.note(spot, NameRule::WrongType);
-            return Ok(Meant::Unknown);
-        }
-        match self.component_of(number, name.text) {
-            Some((at, kind)) => component_found(self.alloc, variable, spot, at, kind),
-            None => {
-                notes.note(name.spot, no_component_rule(name.text));
-                Ok(Meant::Unknown)
-            }
-        }
+        let mut components = Vec::new(self.alloc);
+        let reached = self.selectors(
+            Reached::Value(kind),
+            spot,
+            selectors,
+            &mut components,
+            notes,
+        )?;
+        reached.no_object(spot, notes);
+        Ok(reached_meant(
+            reached,
+            program::Path {
+                root,
+                selectors: components,
+                spot,
+            },
+        ))
     }
 
     /// The component of a name in a type.
-    fn component_of(&self, number: TypeNo, text: &'t str) -> Option<(usize, ComponentKind)>
+    pub(crate) fn component_of(
+        &self,
+        number: TypeNo,
+        text: &'t str,
+    ) -> Option<(usize, ComponentKind)>
         ensures { result ≡ component_named 0 text.now (components_of (known self).types number.0) }
     {
         self.components_of(number)?.named(text)
     }
 
-    /// The type behind an access value is complete.
-    fn complete_behind(&self, spot: Spot, designated: Option<TypeNo>, notes: &mut Notes)
-        ensures { IsNoted notes (complete_behind (known self) spot (optional_number designated)) }
-    {
-        if let Some(number) = designated {
-            notes.note_if(self.is_incomplete(number), spot, NameRule::WrongType);
-        }
-    }
-
     /// The type that an access type designates.
     #[tactic(auto, unfolding(crate::specs::View::known_of, crate::specs::Paths::designated_of), using(crate::proofs::Names::map_get))]
-    fn designated_type(&self, access: TypeNo) -> Option<TypeNo>
+    pub(crate) fn designated_type(&self, access: TypeNo) -> Option<TypeNo>
         ensures { optional_number result ≡ designated_of (known self).types access.0 }
     {
         match self.types.get(access.0) {
@@ -195,7 +148,7 @@ impl<'t> Resolver<'t> {
 
     /// Whether a type is still incomplete.
     #[tactic(auto, unfolding(crate::specs::View::known_of, crate::specs::Paths::is_incomplete_type))]
-    fn is_incomplete(&self, number: TypeNo) -> bool
+    pub(crate) fn is_incomplete(&self, number: TypeNo) -> bool
         ensures { result ≡ is_incomplete_type (known self) number.0 }
     {
         match self.name_of_type(number) {
@@ -250,57 +203,15 @@ impl<'t> Resolver<'t> {
     }
 }
 
-/// The one component that is selected, with or without `all`.
-fn selected<'t>(selectors: &[Selector<'t>]) -> Option<Identifier<'t>>
-    ensures { optional_ident_of result ≡ selected (map selector_of selectors.now) }
-{
-    match selectors.split_first() {
-        Some((Selector::Component(name), rest)) if rest.is_empty() => Some(*name),
-        Some((Selector::All(_), rest)) => match rest.split_first() {
-            Some((Selector::Component(name), last)) if last.is_empty() => Some(*name),
-            _ => None,
-        },
-        _ => None,
-    }
-}
-
-/// What a variable means alone.
+/// What a path means, by what it reaches.
 #[tactic(auto, using(std::proofs::lemmas::Grind::common_steps, ada_program::specs::Form::expression_rules))]
-fn alone_meant(alloc: Global, root: VariableNo, spot: Spot, kind: VariableKind) -> Meant
-    ensures { meant_of result ≡ alone_meant root spot kind }
+fn reached_meant(reached: Reached, path: program::Path) -> Meant
+    ensures { meant_of result ≡ reached_meant (path_form path) reached }
 {
-    let path = program::Path {
-        root,
-        selectors: Vec::new(alloc),
-        spot,
-    };
-    match kind {
-        VariableKind::Integer => Meant::Integer(Expression::Path(path)),
-        VariableKind::Boolean => Meant::Boolean(Expression::Path(path)),
-        VariableKind::Access(access) => Meant::Variable(path, access),
-    }
-}
-
-/// A component that is found, by what it holds.
-#[tactic(auto, using(std::proofs::lemmas::Grind::common_steps, ada_program::specs::Form::expression_rules))]
-fn component_found(
-    alloc: Global,
-    root: VariableNo,
-    spot: Spot,
-    at: usize,
-    kind: ComponentKind,
-) -> Result<Meant, NameFault>
-    ensures found { Finds meant_of result (component_found_meant root spot at kind) }
-    ensures memory { IfErr result (λ e. e ≡ NameFault.NoMemory) }
-{
-    let path = program::Path {
-        root,
-        selectors: vec![in alloc; ComponentNo(at)]?,
-        spot,
-    };
-    match kind {
-        ComponentKind::Integer { .. } => Ok(Meant::Integer(Expression::Path(path))),
-        ComponentKind::Boolean { .. } => Ok(Meant::Boolean(Expression::Path(path))),
-        ComponentKind::Access(_) => Ok(Meant::OtherAccess(path)),
+    match reached {
+        Reached::Value(VariableKind::Integer) => Meant::Integer(Expression::Path(path)),
+        Reached::Value(VariableKind::Boolean) => Meant::Boolean(Expression::Path(path)),
+        Reached::Value(VariableKind::Access(access)) => Meant::Access(path, access),
+        Reached::Object(_) | Reached::Nothing => Meant::Unknown,
     }
 }

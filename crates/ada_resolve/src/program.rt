@@ -4,6 +4,7 @@ ghost use Rattle.std.specs.Prelude.{◌≡◌, map, IfOk, IfErr};
 ghost use Rattle.ada_tree.specs.Declarations.{clause_of};
 ghost use Rattle.ada_tree.specs.Names.{ident_of, optional_ident_of, name_of};
 ghost use Rattle.ada_tree.specs.StatementView.{unit_of};
+ghost use Rattle.ada_program.specs.Nested.{CollectionsNest};
 ghost use Rattle.ada_program.specs.ProgramForm.{program_form};
 ghost use Rattle.ada_program.specs.WellFormed.{IsWellFormed};
 ghost use Rattle.ada_resolve.specs.Method.{Finds, IsNoted, end_outcome, program_in, procedure_outcome};
@@ -12,7 +13,7 @@ ghost use Rattle.ada_resolve.specs.View.{same_units, Answers, Tells, Faults, don
 
 use crate::components::definitions;
 use crate::fault::{NameFault, NameRule};
-use crate::laws::programs_are_well_formed;
+use crate::laws::{collections_nest, programs_are_well_formed};
 use crate::library::{LibraryName, Withs, is_primitive, library_name};
 use crate::notes::Notes;
 use crate::resolver::Resolver;
@@ -24,7 +25,7 @@ use ada_tree::statements::Handler as WrittenHandler;
 use ada_tree::unit::{Clause, Unit};
 use std::alloc::Global;
 
-/// The program of a tree, which is well formed.
+/// The program of a tree, which is well formed, and whose collections nest.
 ///
 /// # Errors
 /// At the first declaration or statement that breaks a rule of names; there at the leftmost spot, and of two rules
@@ -33,8 +34,10 @@ pub fn resolve(alloc: Global, unit: &Unit<'_>) -> Result<Program, NameFault>
     ensures resolves { IfOk result (λ p. Resolves (unit_of unit.now) (program_form p)) }
     ensures first { IfErr result (λ e. Faults e (unit_of unit.now)) }
     ensures well_formed { IfOk result (λ p. IsWellFormed (program_form p)) }
+    ensures nests { IfOk result (λ p. CollectionsNest (program_form p)) }
 {
     programs_are_well_formed();
+    collections_nest();
     whole_program(alloc, unit)
 }
 

@@ -72,22 +72,8 @@ fn assigned_wanted(kind: Option<VariableKind>, value: &Meant, spot: Spot, notes:
     match kind {
         Some(VariableKind::Integer) => value.integer_wanted(spot, notes),
         Some(VariableKind::Boolean) => value.boolean_wanted(spot, notes),
-        Some(VariableKind::Access(access)) => access_wanted(access, value, spot, notes),
+        Some(VariableKind::Access(access)) => value.access_wanted(access, spot, notes),
         None => {}
-    }
-}
-
-/// What is assigned to an access object: null, or the value of an object of that very type.
-fn access_wanted(access: TypeNo, value: &Meant, spot: Spot, notes: &mut Notes)
-    ensures { IsNoted notes (rules.access_wanted access (meant_of value.now) spot) }
-{
-    match value {
-        Meant::Unknown | Meant::Null => {}
-        Meant::Variable(_, found) => {
-            notes.note_if(access.0 != found.0, spot, NameRule::WrongType);
-        }
-        Meant::OtherAccess(_) => notes.note(spot, NameRule::NotInProfile),
-        Meant::Integer(_) | Meant::Boolean(_) => notes.note(spot, NameRule::WrongType),
     }
 }
 
@@ -106,10 +92,10 @@ fn assigned(value: Meant) -> Option<program::Right>
 {
     match value {
         Meant::Null => Some(program::Right::Null),
-        Meant::Variable(path, _) => Some(program::Right::Path(path)),
+        Meant::Access(path, _) => Some(program::Right::Path(path)),
         Meant::Integer(expression) | Meant::Boolean(expression) => {
             Some(program::Right::Value(expression))
         }
-        Meant::Unknown | Meant::OtherAccess(_) => None,
+        Meant::Unknown => None,
     }
 }

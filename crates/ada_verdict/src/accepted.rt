@@ -15,7 +15,6 @@ use crate::laws::accepted_sources_have_no_fault;
 use ada_flow::flow;
 use ada_parser::parse;
 use ada_program::Program;
-use ada_resolve::laws::collections_nest;
 use ada_resolve::resolve;
 use ada_sound::laws::rules_imply_safety;
 use ada_tree::unit::Unit;
@@ -116,6 +115,5 @@ fn meaning(alloc: Global, source: &[u8], unit: &Unit<'_>) -> Result<Program, Ver
     ensures nests { IfOk result (λ program. CollectionsNest (program_form program)) }
     ensures refused { IfErr result (λ verdict. IsFirst source.now verdict) }
 {
-    collections_nest();
     Ok(resolve(alloc, unit)?)
 }

@@ -1,6 +1,6 @@
 -- A type that is declared or completed leaves what is known in order.
 
-use Rattle.std.proofs.Common.{◌≡◌, ◌∙◌, ℕ, ◌+◌, ◌<◌, ◌≤◌, true, false, List, [], ◌∷◌, ◌++◌, length, refl, sym, ap, zero, suc, arith}
+use Rattle.std.proofs.Common.{◌≡◌, ◌∙◌, ℕ, ◌<◌, ◌≤◌, true, false, List, [], ◌∷◌, ◌++◌, length, refl, sym, ap, zero, suc, arith}
 use Rattle.std.specs.Prelude.{Option, Some, None, bytes_eq, map}
 use Rattle.std.specs.List.{list_all, slice_get, slice_set}
 use Rattle.ada_program.specs.declared.program.TypeNo.{TypeNo}

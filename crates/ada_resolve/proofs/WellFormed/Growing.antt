@@ -1,7 +1,7 @@
 -- What fits stays so as types, variables, exceptions and texts are added behind those that are there.
 
-use Rattle.std.proofs.Common.{◌≡◌, ℕ, ◌<◌, ◌≤◌, Bool, true, false, cond, List, [], ◌∷◌, length, refl, subst, arith, eqb}
-use Rattle.std.specs.Prelude.{Option, Some, None, ◌&&◌, ◌||◌, is_some}
+use Rattle.std.proofs.Common.{◌≡◌, ℕ, ◌<◌, ◌≤◌, Bool, true, cond, List, [], ◌∷◌, length, refl, subst, arith, eqb}
+use Rattle.std.specs.Prelude.{Option, Some, None, ◌&&◌, is_some}
 use Rattle.std.specs.List.{list_all, slice_get}
 use Rattle.std.proofs.lemmas.Bool.{lt-ltb, ltb-true}
 use Rattle.ada_program.specs.declared.program.Choice.{Choice}
@@ -14,7 +14,7 @@ use Rattle.ada_program.specs.declared.program.VariableKind.{VariableKind}
 use Rattle.ada_program.specs.declared.program.VariableKind.TheVariants as variable
 use Rattle.ada_program.specs.declared.program.ScalarType.{ScalarType}
 use Rattle.ada_program.specs.declared.program.ScalarType.TheVariants.{Integer, Boolean}
-use Rattle.ada_program.specs.Form.{PathForm, ExpressionForm, integer, boolean, reads, is_null, applied_to, chained, LinksForm, no_more_links, a_link, ItemForm, null_item, item_of_value, RightForm, nothing, value_of, allocates, computes, StmtForm, skips, assigns, frees, gets, writes, writes_text, chooses, repeats, counts, exits, returns, raises, encloses, StmtsForm, no_stmts, a_stmt, BranchesForm, otherwise, a_branch, HandlersForm, no_handlers, a_handler, DeclarationForm, collects, declares}
+use Rattle.ada_program.specs.Form.{PathForm, ExpressionForm, integer, boolean, reads, is_null, applied_to, chained, LinksForm, no_more_links, a_link, ItemForm, null_item, item_of_path, item_of_value, RightForm, nothing, value_of, allocates, computes, StmtForm, skips, assigns, frees, gets, writes, writes_text, chooses, repeats, counts, exits, returns, raises, encloses, StmtsForm, no_stmts, a_stmt, BranchesForm, otherwise, a_branch, HandlersForm, no_handlers, a_handler, DeclarationForm, collects, declares}
 use Rattle.ada_program.specs.ProgramForm.{ComponentForm, TypeForm, VariableForm}
 use Rattle.ada_program.specs.WellFormed as fits
 use Rattle.ada_resolve.proofs.WellFormed.Tables.{both_parts, first_part, second_part, all_weaker}
@@ -88,20 +88,18 @@ module _ (types more : List TypeForm) (variables others : List VariableForm) (ts
 
   -- what is read, and what is compared with null
   read_stays : (path : PathForm) (t : ScalarType) → fits.read_type types variables path ≡ Some t → fits.read_type more others path ≡ Some t
-  read_stays path t e = by_length (fits.follows_at_most_one path) (fits.path_kind types variables path) refl e
+  read_stays path t e = by_kind (fits.path_kind types variables path) refl e
     where
-      by_length : (b : Bool) (o : Option VariableKind) → fits.path_kind types variables path ≡ o → cond b (fits.scalar_of o) None ≡ Some t → cond b (fits.scalar_of (fits.path_kind more others path)) None ≡ Some t
-      by_length true None is e = absurd (cc e)
-      by_length true (Some k) is e = rw (path_stays path k is) e
-      by_length false o is e = absurd (cc e)
+      by_kind : (o : Option VariableKind) → fits.path_kind types variables path ≡ o → fits.scalar_of o ≡ Some t → fits.scalar_of (fits.path_kind more others path) ≡ Some t
+      by_kind None is e = absurd (cc e)
+      by_kind (Some k) is e = rw (path_stays path k is) e
 
   null_test_stays : (path : PathForm) (t : ScalarType) → fits.null_test_type types variables path ≡ Some t → fits.null_test_type more others path ≡ Some t
-  null_test_stays path t e = by_length (fits.follows_at_most_one path) (fits.path_kind types variables path) refl e
+  null_test_stays path t e = by_kind (fits.path_kind types variables path) refl e
     where
-      by_length : (b : Bool) (o : Option VariableKind) → fits.path_kind types variables path ≡ o → cond (b && is_some (fits.access_of o)) (Some Boolean) None ≡ Some t → cond (b && is_some (fits.path_access more others path)) (Some Boolean) None ≡ Some t
-      by_length true None is e = absurd (cc e)
-      by_length true (Some k) is e = rw (path_stays path k is) e
-      by_length false o is e = absurd (cc e)
+      by_kind : (o : Option VariableKind) → fits.path_kind types variables path ≡ o → cond (is_some (fits.access_of o)) (Some Boolean) None ≡ Some t → cond (is_some (fits.path_access more others path)) (Some Boolean) None ≡ Some t
+      by_kind None is e = absurd (cc e)
+      by_kind (Some k) is e = rw (path_stays path k is) e
 
   -- the type of an expression
   mutual
@@ -128,13 +126,27 @@ module _ (types more : List TypeForm) (variables others : List VariableForm) (ts
   pub has_type_stays : (t : ScalarType) (e : ExpressionForm) → fits.has_type types variables t e ≡ true → fits.has_type more others t e ≡ true
   has_type_stays t e h = is_of_type t (fits.type_of more others e) (type_stays e t (of_type t (fits.type_of types variables e) h))
 
+  -- a value that is moved
+  moved_stays : (path : PathForm) (access : ℕ) → fits.is_this access (fits.path_access types variables path) ≡ true → fits.is_this access (fits.path_access more others path) ≡ true
+  moved_stays path access h = by_kind (fits.path_kind types variables path) refl h
+    where
+      by_kind : (o : Option VariableKind) → fits.path_kind types variables path ≡ o → fits.is_this access (fits.access_of o) ≡ true → fits.is_this access (fits.path_access more others path) ≡ true
+      by_kind None is h = absurd (cc h)
+      by_kind (Some k) is h = rw (path_stays path k is) h
+
   -- the items of aggregates
   item_stays : (k : ComponentKind) (i : ItemForm) → fits.item_fits types variables k i ≡ true → fits.item_fits more others k i ≡ true
   item_stays (component.Integer initial) null_item h = absurd (cc h)
+  item_stays (component.Integer initial) (item_of_path path) h = absurd (cc h)
   item_stays (component.Integer initial) (item_of_value e) h = has_type_stays Integer e h
   item_stays (component.Boolean initial) null_item h = absurd (cc h)
+  item_stays (component.Boolean initial) (item_of_path path) h = absurd (cc h)
   item_stays (component.Boolean initial) (item_of_value e) h = has_type_stays Boolean e h
   item_stays (component.Access t) null_item h = refl
+  item_stays (component.Access t) (item_of_path path) h =
+      both_parts (fits.names_variable path) (fits.is_this t.0 (fits.path_access more others path))
+      (first_part (fits.names_variable path) (fits.is_this t.0 (fits.path_access types variables path)) h)
+      (moved_stays path t.0 (second_part (fits.names_variable path) (fits.is_this t.0 (fits.path_access types variables path)) h))
   item_stays (component.Access t) (item_of_value e) h = absurd (cc h)
 
   items_stay : (cs : List ComponentForm) (items : List ItemForm) → fits.items_fit types variables cs items ≡ true → fits.items_fit more others cs items ≡ true
@@ -154,19 +166,9 @@ module _ (types more : List TypeForm) (variables others : List VariableForm) (ts
       by_components (Some cs) is h = rw (reached_stay access cs is) (items_stay cs items h)
 
   -- what is assigned
-  moved_stays : (path : PathForm) (access : ℕ) → fits.is_this access (fits.path_access types variables path) ≡ true → fits.is_this access (fits.path_access more others path) ≡ true
-  moved_stays path access h = by_kind (fits.path_kind types variables path) refl h
-    where
-      by_kind : (o : Option VariableKind) → fits.path_kind types variables path ≡ o → fits.is_this access (fits.access_of o) ≡ true → fits.is_this access (fits.path_access more others path) ≡ true
-      by_kind None is h = absurd (cc h)
-      by_kind (Some k) is h = rw (path_stays path k is) h
-
   access_right_stays : (access : ℕ) (s : RightForm) → fits.access_fits types variables access s ≡ true → fits.access_fits more others access s ≡ true
   access_right_stays access nothing h = refl
-  access_right_stays access (value_of path) h =
-      both_parts (fits.names_variable path) (fits.is_this access (fits.path_access more others path))
-      (first_part (fits.names_variable path) (fits.is_this access (fits.path_access types variables path)) h)
-      (moved_stays path access (second_part (fits.names_variable path) (fits.is_this access (fits.path_access types variables path)) h))
+  access_right_stays access (value_of path) h = moved_stays path access h
   access_right_stays access (allocates t items) h =
       both_parts (eqb t access) (fits.is_filled more others (fits.reached_components more access) items)
       (first_part (eqb t access) (fits.is_filled types variables (fits.reached_components types access) items) h)
@@ -243,22 +245,6 @@ module _ (types more : List TypeForm) (variables others : List VariableForm) (ts
   integer_at None found w h = absurd (cc h)
   integer_at (Some k) found w h = rw (w k refl) h
 
-  -- what is assigned to
-  scalar_at : (o found : Option VariableKind) → ((k : VariableKind) → o ≡ Some k → found ≡ Some k) → is_some (fits.scalar_of o) ≡ true → is_some (fits.scalar_of found) ≡ true
-  scalar_at None found w h = absurd (cc h)
-  scalar_at (Some k) found w h = rw (w k refl) h
-
-  target_stays : (path : PathForm) → fits.names_target types variables path ≡ true → fits.names_target more others path ≡ true
-  target_stays path h = alone_or (fits.names_variable path) h
-    where
-      alone_or : (b : Bool) → (b || (fits.follows_at_most_one path && is_some (fits.scalar_of (fits.path_kind types variables path)))) ≡ true → (b || (fits.follows_at_most_one path && is_some (fits.scalar_of (fits.path_kind more others path)))) ≡ true
-      alone_or true h = refl
-      alone_or false h =
-          both_parts (fits.follows_at_most_one path) (is_some (fits.scalar_of (fits.path_kind more others path)))
-          (first_part (fits.follows_at_most_one path) (is_some (fits.scalar_of (fits.path_kind types variables path))) h)
-          (scalar_at (fits.path_kind types variables path) (fits.path_kind more others path) (λ k e. path_stays path k e)
-          (second_part (fits.follows_at_most_one path) (is_some (fits.scalar_of (fits.path_kind types variables path))) h))
-
   condition_stays : (o : Option ExpressionForm) → fits.condition_fits types variables o ≡ true → fits.condition_fits more others o ≡ true
   condition_stays None h = refl
   condition_stays (Some e) h = has_type_stays Boolean e h
@@ -283,19 +269,12 @@ module _ (types more : List TypeForm) (variables others : List VariableForm) (ts
     mutual
       pub statement_stays : (inside : Bool) (f : StmtForm) → fits.statement_fits types variables texts exceptions inside f ≡ true → fits.statement_fits more others longer raised inside f ≡ true
       statement_stays inside skips h = refl
-      statement_stays inside (assigns target s) h =
-          both_parts (fits.names_target more others target) (fits.right_fits more others (fits.path_kind more others target) s)
-          (target_stays target (first_part (fits.names_target types variables target) (fits.right_fits types variables (fits.path_kind types variables target) s) h))
-          (assigned_stays target s (second_part (fits.names_target types variables target) (fits.right_fits types variables (fits.path_kind types variables target) s) h))
+      statement_stays inside (assigns target s) h = assigned_stays target s h
       statement_stays inside (frees access path) h =
           both_parts (fits.names_variable path) (fits.is_freed_by more access (fits.path_access more others path))
           (first_part (fits.names_variable path) (fits.is_freed_by types access (fits.path_access types variables path)) h)
           (freed_stays access path (second_part (fits.names_variable path) (fits.is_freed_by types access (fits.path_access types variables path)) h))
-      statement_stays inside (gets target) h =
-          both_parts (fits.follows_at_most_one target) (fits.is_type Integer (fits.scalar_of (fits.path_kind more others target)))
-          (first_part (fits.follows_at_most_one target) (fits.is_type Integer (fits.scalar_of (fits.path_kind types variables target))) h)
-          (integer_at (fits.path_kind types variables target) (fits.path_kind more others target) (λ k e. path_stays target k e)
-          (second_part (fits.follows_at_most_one target) (fits.is_type Integer (fits.scalar_of (fits.path_kind types variables target))) h))
+      statement_stays inside (gets target) h = integer_at (fits.path_kind types variables target) (fits.path_kind more others target) (λ k e. path_stays target k e) h
       statement_stays inside (writes e) h = has_type_stays Integer e h
       statement_stays inside (writes_text text) h =
           let there : text < length texts = ltb-true text (length texts) h in lt-ltb text (length longer) (omega arith)

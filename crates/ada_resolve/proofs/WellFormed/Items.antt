@@ -1,6 +1,6 @@
 -- Where nothing is wrong with items and their count, each component has an item that fits it.
 
-use Rattle.std.proofs.Common.{◌≡◌, ◌∙◌, ℕ, Bool, true, false, ◌&&◌, List, [], ◌∷◌, length, map, refl, subst, zero, suc, arith, cond}
+use Rattle.std.proofs.Common.{◌≡◌, ◌∙◌, ℕ, Bool, true, false, ◌&&◌, List, [], ◌∷◌, length, map, refl, sym, subst, zero, suc, arith, cond, eqb, eq-eqb, eqb-true}
 use Rattle.std.specs.Prelude.{Option, Some, None, is_some, not}
 use Rattle.std.specs.List.{slice_get, slice_set, list_all}
 use Rattle.std.proofs.Math.ListN.{replicate}
@@ -15,7 +15,7 @@ use Rattle.ada_program.specs.ProgramForm.{ComponentForm, TypeForm, VariableForm}
 use Rattle.ada_program.specs.WellFormed as fits
 use Rattle.ada_resolve.specs.declared.fault.NameRule.TheVariants.{WrongType, NotInProfile}
 use Rattle.ada_resolve.specs.Known.{Known, parts}
-use Rattle.ada_resolve.specs.Paths.{component_at, Meant, unknown, null_value, integer_value, boolean_value}
+use Rattle.ada_resolve.specs.Paths.{component_at, Meant, unknown, null_value, access_value, integer_value, boolean_value}
 use Rattle.ada_resolve.specs.Expressions.{expression_meant}
 use Rattle.ada_resolve.specs.Items.{Filling, component_for, item_spot, item_meant, fits_remark, is_filled, for_remark, is_alike, item_remark, filled_for, after_item, items_remark, after_items, first_filling, names_component, count_remark, item_or_null, filling_of}
 use Rattle.ada_resolve.specs.Remark.{Remark, wrong, wrong_if, ◌also◌}
@@ -24,7 +24,8 @@ use Rattle.ada_resolve.proofs.WellFormed.Remarks.{Quiet, quiet_if, quiet_unless}
 use Rattle.ada_resolve.proofs.WellFormed.Tables.{both_parts}
 use Rattle.ada_resolve.proofs.WellFormed.Names.{PartsFit}
 use Rattle.ada_resolve.proofs.WellFormed.Typing.{is_of_type}
-use Rattle.ada_resolve.proofs.WellFormed.Meanings.{MeantFits, IsComponentOf, named_at, expression_fits}
+use Rattle.ada_resolve.proofs.WellFormed.Meanings.{MeantFits, expression_fits}
+use Rattle.ada_resolve.proofs.WellFormed.Selected.{IsComponentOf, named_at}
 
 -- the items so far fit their components
 abbrev pub SlotsFit : List TypeForm → List VariableForm → List ComponentForm → List (Option ItemForm) → Type 0
@@ -61,7 +62,12 @@ value_fits : (types : List TypeForm) (variables : List VariableForm) (k : Compon
 value_fits types variables (kind.Integer initial) (integer_value e) spot f q = is_of_type Integer (fits.type_of types variables e) f
 value_fits types variables (kind.Boolean initial) (boolean_value e) spot f q = is_of_type Boolean (fits.type_of types variables e) f
 value_fits types variables (kind.Access t) null_value spot f q = refl
+value_fits types variables (kind.Access t) (access_value path u) spot f q =
+    let same : t.0 ≡ u.0 = eqb-true t.0 u.0 (quiet_unless (eqb t.0 u.0) spot WrongType q.0) in
+    both_parts (fits.names_variable path) (fits.is_this t.0 (fits.path_access types variables path)) (quiet_unless (fits.names_variable path) spot NotInProfile q.1)
+    (rw f (eq-eqb u.0 t.0 (sym same)))
 value_fits types variables k unknown spot f q = absurd f
+value_fits types variables (kind.Access t) m spot f q = absurd q.0
 value_fits types variables k m spot f q = absurd q
 
 -- the component that an item is for is one of these

@@ -11,7 +11,7 @@ use Rattle.ada_program.specs.declared.program.VariableKind.TheVariants as variab
 use Rattle.ada_program.specs.declared.program.ScalarType.{ScalarType}
 use Rattle.ada_program.specs.declared.program.ScalarType.TheVariants.{Integer, Boolean}
 use Rattle.ada_program.specs.declared.program.TypeNo.{TypeNo}
-use Rattle.ada_program.specs.Form.{PathForm, ExpressionForm, ItemForm, null_item, item_of_value, RightForm, nothing, value_of, allocates, computes, DeclarationForm, collects, declares}
+use Rattle.ada_program.specs.Form.{PathForm, ExpressionForm, ItemForm, null_item, item_of_path, item_of_value, RightForm, nothing, value_of, allocates, computes, DeclarationForm, collects, declares}
 use Rattle.ada_tree.specs.Names.{Ident, NameTree}
 use Rattle.ada_tree.specs.Expressions.{RightTree}
 use Rattle.ada_program.specs.ProgramForm.{ComponentForm, TypeForm, VariableForm}
@@ -38,10 +38,19 @@ kind_last variables o = rw (get_last variables o) refl
 type_before : (types : List TypeForm) (variables : List VariableForm) (t : ScalarType) (e : ExpressionForm) → fits.has_type types variables t e ≡ true → fits.expression_before (length variables) e ≡ true
 type_before types variables t e h = typed_before types variables e t (of_type t (fits.type_of types variables e) h)
 
+moved_before : (types : List TypeForm) (variables : List VariableForm) (path : PathForm) (access : ℕ) (found : Option VariableKind) → fits.path_kind types variables path ≡ found → fits.is_this access (fits.access_of found) ≡ true → nat_lt path.root (length variables) ≡ true
+moved_before types variables path access None is h = absurd (cc h)
+moved_before types variables path access (Some k) is h = path_before types variables path k is
+
 item_is_before : (types : List TypeForm) (variables : List VariableForm) (k : ComponentKind) (i : ItemForm) → fits.item_fits types variables k i ≡ true → fits.item_before (length variables) i ≡ true
 item_is_before types variables k null_item h = refl
+item_is_before types variables (component.Integer initial) (item_of_path path) h = absurd (cc h)
 item_is_before types variables (component.Integer initial) (item_of_value e) h = type_before types variables Integer e h
+item_is_before types variables (component.Boolean initial) (item_of_path path) h = absurd (cc h)
 item_is_before types variables (component.Boolean initial) (item_of_value e) h = type_before types variables Boolean e h
+item_is_before types variables (component.Access t) (item_of_path path) h =
+    moved_before types variables path t.0 (fits.path_kind types variables path) refl
+    (second_part (fits.names_variable path) (fits.is_this t.0 (fits.path_access types variables path)) h)
 item_is_before types variables (component.Access t) (item_of_value e) h = absurd (cc h)
 
 items_are_before : (types : List TypeForm) (variables : List VariableForm) (cs : List ComponentForm) (items : List ItemForm) → fits.items_fit types variables cs items ≡ true → list_all (fits.item_before (length variables)) items ≡ true
@@ -56,15 +65,10 @@ filled_before : (types : List TypeForm) (variables : List VariableForm) (cs : Op
 filled_before types variables None items h = absurd (cc h)
 filled_before types variables (Some cs) items h = items_are_before types variables cs items h
 
-moved_before : (types : List TypeForm) (variables : List VariableForm) (path : PathForm) (access : ℕ) (found : Option VariableKind) → fits.path_kind types variables path ≡ found → fits.is_this access (fits.access_of found) ≡ true → nat_lt path.root (length variables) ≡ true
-moved_before types variables path access None is h = absurd (cc h)
-moved_before types variables path access (Some k) is h = path_before types variables path k is
-
 access_before : (types : List TypeForm) (variables : List VariableForm) (access : ℕ) (s : RightForm) → fits.access_fits types variables access s ≡ true → fits.names_before (length variables) s ≡ true
 access_before types variables access nothing h = refl
 access_before types variables access (value_of path) h =
-    moved_before types variables path access (fits.path_kind types variables path) refl
-    (second_part (fits.names_variable path) (fits.is_this access (fits.path_access types variables path)) h)
+    moved_before types variables path access (fits.path_kind types variables path) refl h
 access_before types variables access (allocates t items) h =
     filled_before types variables (fits.reached_components types access) items
     (second_part (eqb t access) (fits.is_filled types variables (fits.reached_components types access) items) h)

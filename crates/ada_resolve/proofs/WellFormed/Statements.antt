@@ -5,11 +5,9 @@ use Rattle.std.specs.Prelude.{Option, Some, None, is_some}
 use Rattle.std.proofs.lemmas.Bool.{lt-ltb}
 use Rattle.ada_text.specs.declared.spot.Spot.{Spot}
 use Rattle.ada_program.specs.declared.program.VariableKind.{VariableKind}
-use Rattle.ada_program.specs.declared.program.VariableNo.{VariableNo}
 use Rattle.ada_program.specs.declared.program.ScalarType.TheVariants.{Integer, Boolean}
 use Rattle.ada_program.specs.declared.program.TypeNo.{TypeNo}
 use Rattle.ada_program.specs.Form.{PathForm, RightForm, StmtForm, reads}
-use Rattle.ada_program.specs.ProgramForm.{TypeForm, VariableForm}
 use Rattle.ada_program.specs.declared.program.Exception.{Exception}
 use Rattle.ada_tree.specs.Names.{Ident, PathTree}
 use Rattle.ada_tree.specs.Expressions.{ExpressionTree, path_expression, RightTree, ArgumentTree, expression_argument, text_argument, attribute_argument}
@@ -31,9 +29,9 @@ use Rattle.ada_resolve.specs.Expressions.{expression_meant, expression_remark}
 use Rattle.ada_resolve.specs.Known.{Known, visible, library_path_found, is_empty, parts}
 use Rattle.ada_resolve.specs.Library.{is_library_root}
 use Rattle.ada_resolve.specs.Operators.{integer_in}
-use Rattle.ada_resolve.specs.Paths.{Meant, access_variable, integer_value, path_meant}
+use Rattle.ada_resolve.specs.Paths.{Meant, access_value, integer_value, path_meant}
 use Rattle.ada_resolve.specs.Rights.{right_found, right_remark}
-use Rattle.ada_resolve.specs.Remark.{Remark, wrong, node, ◌also◌}
+use Rattle.ada_resolve.specs.Remark.{Remark, ◌also◌}
 use Rattle.ada_resolve.specs.Spots.{expression_spot}
 use Rattle.ada_resolve.specs.Statements.{bound_remark, bound_meant, condition_remark, condition_meant, optional_condition_remark, optional_condition_meant, exit_remark, exit_found, statement_remark, statement_found, text_in, simple_texts, form_or_null, statement_meant}
 use Rattle.ada_resolve.proofs.WellFormed.Remarks.{Quiet, quiet_unless}
@@ -42,7 +40,7 @@ use Rattle.ada_resolve.proofs.WellFormed.Exceptions.{PartsRaised, FoundIs, found
 use Rattle.ada_resolve.proofs.WellFormed.Tables.{both_parts}
 use Rattle.ada_resolve.proofs.WellFormed.Typing.{is_of_type}
 use Rattle.ada_resolve.proofs.WellFormed.Meanings.{MeantFits, path_fits, expression_fits, integer_is, boolean_is}
-use Rattle.ada_resolve.proofs.WellFormed.Values.{IsTargetIn, found_target, read_is, IsSourceFor, right_fits}
+use Rattle.ada_resolve.proofs.WellFormed.Values.{IsTargetIn, found_target, IsSourceFor, right_fits}
 
 -- what a statement does, where that is known, has the types that it wants, and creates nothing
 abbrev pub FormFits : Known → List (List ℕ) → (inside : Bool) → Option StmtForm → Type 0
@@ -52,8 +50,7 @@ FormFits k texts inside (Some f) = (fits.statement_fits k.types k.variables text
 -- `X := ..;`
 value_fits : (k : Known) (texts : List (List ℕ)) (inside : Bool) (found : PathForm × VariableKind) (s : Option RightForm) → IsTargetIn k.types k.variables (Some found) → IsSourceFor k.types k.variables found.1 s → FormFits k texts inside (assignment_of (Some found) s)
 value_fits k texts inside found None h f = tt
-value_fits k texts inside found (Some s) h f =
-    (both_parts (fits.names_target k.types k.variables found.0) (fits.right_fits k.types k.variables (fits.path_kind k.types k.variables found.0) s) h.0 (rw h.1 f), refl)
+value_fits k texts inside found (Some s) h f = (rw h f, refl)
 
 assigned_fits : (k : Known) (texts : List (List ℕ)) (inside : Bool) (o : Option (PathForm × VariableKind)) (value : RightTree) → PartsFit k.types k.variables (parts k) → IsTargetIn k.types k.variables o → Quiet (right_remark k (kind_of_target o) value) → FormFits k texts inside (assignment_of o (right_found k (kind_of_target o) value))
 assigned_fits k texts inside None value w h q = tt
@@ -69,16 +66,17 @@ freed_of None e = absurd (cc e)
 freed_of (Some t) e = eq-eqb t t refl
 
 freeing_fits : (k : Known) (texts : List (List ℕ)) (inside : Bool) (access : TypeNo) (m : Meant) (spot : Spot) → fits.is_access k.types access.0 ≡ true → MeantFits k.types k.variables m → Quiet (freed_wanted access m spot) → FormFits k texts inside (freeing access m)
-freeing_fits k texts inside access (access_variable path t) spot a h q =
-    let same : t.0 ≡ access.0 = eqb-true t.0 access.0 (quiet_unless (eqb t.0 access.0) spot WrongType q) in
-    (both_parts (fits.names_variable path) (fits.is_freed_by k.types access.0 (fits.path_access k.types k.variables path)) h.0 (rw (h.1, same) (freed_of (fits.designated_type k.types access.0) a)), refl)
+freeing_fits k texts inside access (access_value path t) spot a h q =
+    let same : t.0 ≡ access.0 = eqb-true t.0 access.0 (quiet_unless (eqb t.0 access.0) spot WrongType q.0) in (
+      both_parts (fits.names_variable path) (fits.is_freed_by k.types access.0 (fits.path_access k.types k.variables path)) (quiet_unless (fits.names_variable path) spot NotInProfile q.1)
+          (rw (h, same) (freed_of (fits.designated_type k.types access.0) a)),
+      refl,
+    )
 freeing_fits k texts inside access m spot a h q = tt
 
 -- `Run_Input.Get (X);`
 getting_fits : (k : Known) (texts : List (List ℕ)) (inside : Bool) (m : Meant) → MeantFits k.types k.variables m → FormFits k texts inside (getting m)
-getting_fits k texts inside (integer_value (reads path)) h =
-    let read = read_is (fits.follows_at_most_one path) (fits.scalar_of (fits.path_kind k.types k.variables path)) Integer h in
-    (both_parts (fits.follows_at_most_one path) (fits.is_type Integer (fits.scalar_of (fits.path_kind k.types k.variables path))) read.0 (rw read.1 refl), refl)
+getting_fits k texts inside (integer_value (reads path)) h = (is_of_type Integer (fits.scalar_of (fits.path_kind k.types k.variables path)) h, refl)
 getting_fits k texts inside m h = tt
 
 -- what is taken is a variable

@@ -1,7 +1,7 @@
 -- The types of expressions, and the variables that they name.
 
-use Rattle.std.proofs.Common.{◌≡◌, ◌∙◌, ℕ, ◌<◌, Bool, true, false, cond, List, [], ◌∷◌, length, refl, sym, zero, suc, arith}
-use Rattle.std.specs.Prelude.{Option, Some, None, ◌&&◌, is_some, nat_lt}
+use Rattle.std.proofs.Common.{◌≡◌, ◌∙◌, ℕ, ◌<◌, true, cond, List, [], ◌∷◌, length, refl, sym, zero, suc, arith}
+use Rattle.std.specs.Prelude.{Option, Some, None, is_some, nat_lt}
 use Rattle.std.proofs.lemmas.Bool.{lt-ltb}
 use Rattle.ada_values.specs.declared.operator.UnaryOperator.{UnaryOperator}
 use Rattle.ada_values.specs.declared.operator.UnaryOperator.TheVariants as unary
@@ -110,21 +110,19 @@ path_before types variables path k h = root_before (fits.variable_kind variables
 
 -- what is read
 read_before : (types : List TypeForm) (variables : List VariableForm) (path : PathForm) (t : ScalarType) → fits.read_type types variables path ≡ Some t → nat_lt path.root (length variables) ≡ true
-read_before types variables path t h = by_length (fits.follows_at_most_one path) (fits.path_kind types variables path) refl h
+read_before types variables path t h = by_kind (fits.path_kind types variables path) refl h
   where
-    by_length : (b : Bool) (found : Option VariableKind) → fits.path_kind types variables path ≡ found → cond b (fits.scalar_of found) None ≡ Some t → nat_lt path.root (length variables) ≡ true
-    by_length true None is e = absurd (cc e)
-    by_length true (Some k) is e = path_before types variables path k is
-    by_length false found is e = absurd (cc e)
+    by_kind : (found : Option VariableKind) → fits.path_kind types variables path ≡ found → fits.scalar_of found ≡ Some t → nat_lt path.root (length variables) ≡ true
+    by_kind None is e = absurd (cc e)
+    by_kind (Some k) is e = path_before types variables path k is
 
 -- what is compared with null
 null_test_before : (types : List TypeForm) (variables : List VariableForm) (path : PathForm) (t : ScalarType) → fits.null_test_type types variables path ≡ Some t → nat_lt path.root (length variables) ≡ true
-null_test_before types variables path t h = by_length (fits.follows_at_most_one path) (fits.path_kind types variables path) refl h
+null_test_before types variables path t h = by_kind (fits.path_kind types variables path) refl h
   where
-    by_length : (b : Bool) (found : Option VariableKind) → fits.path_kind types variables path ≡ found → cond (b && is_some (fits.access_of found)) (Some Boolean) None ≡ Some t → nat_lt path.root (length variables) ≡ true
-    by_length true None is e = absurd (cc e)
-    by_length true (Some k) is e = path_before types variables path k is
-    by_length false found is e = absurd (cc e)
+    by_kind : (found : Option VariableKind) → fits.path_kind types variables path ≡ found → cond (is_some (fits.access_of found)) (Some Boolean) None ≡ Some t → nat_lt path.root (length variables) ≡ true
+    by_kind None is e = absurd (cc e)
+    by_kind (Some k) is e = path_before types variables path k is
 
 -- an expression with a type names declared objects
 mutual

@@ -1,12 +1,11 @@
 -- What is assigned where nothing is wrong is of the type of its object.
 
-use Rattle.std.proofs.Common.{◌≡◌, ℕ, Bool, true, false, ◌&&◌, ◌||◌, List, map, refl, sym, cond, ap, eqb, eq-eqb, eqb-true}
-use Rattle.std.specs.Prelude.{Option, Some, None, is_some}
+use Rattle.std.proofs.Common.{◌≡◌, ℕ, Bool, true, false, List, map, refl, sym, cond, ap, eqb, eq-eqb, eqb-true}
+use Rattle.std.specs.Prelude.{Option, Some, None}
 use Rattle.std.specs.List.{slice_get}
 use Rattle.ada_text.specs.declared.spot.Spot.{Spot}
 use Rattle.ada_program.specs.declared.program.VariableKind.{VariableKind}
 use Rattle.ada_program.specs.declared.program.VariableKind.TheVariants as variable
-use Rattle.ada_program.specs.declared.program.ScalarType.{ScalarType}
 use Rattle.ada_program.specs.declared.program.ScalarType.TheVariants.{Integer, Boolean}
 use Rattle.ada_program.specs.declared.program.TypeNo.{TypeNo}
 use Rattle.ada_program.specs.Form.{PathForm, RightForm, reads}
@@ -19,11 +18,11 @@ use Rattle.ada_resolve.specs.declared.scope.Entity.{Entity}
 use Rattle.ada_resolve.specs.declared.scope.Entity.TheVariants as entity
 use Rattle.ada_resolve.specs.Known.{Known, visible, is_empty, parts}
 use Rattle.ada_resolve.specs.Types.{is_access_to, designates}
-use Rattle.ada_resolve.specs.Paths.{Meant, unknown, null_value, access_variable, integer_value, boolean_value, path_meant, path_remark, components_of}
+use Rattle.ada_resolve.specs.Paths.{Meant, unknown, null_value, access_value, integer_value, boolean_value, path_meant, path_remark, components_of}
 use Rattle.ada_resolve.specs.Items.{items_remark, first_filling, names_component, count_remark, item_or_null, filling_of}
 use Rattle.ada_resolve.specs.Allocators.{allocated_wanted, allocated_remark, complete_in, allocated_found, filled_components, aggregate_remark, allocation, aggregate_found, is_in_use, allocator_remark, allocator_found}
 use Rattle.ada_resolve.specs.Expressions.{expression_meant}
-use Rattle.ada_resolve.specs.Assignments.{component_target, scalar_component_wanted, target_found, target_remark, variable_target, variable_wanted}
+use Rattle.ada_resolve.specs.Assignments.{component_target, target_wanted, target_found, target_remark, variable_target, variable_wanted}
 use Rattle.ada_resolve.specs.Rights.{assigned_wanted, assigned, right_remark, right_found}
 use Rattle.ada_resolve.specs.Remark.{wrong, ◌also◌}
 use Rattle.ada_resolve.specs.Spots.{expression_spot}
@@ -34,13 +33,13 @@ use Rattle.ada_resolve.proofs.WellFormed.Typing.{is_of_type}
 use Rattle.ada_resolve.proofs.WellFormed.Meanings.{MeantFits, path_fits, expression_fits}
 use Rattle.ada_resolve.proofs.WellFormed.Items.{items_fit}
 
--- what is assigned to is a target, and is there, with what it holds
+-- what is assigned to is there, with what it holds
 abbrev pub IsTargetIn : List TypeForm → List VariableForm → Option (PathForm × VariableKind) → Type 0
 IsTargetIn types variables None = Unit {0}
-IsTargetIn types variables (Some found) = (fits.names_target types variables found.0 ≡ true) × (fits.path_kind types variables found.0 ≡ Some found.1)
+IsTargetIn types variables (Some found) = fits.path_kind types variables found.0 ≡ Some found.1
 
 variable_one : (types : List TypeForm) (variables : List VariableForm) (text : List ℕ) (spot : Spot) (e : Entity) → EntityFits types variables text e → IsTargetIn types variables (variable_target spot (Some e))
-variable_one types variables text spot (entity.Variable x kind) f = (refl, kind_there variables x.0 text kind f.0)
+variable_one types variables text spot (entity.Variable x kind) f = kind_there variables x.0 text kind f.0
 variable_one types variables text spot e f = tt
 
 variable_named : (types : List TypeForm) (variables : List VariableForm) (text : List ℕ) (spot : Spot) (o : Option Entity) → ((e : Entity) → o ≡ Some e → EntityFits types variables text e) → IsTargetIn types variables (variable_target spot o)
@@ -59,35 +58,17 @@ boolean_kind (Some variable.Integer) e = absurd (cc e)
 boolean_kind (Some variable.Boolean) e = refl
 boolean_kind (Some (variable.Access access)) e = absurd (cc e)
 
--- a path that is read is there, and has its type
-pub read_is : (b : Bool) (o : Option ScalarType) (t : ScalarType) → cond b o None ≡ Some t → (b ≡ true) × (o ≡ Some t)
-read_is true o t e = (refl, e)
-read_is false o t e = absurd (cc e)
-
-or_part : (a b : Bool) → b ≡ true → (a || b) ≡ true
-or_part true b e = refl
-or_part false b e = e
-
-scalar_target : (types : List TypeForm) (variables : List VariableForm) (path : PathForm) (t : ScalarType) (kind : VariableKind) → fits.type_of types variables (reads path) ≡ Some t → (fits.scalar_of (fits.path_kind types variables path) ≡ Some t → fits.path_kind types variables path ≡ Some kind) → IsTargetIn types variables (Some (path, kind))
-scalar_target types variables path t kind f is =
-    let read = read_is (fits.follows_at_most_one path) (fits.scalar_of (fits.path_kind types variables path)) t f in (
-      or_part (fits.names_variable path) (fits.follows_at_most_one path && is_some (fits.scalar_of (fits.path_kind types variables path)))
-          (both_parts (fits.follows_at_most_one path) (is_some (fits.scalar_of (fits.path_kind types variables path))) read.0 (rw read.1 refl)),
-      is read.1,
-    )
-
 component_fits : (types : List TypeForm) (variables : List VariableForm) (m : Meant) → MeantFits types variables m → IsTargetIn types variables (component_target m)
-component_fits types variables (integer_value (reads path)) f =
-    scalar_target types variables path Integer variable.Integer f (λ e. integer_kind (fits.path_kind types variables path) e)
-component_fits types variables (boolean_value (reads path)) f =
-    scalar_target types variables path Boolean variable.Boolean f (λ e. boolean_kind (fits.path_kind types variables path) e)
+component_fits types variables (integer_value (reads path)) f = integer_kind (fits.path_kind types variables path) f
+component_fits types variables (boolean_value (reads path)) f = boolean_kind (fits.path_kind types variables path) f
+component_fits types variables (access_value path t) f = f
 component_fits types variables m f = tt
 
 pub found_target : (k : Known) (target : PathTree) → PartsFit k.types k.variables (parts k) → Quiet (target_remark k target) → IsTargetIn k.types k.variables (target_found k target)
 unfolding target_remark target_found
 found_target k target w q = target_by (is_empty target.selectors) q
   where
-    target_by : (b : Bool) → Quiet (cond b (variable_wanted (visible k target.root.text) target.root) (path_remark k target also scalar_component_wanted (path_meant k target) target.root.spot)) → IsTargetIn k.types k.variables (cond b (variable_target target.root.spot (visible k target.root.text)) (component_target (path_meant k target)))
+    target_by : (b : Bool) → Quiet (cond b (variable_wanted (visible k target.root.text) target.root) (path_remark k target also target_wanted (path_meant k target) target.root.spot)) → IsTargetIn k.types k.variables (cond b (variable_target target.root.spot (visible k target.root.text)) (component_target (path_meant k target)))
     target_by true q = variable_named k.types k.variables target.root.text target.root.spot (visible k target.root.text) (visible_fits k w target.root.text)
     target_by false q = component_fits k.types k.variables (path_meant k target) (path_fits k target w q.0)
 
@@ -101,9 +82,9 @@ assigned_fits : (types : List TypeForm) (variables : List VariableForm) (kind : 
 assigned_fits types variables variable.Integer (integer_value e) spot f q = is_of_type Integer (fits.type_of types variables e) f
 assigned_fits types variables variable.Boolean (boolean_value e) spot f q = is_of_type Boolean (fits.type_of types variables e) f
 assigned_fits types variables (variable.Access access) null_value spot f q = refl
-assigned_fits types variables (variable.Access access) (access_variable path t) spot f q =
+assigned_fits types variables (variable.Access access) (access_value path t) spot f q =
     let same : access.0 ≡ t.0 = eqb-true access.0 t.0 (quiet_unless (eqb access.0 t.0) spot WrongType q) in
-    both_parts (fits.names_variable path) (fits.is_this access.0 (fits.path_access types variables path)) f.0 (rw f.1 (eq-eqb t.0 access.0 (sym same)))
+    rw f (eq-eqb t.0 access.0 (sym same))
 assigned_fits types variables kind unknown spot f q = absurd f
 assigned_fits types variables kind m spot f q = absurd q
 

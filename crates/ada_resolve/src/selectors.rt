@@ -1,0 +1,183 @@
+//! What a path selects behind its variable, one selector behind the other (4.1, 4.1.3).
+
+ghost use Rattle.std.specs.Prelude.{◌≡◌, map, OnOk};
+ghost use Rattle.ada_tree.specs.Names.{ident_of, selector_of};
+ghost use Rattle.ada_program.specs.WellFormed as fits;
+ghost use Rattle.ada_resolve.specs.Look.{Looks, selector_look, selectors_look};
+ghost use Rattle.ada_resolve.specs.Method.{known, IsNoted, Selects};
+ghost use Rattle.ada_resolve.specs.Paths.{all_remark, complete_behind, component_behind, component_behind_remark, component_in, component_selected, component_within_remark, components_selected, no_object, object_behind, object_in};
+ghost use Rattle.ada_resolve.specs.View.{itself, optional_number};
+
+use crate::fault::{NameFault, NameRule};
+use crate::library::no_component_rule;
+use crate::notes::Notes;
+use crate::resolver::Resolver;
+use ada_program::program::{ComponentKind, ComponentNo, VariableKind};
+use ada_program::{Spot, TypeNo};
+use ada_tree::names::{Identifier, Selector};
+
+/// What a path has reached (4.1).
+#[derive(Clone, Copy)]
+pub(crate) enum Reached {
+    /// Something is wrong before.
+    Nothing,
+    /// The value of a variable or of a component.
+    Value(VariableKind),
+    /// A whole object of this record type, to which an access value gives access.
+    Object(TypeNo),
+}
+
+impl<'t> Resolver<'t> {
+    /// What selectors reach behind what is reached, and the components that they name.
+    pub(crate) fn selectors(
+        &self,
+        reached: Reached,
+        spot: Spot,
+        selectors: &[Selector<'t>],
+        components: &mut Vec<ComponentNo>,
+        notes: &mut Notes,
+    ) -> Result<Reached, NameFault>
+        ensures reached { Looks itself result notes
+            (selectors_look self spot reached selectors.now) }
+        ensures components { OnOk result (Selects components
+            (components_selected (known self) reached (map selector_of selectors.now))) }
+    {
+        let mut at = reached;
+        for selector in selectors {
+            at = self.selector(at, spot, selector, components, notes)?;
+        }
+        Ok(at)
+    }
+
+    /// What one selector reaches.
+    fn selector(
+        &self,
+        reached: Reached,
+        spot: Spot,
+        selector: &Selector<'t>,
+        components: &mut Vec<ComponentNo>,
+        notes: &mut Notes,
+    ) -> Result<Reached, NameFault>
+        ensures reached { Looks itself result notes (selector_look self spot reached selector.now) }
+        ensures components { OnOk result (Selects components
+            (component_selected (known self) reached (selector_of selector.now))) }
+    {
+        match selector {
+            Selector::Component(name) => match self.component_behind(reached, spot, *name, notes) {
+                Some((at, kind)) => {
+                    components.push(ComponentNo(at))?;
+                    Ok(Reached::Value(held_kind(kind)))
+                }
+                None => Ok(Reached::Nothing),
+            },
+            Selector::All(_) => Ok(self.object_behind(reached, spot, notes)),
+        }
+    }
+
+    /// The component of a name behind what is reached.
+    fn component_behind(
+        &self,
+        reached: Reached,
+        spot: Spot,
+        name: Identifier<'t>,
+        notes: &mut Notes,
+    ) -> Option<(usize, ComponentKind)>
+        ensures found { result ≡ component_behind (known self) reached (ident_of name.entry) }
+        ensures remark { IsNoted notes
+            (component_behind_remark (known self) spot reached (ident_of name.entry)) }
+    {
+        match reached {
+            Reached::Nothing => None,
+            Reached::Value(VariableKind::Access(access)) => {
+                self.component_in(self.designated_type(access), spot, name, notes)
+            }
+            Reached::Object(number) => self.component_in(Some(number), spot, name, notes),
+            Reached::Value(VariableKind::Integer | VariableKind::Boolean) => {
+                notes.note(spot, NameRule::WrongType);
+                None
+            }
+        }
+    }
+
+    /// The component of a name in a record type, which is complete.
+    fn component_in(
+        &self,
+        number: Option<TypeNo>,
+        spot: Spot,
+        name: Identifier<'t>,
+        notes: &mut Notes,
+    ) -> Option<(usize, ComponentKind)>
+        ensures found { result
+            ≡ component_in (known self) (optional_number number) (ident_of name.entry) }
+        ensures remark { IsNoted notes
+            (component_within_remark (known self) spot (optional_number number)
+            (ident_of name.entry)) }
+    {
+        match number {
+            Some(number) if !self.is_incomplete(number) => {
+                let found = self.component_of(number, name.text);
+                if found.is_none() {
+                    notes.note(name.spot, no_component_rule(name.text));
+                }
+                found
+            }
+            Some(_) | None => {
+                notes.note(spot, NameRule::WrongType);
+                None
+            }
+        }
+    }
+
+    /// The object that `all` names behind what is reached.
+    fn object_behind(&self, reached: Reached, spot: Spot, notes: &mut Notes) -> Reached
+        ensures object { result ≡ object_behind (known self) reached }
+        ensures remark { IsNoted notes (all_remark (known self) spot reached) }
+    {
+        match reached {
+            Reached::Nothing => Reached::Nothing,
+            Reached::Value(VariableKind::Access(access)) => {
+                self.object_in(self.designated_type(access), spot, notes)
+            }
+            Reached::Value(VariableKind::Integer | VariableKind::Boolean) | Reached::Object(_) => {
+                notes.note(spot, NameRule::WrongType);
+                Reached::Nothing
+            }
+        }
+    }
+
+    /// The object of a record type, which is complete.
+    fn object_in(&self, number: Option<TypeNo>, spot: Spot, notes: &mut Notes) -> Reached
+        ensures object { result ≡ object_in (known self) (optional_number number) }
+        ensures remark { IsNoted notes (complete_behind (known self) spot (optional_number number)) }
+    {
+        match number {
+            Some(number) if !self.is_incomplete(number) => Reached::Object(number),
+            Some(_) | None => {
+                notes.note(spot, NameRule::WrongType);
+                Reached::Nothing
+            }
+        }
+    }
+}
+
+impl Reached {
+    /// No whole object is in use where a value is wanted.
+    pub(crate) fn no_object(self, spot: Spot, notes: &mut Notes)
+        ensures { IsNoted notes (no_object self spot) }
+    {
+        if let Reached::Object(_) = self {
+            notes.note(spot, NameRule::NotInProfile);
+        }
+    }
+}
+
+/// What a component holds, whatever it holds at first (3.8).
+fn held_kind(kind: ComponentKind) -> VariableKind
+    ensures { result ≡ fits.held_kind kind }
+{
+    match kind {
+        ComponentKind::Integer { initial: _ } => VariableKind::Integer,
+        ComponentKind::Boolean { initial: _ } => VariableKind::Boolean,
+        ComponentKind::Access(access) => VariableKind::Access(access),
+    }
+}
