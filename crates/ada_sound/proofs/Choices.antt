@@ -1,20 +1,25 @@
 -- A run by its choices: where they lead is computed.
 
 use Rattle.std.proofs.Common.{◌≡◌, ℕ, ℤ, Bool, true, false, List, [], ◌∷◌, refl}
-use Rattle.std.specs.Prelude.{Option, Some, None, nat_lt}
-use Rattle.std.specs.List.{filter}
-use Rattle.std.proofs.lemmas.Bool.{ltb-true}
+use Rattle.std.specs.Prelude.{◌&&◌, length, Option, Some, None, nat_lt}
+use Rattle.std.specs.List.{list_all, filter}
+use Rattle.std.proofs.lemmas.Bool.{and_parts, ltb-true}
+use Rattle.ada_text.specs.declared.spot.Spot.{Spot}
 use Rattle.ada_program.specs.declared.program.Program.{Program}
 use Rattle.ada_program.specs.Form.{StmtsForm, HandlersForm, declaration_forms, stmt_forms, handler_forms}
+use Rattle.ada_program.specs.ProgramForm.{ProgramForm, program_form}
+use Rattle.ada_program.specs.WellFormed.{type_fits, variable_fits, creations, creates_from, collections_first, collection_fits, has_collections, initial_fits, stmts_fit, handlers_fit, IsWellFormed}
+use Rattle.ada_program.specs.Nested.{collected, part_nests, statements_nest, handlers_nest, CollectionsNest}
 use Rattle.ada_effects.specs.Effects.{passes}
-use Rattle.ada_flow.specs.Flow.{Holds, Outcome, goes, then_flow, stmts_flow, handlers_flow, handled, declarations_flow, outermost, variables_of, first_holds, program_flow}
+use Rattle.ada_flow.specs.declared.rule.Rule.{Rule}
+use Rattle.ada_flow.specs.Flow.{Holds, Outcome, goes, faults, then_flow, stmts_flow, handlers_flow, handled, declarations_flow, outermost, variables_of, first_holds, program_flow}
 use Rattle.ada_meaning.specs.declared.event.Halt.{Halt}
 use Rattle.ada_meaning.specs.Frame as frame
 use Rattle.ada_meaning.specs.Event.{Quiet}
 use Rattle.ada_meaning.specs.Step.{moves, tells, asks, picks}
 use Rattle.ada_meaning.specs.Named.{State, Next, next}
 use Rattle.ada_meaning.specs.Run.{Event, Choice, settled, grants, takes, Leads, Run, here, there, Halts, first_state}
-use Rattle.ada_sound.specs.Always.{InSomeRun, is_seen, IsFineAtEnds, HaltsAfter, HaltsSomewhere}
+use Rattle.ada_sound.specs.Always.{IsChecked, Breaks, IsIllFormed, IsIllNested, InSomeRun, is_seen, IsFineAtEnds, HaltsAfter, HaltsSomewhere}
 
 -- Events, and the state that they lead to.
 abbrev pub Came : Type 0
@@ -103,17 +108,90 @@ flow_with program fs hs =
     then_flow (declarations_flow (variables_of program) (declaration_forms program) (first_holds program))
     (λ at. handled (passes fs hs) (handlers_flow (variables_of program) outermost hs) (stmts_flow (variables_of program) outermost fs at))
 
+-- The program as plain data, with these statements and these handlers.
+abbrev pub form_with : Program → StmtsForm → HandlersForm → ProgramForm
+form_with program fs hs = record (program_form program) { statements = fs; handlers = hs }
+
+-- Whether a program is well formed, and whether its collections nest.
+abbrev pub is_fine : ProgramForm → Bool
+is_fine p =
+    list_all (type_fits p.types) p.types && (list_all (variable_fits p.types) p.variables && (creates_from (length p.variables) 0 (creations p) &&
+    (collections_first p.declarations && (list_all (collection_fits p.types) p.declarations && (has_collections (creations p) 0 p.types &&
+    (list_all (initial_fits p.types p.variables) p.declarations && (stmts_fit p.types p.variables p.texts p.exceptions false p.statements &&
+    handlers_fit p.types p.variables p.texts p.exceptions false p.handlers)))))))
+
+abbrev pub is_nested : ProgramForm → Bool
+is_nested p =
+    part_nests p.types [] p.declarations && (statements_nest p.types (collected p.declarations) p.statements &&
+    handlers_nest p.types (collected p.declarations) p.handlers)
+
+fine_is : (p : ProgramForm) → is_fine p ≡ true → IsWellFormed p
+fine_is p e =
+    let a = and_parts _ _ e in
+    let b = and_parts _ _ a.1 in
+    let c = and_parts _ _ b.1 in
+    let d = and_parts _ _ c.1 in
+    let f = and_parts _ _ d.1 in
+    let g = and_parts _ _ f.1 in
+    let h = and_parts _ _ g.1 in
+    let i = and_parts _ _ h.1 in
+    record {
+      types_fit = a.0;
+      variables_fit = b.0;
+      creates_in_order = c.0;
+      collections_first = d.0;
+      collections_fit = f.0;
+      has_one_each = g.0;
+      initials_fit = h.0;
+      statements_fit = i.0;
+      handlers_fit = i.1;
+    }
+
+nested_is : (p : ProgramForm) → is_nested p ≡ true → CollectionsNest p
+nested_is p e =
+    let a = and_parts _ _ e in
+    let b = and_parts _ _ a.1 in
+    record { declarations = a.0; statements = b.0; handlers = b.1 }
+
 module _ (program : Program) (fs : StmtsForm) (hs : HandlersForm) (is : stmt_forms program ≡ fs) (has : handler_forms program ≡ hs) where
   -- What flow says of it.
   pub flow_by : (o : Outcome) → flow_with program fs hs ≡ o → program_flow program ≡ o
   flow_by o e = rw is (rw has e)
 
+  -- It is well formed, and its collections nest.
+  fine_by : is_fine (form_with program fs hs) ≡ true → IsWellFormed (program_form program)
+  fine_by e = rw is (rw has (fine_is (form_with program fs hs) e))
+
+  nested_by : is_nested (form_with program fs hs) ≡ true → CollectionsNest (program_form program)
+  nested_by e = rw is (rw has (nested_is (form_with program fs hs) e))
+
+  -- It is accepted, or refused for one thing alone.
+  pub accepted_by : (normal raising : Option Holds) → is_fine (form_with program fs hs) ≡ true → is_nested (form_with program fs hs) ≡ true → flow_with program fs hs ≡ goes normal raising → IsChecked program
+  accepted_by normal raising fine nested e = record { well_formed = fine_by fine; nests = nested_by nested; obeys = (normal, raising, flow_by (goes normal raising) e) }
+
+  pub breaks_by : (rule : Rule) (spot : Spot) → is_fine (form_with program fs hs) ≡ true → is_nested (form_with program fs hs) ≡ true → flow_with program fs hs ≡ faults spot rule → Breaks rule program
+  breaks_by rule spot fine nested e = record { well_formed = fine_by fine; nests = nested_by nested; spot = spot; faults_there = flow_by (faults spot rule) e }
+
+  pub ill_formed_by : (normal raising : Option Holds) → stmts_fit (program_form program).types (program_form program).variables (program_form program).texts (program_form program).exceptions false fs ≡ false → is_nested (form_with program fs hs) ≡ true → flow_with program fs hs ≡ goes normal raising → IsIllFormed program
+  ill_formed_by normal raising unfit nested e = record {
+    ill_formed = λ w. let fits : stmts_fit (program_form program).types (program_form program).variables (program_form program).texts (program_form program).exceptions false fs ≡ true = rw is at (w.statements_fit) in cc (unfit, fits);
+    nests = nested_by nested;
+    obeys = (normal, raising, flow_by (goes normal raising) e);
+  }
+
+  pub ill_nested_by : (normal raising : Option Holds) → is_fine (form_with program fs hs) ≡ true → part_nests (program_form program).types [] (declaration_forms program) ≡ false → flow_with program fs hs ≡ goes normal raising → IsIllNested program
+  ill_nested_by normal raising fine unnested e = record {
+    well_formed = fine_by fine;
+    ill_nested = λ w. cc (unnested, w.declarations);
+    obeys = (normal, raising, flow_by (goes normal raising) e);
+  }
+
   -- The same of its parts.
-  pub fine_by : (holds : Holds) (before within normal raising : Option Holds)
+  pub fine_at_ends_by : (holds : Holds) (before within normal raising : Option Holds)
       → declarations_flow (variables_of program) (declaration_forms program) (first_holds program) ≡ goes (Some holds) before
       → stmts_flow (variables_of program) outermost fs holds ≡ goes (Some holds) within
       → handlers_flow (variables_of program) outermost hs holds ≡ goes normal raising → IsFineAtEnds holds program
-  fine_by holds before within normal raising d e g = (before, within, normal, raising, d, rw is e, rw has g)
+  fine_at_ends_by holds before within normal raising d e g = (before, within, normal, raising, d, rw is e, rw has g)
 
   -- A run by these choices.
   pub run_by : (input : List ℤ) (cs : List Choice) (P : List Event → State → Type 0) → has_come (came program input fs hs cs) ≡ true → P (events_of (came program input fs hs cs)) (last program input fs hs cs) → InSomeRun program P

@@ -1,10 +1,10 @@
 -- Objects end, their words go back, and masters are left.
 
 use Rattle.std.proofs.lemmas.Bool.{eq-eqb}
-use Rattle.std.proofs.Common.{◌≡◌, ℕ, true, List, [], ◌∷◌, ◌++◌, refl, sym, ◌∙◌, inl, inr}
+use Rattle.std.proofs.Common.{◌≡◌, ℕ, Bool, true, List, [], ◌∷◌, ◌++◌, refl, sym, ◌∙◌, inl, inr}
 use Rattle.std.specs.Prelude.{Some, None}
 use Rattle.std.specs.List.{slice_set, slice_index_or}
-use Rattle.ada_flow.specs.Flow.{Holds}
+use Rattle.ada_flow.specs.Flow.{Holds, is_among}
 use Rattle.ada_meaning.specs.declared.state.Id.{Id}
 use Rattle.ada_meaning.specs.declared.state.Value.{Value}
 use Rattle.ada_meaning.specs.declared.state.Value.TheVariants.{Null, Names, Scalar}
@@ -21,37 +21,47 @@ use Rattle.ada_meaning.specs.Law.{leaving_by, LeavesHome, items_of}
 use Rattle.ada_sound.proofs.Objects.{set_here}
 use Rattle.ada_sound.proofs.Items.{newest_is}
 use Rattle.ada_sound.proofs.Stored.{Stored, IsTaken, stored_part, stored_finish, stored_back, stored_shorter, stored_older, exists_out, none_is_left, taken_is}
-use Rattle.ada_sound.proofs.Values.{Fit, NoOwner, fit_set, weaker_fit}
+use Rattle.ada_sound.proofs.Fits.{Fit, none_spared, going, weaker_fit, part_fit, finish_fit, back_fit, going_set, going_shorter, going_left}
 use Rattle.ada_sound.proofs.Alters.{alters_set}
-use Rattle.ada_sound.proofs.Invariant.{Known, Control, Rooms, Roomed, OwnedAmong, RunsOn, Working, Freed, ClearsTo, LeavesTo, Behind, ThenBack, Ending, EndingBy, Backing, BackingBy, ReadyIn, Stepped, Fine}
+use Rattle.ada_sound.proofs.Invariant.{Known, Control, Rooms, Roomed, OwnedAmong, OwnsNone, RunsOn, Working, Parting, Freed, ClearsTo, LeavesTo, Behind, ThenBack, Ending, EndingBy, Backing, BackingBy, ReadyIn, Stepped, Fine, innermost}
 use Rattle.ada_sound.proofs.Ready.{running, stays, goes_ready}
-use Rattle.ada_sound.proofs.Leavings.{none_owns}
+use Rattle.ada_sound.proofs.Leavings.{HeldIn, taken_unnamed}
 
--- A change of an object under way.
-freed_set : {known : Known} {heap : List Object} {places : List Value} {ms : List Master} {more : Rooms → Holds → Type 0} (o : Id) (y : Object) → Freed known o heap places ms more → Freed known o (slice_set heap o.0 y) places ms more
-freed_set o y c = record { rooms = c.rooms; holds = c.holds; roomed = c.roomed; fit = fit_set o y c.apart c.fit; apart = c.apart; rest = c.rest }
+-- A change of an object under way, that keeps what fits, and its home.
+abbrev KeepsFit : Known → Id → Object → List Object → List Value → Type 0
+KeepsFit known o y heap places = (spared : Id → Bool) (holds : Holds) → Fit known.program.types known.program.variables spared heap places holds → Fit known.program.types known.program.variables spared (slice_set heap o.0 y) places holds
 
 -- At work again, with it gone.
-freed_works : {known : Known} {heap : List Object} {places : List Value} {ms : List Master} {more : Rooms → Holds → Type 0} {o : Id} → Stored None heap ms → Freed known o heap places ms more → Working known heap places ms more
+freed_works : {known : Known} {heap : List Object} {places : List Value} {ms : List Master} {more : Rooms → Holds → Type 0} → Stored None heap ms → Freed known none_spared heap places ms more → Working known heap places ms more
 freed_works stored c = record { rooms = c.rooms; holds = c.holds; stored = stored; roomed = c.roomed; fit = c.fit; rest = c.rest }
 
+freed_parts : {known : Known} {heap : List Object} {places : List Value} {ms : List Master} {more : Rooms → Holds → Type 0} → Stored None heap ms → Freed known (going heap (innermost ms)) heap places ms more → Parting known heap places ms more
+freed_parts stored c = record { rooms = c.rooms; holds = c.holds; stored = stored; roomed = c.roomed; fit = c.fit; rest = c.rest }
+
 module _ (known : Known) where
-  -- What is behind an object under way does not look at it.
-  clears_set : (o : Id) (y : Object) (heap : List Object) (places : List Value) (ms : List Master) (k : Control) → ClearsTo known o heap places ms k → ClearsTo known o (slice_set heap o.0 y) places ms k
-  clears_set o y heap places ms [] c = absurd c
-  clears_set o y heap places ms (Clears x ∷ k) c = freed_set o y c
-  clears_set o y heap places ms (f ∷ k) c = absurd c
+  -- What is behind an object under way stays so.
+  module _ (o : Id) (x y : Object) (heap : List Object) (found : object_at heap o ≡ Some x) (same : y.cell.home ≡ x.cell.home) (keeps : (places : List Value) → KeepsFit known o y heap places) where
+    clears_set : (places : List Value) (ms : List Master) (k : Control) → ClearsTo known heap places ms k → ClearsTo known (slice_set heap o.0 y) places ms k
+    clears_set places ms [] c = absurd c
+    clears_set places ms (Clears z ∷ k) c = record { rooms = c.rooms; holds = c.holds; roomed = c.roomed; fit = keeps (slice_set places z Null) none_spared c.holds c.fit; rest = c.rest }
+    clears_set places ms (f ∷ k) c = absurd c
 
-  leaves_set : (o : Id) (y : Object) (heap : List Object) (places : List Value) (ms : List Master) (k : Control) → LeavesTo known o heap places ms k → LeavesTo known o (slice_set heap o.0 y) places ms k
-  leaves_set o y heap places ms [] c = absurd c
-  leaves_set o y heap places ms (Leaves mode ∷ k) c = freed_set o y c
-  leaves_set o y heap places ms (f ∷ k) c = absurd c
+    leaves_set : (places : List Value) (ms : List Master) (k : Control) → LeavesTo known heap places ms k → LeavesTo known (slice_set heap o.0 y) places ms k
+    leaves_set places ms [] c = absurd c
+    leaves_set places ms (Leaves mode ∷ k) c = record {
+      rooms = c.rooms;
+      holds = c.holds;
+      roomed = c.roomed;
+      fit = going_set heap (innermost ms) o x y found same (keeps places (going heap (innermost ms)) c.holds c.fit);
+      rest = c.rest;
+    }
+    leaves_set places ms (f ∷ k) c = absurd c
 
-  behind_set : (cause : Cause) (o : Id) (home : ℕ) (y : Object) (heap : List Object) (places : List Value) (ms : List Master) (k : Control) → Behind known cause o home heap places ms k → Behind known cause o home (slice_set heap o.0 y) places ms k
-  behind_set (Leaving m item) o home y heap places ms k b = (b.0, leaves_set o y heap places ms k b.1)
-  behind_set (Freeing number) o home y heap places ms k b = clears_set o y heap places ms k b
-  behind_set (Assigning number) o home y heap places ms k b = absurd b
-  behind_set (Undoing number) o home y heap places ms k b = absurd b
+    behind_set : (cause : Cause) (home : ℕ) (places : List Value) (ms : List Master) (k : Control) → Behind known cause home heap places ms k → Behind known cause home (slice_set heap o.0 y) places ms k
+    behind_set (Leaving m item) home places ms k b = (b.0, leaves_set places ms k b.1)
+    behind_set (Freeing number) home places ms k b = clears_set places ms k b
+    behind_set (Assigning number) home places ms k b = absurd b
+    behind_set (Undoing number) home places ms k b = absurd b
 
   module _ (a : Activation Value) (rest : List (Activation Value)) (s : State) where
     -- An object ceases to exist.
@@ -67,7 +77,7 @@ module _ (known : Known) where
           out = exists_out o e.object e.found e.exists e.stored;
           standard = b.1;
           stored = stored_finish o e.object e.found e.stored;
-          rest = behind_set cause o e.object.cell.home.item (finished e.object) s.heap a.places s.masters k b.2;
+          rest = behind_set o e.object (finished e.object) s.heap e.found refl (λ places spared holds f. finish_fit o e.object e.found e.parted f) cause e.object.cell.home.item a.places s.masters k b.2;
         }),
       );
       alters = alters_set s.heap Quiet o e.object (finished e.object) e.found (refl, refl, refl) (λ h. h) (λ h. inl h);
@@ -81,24 +91,24 @@ module _ (known : Known) where
     ends_fine (Scalar n) k e = absurd e
 
     -- Its words go back.
-    module _ (o : Id) (heap : List Object) (stored : Stored None heap s.masters) where
-      cleared_ready : (k : Control) → ClearsTo known o heap a.places s.masters k → ReadyIn known Running k heap a.places a.operands s.masters
+    module _ (heap : List Object) (stored : Stored None heap s.masters) where
+      cleared_ready : (k : Control) → ClearsTo known heap a.places s.masters k → ReadyIn known Running k heap a.places a.operands s.masters
       cleared_ready [] c = absurd c
       cleared_ready (Clears x ∷ k) c = freed_works stored c
       cleared_ready (f ∷ k) c = absurd c
 
-      left_ready : (k : Control) → LeavesTo known o heap a.places s.masters k → ReadyIn known Running k heap a.places a.operands s.masters
+      left_ready : (k : Control) → LeavesTo known heap a.places s.masters k → ReadyIn known Running k heap a.places a.operands s.masters
       left_ready [] c = absurd c
-      left_ready (Leaves mode ∷ k) c = freed_works stored c
+      left_ready (Leaves mode ∷ k) c = freed_parts stored c
       left_ready (f ∷ k) c = absurd c
 
-      behind_ready : (cause : Cause) (home : ℕ) (k : Control) → Behind known cause o home heap a.places s.masters k → ReadyIn known Running k heap a.places a.operands s.masters
+      behind_ready : (cause : Cause) (home : ℕ) (k : Control) → Behind known cause home heap a.places s.masters k → ReadyIn known Running k heap a.places a.operands s.masters
       behind_ready (Leaving m item) home k b = left_ready k b.1
       behind_ready (Freeing number) home k b = cleared_ready k b
       behind_ready (Assigning number) home k b = absurd b
       behind_ready (Undoing number) home k b = absurd b
 
-    leaves_home : (cause : Cause) (o : Id) (x : Object) (k : Control) → Behind known cause o x.cell.home.item s.heap a.places s.masters k → LeavesHome x.cell.home (leaving_by (Some cause))
+    leaves_home : (cause : Cause) (o : Id) (x : Object) (k : Control) → Behind known cause x.cell.home.item s.heap a.places s.masters k → LeavesHome x.cell.home (leaving_by (Some cause))
     leaves_home (Leaving m item) o x k b = b.0
     leaves_home (Freeing number) o x k b = tt
     leaves_home (Assigning number) o x k b = tt
@@ -106,7 +116,11 @@ module _ (known : Known) where
 
     back_object : (o : Id) (cause : Cause) (pool : ℕ) (k : Control) (b : Backing known o cause pool k s.heap a.places s.masters) → Stepped known s.heap (Back (Names o) b.object.cell.access b.object.cell.number b.object.cell.home.pool b.object.cell.home.subpool cause) (record (running k a rest s) { heap = slice_set s.heap o.0 (returned b.object) })
     back_object o cause pool k b = record {
-      ready = (tt, behind_ready o (slice_set s.heap o.0 (returned b.object)) (stored_back o b.object b.found b.gone b.stored) cause b.object.cell.home.item k (behind_set cause o b.object.cell.home.item (returned b.object) s.heap a.places s.masters k b.rest));
+      ready = (
+        tt,
+        behind_ready (slice_set s.heap o.0 (returned b.object)) (stored_back o b.object b.found b.gone b.stored) cause b.object.cell.home.item k
+            (behind_set o b.object (returned b.object) s.heap b.found refl (λ places spared holds f. back_fit o b.object b.found f) cause b.object.cell.home.item a.places s.masters k b.rest),
+      );
       alters = alters_set s.heap _ o b.object (returned b.object) b.found (refl, refl, refl) (λ h. refl) (λ h. inr refl);
       says = record {
         id = o;
@@ -135,31 +149,34 @@ module _ (known : Known) where
     left_with items = record (running (Leaves mode ∷ k) a rest s) { masters = record { number = number; items = items } ∷ ms }
 
     Left_with : List Item → Type 0
-    Left_with items = Working known s.heap a.places (record { number = number; items = items } ∷ ms) (RunsOn known (Leaves mode ∷ k))
+    Left_with items = Parting known s.heap a.places (record { number = number; items = items } ∷ ms) (RunsOn known (Leaves mode ∷ k))
 
-    -- An object in the newest collection has no owner.
-    none_owns_it : (item : Item) (items : List Item) (access : ℕ) (o : Id) (x : Object) (rooms : Rooms) (holds : Holds) → item.owned ≡ collection access → object_at s.heap o ≡ Some x → x.listed ≡ true → x.cell.home.item ≡ item.number → Stored None s.heap (record { number = number; items = item ∷ items } ∷ ms) → Fit s.heap known.variables a.places holds → Roomed (record { number = number; items = item ∷ items } ∷ ms) rooms → RunsOn known (Leaves mode ∷ k) rooms holds → NoOwner a.places holds o
-    none_owns_it item items access o x [] holds is found listed home stored fit roomed r = absurd r
-    none_owns_it item items access o x (types ∷ rooms) holds is found listed home stored fit roomed r =
-        let sane = stored.sane o x found in
-        let out = exists_out o x found (sane.listed_exists listed) stored in
-        let type = newest_is x.cell.home.item x.cell.access item (items ++ items_of ms) home stored.counted (sane.housed out) in
-        let among : OwnedAmong (collection x.cell.access) types = rw type at roomed.0.0 in
-        none_owns s.heap known.variables a.places holds types o x fit r.0 found among
+    -- An object in the newest collection is of a type that may go with the master, and of those no variable owns one.
+    none_owned : (item : Item) (items : List Item) (access : ℕ) (rooms : Rooms) (holds : Holds) → item.owned ≡ collection access → Roomed (record { number = number; items = item ∷ items } ∷ ms) rooms → RunsOn known (Leaves mode ∷ k) rooms holds → (types : List ℕ) × OwnsNone known.program.variables types holds × (is_among types (Some access) ≡ true)
+    none_owned item items access [] holds owns roomed r = absurd r
+    none_owned item items access (types ∷ rooms) holds owns roomed r =
+        let among : OwnedAmong (collection access) types = rw owns at roomed.0.0 in
+        (types, r.0, among)
 
     -- A member is taken.
-    taken_fine : (item : Item) (items : List Item) (access : ℕ) (v : Value) → item.owned ≡ collection access → Left_with (item ∷ items) → IsTaken item.number s.heap v → Stepped known s.heap Quiet (record (running (Ends v ∷ GivesBack v (Leaving number item.number) 0 ∷ Leaves mode ∷ k) a rest (left_with (item ∷ items))) { heap = named.part s.heap v })
+    taken_fine : (item : Item) (items : List Item) (access : ℕ) (v : Value) → item.owned ≡ collection access → Left_with (item ∷ items) → HeldIn s.heap (record { number = number; items = item ∷ items } ∷ ms) → IsTaken item.number s.heap v → Stepped known s.heap Quiet (record (running (Ends v ∷ GivesBack v (Leaving number item.number) 0 ∷ Leaves mode ∷ k) a rest (left_with (item ∷ items))) { heap = named.part s.heap v })
     unfolding left_with Left_with
-    taken_fine item items access v owns w (o, is, member) =
-        let none = none_owns_it item items access o member.object w.rooms w.holds owns member.found member.listed member.home w.stored w.fit w.roomed w.rest in
+    taken_fine item items access v owns w held (o, is, member) =
+        let x = member.object in
+        let sane = w.stored.sane o x member.found in
+        let exists = sane.listed_exists member.listed in
+        let type = newest_is x.cell.home.item x.cell.access item (items ++ items_of ms) member.home w.stored.counted (sane.housed (exists_out o x member.found exists w.stored)) in
+        let none = none_owned item items x.cell.access w.rooms w.holds type w.roomed w.rest in
+        let unnamed = taken_unnamed known.program.types known.program.variables s.heap a.places w.holds number item items ms none.0 w.fit none.1 held o x member.found member.listed member.home none.2 in
         rw is (rw (member.found) (record {
           ready = (
             tt,
             record {
-              object = parted member.object;
-              found = set_here s.heap o.0 member.object (parted member.object) member.found;
-              exists = (w.stored.sane o member.object member.found).listed_exists member.listed;
-              stored = stored_part o member.object member.found w.stored;
+              object = parted x;
+              found = set_here s.heap o.0 x (parted x) member.found;
+              exists = exists;
+              parted = refl;
+              stored = stored_part o x member.found w.stored;
               rest = (
                 refl,
                 refl,
@@ -169,15 +186,14 @@ module _ (known : Known) where
                     rooms = w.rooms;
                     holds = w.holds;
                     roomed = w.roomed;
-                    fit = fit_set o (parted member.object) none w.fit;
-                    apart = none;
+                    fit = going_set s.heap (item ∷ items) o x (parted x) member.found refl (part_fit o x member.found unnamed w.fit);
                     rest = w.rest;
                   },
                 ),
               );
             },
           );
-          alters = alters_set s.heap Quiet o member.object (parted member.object) member.found (refl, refl, refl) (λ h. h) (λ h. inl h);
+          alters = alters_set s.heap Quiet o x (parted x) member.found (refl, refl, refl) (λ h. h) (λ h. inl h);
           says = tt;
         }))
 
@@ -185,46 +201,56 @@ module _ (known : Known) where
     roomed_shorter item items [] r = r
     roomed_shorter item items (types ∷ rooms) r = (r.0.1, r.1)
 
-    shorter_fine : (item : Item) (items : List Item) → ((o : Id) (x : Object) → object_at s.heap o ≡ Some x → x.listed ≡ true → item.owned ≡ collection x.cell.access → x.cell.home.item ≡ item.number → ⊥) → Left_with (item ∷ items) → Stepped known s.heap Quiet (left_with items)
+    -- The newest item goes, of which no object is in its collection.
+    shorter_fine : (item : Item) (items : List Item) → ((o : Id) (x : Object) → object_at s.heap o ≡ Some x → x.listed ≡ true → x.cell.home.item ≡ item.number → ⊥) → Left_with (item ∷ items) → Stepped known s.heap Quiet (left_with items)
     unfolding left_with Left_with
     shorter_fine item items none w = stays known Quiet (left_with items) (
       tt,
       record {
         rooms = w.rooms;
         holds = w.holds;
-        stored = stored_shorter (record { number = number; items = [] }) item items ms none w.stored;
+        stored = stored_shorter (record { number = number; items = [] }) item items ms (λ o x found listed is home. none o x found listed home) w.stored;
         roomed = roomed_shorter item items w.rooms w.roomed;
-        fit = w.fit;
+        fit = going_shorter item items none w.fit;
         rest = w.rest;
       },
     ) tt
 
-    members_fine : (item : Item) (items : List Item) (access : ℕ) (vs : List Value) → item.owned ≡ collection access → members s.heap item.number ≡ vs → Left_with (item ∷ items) → Fine known s.heap (record { number = number; items = item ∷ items } ∷ ms) (members_next named (Leaving number item.number) access vs (left_with (item ∷ items)))
-    unfolding left_with Left_with
-    members_fine item items access [] owns e w = shorter_fine item items (λ o x found listed is home. none_is_left item.number s.heap o x e found listed home) w
-    members_fine item items access (v ∷ vs) owns e w = λ i lt. taken_fine item items access (slice_index_or (v ∷ vs) i Null) owns w (rw e at (taken_is item.number s.heap i (rw e lt)))
+    -- An object in a collection has a collection as its home.
+    declared_has_none : (item : Item) (items : List Item) (y : ℕ) → item.owned ≡ declared y → Left_with (item ∷ items) → (o : Id) (x : Object) → object_at s.heap o ≡ Some x → x.listed ≡ true → x.cell.home.item ≡ item.number → ⊥
+    unfolding Left_with
+    declared_has_none item items y owns w o x found listed home =
+        let sane = w.stored.sane o x found in
+        let exists = sane.listed_exists listed in
+        let type = newest_is x.cell.home.item x.cell.access item (items ++ items_of ms) home w.stored.counted (sane.housed (exists_out o x found exists w.stored)) in
+        cc (owns, type)
 
-    item_fine : (item : Item) (items : List Item) (what : Owned) → item.owned ≡ what → Left_with (item ∷ items) → Fine known s.heap (record { number = number; items = item ∷ items } ∷ ms) (item_leave_next named number item what (left_with (item ∷ items)))
+    members_fine : (item : Item) (items : List Item) (access : ℕ) (vs : List Value) → item.owned ≡ collection access → members s.heap item.number ≡ vs → Left_with (item ∷ items) → HeldIn s.heap (record { number = number; items = item ∷ items } ∷ ms) → Fine known s.heap (record { number = number; items = item ∷ items } ∷ ms) (members_next named (Leaving number item.number) access vs (left_with (item ∷ items)))
     unfolding left_with Left_with
-    item_fine item items (declared x) is w = shorter_fine item items (λ o y found listed c home. cc (is, c)) w
-    item_fine item items (collection access) is w = members_fine item items access (members s.heap item.number) is refl w
+    members_fine item items access [] owns e w held = shorter_fine item items (λ o x found listed home. none_is_left item.number s.heap o x e found listed home) w
+    members_fine item items access (v ∷ vs) owns e w held = λ i lt. taken_fine item items access (slice_index_or (v ∷ vs) i Null) owns w held (rw e at (taken_is item.number s.heap i (rw e lt)))
+
+    item_fine : (item : Item) (items : List Item) (what : Owned) → item.owned ≡ what → Left_with (item ∷ items) → HeldIn s.heap (record { number = number; items = item ∷ items } ∷ ms) → Fine known s.heap (record { number = number; items = item ∷ items } ∷ ms) (item_leave_next named number item what (left_with (item ∷ items)))
+    unfolding left_with Left_with
+    item_fine item items (declared y) is w held = shorter_fine item items (declared_has_none item items y is w) w
+    item_fine item items (collection access) is w held = members_fine item items access (members s.heap item.number) is refl w held
 
     -- The master is left.
-    gone_ready : (rooms : Rooms) (holds : Holds) → Stored None s.heap (record { number = number; items = [] } ∷ ms) → Fit s.heap known.variables a.places holds → Roomed (record { number = number; items = [] } ∷ ms) rooms → RunsOn known (Leaves mode ∷ k) rooms holds → ReadyIn known mode k s.heap a.places a.operands ms
+    gone_ready : (rooms : Rooms) (holds : Holds) → Stored None s.heap (record { number = number; items = [] } ∷ ms) → Fit known.program.types known.program.variables none_spared s.heap a.places holds → Roomed (record { number = number; items = [] } ∷ ms) rooms → RunsOn known (Leaves mode ∷ k) rooms holds → ReadyIn known mode k s.heap a.places a.operands ms
     gone_ready [] holds stored fit roomed r = absurd r
     gone_ready (types ∷ rooms) holds stored fit roomed r =
         goes_ready known mode k s.heap a.places a.operands ms
         (record { rooms = rooms; holds = r.1.0; stored = stored_older (record { number = number; items = [] }) ms stored; roomed = roomed.1; fit = weaker_fit r.1.0 r.1.1 fit; rest = r.1.2 })
 
-    master_fine : (items : List Item) → Left_with items → Fine known s.heap (record { number = number; items = items } ∷ ms) (master_leave_next named mode number items (record (running k a rest s) { masters = record { number = number; items = items } ∷ ms }))
+    master_fine : (items : List Item) → Left_with items → HeldIn s.heap (record { number = number; items = items } ∷ ms) → Fine known s.heap (record { number = number; items = items } ∷ ms) (master_leave_next named mode number items (record (running k a rest s) { masters = record { number = number; items = items } ∷ ms }))
     unfolding left_with Left_with
-    master_fine [] w = stays known (Left number) _ (tt, gone_ready w.rooms w.holds w.stored w.fit w.roomed w.rest) tt
-    master_fine (item ∷ items) w = item_fine item items item.owned refl w
+    master_fine [] w held = stays known (Left number) _ (tt, gone_ready w.rooms w.holds w.stored (going_left w.fit) w.roomed w.rest) tt
+    master_fine (item ∷ items) w held = item_fine item items item.owned refl w held
 
-    pub left_fine : (items : List Item) → Working known s.heap a.places (record { number = number; items = items } ∷ ms) (RunsOn known (Leaves mode ∷ k)) → Fine known s.heap (record { number = number; items = items } ∷ ms) (master_leave_next named mode number items (record (running k a rest s) { masters = record { number = number; items = items } ∷ ms }))
+    pub left_fine : (items : List Item) → Parting known s.heap a.places (record { number = number; items = items } ∷ ms) (RunsOn known (Leaves mode ∷ k)) → HeldIn s.heap (record { number = number; items = items } ∷ ms) → Fine known s.heap (record { number = number; items = items } ∷ ms) (master_leave_next named mode number items (record (running k a rest s) { masters = record { number = number; items = items } ∷ ms }))
     unfolding left_with Left_with
-    left_fine items w = master_fine items w
+    left_fine items w held = master_fine items w held
 
-  pub leave_fine : (mode : Mode) (k : Control) (a : Activation Value) (rest : List (Activation Value)) (s : State) (ms : List Master) → Working known s.heap a.places ms (RunsOn known (Leaves mode ∷ k)) → Fine known s.heap ms (leave_next named mode ms (record (running k a rest s) { masters = ms }))
-  leave_fine mode k a rest s [] w = tt
-  leave_fine mode k a rest s (m ∷ ms) w = left_fine mode k a rest s m.number ms m.items w
+  pub leave_fine : (mode : Mode) (k : Control) (a : Activation Value) (rest : List (Activation Value)) (s : State) (ms : List Master) → Parting known s.heap a.places ms (RunsOn known (Leaves mode ∷ k)) → HeldIn s.heap ms → Fine known s.heap ms (leave_next named mode ms (record (running k a rest s) { masters = ms }))
+  leave_fine mode k a rest s [] w held = tt
+  leave_fine mode k a rest s (m ∷ ms) w held = left_fine mode k a rest s m.number ms m.items w held

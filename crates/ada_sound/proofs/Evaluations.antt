@@ -1,191 +1,376 @@
--- What is assigned is evaluated and stored, and what is read is written.
+-- What is assigned is evaluated, moved and stored; new objects come to be; what is read is written.
 
-use Rattle.std.proofs.lemmas.Bool.{eqb-true}
-use Rattle.std.proofs.Common.{◌≡◌, ℕ, Bool, true, false, List, [], ◌∷◌, ◌++◌, length, refl, sym, ◌∙◌}
+use Rattle.std.proofs.Common.{◌≡◌, ◌≢◌, ℕ, Bool, true, false, ◌==◌, List, [], ◌∷◌, ◌++◌, length, refl, sym, ap, ◌∙◌, subst, ◌⊎◌, inl, inr}
+use Rattle.std.proofs.lemmas.Bool.{and_parts, eqb-true}
 use Rattle.std.specs.Prelude.{ℤ, Option, Some, None}
-use Rattle.std.specs.List.{slice_set}
+use Rattle.std.specs.List.{slice_get, slice_set}
+use Rattle.ada_program.specs.declared.program.Exception.TheVariants.{ConstraintError, StorageError}
+use Rattle.ada_program.specs.declared.program.VariableKind.{VariableKind}
+use Rattle.ada_program.specs.Form.{PathForm, ExpressionForm, ItemForm, RightForm, nothing, value_of, allocates, computes, assigns, StmtsForm, no_stmts, a_stmt}
 use Rattle.ada_text.specs.declared.spot.Spot.{Spot}
-use Rattle.ada_program.specs.Form.{PathForm, ExpressionForm, ItemForm, RightForm, nothing, value_of, allocates, computes}
+use Rattle.ada_program.specs.Handling.{is_same}
+use Rattle.ada_program.specs.WellFormed.{access_of, selected_kind, selectors_kind, variable_kind, kind_takes}
+use Rattle.ada_effects.specs.Effects.{expression_raises, right_raises}
 use Rattle.ada_flow.specs.declared.rule.Hold.{Hold}
 use Rattle.ada_flow.specs.declared.rule.Hold.TheVariants as hold
-use Rattle.ada_flow.specs.declared.rule.Region.{Region}
 use Rattle.ada_flow.specs.declared.rule.Region.TheVariants.{Whole}
-use Rattle.ada_flow.specs.Flow.{Holds, hold_at, variable_access, if_own, held_as, gives, ends_with, uses_in, uses_in_items, moves as flow_moves, moves_path}
+use Rattle.ada_flow.specs.Flow.{Holds, hold_at, variable_access, uses_in, uses_in_item, uses_in_items, moved_by_item, reads_it, gives_component, lost_by, without_values, moved_by_items, value_hold, ends_with, gives, same_selectors, same_path, clears}
+use Rattle.ada_meaning.specs.declared.state.Id.{Id}
 use Rattle.ada_meaning.specs.declared.state.Value.{Value}
-use Rattle.ada_meaning.specs.declared.state.Value.TheVariants.{Null, Names}
+use Rattle.ada_meaning.specs.declared.state.Value.TheVariants.{Null, Names, Scalar}
 use Rattle.ada_meaning.specs.declared.state.Mode.TheVariants.{Running, Raising}
-use Rattle.ada_program.specs.declared.program.Exception.TheVariants.{ConstraintError, StorageError}
-use Rattle.ada_program.specs.ProgramForm.{VariableForm}
-use Rattle.ada_program.specs.Handling.{is_same}
-use Rattle.ada_program.specs.WellFormed.{is_this}
-use Rattle.ada_effects.specs.Effects.{expression_raises, right_raises}
-use Rattle.ada_meaning.specs.Frame.{Computes, Fills, Creates, Stores, StoresIn, Declares}
-use Rattle.ada_meaning.specs.Event.{Line, Quiet}
-use Rattle.ada_meaning.specs.Heap.{Cell}
-use Rattle.ada_meaning.specs.State.{declared, Activation, Master, home_of}
-use Rattle.ada_meaning.specs.Step.{owned, path_next, right_next, new_cell, answered, new_next, line_next}
-use Rattle.ada_meaning.specs.Named.{Object, State, named, new_object}
-use Rattle.ada_sound.proofs.Objects.{get_new, get_past}
-use Rattle.ada_sound.proofs.Items.{home_has}
-use Rattle.ada_sound.proofs.Stored.{stored_new, stored_owning}
-use Rattle.ada_sound.proofs.Values.{Lives, IsLive, Fits, IsOwn, Fit, place_at, HasNoOther, last_more, access_lasts, fit_more, put_fit, lose, other_owner}
-use Rattle.ada_sound.proofs.Alters.{alters_new}
-use Rattle.ada_sound.proofs.Invariant.{Known, Control, Rooms, Goes, Raised, RunsOn, StoresTo, Gives, Into, GivesInto, Takes, Owns, Creating, Awaits, Working, ReadyIn, Stepped, Fine, ways}
-use Rattle.ada_sound.proofs.Ready.{running, at_work, stays, goes_on, runs_on, jumps_less}
-use Rattle.ada_sound.proofs.Statements.{roomed_declares}
+use Rattle.ada_meaning.specs.Frame.{Does, Evaluates, Computes, Follows, Fills, Creates, Stores, StoresIn, Declares}
+use Rattle.ada_meaning.specs.Event.{Followed, Line, Quiet}
+use Rattle.ada_meaning.specs.Heap.{finds}
+use Rattle.ada_meaning.specs.State.{declared, Activation}
+use Rattle.ada_meaning.specs.Step.{owned, reading, component_next, follow_next, path_next, right_next, line_next}
+use Rattle.ada_meaning.specs.Named.{Object, State, object_at, look, named, store}
+use Rattle.ada_owners.specs.Keeping.{IsThere}
+use Rattle.ada_owners.specs.Places.{component, component_in, value_at}
+use Rattle.ada_owners.proofs.Kernel.{same_place}
+use Rattle.ada_owners.proofs.Changes.{store_reads, store_value}
+use Rattle.ada_owners.specs.Walks.{walk}
+use Rattle.ada_typed.specs.Holding.{cells_of}
+use Rattle.ada_typed.proofs.Values.{AreComputed}
+use Rattle.ada_typed.proofs.Control as typed
+use Rattle.ada_sound.proofs.Values.{read_other}
+use Rattle.ada_sound.proofs.Stored.{Stored, exists_out, stored_owning}
+use Rattle.ada_sound.proofs.Fits.{Fit, MayFollow, component_value, component_access, none_spared, bare, place_at, put_null, root_follows, component_follows, take_variable, take_component}
+use Rattle.ada_sound.proofs.Invariant.{Known, Control, Rooms, Roomed, Accepts, Allocating, ItemsKeep, Clearing, component_among, StoringIn, Pairs, IsAlone, IsOne, Half, HalfBy, IsCleared, front, final, WalksOn, Goes, Raised, RunsOn, NoneBroken, MayRaise, FillsIn, IsHolder, Takes, Computing, Working, Resumes, EvaluatesTo, Awaits, FindsFor, MovesOn, FollowsFor, HalfFollows, ReadyIn, Stepped, Fine, ways}
+use Rattle.ada_sound.proofs.Ready.{running, at_work, stays, ready_on, runs_on, resumes_on, jumps_less}
+use Rattle.ada_sound.proofs.Walks.{finds_fine, half_fine}
+use Rattle.ada_sound.proofs.Rooms.{roomed_declares}
 use Rattle.ada_sound.proofs.Outcomes.{using_goes, ends_goes}
+use Rattle.ada_sound.proofs.Followings.{first_kept, kept_apart}
+use Rattle.ada_sound.proofs.Expressions.{reads_fine}
+use Rattle.ada_sound.proofs.Assigned.{Allocated, value_goes, computed_goes, allocated_goes, kind_names, selected_of}
+use Rattle.ada_sound.proofs.Taken.{variable_goes, declared_goes, component_goes, at_path, value_gives, value_fills, cleared_is, stored_after, there_after, selectors_are, walk_on, kept_root, root_access, path_goes, null_place, move_by, store_by}
 
--- What a variable holds of a value that fits its own access type, or another.
-held_by : (heap : List Object) (access : ℕ) (own : Option ℕ) (b : Bool) (r : Region) (v : Value) → is_this access own ≡ b → IsLive heap (Some access) v → Fits heap own (if_own b (hold.Own r)) v
-held_by heap access None true r v is live = absurd (cc is)
-held_by heap access (Some t) true r v is live = let same : t ≡ access = eqb-true t access is in rw same live
-held_by heap access own false r v is live = tt
-
-pub held_fits : (heap : List Object) (variables : List VariableForm) (access : Option ℕ) (x : ℕ) (r : Region) (v : Value) → IsLive heap access v → Fits heap (variable_access variables x) (held_as variables access x (hold.Own r)) v
-held_fits heap variables None x r v live = tt
-held_fits heap variables (Some access) x r v live = held_by heap access (variable_access variables x) (is_this access (variable_access variables x)) r v refl live
-
-module _ (known : Known) where
-  -- What is evaluated is what a variable awaits, or a component.
-  stores_ready : (k : Control) (more : ℕ → Control → Type 0) (into : Value → Control → Type 0) (v : Value) (heap : List Object) (places operands : List Value) (ms : List Master) → StoresTo k more into → ((x : ℕ) (k' : Control) → more x k' → Working known heap (slice_set places x v) ms (RunsOn known k')) → ((o : Value) (k' : Control) → into o k' → Working known heap places ms (λ rooms holds. Into known heap rooms holds o k')) → ReadyIn known Running k heap places (v ∷ operands) ms
-  stores_ready [] more into v heap places operands ms h stored filled = absurd h
-  stores_ready (Stores x ∷ k) more into v heap places operands ms h stored filled = stored x k h
-  stores_ready (Declares x ∷ k) more into v heap places operands ms h stored filled = stored x k h
-  stores_ready (StoresIn o c ∷ k) more into v heap places operands ms h stored filled = filled o k h
-  stores_ready (f ∷ k) more into v heap places operands ms h stored filled = absurd h
-
-  -- What an owner held is moved to another variable.
-  module _ (y : ℕ) (spot : Spot) (holds : Holds) (heap : List Object) (places : List Value) (fit : Fit heap known.variables places holds) (x : ℕ) (more raised : Holds → Type 0) where
-    moved_alone : (h : Hold) → IsOwn (hold_at holds y) → HasNoOther places (slice_set holds y hold.Lost) x h (place_at places y)
-    moved_alone h own _ z o ne a b c = let other = other_owner holds y z hold.Lost (λ none. none) a in fit.apart z y o other.0 other.1 own b c
-
-    move_hold : (h : Hold) → hold_at holds y ≡ h → Goes (flow_moves known.variables x y spot holds h) more raised → Fits heap (variable_access known.variables y) h (place_at places y) → (after : Holds) × Fit heap known.variables (slice_set places x (place_at places y)) after × more after
-    move_hold hold.Null is m fits = (slice_set holds x hold.Null, put_fit heap known.variables places holds x hold.Null (place_at places y) (λ e. absurd e) fits fit, m.0)
-    move_hold (hold.Own r) is m fits =
-        let held = held_as known.variables (variable_access known.variables y) x (hold.Own r) in
-        (slice_set (slice_set holds y hold.Lost) x held, put_fit heap known.variables places (slice_set holds y hold.Lost) x held (place_at places y) (λ own. moved_alone held (rw is tt) own) (held_fits heap known.variables (variable_access known.variables y) x r (place_at places y) fits) (lose y fit), m.0)
-    move_hold (hold.Alias r) is m fits = absurd m
-    move_hold hold.Lost is m fits = absurd m
-
-  -- A new object has the next name, which no variable holds.
-  new_fit : (heap : List Object) (places : List Value) (holds : Holds) (x : ℕ) (cell : Cell Value) → Fit heap known.variables places holds → Fit (heap ++ new_object cell ∷ []) known.variables (slice_set places x (Names (record { 0 = length heap }))) (slice_set holds x (held_as known.variables (Some cell.access) x (hold.Own Whole)))
-  new_fit heap places holds x cell fit =
-      put_fit (heap ++ new_object cell ∷ []) known.variables places holds x (held_as known.variables (Some cell.access) x (hold.Own Whole)) (Names (record { 0 = length heap }))
-      (λ _ y o ne a b c. no_name (variable_access known.variables y) (hold_at holds y) (place_at places y) a (fit.each y) (b ∙ sym c))
-      (held_fits (heap ++ new_object cell ∷ []) known.variables (Some cell.access) x Whole (Names (record { 0 = length heap })) (new_object cell, get_new heap (new_object cell), refl, refl))
-      (fit_more (new_object cell) fit)
+module _ (known : Known) (k : Control) (a : Activation Value) (rest : List (Activation Value)) (s : State) where
+  -- A variable's value is there for what awaits it.
+  variable_ready : (root : ℕ) (spot : Spot) (kinds : List VariableKind) → typed.Fits known.program (cells_of s.heap) kinds (Evaluates (value_of (at_path root [] spot)) ∷ k) → Working known s.heap a.places s.masters (Takes known s.heap (value_of (at_path root [] spot)) k) → ReadyIn known Running k s.heap a.places (place_at a.places root ∷ a.operands) s.masters
+  variable_ready root spot kinds fits w = go k fits w
     where
-      no_name : (access : Option ℕ) (h : Hold) (v : Value) → IsOwn h → Fits heap access h v → v ≡ Names (record { 0 = length heap }) → ⊥
-      no_name access hold.Null v own fits e = own
-      no_name access (hold.Own r) v own fits e = let there : Lives heap access (record { 0 = length heap }) = rw e at fits in get_past heap there.0 there.1
-      no_name access (hold.Alias r) v own fits e = own
-      no_name access hold.Lost v own fits e = own
+      path : PathForm
+      path = at_path root [] spot
 
-  -- What an allocator and an expression follow is not lost, and what awaits them goes on.
-  allocates_awaits : (heap : List Object) (access : ℕ) (items : List ItemForm) (k : Control) (rooms : Rooms) (holds : Holds) → Takes known heap (allocates access items) k rooms holds → Awaits known heap (Fills items ∷ Creates access (length items) ∷ k) rooms holds
-  allocates_awaits heap access items [] rooms holds g = absurd g
-  allocates_awaits heap access items (Stores x ∷ k) rooms holds g = by x k g
+      own_access : (kind : VariableKind) → kind_takes known.program.types known.program.variables kind (value_of (at_path root [] spot)) ≡ true → variable_access known.program.variables root ≡ access_of (Some kind)
+      own_access kind takes = value_goes known.program.types known.program.variables kind (at_path root [] spot) takes
+
+      into : (o : Value) (c : ℕ) (k' : Control) (kind : VariableKind) → kind_takes known.program.types known.program.variables kind (value_of (at_path root [] spot)) ≡ true → typed.Fits known.program (cells_of s.heap) (kind ∷ kinds) (StoresIn o c ∷ k') → (w' : Working known s.heap a.places s.masters (Takes known s.heap (value_of (at_path root [] spot)) (StoresIn o c ∷ k'))) → StoringIn known o c (place_at a.places root) k' s.heap a.places s.masters
+      into Null c k' kind takes fits' w' = absurd (w'.rest.0)
+      into (Names o) c k' kind takes fits' w' =
+          let there = w'.rest.0 in
+          let g = w'.rest.1 in
+          let h = value_fills g.1 g.0 root [] spot w'.holds (RunsOn known k' w'.rooms) (Raised (component_among (value_of (at_path root [] spot))) (ways known k' w'.rooms)) g.2 in
+          let same = component_goes known.program s.heap kind kinds o there.0 c k' there.1 fits' ∙ sym (own_access kind takes) in
+          inl (
+            there,
+            inl (record {
+              rooms = w'.rooms;
+              holds = without_values (root ∷ []) w'.holds;
+              stored = stored_after s.heap o c (place_at a.places root) w'.stored;
+              roomed = w'.roomed;
+              fit = store_by w'.fit root spot o there.0 c (hold_at w'.holds root) refl there.1 there.2 same h.0;
+              rest = h.1;
+            }),
+          )
+      into (Scalar n) c k' kind takes fits' w' = absurd (w'.rest.0)
+
+      to : (cleared : Bool) (x : ℕ) (k' : Control) → variable_access known.program.variables x ≡ variable_access known.program.variables root → (rooms : Rooms) (holds : Holds) → Stored None s.heap s.masters → Roomed s.masters rooms → Fit known.program.types known.program.variables none_spared s.heap a.places holds → Goes (gives cleared x (value_of (at_path root [] spot)) holds) (RunsOn known k' rooms) (Raised (λ e. right_raises (is_same e) (value_of (at_path root [] spot))) (ways known k' rooms)) → Working known s.heap (slice_set a.places x (place_at a.places root)) s.masters (RunsOn known k')
+      to cleared x k' same rooms holds stored roomed fit g =
+          let h = value_gives cleared x root [] spot holds (RunsOn known k' rooms) (Raised (λ e. right_raises (is_same e) (value_of (at_path root [] spot))) (ways known k' rooms)) g in
+          record {
+            rooms = rooms;
+            holds = slice_set (without_values (root ∷ []) holds) x (hold_at holds root);
+            stored = stored;
+            roomed = roomed;
+            fit = move_by fit root spot x (hold_at holds root) refl same h.0;
+            rest = h.1;
+          }
+
+      go : (k' : Control) → typed.Fits known.program (cells_of s.heap) kinds (Evaluates (value_of (at_path root [] spot)) ∷ k') → Working known s.heap a.places s.masters (Takes known s.heap (value_of (at_path root [] spot)) k') → ReadyIn known Running k' s.heap a.places (place_at a.places root ∷ a.operands) s.masters
+      go [] fits' w' = absurd (w'.rest)
+      go (Stores x ∷ k') (kind, takes, fits') w' = inl (to w'.rest.0 x k' (variable_goes known.program s.heap kind kinds x k' fits' ∙ sym (own_access kind takes)) w'.rooms w'.holds w'.stored w'.roomed w'.fit w'.rest.1)
+      go (Declares x ∷ k') (kind, takes, fits') w' = to w'.rest.0 x k' (declared_goes known.program s.heap kind kinds x k' fits' ∙ sym (own_access kind takes)) w'.rooms w'.holds w'.stored w'.roomed w'.fit w'.rest.1
+      go (StoresIn o c ∷ k') (kind, takes, fits') w' = into o c k' kind takes fits' w'
+      go (f ∷ k') fits' w' = absurd (w'.rest)
+
+  -- The next statement clears the path: the second half of a take pair, once the first one's target has what the component named.
+  half_behind : (heap : List Object) (places : List Value) (root : ℕ) (cs : List ℕ) (spot : Spot) (k' : Control) (o : Id) (c : ℕ) → IsCleared (at_path root cs spot) k' → final cs ≡ Some c → walk heap (place_at places root) (front cs) ≡ finds (Names o) → IsThere heap o → ((p : Id) → component_in (object_at heap o) c ≡ Names p → IsThere heap p) → Working known (store heap (Names o) c Null) places s.masters (RunsOn known k') → HalfBy known k' heap places s.masters
+  half_behind heap places root cs spot [] o c cleared last found there kept works = absurd cleared
+  half_behind heap places root cs spot (Does fs ∷ k') o c cleared last found there kept works = go fs cleared works
     where
-      by : (x : ℕ) (k : Control) → Goes (gives known.variables x (allocates access items) holds) (RunsOn known k rooms) (Raised (λ e. right_raises (is_same e) (allocates access items)) (ways known k rooms)) → Awaits known heap (Fills items ∷ Creates access (length items) ∷ Stores x ∷ k) rooms holds
-      by x k g =
-          let u = using_goes (uses_in_items items) holds (ends_with true holds (slice_set holds x (held_as known.variables (Some access) x (hold.Own Whole)))) (RunsOn known k rooms) (Raised (λ e. right_raises (is_same e) (allocates access items)) (ways known k rooms)) g in
-          (u.0, (λ may. u.1.1 ConstraintError may), ((λ may. u.1.1 StorageError refl), u.1.0))
-  allocates_awaits heap access items (Declares x ∷ k) rooms holds g = by x k g
-    where
-      by : (x : ℕ) (k : Control) → Goes (gives known.variables x (allocates access items) holds) (RunsOn known k rooms) (Raised (λ e. right_raises (is_same e) (allocates access items)) (ways known k rooms)) → Awaits known heap (Fills items ∷ Creates access (length items) ∷ Declares x ∷ k) rooms holds
-      by x k g =
-          let u = using_goes (uses_in_items items) holds (ends_with true holds (slice_set holds x (held_as known.variables (Some access) x (hold.Own Whole)))) (RunsOn known k rooms) (Raised (λ e. right_raises (is_same e) (allocates access items)) (ways known k rooms)) g in
-          (u.0, (λ may. u.1.1 ConstraintError may), ((λ may. u.1.1 StorageError refl), u.1.0))
-  allocates_awaits heap access items (StoresIn o c ∷ k) rooms holds g = absurd g.1
-  allocates_awaits heap access items (f ∷ k) rooms holds g = absurd g
+      same_root : (target : PathForm) → same_path target (at_path root cs spot) ≡ true → (target.root ≡ root) × (target.selectors ≡ cs)
+      same_root target same =
+          let h = and_parts (target.root == root) (same_selectors target.selectors cs) same in
+          (eqb-true target.root root h.0, selectors_are target.selectors cs h.1)
 
-  computes_awaits : (heap : List Object) (e : ExpressionForm) (k : Control) (rooms : Rooms) (holds : Holds) → Takes known heap (computes e) k rooms holds → Awaits known heap (Computes e ∷ k) rooms holds
-  computes_awaits heap e [] rooms holds g = absurd g
-  computes_awaits heap e (Stores x ∷ k) rooms holds g =
-      let after = ends_with (expression_raises e) holds (slice_set holds x hold.Lost) in
-      let raised' = Raised (λ y. right_raises (is_same y) (computes e)) (ways known k rooms) in
-      let u = using_goes (uses_in e) holds after (RunsOn known k rooms) raised' g in
-      let n = ends_goes (expression_raises e) holds (slice_set holds x hold.Lost) (RunsOn known k rooms) raised' u.1 in
-      (u.0, (λ may. n.1 may ConstraintError may), n.0)
-  computes_awaits heap e (Declares x ∷ k) rooms holds g =
-      let after = ends_with (expression_raises e) holds (slice_set holds x hold.Lost) in
-      let raised' = Raised (λ y. right_raises (is_same y) (computes e)) (ways known k rooms) in
-      let u = using_goes (uses_in e) holds after (RunsOn known k rooms) raised' g in
-      let n = ends_goes (expression_raises e) holds (slice_set holds x hold.Lost) (RunsOn known k rooms) raised' u.1 in
-      (u.0, (λ may. n.1 may ConstraintError may), n.0)
-  computes_awaits heap e (StoresIn o c ∷ k) rooms holds g = (g.1.0, g.1.1, (g.0, g.1.2))
-  computes_awaits heap e (f ∷ k) rooms holds g = absurd g
+      by : (target : PathForm) (later : StmtsForm) → (target.root ≡ root) × (target.selectors ≡ cs) → Working known (store heap (Names o) c Null) places s.masters (RunsOn known (Does (a_stmt (assigns target nothing) later) ∷ k')) → Half known (a_stmt (assigns target nothing) later) k' heap places s.masters
+      by target later same w = record {
+        path = target;
+        later = later;
+        o = o;
+        c = c;
+        is = refl;
+        last = ap final same.1 ∙ last;
+        found = ap (λ x. walk heap (place_at places x) (front target.selectors)) same.0 ∙ (ap (λ ds. walk heap (place_at places root) (front ds)) same.1 ∙ found);
+        there = there;
+        kept = kept;
+        works = w;
+      }
 
-  module _ (k : Control) (a : Activation Value) (rest : List (Activation Value)) (s : State) where
-    -- A new object is granted or refused.
-    module _ (access count words item : ℕ) (home : home_of access s.masters ≡ Some item) (w : Working known s.heap a.places s.masters (Creating known s.heap access k)) where
-      cell : Cell Value
-      cell = new_cell named access count item (running k a rest s)
+      go : (fs' : StmtsForm) → clears (at_path root cs spot) fs' ≡ true → Working known (store heap (Names o) c Null) places s.masters (RunsOn known (Does fs' ∷ k')) → Half known fs' k' heap places s.masters
+      go no_stmts cleared' w = absurd (cc cleared')
+      go (a_stmt (assigns target nothing) later) cleared' w = by target later (same_root target cleared') w
+      go (a_stmt f later) cleared' w = absurd (cc cleared')
+  half_behind heap places root cs spot (f ∷ k') o c cleared last found there kept works = absurd cleared
 
-      granted_ready : (vs : List Value) → ReadyIn known Running k (s.heap ++ new_object cell ∷ []) a.places (Names (record { 0 = length s.heap }) ∷ vs) s.masters
-      unfolding cell
-      granted_ready vs = stores_ready k (Owns known access w.rooms w.holds) (Into known s.heap w.rooms w.holds) (Names (record { 0 = length s.heap })) _ a.places vs s.masters w.rest.1 (λ x k' r. record {
-        rooms = w.rooms;
-        holds = slice_set w.holds x (held_as known.variables (Some access) x (hold.Own Whole));
-        stored = stored_new cell refl (home_has access item s.masters home) w.stored;
-        roomed = w.roomed;
-        fit = new_fit s.heap a.places w.holds x cell w.fit;
-        rest = r;
-      }) (λ o k' r. record {
-        rooms = w.rooms;
-        holds = w.holds;
-        stored = stored_new cell refl (home_has access item s.masters home) w.stored;
-        roomed = w.roomed;
-        fit = fit_more (new_object cell) w.fit;
-        rest = (access_lasts s.heap (s.heap ++ new_object cell ∷ []) o (last_more s.heap (new_object cell)) r.0, r.1);
-      })
-
-      answered_fine : (granted : Bool) → Stepped known s.heap Quiet (answered named access count item words (running k a rest s) granted)
-      unfolding cell
-      answered_fine true = record { ready = (tt, granted_ready _); alters = alters_new s.heap Quiet (new_object cell) refl; says = tt }
-      answered_fine false = jumps_less known k a rest s (Raising StorageError) (at_work w (w.rest.0 refl))
-
-    creates_by : (access count words : ℕ) (home : Option ℕ) → home_of access s.masters ≡ home → Working known s.heap a.places s.masters (Creating known s.heap access k) → Fine known s.heap s.masters (new_next named access count words home (running k a rest s))
-    creates_by access count words None e w = jumps_less known k a rest s (Raising StorageError) (at_work w (w.rest.0 refl))
-    creates_by access count words (Some item) e w = answered_fine access count words item e w
-
-    pub creates_fine : (access count words : ℕ) → Working known s.heap a.places s.masters (Creating known s.heap access k) → Fine known s.heap s.masters (new_next named access count words (home_of access s.masters) (running k a rest s))
-    creates_fine access count words w = creates_by access count words (home_of access s.masters) refl w
-
-    -- A value is there for the variable that awaits it. No component awaits an access value yet.
-    gives_on : (more : Rooms → Holds → ℕ → Control → Type 0) (into : Rooms → Holds → Value → Control → Type 0) (v : Value) → (w : Working known s.heap a.places s.masters (λ rooms holds. StoresTo k (more rooms holds) (into rooms holds))) → ((x : ℕ) (k' : Control) → more w.rooms w.holds x k' → Working known s.heap (slice_set a.places x v) s.masters (RunsOn known k')) → ((o : Value) (k' : Control) → into w.rooms w.holds o k' → ⊥) → Stepped known s.heap Quiet (running k (record a { operands = v ∷ a.operands }) rest s)
-    gives_on more into v w stored none = stays known Quiet (running k (record a { operands = v ∷ a.operands }) rest s) (tt, stores_ready k (more w.rooms w.holds) (into w.rooms w.holds) v s.heap a.places a.operands s.masters w.rest stored (λ o k' r. absurd (none o k' r))) tt
-
-    -- A path that is moved.
-    GivesPath : List ℕ → PathForm → Rooms → Holds → ℕ → Control → Type 0
-    GivesPath cs path rooms holds x k' = Goes (moves_path known.variables x cs path holds) (RunsOn known k' rooms) (Raised (λ e. right_raises (is_same e) (value_of path)) (ways known k' rooms))
-
-    value_fine : (cs : List ℕ) (path : PathForm) → Working known s.heap a.places s.masters (λ rooms holds. StoresTo k (GivesPath cs path rooms holds) (GivesInto known s.heap (value_of path) rooms holds)) → Fine known s.heap s.masters (path_next named cs (place_at a.places path.root) (running k a rest s))
-    unfolding GivesPath
-    value_fine [] path w = gives_on (GivesPath [] path) (GivesInto known s.heap (value_of path)) (place_at a.places path.root) w (λ x k' r. let h = move_hold path.root path.spot w.holds s.heap a.places w.fit x (RunsOn known k' w.rooms) (Raised (λ e. right_raises (is_same e) (value_of path)) (ways known k' w.rooms)) (hold_at w.holds path.root) refl r (w.fit.each path.root) in record { rooms = w.rooms; holds = h.0; stored = w.stored; roomed = w.roomed; fit = h.1; rest = h.2 }) (λ o k' r. r.1)
-    value_fine (c ∷ cs) path w = absurd (none_stores k w.rest)
+  -- The value of a component is taken: what awaits it gets it, and the component is cleared next.
+  module _ (root : ℕ) (spot : Spot) (o : Id) (object : Object) (c : ℕ) (v : Value) (found : object_at s.heap o ≡ Some object) (listed : object.listed ≡ true) (at : slice_get object.cell.values c ≡ Some v) where
+    named_there : {holds : Holds} → Fit known.program.types known.program.variables none_spared s.heap a.places holds → (p : Id) → v ≡ Names p → IsThere s.heap p
+    named_there f p is = go (component_follows o object c v refl found listed at f)
       where
-        none_stores : (k' : Control) → StoresTo k' (GivesPath (c ∷ cs) path w.rooms w.holds) (GivesInto known s.heap (value_of path) w.rooms w.holds) → ⊥
-        none_stores [] g = g
-        none_stores (Stores x ∷ k') g = g
-        none_stores (Declares x ∷ k') g = g
-        none_stores (StoresIn o d ∷ k') g = g.1
-        none_stores (f ∷ k') g = g
+        go : MayFollow s.heap v → IsThere s.heap p
+        go follows = rw is at follows
 
-    pub right_fine : (right : RightForm) → Working known s.heap a.places s.masters (Takes known s.heap right k) → Fine known s.heap s.masters (right_next named right (running k a rest s))
-    unfolding GivesPath
-    right_fine nothing w = gives_on (Gives known nothing) (GivesInto known s.heap nothing) Null w (λ x k' r. record { rooms = w.rooms; holds = slice_set w.holds x hold.Null; stored = w.stored; roomed = w.roomed; fit = put_fit s.heap known.variables a.places w.holds x hold.Null Null (λ e. absurd e) refl w.fit; rest = r.0 }) (λ o k' r. r.1)
-    right_fine (value_of path) w = value_fine path.selectors path w
-    right_fine (allocates access items) w = goes_on known (Fills items ∷ Creates access (length items) ∷ k) a rest s (at_work w (allocates_awaits s.heap access items k w.rooms w.holds w.rest)) a.operands
-    right_fine (computes e) w = goes_on known (Computes e ∷ k) a rest s (at_work w (computes_awaits s.heap e k w.rooms w.holds w.rest)) a.operands
+    take_variable_by : (x d : ℕ) (ds : List ℕ) (k' : Control) (rooms : Rooms) (holds : Holds) (h : Hold) → hold_at holds root ≡ h → lost_by h spot ≡ None → Stored None s.heap s.masters → Roomed s.masters rooms → (f : Fit known.program.types known.program.variables none_spared s.heap a.places holds) → x ≢ root → IsCleared (at_path root (d ∷ ds) spot) k' → WalksOn s.heap a.places (at_path root (d ∷ ds) spot) (Names o) (c ∷ []) → variable_access known.program.variables x ≡ component_access known.program.types object c → RunsOn known k' rooms (slice_set holds x (value_hold (d ∷ ds) h)) → HalfBy known k' s.heap (slice_set a.places x v) s.masters
+    take_variable_by x d ds k' rooms holds hold.Null is kept stored roomed f ne cleared walks same more = absurd (no_walk (place_at a.places root) d ds (null_place f root spot is) walks.0)
+      where
+        no_walk : (u : Value) (e : ℕ) (es : List ℕ) → u ≡ Null → walk s.heap u (front (e ∷ es)) ≡ finds (Names o) → ⊥
+        no_walk u e [] null walks' = cc (null, walks')
+        no_walk u e (g ∷ es) null walks' = let none = rw null at walks' in cc none
+    take_variable_by x d ds k' rooms holds hold.Lost is kept stored roomed f ne cleared walks same more = absurd (cc kept)
+    take_variable_by x d ds k' rooms holds (hold.Own r) is kept stored roomed f ne cleared walks same more =
+        half_behind s.heap (slice_set a.places x v) root (d ∷ ds) spot k' o c cleared walks.1
+        (ap (λ u. walk s.heap u (front (d ∷ ds))) (read_other a.places x root v Null (λ e. ne (sym e))) ∙ walks.0) (object, found, listed)
+        (λ p e. named_there f p (sym (component_value s.heap [] o object c v found listed at) ∙ e))
+        (record { rooms = rooms; holds = slice_set holds x (hold.Own r); stored = stored_after s.heap o c Null stored; roomed = roomed; fit = take_variable x r o object c v found listed at same f; rest = more })
+    take_variable_by x d ds k' rooms holds (hold.Alias r) is kept stored roomed f ne cleared walks same more =
+        half_behind s.heap (slice_set a.places x v) root (d ∷ ds) spot k' o c cleared walks.1
+        (ap (λ u. walk s.heap u (front (d ∷ ds))) (read_other a.places x root v Null (λ e. ne (sym e))) ∙ walks.0) (object, found, listed)
+        (λ p e. named_there f p (sym (component_value s.heap [] o object c v found listed at) ∙ e))
+        (record { rooms = rooms; holds = slice_set holds x (hold.Own r); stored = stored_after s.heap o c Null stored; roomed = roomed; fit = take_variable x r o object c v found listed at same f; rest = more })
 
-    -- A value is stored, a variable is created, a line is written.
-    pub stores_fine : (x : ℕ) (v : Value) (vs : List Value) → Working known s.heap (slice_set a.places x v) s.masters (RunsOn known k) → Stepped known s.heap Quiet (running k (record { places = slice_set a.places x v; operands = vs }) rest s)
-    stores_fine x v vs w = runs_on known k (record { places = slice_set a.places x v; operands = vs }) rest s w Quiet tt
+    take_to : (cleared : Bool) (x d : ℕ) (ds : List ℕ) (k' : Control) (rooms : Rooms) (holds : Holds) → Stored None s.heap s.masters → Roomed s.masters rooms → Fit known.program.types known.program.variables none_spared s.heap a.places holds → WalksOn s.heap a.places (at_path root (d ∷ ds) spot) (Names o) (c ∷ []) → variable_access known.program.variables x ≡ component_access known.program.types object c → Goes (gives cleared x (value_of (at_path root (d ∷ ds) spot)) holds) (RunsOn known k' rooms) (Raised (λ e. right_raises (is_same e) (value_of (at_path root (d ∷ ds) spot))) (ways known k' rooms)) → Pairs cleared (value_of (at_path root (d ∷ ds) spot)) (λ path. x ≢ path.root) k' → HalfBy known k' s.heap (slice_set a.places x v) s.masters
+    take_to false x d ds k' rooms holds stored roomed f walks same g pairs =
+        let h = value_gives false x root (d ∷ ds) spot holds (RunsOn known k' rooms) (Raised (λ e. right_raises (is_same e) (value_of (at_path root (d ∷ ds) spot))) (ways known k' rooms)) g in
+        let no = cleared_is false (hold_at holds root) spot h.0 in
+        absurd (cc (no.0))
+    take_to true x d ds k' rooms holds stored roomed f walks same g pairs =
+        let h = value_gives true x root (d ∷ ds) spot holds (RunsOn known k' rooms) (Raised (λ e. right_raises (is_same e) (value_of (at_path root (d ∷ ds) spot))) (ways known k' rooms)) g in
+        take_variable_by x d ds k' rooms holds (hold_at holds root) refl h.0 stored roomed f pairs.0 pairs.1 walks same h.1
 
-    pub declares_fine : (x : ℕ) (v : Value) (vs : List Value) → Working known s.heap (slice_set a.places x v) s.masters (RunsOn known k) → Stepped known s.heap Quiet (owned (declared x) (running k (record { places = slice_set a.places x v; operands = vs }) rest s))
-    declares_fine x v vs w = runs_on known k (record { places = slice_set a.places x v; operands = vs }) rest (owned (declared x) s) (record { rooms = w.rooms; holds = w.holds; stored = stored_owning (declared x) w.stored; roomed = roomed_declares _ x s.masters w.rooms w.roomed; fit = w.fit; rest = w.rest }) Quiet tt
+    declares_none : (cleared : Bool) (x d : ℕ) (ds : List ℕ) (k' : Control) (rooms : Rooms) (holds : Holds) → Goes (gives cleared x (value_of (at_path root (d ∷ ds) spot)) holds) (RunsOn known k' rooms) (Raised (λ e. right_raises (is_same e) (value_of (at_path root (d ∷ ds) spot))) (ways known k' rooms)) → IsAlone cleared → ⊥
+    declares_none true x d ds k' rooms holds g alone = alone
+    declares_none false x d ds k' rooms holds g alone =
+        let h = value_gives false x root (d ∷ ds) spot holds (RunsOn known k' rooms) (Raised (λ e. right_raises (is_same e) (value_of (at_path root (d ∷ ds) spot))) (ways known k' rooms)) g in
+        let no = cleared_is false (hold_at holds root) spot h.0 in
+        cc (no.0)
 
-    pub writes_fine : (i : Option ℤ) (vs : List Value) → Working known s.heap a.places s.masters (RunsOn known k) → Fine known s.heap s.masters (line_next named i (running k (record a { operands = vs }) rest s))
-    writes_fine None vs w = tt
-    writes_fine (Some i) vs w = runs_on known k (record a { operands = vs }) rest s w (Line _) tt
+    -- The same into a component: then the path has one selector.
+    take_into : (cleared : Bool) (target : PathForm) (q : Id) (holder : Object) (e d : ℕ) (ds : List ℕ) (k' : Control) (rooms : Rooms) (holds : Holds) → object_at s.heap q ≡ Some holder → holder.listed ≡ true → Stored None s.heap s.masters → Roomed s.masters rooms → Fit known.program.types known.program.variables none_spared s.heap a.places holds → WalksOn s.heap a.places (at_path root (d ∷ ds) spot) (Names o) (c ∷ []) → component_access known.program.types holder e ≡ component_access known.program.types object c → Goes (gives_component cleared target (value_of (at_path root (d ∷ ds) spot)) holds) (RunsOn known k' rooms) (Raised (component_among (value_of (at_path root (d ∷ ds) spot))) (ways known k' rooms)) → Pairs cleared (value_of (at_path root (d ∷ ds) spot)) (λ taken. IsOne taken.selectors) k' → HalfBy known k' (store s.heap (Names q) e v) a.places s.masters
+    take_into false target q holder e d ds k' rooms holds at_q listed_q stored roomed f walks same g pairs =
+        let h = value_fills false target root (d ∷ ds) spot holds (RunsOn known k' rooms) (Raised (component_among (value_of (at_path root (d ∷ ds) spot))) (ways known k' rooms)) g in
+        let no = cleared_is false (hold_at holds root) spot h.0 in
+        absurd (cc (no.0))
+    take_into true target q holder e d (d' ∷ ds) k' rooms holds at_q listed_q stored roomed f walks same g pairs = absurd (pairs.0)
+    take_into true target q holder e d [] k' rooms holds at_q listed_q stored roomed f walks same g pairs =
+        let h = value_fills true target root (d ∷ []) spot holds (RunsOn known k' rooms) (Raised (component_among (value_of (at_path root (d ∷ []) spot))) (ways known k' rooms)) g in
+        half_behind (store s.heap (Names q) e v) a.places root (d ∷ []) spot k' o c pairs.1 walks.1 walks.0 (there_after s.heap q o e v (object, found, listed))
+        (λ p is. there_after s.heap q p e v (named_there f p (stored_still p is)))
+        (record { rooms = rooms; holds = holds; stored = stored_after (store s.heap (Names q) e v) o c Null (stored_after s.heap q e v stored); roomed = roomed; fit = take_component q holder e o object c v at_q listed_q found listed at same f; rest = h.1 })
+      where
+        stored_still : (p : Id) → component_in (object_at (store s.heap (Names q) e v) o) c ≡ Names p → v ≡ Names p
+        stored_still p is = go (same_place (component o c) (component q e))
+          where
+            go : (component o c ≡ component q e) ⊎ (component o c ≢ component q e) → v ≡ Names p
+            go (inl one) = store_value s.heap q holder at_q e v (bare a.places) p (ap (λ place. value_at (store s.heap (Names q) e v) (bare a.places) place) (sym one) ∙ is)
+            go (inr ne) = sym (component_value s.heap [] o object c v found listed at) ∙ (sym (store_reads s.heap q holder at_q e v (bare a.places) (component o c) ne) ∙ is)
+
+    take_ready : (d : ℕ) (ds : List ℕ) (to : VariableKind) (kinds : List VariableKind) (below : List Value) → component_access known.program.types object c ≡ access_of (Some to) → WalksOn s.heap a.places (at_path root (d ∷ ds) spot) (Names o) (c ∷ []) → typed.Fits known.program (cells_of s.heap) (to ∷ kinds) k → Working known s.heap a.places s.masters (Takes known s.heap (value_of (at_path root (d ∷ ds) spot)) k) → ReadyIn known Running k s.heap a.places (v ∷ below) s.masters
+    take_ready d ds to kinds below is walks fits w = go k fits w
+      where
+        into : (q : Value) (e : ℕ) (k' : Control) → typed.Fits known.program (cells_of s.heap) (to ∷ kinds) (StoresIn q e ∷ k') → (w' : Working known s.heap a.places s.masters (Takes known s.heap (value_of (at_path root (d ∷ ds) spot)) (StoresIn q e ∷ k'))) → StoringIn known q e v k' s.heap a.places s.masters
+        into Null e k' fits' w' = absurd (w'.rest.0)
+        into (Names q) e k' fits' w' =
+            let there = w'.rest.0 in
+            let g = w'.rest.1 in
+            inl (there, inr (take_into g.1 g.0 q there.0 e d ds k' w'.rooms w'.holds there.1 there.2 w'.stored w'.roomed w'.fit walks (component_goes known.program s.heap to kinds q there.0 e k' there.1 fits' ∙ sym is) g.2 g.3))
+        into (Scalar n) e k' fits' w' = absurd (w'.rest.0)
+
+        go : (k' : Control) → typed.Fits known.program (cells_of s.heap) (to ∷ kinds) k' → Working known s.heap a.places s.masters (Takes known s.heap (value_of (at_path root (d ∷ ds) spot)) k') → ReadyIn known Running k' s.heap a.places (v ∷ below) s.masters
+        go [] fits' w' = absurd (w'.rest)
+        go (Stores x ∷ k') fits' w' = inr (take_to w'.rest.0 x d ds k' w'.rooms w'.holds w'.stored w'.roomed w'.fit walks (variable_goes known.program s.heap to kinds x k' fits' ∙ sym is) w'.rest.1 w'.rest.2)
+        go (Declares x ∷ k') fits' w' = absurd (declares_none w'.rest.0 x d ds k' w'.rooms w'.holds w'.rest.1 w'.rest.2)
+        go (StoresIn q e ∷ k') fits' w' = into q e k' fits' w'
+        go (f ∷ k') fits' w' = absurd (w'.rest)
+
+  -- A path that is moved is followed by one selector.
+  module _ (root : ℕ) (cs : List ℕ) (spot : Spot) (below : List Value) where
+    at_last : (o : Id) (object : Object) (c : ℕ) (v : Value) (from : Option VariableKind) (to : VariableKind) (kinds : List VariableKind) → object_at s.heap o ≡ Some object → object.listed ≡ true → slice_get object.cell.values c ≡ Some v → access_of from ≡ Some object.cell.access → selected_kind known.program.types from c ≡ Some to → typed.Fits known.program (cells_of s.heap) (to ∷ kinds) k → WalksOn s.heap a.places (at_path root cs spot) (Names o) (c ∷ []) → Working known s.heap a.places s.masters (Takes known s.heap (value_of (at_path root cs spot)) k) → ReadyIn known Running k s.heap a.places (v ∷ below) s.masters
+    at_last o object c v from to kinds found listed at own leads fits walks w = go cs walks w
+      where
+        go : (ds : List ℕ) → WalksOn s.heap a.places (at_path root ds spot) (Names o) (c ∷ []) → Working known s.heap a.places s.masters (Takes known s.heap (value_of (at_path root ds spot)) k) → ReadyIn known Running k s.heap a.places (v ∷ below) s.masters
+        go [] walks' w' = absurd (cc (walks'.1))
+        go (d ∷ ds) walks' w' = take_ready root spot o object c v found listed at d ds to kinds below (selected_of known.program.types from object c to own leads) walks' fits w'
+
+    moved_on : (o : Id) (object : Object) (c : ℕ) (ds : List ℕ) (v : Value) (from : Option VariableKind) (to : VariableKind) (kinds : List VariableKind) → object_at s.heap o ≡ Some object → object.listed ≡ true → slice_get object.cell.values c ≡ Some v → access_of from ≡ Some object.cell.access → selectors_kind known.program.types from (c ∷ ds) ≡ Some to → typed.Fits known.program (cells_of s.heap) (to ∷ kinds) k → WalksOn s.heap a.places (at_path root cs spot) (Names o) (c ∷ ds) → (w : Working known s.heap a.places s.masters (Takes known s.heap (value_of (at_path root cs spot)) k)) → MayRaise known true ConstraintError k w.rooms w.holds → Stepped known s.heap (Followed (Names o)) (reading named ds v (running k (record a { operands = below }) rest s))
+    moved_on o object c [] v from to kinds found listed at own leads fits walks w raise =
+        stays known (Followed (Names o)) (running k (record a { operands = v ∷ below }) rest s)
+        (tt, at_last o object c v from to kinds found listed at own leads fits walks w)
+        (record { id = o; object = object; is = refl; found = found; out = exists_out o object found ((w.stored.sane o object found).listed_exists listed) w.stored })
+    moved_on o object c (d ∷ ds) v from to kinds found listed at own leads fits walks w raise =
+        let seen : walk s.heap (Names o) (c ∷ front (d ∷ ds)) ≡ walk s.heap v (front (d ∷ ds)) = walk_on s.heap o object c (front (d ∷ ds)) v found ((w.stored.sane o object found).listed_exists listed) at in
+        stays known (Followed (Names o)) (running (Follows (d ∷ ds) ∷ k) (record a { operands = v ∷ below }) rest s)
+        (tt, inl (at_work w (component_follows o object c v refl found listed at w.fit, raise, inr (inr (at_path root cs spot, (walks.0 ∙ seen, walks.1), w.rest)))))
+        (record { id = o; object = object; is = refl; found = found; out = exists_out o object found ((w.stored.sane o object found).listed_exists listed) w.stored })
+
+    moved_component : (o : Id) (object : Object) (c : ℕ) (ds : List ℕ) (found_value : Option Value) (from : Option VariableKind) (to : VariableKind) (kinds : List VariableKind) → slice_get object.cell.values c ≡ found_value → object_at s.heap o ≡ Some object → object.listed ≡ true → access_of from ≡ Some object.cell.access → selectors_kind known.program.types from (c ∷ ds) ≡ Some to → typed.Fits known.program (cells_of s.heap) (to ∷ kinds) k → WalksOn s.heap a.places (at_path root cs spot) (Names o) (c ∷ ds) → (w : Working known s.heap a.places s.masters (Takes known s.heap (value_of (at_path root cs spot)) k)) → MayRaise known true ConstraintError k w.rooms w.holds → Fine known s.heap s.masters (component_next named (Names o) ds found_value (running k (record a { operands = below }) rest s))
+    moved_component o object c ds None from to kinds at found listed own leads fits walks w raise = tt
+    moved_component o object c ds (Some v) from to kinds at found listed own leads fits walks w raise = moved_on o object c ds v from to kinds found listed at own leads fits walks w raise
+
+    moves_fine : (c : ℕ) (ds : List ℕ) (u : Value) (from : Option VariableKind) (to : VariableKind) (kinds : List VariableKind) → MayFollow s.heap u → ((o : Id) (object : Object) → u ≡ Names o → object_at s.heap o ≡ Some object → access_of from ≡ Some object.cell.access) → selectors_kind known.program.types from (c ∷ ds) ≡ Some to → typed.Fits known.program (cells_of s.heap) (to ∷ kinds) k → WalksOn s.heap a.places (at_path root cs spot) u (c ∷ ds) → (w : Working known s.heap a.places s.masters (Takes known s.heap (value_of (at_path root cs spot)) k)) → MayRaise known true ConstraintError k w.rooms w.holds → Fine known s.heap s.masters (follow_next named u c ds (look s.heap u) (running k (record a { operands = below }) rest s))
+    moves_fine c ds Null from to kinds follows own leads fits walks w raise = jumps_less known k (record a { operands = below }) rest s (Raising ConstraintError) (at_work w (raise refl))
+    moves_fine c ds (Names o) from to kinds follows own leads fits walks w raise =
+        rw (follows.1, (w.stored.sane o follows.0 follows.1).listed_exists follows.2)
+        (moved_component o follows.0 c ds (slice_get follows.0.cell.values c) from to kinds refl follows.1 follows.2 (own o follows.0 refl follows.1) leads fits walks w raise)
+    moves_fine c ds (Scalar n) from to kinds follows own leads fits walks w raise = tt
+
+  -- What is moved is a variable's value, or a component's.
+  value_fine : (root : ℕ) (cs : List ℕ) (spot : Spot) (kinds : List VariableKind) → typed.Fits known.program (cells_of s.heap) kinds (Evaluates (value_of (at_path root cs spot)) ∷ k) → Working known s.heap a.places s.masters (Takes known s.heap (value_of (at_path root cs spot)) k) → Fine known s.heap s.masters (path_next named cs (place_at a.places root) (running k a rest s))
+  value_fine root [] spot kinds fits w = ready_on known k a rest s (place_at a.places root ∷ a.operands) (variable_ready root spot kinds fits w)
+  value_fine root (c ∷ cs) spot kinds (kind, takes, fits) w =
+      let kept = kept_root known k s.heap a.places s.masters root c cs spot w in
+      moves_fine root (c ∷ cs) spot a.operands c cs (place_at a.places root) (variable_kind known.program.variables root) kind kinds
+      (root_follows root spot kept.0 w.fit)
+      (λ o object is found. root_access w.fit root spot o object kept.0 is found)
+      (path_goes known.program kind root (c ∷ cs) spot takes) fits (refl, refl) w (λ may. kept.1)
+
+  -- What an allocator leads to.
+  allocating : (access : ℕ) (items : List ItemForm) (kind : VariableKind) (kinds : List VariableKind) → kind_takes known.program.types known.program.variables kind (allocates access items) ≡ true → typed.Fits known.program (cells_of s.heap) (kind ∷ kinds) k → (rooms : Rooms) (holds : Holds) → Takes known s.heap (allocates access items) k rooms holds → NoneBroken holds (uses_in_items [] items) × Allocating known s.heap access items k rooms holds
+  allocating access items kind kinds takes fits rooms holds = go k fits
+    where
+      al : Allocated known.program.types known.program.variables kind access items
+      al = allocated_goes known.program.types known.program.variables kind access items takes
+
+      to : (x : ℕ) (k' : Control) → variable_access known.program.variables x ≡ access_of (Some kind) → (cleared : Bool) → Goes (gives cleared x (allocates access items) holds) (RunsOn known k' rooms) (Raised (λ e. right_raises (is_same e) (allocates access items)) (ways known k' rooms)) → NoneBroken holds (uses_in_items [] items) × (((variable_access known.program.variables x ≡ Some access) × RunsOn known k' rooms (slice_set (without_values (moved_by_items items) holds) x (hold.Own Whole))) × Raised (λ e. right_raises (is_same e) (allocates access items)) (ways known k' rooms) holds)
+      to x k' is cleared g =
+          let u = using_goes (uses_in_items [] items) holds (ends_with true holds (slice_set (without_values (moved_by_items items) holds) x (hold.Own Whole))) (RunsOn known k' rooms) (Raised (λ e. right_raises (is_same e) (allocates access items)) (ways known k' rooms)) g in
+          (u.0, ((is ∙ al.goes, u.1.0), u.1.1))
+
+      into : (o : Value) (c : ℕ) (k' : Control) → typed.Fits known.program (cells_of s.heap) (kind ∷ kinds) (StoresIn o c ∷ k') → IsHolder s.heap o → FillsIn known (allocates access items) rooms holds k' → NoneBroken holds (uses_in_items [] items) × ((Accepts known s.heap o c (Some access) × RunsOn known k' rooms (without_values (moved_by_items items) holds)) × Raised (component_among (allocates access items)) (ways known k' rooms) holds)
+      into Null c k' fits' there g = absurd there
+      into (Names o) c k' fits' there g =
+          let u = using_goes (reads_it g.0 ∷ uses_in_items [] items) holds (ends_with true holds (without_values (moved_by_items items) holds)) (RunsOn known k' rooms) (Raised (component_among (allocates access items)) (ways known k' rooms)) g.2 in
+          ((first_kept holds (reads_it g.0) (uses_in_items [] items) u.0).1, (((there.0, there.1, there.2, component_goes known.program s.heap kind kinds o there.0 c k' there.1 fits' ∙ al.goes), u.1.0), u.1.1))
+      into (Scalar n) c k' fits' there g = absurd there
+
+      go : (k' : Control) → typed.Fits known.program (cells_of s.heap) (kind ∷ kinds) k' → Takes known s.heap (allocates access items) k' rooms holds → NoneBroken holds (uses_in_items [] items) × Allocating known s.heap access items k' rooms holds
+      go [] fits' g = absurd g
+      go (Stores x ∷ k') fits' g =
+          let h = to x k' (variable_goes known.program s.heap kind kinds x k' fits') g.0 g.1 in
+          (h.0, record { components = al.components; reached = al.reached; fit = al.fit; fails = λ may. h.1.1 ConstraintError (rw may refl); refused = λ may. h.1.1 StorageError refl; to = h.1.0 })
+      go (Declares x ∷ k') fits' g =
+          let h = to x k' (declared_goes known.program s.heap kind kinds x k' fits') g.0 g.1 in
+          (h.0, record { components = al.components; reached = al.reached; fit = al.fit; fails = λ may. h.1.1 ConstraintError (rw may refl); refused = λ may. h.1.1 StorageError refl; to = h.1.0 })
+      go (StoresIn o c ∷ k') fits' g =
+          let h = into o c k' fits' g.0 g.1 in
+          (h.0, record { components = al.components; reached = al.reached; fit = al.fit; fails = λ may. h.1.1 ConstraintError refl; refused = λ may. h.1.1 StorageError refl; to = h.1.0 })
+      go (f ∷ k') fits' g = absurd g
+
+  items_keep : (holds : Holds) (earlier : List ℕ) (items : List ItemForm) → NoneBroken holds (uses_in_items earlier items) → ItemsKeep holds earlier items
+  items_keep holds earlier [] kept = tt
+  items_keep holds earlier (i ∷ is) kept =
+      let h = kept_apart holds (uses_in_item earlier i) (uses_in_items (moved_by_item i ++ earlier) is) kept in
+      (h.0, items_keep holds (moved_by_item i ++ earlier) is h.1)
+
+  -- An expression goes to a variable on which nothing relies, or into a component without access values.
+  computing : (e : ExpressionForm) (kind : VariableKind) (kinds : List VariableKind) → kind_takes known.program.types known.program.variables kind (computes e) ≡ true → typed.Fits known.program (cells_of s.heap) (kind ∷ kinds) k → (rooms : Rooms) (holds : Holds) → Takes known s.heap (computes e) k rooms holds → Computing known s.heap a.places a.operands e k rooms holds
+  computing e kind kinds takes fits rooms holds = go k fits
+    where
+      to : (x : ℕ) (k' : Control) (cleared : Bool) → Goes (gives cleared x (computes e) holds) (RunsOn known k' rooms) (Raised (λ y. right_raises (is_same y) (computes e)) (ways known k' rooms)) → NoneBroken holds (uses_in e) × (RunsOn known k' rooms (slice_set holds x hold.Lost) × (expression_raises e ≡ true → Raised (λ y. right_raises (is_same y) (computes e)) (ways known k' rooms) holds))
+      to x k' cleared g =
+          let raised' = Raised (λ y. right_raises (is_same y) (computes e)) (ways known k' rooms) in
+          let u = using_goes (uses_in e) holds (ends_with (expression_raises e) holds (slice_set holds x hold.Lost)) (RunsOn known k' rooms) raised' g in
+          let n = ends_goes (expression_raises e) holds (slice_set holds x hold.Lost) (RunsOn known k' rooms) raised' u.1 in
+          (u.0, (n.0, n.1))
+
+      into : (o : Value) (c : ℕ) (k' : Control) → typed.Fits known.program (cells_of s.heap) (kind ∷ kinds) (StoresIn o c ∷ k') → IsHolder s.heap o → FillsIn known (computes e) rooms holds k' → NoneBroken holds (uses_in e) × ((Accepts known s.heap o c None × RunsOn known k' rooms holds) × Raised (component_among (computes e)) (ways known k' rooms) holds)
+      into Null c k' fits' there g = absurd there
+      into (Names o) c k' fits' there g =
+          let u = using_goes (reads_it g.0 ∷ uses_in e) holds (ends_with true holds holds) (RunsOn known k' rooms) (Raised (component_among (computes e)) (ways known k' rooms)) g.2 in
+          ((first_kept holds (reads_it g.0) (uses_in e) u.0).1, (((there.0, there.1, there.2, component_goes known.program s.heap kind kinds o there.0 c k' there.1 fits' ∙ computed_goes known.program.types known.program.variables kind e takes), u.1.0), u.1.1))
+      into (Scalar n) c k' fits' there g = absurd there
+
+      go : (k' : Control) → typed.Fits known.program (cells_of s.heap) (kind ∷ kinds) k' → Takes known s.heap (computes e) k' rooms holds → Computing known s.heap a.places a.operands e k' rooms holds
+      go [] fits' g = absurd g
+      go (Stores x ∷ k') fits' g = let h = to x k' g.0 g.1 in (h.0, (λ may. h.1.1 may ConstraintError may), h.1.0)
+      go (Declares x ∷ k') fits' g = let h = to x k' g.0 g.1 in (h.0, (λ may. h.1.1 may ConstraintError may), h.1.0)
+      go (StoresIn o c ∷ k') fits' g = let h = into o c k' fits' g.0 g.1 in (h.0, (λ may. h.1.1 ConstraintError refl), h.1.0)
+      go (f ∷ k') fits' g = absurd g
+
+  -- Null goes to a variable, or into a component, where it counts as stored already.
+  nothing_ready : EvaluatesTo known nothing k s.heap a.places s.masters → ReadyIn known Running k s.heap a.places (Null ∷ a.operands) s.masters
+  nothing_ready e = go k e
+    where
+      to : (cleared : Bool) (x : ℕ) (k' : Control) (rooms : Rooms) (holds : Holds) → Stored None s.heap s.masters → Roomed s.masters rooms → Fit known.program.types known.program.variables none_spared s.heap a.places holds → Goes (gives cleared x nothing holds) (RunsOn known k' rooms) (Raised (λ y. right_raises (is_same y) nothing) (ways known k' rooms)) → Working known s.heap (slice_set a.places x Null) s.masters (RunsOn known k')
+      to cleared x k' rooms holds stored roomed fit g = record { rooms = rooms; holds = slice_set holds x hold.Null; stored = stored; roomed = roomed; fit = put_null x fit; rest = g.0 }
+
+      clears_in : (o : Value) (c : ℕ) (k' : Control) → Clearing known o c k' s.heap a.places s.masters → StoringIn known o c Null k' s.heap a.places s.masters
+      clears_in Null c k' h = absurd h
+      clears_in (Names o) c k' h = inl (h.0, inl h.1)
+      clears_in (Scalar n) c k' h = absurd h
+
+      go : (k' : Control) → EvaluatesTo known nothing k' s.heap a.places s.masters → ReadyIn known Running k' s.heap a.places (Null ∷ a.operands) s.masters
+      go [] w = absurd (w.rest)
+      go (Stores x ∷ k') w = inl (to w.rest.0 x k' w.rooms w.holds w.stored w.roomed w.fit w.rest.1)
+      go (Declares x ∷ k') w = to w.rest.0 x k' w.rooms w.holds w.stored w.roomed w.fit w.rest.1
+      go (StoresIn o c ∷ k') h = clears_in o c k' h
+      go (f ∷ k') w = absurd (w.rest)
+
+  -- What is assigned is evaluated.
+  pub right_fine : (right : RightForm) (kinds : List VariableKind) → typed.Fits known.program (cells_of s.heap) kinds (Evaluates right ∷ k) → EvaluatesTo known right k s.heap a.places s.masters → Fine known s.heap s.masters (right_next named right (running k a rest s))
+  right_fine nothing kinds fits e = ready_on known k a rest s (Null ∷ a.operands) (nothing_ready e)
+  right_fine (value_of path) kinds fits w = value_fine path.root path.selectors path.spot kinds fits w
+  right_fine (allocates access items) kinds (kind, takes, fits) w =
+      let h = allocating access items kind kinds takes fits w.rooms w.holds w.rest in
+      ready_on known (Fills items ∷ Creates access (length items) ∷ k) a rest s a.operands
+      (at_work w (record { done = []; filled = tt; counted = refl; before = tt; behind = items_keep w.holds [] items h.0; leads = h.1 }))
+  right_fine (computes e) kinds (kind, takes, fits) w =
+      ready_on known (Computes e ∷ k) a rest s a.operands (at_work w (computing e kind kinds takes fits w.rooms w.holds w.rest))
+
+  -- What typing says of a value that is followed on.
+  followed_kind : (kinds : List VariableKind) (cs : List ℕ) (v : Value) (below : List Value) → typed.Fits known.program (cells_of s.heap) kinds (Follows cs ∷ k) → AreComputed (cells_of s.heap) kinds (v ∷ below) → (from : VariableKind) × (to : VariableKind) × (ks : List VariableKind) × ((o : Id) (object : Object) → v ≡ Names o → object_at s.heap o ≡ Some object → access_of (Some from) ≡ Some object.cell.access) × (selectors_kind known.program.types (Some from) cs ≡ Some to) × typed.Fits known.program (cells_of s.heap) (to ∷ ks) k
+  followed_kind kinds cs v below (ks, from, to, same, leads, fits) computed =
+      let has : AreComputed (cells_of s.heap) (from ∷ ks) (v ∷ below) = subst (λ (qs : List VariableKind). AreComputed (cells_of s.heap) qs (v ∷ below)) same computed in
+      (from, to, ks, (λ o object is found. kind_names s.heap from o object (rw is at has.0) found), leads, fits)
+
+  -- A value that is moved is followed on.
+  moving : (cs : List ℕ) (v : Value) (below : List Value) (kinds : List VariableKind) → typed.Fits known.program (cells_of s.heap) kinds (Follows cs ∷ k) → AreComputed (cells_of s.heap) kinds (v ∷ below) → MayFollow s.heap v → (w : Working known s.heap a.places s.masters (MovesOn known s.heap a.places v cs k)) → MayRaise known true ConstraintError k w.rooms w.holds → Fine known s.heap s.masters (path_next named cs v (running k (record a { operands = below }) rest s))
+  moving [] v below kinds fits computed follows w raise = absurd (w.rest)
+  moving (c ∷ ds) v below kinds fits computed follows w raise =
+      let t = followed_kind kinds (c ∷ ds) v below fits computed in
+      let m = w.rest in
+      moves_fine m.0.root m.0.selectors m.0.spot below c ds v (Some t.0) t.1 t.2 follows t.3 t.4 t.5 m.1 (at_work w m.2) raise
+
+  -- A path is followed.
+  pub follows_fine : (cs : List ℕ) (v : Value) (below : List Value) (kinds : List VariableKind) → typed.Fits known.program (cells_of s.heap) kinds (Follows cs ∷ k) → AreComputed (cells_of s.heap) kinds (v ∷ below) → (Working known s.heap a.places s.masters (FollowsFor known s.heap a.places v below cs k) ⊎ HalfFollows known v cs k s.heap a.places s.masters) → Fine known s.heap s.masters (path_next named cs v (running k (record a { operands = below }) rest s))
+  follows_fine cs v below kinds fits computed (inr h) = half_fine known a rest s below k cs v h
+  follows_fine cs v below kinds fits computed (inl w) = go w.rest.2
+    where
+      go : (Awaits known s.heap a.places below k w.rooms w.holds ⊎ (FindsFor known s.heap k w.rooms w.holds ⊎ MovesOn known s.heap a.places v cs k w.rooms w.holds)) → Fine known s.heap s.masters (path_next named cs v (running k (record a { operands = below }) rest s))
+      go (inl awaits) = reads_fine known k a rest s below cs v (λ may. w.rest.0) (at_work w awaits) (λ may. w.rest.1 refl)
+      go (inr (inl for)) = finds_fine known a rest s below k cs v (at_work w for) w.rest.0 w.rest.1
+      go (inr (inr moves)) = moving cs v below kinds fits computed w.rest.0 (at_work w moves) w.rest.1
+
+  -- A value is stored, a variable is created, a line is written.
+  pub stores_fine : (x : ℕ) (v : Value) (vs : List Value) → Resumes known s.heap (slice_set a.places x v) s.masters k → Stepped known s.heap Quiet (running k (record { places = slice_set a.places x v; operands = vs }) rest s)
+  stores_fine x v vs r = resumes_on known k (record { places = slice_set a.places x v; operands = vs }) rest s r Quiet tt
+
+  pub declares_fine : (x : ℕ) (v : Value) (vs : List Value) → Working known s.heap (slice_set a.places x v) s.masters (RunsOn known k) → Stepped known s.heap Quiet (owned (declared x) (running k (record { places = slice_set a.places x v; operands = vs }) rest s))
+  declares_fine x v vs w = runs_on known k (record { places = slice_set a.places x v; operands = vs }) rest (owned (declared x) s) (record { rooms = w.rooms; holds = w.holds; stored = stored_owning (declared x) w.stored; roomed = roomed_declares _ x s.masters w.rooms w.roomed; fit = w.fit; rest = w.rest }) Quiet tt
+
+  pub writes_fine : (i : Option ℤ) (vs : List Value) → Working known s.heap a.places s.masters (RunsOn known k) → Fine known s.heap s.masters (line_next named i (running k (record a { operands = vs }) rest s))
+  writes_fine None vs w = tt
+  writes_fine (Some i) vs w = runs_on known k (record a { operands = vs }) rest s w (Line _) tt

@@ -27,16 +27,16 @@ use Rattle.ada_program.specs.declared.program.VariableKind.TheVariants as variab
 use Rattle.ada_program.specs.declared.program.Program.{Program}
 use Rattle.ada_program.specs.Form.{reads, writes, StmtForm, no_stmts, a_stmt, expression_form, stmt_form, stmt_forms, chooses_form, repeats_form, no_handlers, statement_rules, expression_rules}
 use Rattle.ada_program.specs.Form as f
-use Rattle.ada_flow.specs.declared.rule.Rule.TheVariants.{LoopState}
-use Rattle.ada_flow.specs.Flow.{faults, uses_in, ObeysRules}
+use Rattle.ada_flow.specs.declared.rule.Rule.TheVariants.{LostValue, LoopState}
+use Rattle.ada_flow.specs.Flow.{uses_in}
 use Rattle.ada_meaning.specs.declared.event.Halt.TheVariants.{Finished, Unhandled, Erroneous}
 use Rattle.ada_meaning.specs.declared.event.Why.TheVariants.{FollowsGone, EndsTwice}
 use Rattle.ada_meaning.specs.Beginning.{BeginsStatement}
 use Rattle.ada_meaning.specs.Named.{next}
 use Rattle.ada_meaning.specs.Run.{Choice, settled, grants, takes}
-use Rattle.ada_sound.specs.Always.{ReachesStatement, FinishesAfter, Breaks, HaltsAfter, HaltsSomewhere}
+use Rattle.ada_sound.specs.Always.{IsChecked, ReachesStatement, FinishesAfter, Breaks, HaltsAfter, HaltsSomewhere}
 use Rattle.ada_sound.specs.Examples.{example_events, example_path, seven_to_x, repeating_stmts, repeating_events, returning_stmts, returning_events, nesting_stmts, nesting_events, losing_stmts, losing_events, leaving_stmts}
-use Rattle.ada_sound.proofs.Choices.{run_by, halts_by, halts_after, flow_by}
+use Rattle.ada_sound.proofs.Choices.{run_by, halts_by, halts_after, accepted_by, breaks_by}
 use denote.RawPtr.{null_ptr}
 
 -- So many steps that leave nothing open.
@@ -111,9 +111,9 @@ y_is_x = stmt.Assign y (right.Path x)
 abbrev pub program : Program
 program = program_of (x_is_seven ∷ y_is_x ∷ x_is_eight ∷ stmt.PutImage (Reads value_of_y) ∷ stmt.Free (record { 0 = 1 }) y ∷ []) (omega arith)
 
-pub obeys : ObeysRules program
+pub accepted : IsChecked program
 unfolding expression_form stmt_form uses_in
-obeys = (_, _, refl)
+accepted = accepted_by program (stmt_forms program) no_handlers refl refl _ _ refl refl refl
 
 -- The declarations.
 pub reaches : ReachesStatement program
@@ -129,9 +129,9 @@ finishes = halts_after program (stmt_forms program) no_handlers refl refl [] (st
 abbrev pub raising : Program
 raising = program_of (x_is_seven ∷ stmt.PutImage (Reads value_of_y) ∷ []) (omega arith)
 
-pub raising_obeys : ObeysRules raising
+pub raising_accepted : IsChecked raising
 unfolding expression_form stmt_form uses_in
-raising_obeys = (_, _, refl)
+raising_accepted = accepted_by raising (stmt_forms raising) no_handlers refl refl _ _ refl refl refl
 
 -- The exception leaves the main procedure, and the object goes with its collection.
 pub raises : HaltsSomewhere (Unhandled ConstraintError) raising
@@ -142,9 +142,9 @@ raises = halts_by raising (stmt_forms raising) no_handlers refl refl [] (steps 1
 abbrev pub following_gone : Program
 following_gone = program_of (x_is_seven ∷ y_is_x ∷ stmt.Free (record { 0 = 1 }) y ∷ stmt.PutImage (Reads value_of_x) ∷ []) (omega arith)
 
-pub following_breaks : ObeysRules following_gone → ⊥
+pub following_breaks : Breaks LostValue following_gone
 unfolding expression_form stmt_form uses_in
-following_breaks obeys = cc (obeys.2)
+following_breaks = breaks_by following_gone (stmt_forms following_gone) no_handlers refl refl LostValue spot refl refl refl
 
 pub follows : HaltsSomewhere (Erroneous FollowsGone) following_gone
 unfolding next expression_form stmt_form uses_in
@@ -154,9 +154,9 @@ follows = halts_by following_gone (stmt_forms following_gone) no_handlers refl r
 abbrev pub freeing_twice : Program
 freeing_twice = program_of (x_is_seven ∷ y_is_x ∷ stmt.Free (record { 0 = 1 }) y ∷ stmt.Free (record { 0 = 1 }) x ∷ []) (omega arith)
 
-pub freeing_breaks : ObeysRules freeing_twice → ⊥
+pub freeing_breaks : Breaks LostValue freeing_twice
 unfolding expression_form stmt_form uses_in
-freeing_breaks obeys = cc (obeys.2)
+freeing_breaks = breaks_by freeing_twice (stmt_forms freeing_twice) no_handlers refl refl LostValue spot refl refl refl
 
 pub ends : HaltsSomewhere (Erroneous EndsTwice) freeing_twice
 unfolding next expression_form stmt_form uses_in
@@ -184,9 +184,9 @@ unfolding expression_form stmt_form
 repeating_form =
     alone (repeats_form None (vec (repeating_if ∷ []) (omega arith)) spot ∙ ap (λ ss. f.repeats None ss spot) (alone (chooses_form repeating_branches repeating_others)))
 
-pub repeating_obeys : ObeysRules repeating
+pub repeating_accepted : IsChecked repeating
 unfolding expression_form stmt_form uses_in
-repeating_obeys = (_, _, flow_by repeating repeating_stmts no_handlers repeating_form refl _ refl)
+repeating_accepted = accepted_by repeating repeating_stmts no_handlers repeating_form refl _ _ refl refl refl
 
 -- Two turns.
 pub repeats : FinishesAfter repeating_events repeating
@@ -205,9 +205,9 @@ unfolding expression_form stmt_form
 returning_form =
     ap (λ loop. seven_to_x (a_stmt loop (a_stmt (f.returns spot) no_stmts))) (repeats_form (Some (NullTest x false)) returning_turn spot)
 
-pub returning_obeys : ObeysRules returning
+pub returning_accepted : IsChecked returning
 unfolding expression_form stmt_form uses_in
-returning_obeys = (_, _, flow_by returning returning_stmts no_handlers returning_form refl _ refl)
+returning_accepted = accepted_by returning returning_stmts no_handlers returning_form refl _ _ refl refl refl
 
 -- One turn, and the condition once more.
 pub returns : FinishesAfter returning_events returning
@@ -282,9 +282,9 @@ nesting = counting_program_of (stmt.Loop None (vec outer_turn (omega arith)) spo
 pub nesting_form : stmt_forms nesting ≡ nesting_stmts
 nesting_form = simp (statement_rules, expression_rules)
 
-pub nesting_obeys : ObeysRules nesting
+pub nesting_accepted : IsChecked nesting
 unfolding expression_form stmt_form uses_in
-nesting_obeys = (_, _, flow_by nesting nesting_stmts no_handlers nesting_form refl _ refl)
+nesting_accepted = accepted_by nesting nesting_stmts no_handlers nesting_form refl _ _ refl refl refl
 
 -- Two turns of the outer loop.
 pub nests : FinishesAfter nesting_events nesting
@@ -304,7 +304,7 @@ losing_form = ap (λ loop. seven_to_x (a_stmt loop no_stmts)) (repeats_form None
 
 pub losing_breaks : Breaks LoopState losing
 unfolding expression_form stmt_form uses_in
-losing_breaks = (spot, flow_by losing losing_stmts no_handlers losing_form refl (faults spot LoopState) refl)
+losing_breaks = breaks_by losing losing_stmts no_handlers losing_form refl LoopState spot refl refl refl
 
 -- The second turn follows what the first one freed.
 pub loses : HaltsAfter losing_events (Erroneous FollowsGone) losing
@@ -325,7 +325,7 @@ leaving_form =
 
 pub leaving_breaks : Breaks LoopState leaving
 unfolding expression_form stmt_form uses_in
-leaving_breaks = (spot, flow_by leaving leaving_stmts no_handlers leaving_form refl (faults spot LoopState) refl)
+leaving_breaks = breaks_by leaving leaving_stmts no_handlers leaving_form refl LoopState spot refl refl refl
 
 -- What is behind the loop follows what the loop freed.
 pub leaves : HaltsSomewhere (Erroneous FollowsGone) leaving

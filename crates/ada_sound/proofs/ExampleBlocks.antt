@@ -26,14 +26,14 @@ use Rattle.ada_program.specs.declared.program.Program.{Program}
 use Rattle.ada_program.specs.Form.{expression_form, stmt_forms, handler_forms, no_handlers, statement_rules, expression_rules}
 use Rattle.ada_flow.specs.declared.rule.Hold.TheVariants.{Null}
 use Rattle.ada_flow.specs.declared.rule.Rule.TheVariants.{LostValue, LoopState}
-use Rattle.ada_flow.specs.Flow.{faults, uses_in, ObeysRules}
+use Rattle.ada_flow.specs.Flow.{uses_in}
 use Rattle.ada_meaning.specs.declared.event.Halt.TheVariants.{Finished, Erroneous}
 use Rattle.ada_meaning.specs.declared.event.Why.TheVariants.{FollowsGone}
 use Rattle.ada_meaning.specs.Named.{next}
 use Rattle.ada_meaning.specs.Run.{grants, takes}
-use Rattle.ada_sound.specs.Always.{FinishesAfter, Breaks, IsFineAtEnds, HaltsAfter}
+use Rattle.ada_sound.specs.Always.{IsChecked, FinishesAfter, Breaks, IsIllFormed, IsFineAtEnds, HaltsAfter}
 use Rattle.ada_sound.specs.Examples.{full, handling_stmts, handling_handlers, handling_events, enclosing_stmts, enclosing_events, unwinding_stmts, unwinding_handlers, unwinding_events, counting_stmts, counting_handlers, counting_events, raising_stmts, raising_handlers, raising_events, overflowing_stmts, overflowing_handlers, outliving_stmts, outliving_events, escaping_stmts, mistyping_stmts, mistyping_events}
-use Rattle.ada_sound.proofs.Choices.{halts_after, flow_by, fine_by}
+use Rattle.ada_sound.proofs.Choices.{halts_after, accepted_by, breaks_by, ill_formed_by, fine_at_ends_by}
 use Rattle.ada_sound.proofs.Example.{steps, vec, no_name, spot, types, link, exceptions, handled_program_of, declarations, n_declared, boxed, n, x, y, value_of_x, value_of_y, x_is_seven, y_is_x}
 
 -- raise Full;
@@ -70,9 +70,9 @@ handling_form = simp (statement_rules, expression_rules)
 pub handling_handles : handler_forms handling ≡ handling_handlers
 handling_handles = simp (statement_rules, expression_rules)
 
-pub handling_obeys : ObeysRules handling
+pub handling_accepted : IsChecked handling
 unfolding uses_in
-handling_obeys = (_, _, flow_by handling handling_stmts handling_handlers handling_form handling_handles _ refl)
+handling_accepted = accepted_by handling handling_stmts handling_handlers handling_form handling_handles _ _ refl refl refl
 
 -- Two turns, and the second handler.
 pub handles : FinishesAfter handling_events handling
@@ -127,9 +127,9 @@ enclosing =
 pub enclosing_form : stmt_forms enclosing ≡ enclosing_stmts
 enclosing_form = simp (statement_rules, expression_rules)
 
-pub enclosing_obeys : ObeysRules enclosing
+pub enclosing_accepted : IsChecked enclosing
 unfolding uses_in
-enclosing_obeys = (_, _, flow_by enclosing enclosing_stmts no_handlers enclosing_form refl _ refl)
+enclosing_accepted = accepted_by enclosing enclosing_stmts no_handlers enclosing_form refl _ _ refl refl refl
 
 -- The block is left by the exit, and then the main procedure at its end.
 pub encloses : FinishesAfter enclosing_events enclosing
@@ -161,9 +161,9 @@ unwinding_form = simp (statement_rules, expression_rules)
 pub unwinding_handles : handler_forms unwinding ≡ unwinding_handlers
 unwinding_handles = simp (statement_rules, expression_rules)
 
-pub unwinding_obeys : ObeysRules unwinding
+pub unwinding_accepted : IsChecked unwinding
 unfolding uses_in
-unwinding_obeys = (_, _, flow_by unwinding unwinding_stmts unwinding_handlers unwinding_form unwinding_handles _ refl)
+unwinding_accepted = accepted_by unwinding unwinding_stmts unwinding_handlers unwinding_form unwinding_handles _ _ refl refl refl
 
 -- The block is left by the exception, and the main procedure by the return.
 pub unwinds : FinishesAfter unwinding_events unwinding
@@ -179,11 +179,11 @@ i = record { root = record { 0 = 3 }; selectors = vec [] (omega arith); spot = s
 abbrev an_integer : Variable
 an_integer = record { name = no_name; kind = variable.Integer }
 
--- X, Y : Link; N : Integer := 0;
-abbrev reading_program_of : (statements : List Stmt) → length statements ≤ 8 → (handlers : List Handler) → length handlers ≤ 8 → Program
-reading_program_of statements le handlers few = record {
+-- X, Y : Link; N : Integer := 0; and parameters of loops
+abbrev reading_program_of : (parameters : List Variable) → length parameters ≤ 5 → (statements : List Stmt) → length statements ≤ 8 → (handlers : List Handler) → length handlers ≤ 8 → Program
+reading_program_of parameters less statements le handlers few = record {
   types = vec types (omega arith);
-  variables = vec (link ∷ link ∷ an_integer ∷ an_integer ∷ []) (omega arith);
+  variables = vec (link ∷ link ∷ an_integer ∷ parameters) (omega (arith, less));
   texts = vec [] (omega arith);
   exceptions = vec [] (omega arith);
   declarations = vec (declarations ++ n_declared ∷ []) (omega arith);
@@ -211,7 +211,7 @@ handler_of_all = record {
 }
 
 abbrev pub counting : Program
-counting = reading_program_of (counting_loop ∷ []) (omega arith) (handler_of_all ∷ []) (omega arith)
+counting = reading_program_of (an_integer ∷ []) (omega arith) (counting_loop ∷ []) (omega arith) (handler_of_all ∷ []) (omega arith)
 
 pub counting_form : stmt_forms counting ≡ counting_stmts
 counting_form = simp (statement_rules, expression_rules)
@@ -219,9 +219,9 @@ counting_form = simp (statement_rules, expression_rules)
 pub counting_handles : handler_forms counting ≡ counting_handlers
 counting_handles = simp (statement_rules, expression_rules)
 
-pub counting_obeys : ObeysRules counting
+pub counting_accepted : IsChecked counting
 unfolding expression_form uses_in
-counting_obeys = (_, _, flow_by counting counting_stmts counting_handlers counting_form counting_handles _ refl)
+counting_accepted = accepted_by counting counting_stmts counting_handlers counting_form counting_handles _ _ refl refl refl
 
 -- Two whole turns, and the third up to the read.
 pub counts : FinishesAfter counting_events counting
@@ -256,14 +256,13 @@ losing_by_raising_handles = simp (statement_rules, expression_rules)
 
 pub losing_by_raising_breaks : Breaks LostValue losing_by_raising
 unfolding uses_in
-losing_by_raising_breaks =
-    (spot, flow_by losing_by_raising raising_stmts raising_handlers losing_by_raising_form losing_by_raising_handles (faults spot LostValue) refl)
+losing_by_raising_breaks = breaks_by losing_by_raising raising_stmts raising_handlers losing_by_raising_form losing_by_raising_handles LostValue spot refl refl refl
 
 -- At the beginning and at the end X and Y are null.
 pub losing_by_raising_fine : IsFineAtEnds (Null ∷ Null ∷ []) losing_by_raising
 unfolding uses_in
 losing_by_raising_fine =
-    fine_by losing_by_raising raising_stmts raising_handlers losing_by_raising_form losing_by_raising_handles (Null ∷ Null ∷ [])
+    fine_at_ends_by losing_by_raising raising_stmts raising_handlers losing_by_raising_form losing_by_raising_handles (Null ∷ Null ∷ [])
     _ _ _ _ refl refl refl
 
 -- The handler follows what was freed before the exception was raised.
@@ -286,7 +285,7 @@ other_following_handler = record {
 
 abbrev pub overflowing : Program
 overflowing =
-    reading_program_of (stmt.Get n ∷ x_is_seven ∷ y_is_x ∷ stmt.Free (record { 0 = 1 }) y ∷ n_is_minus_n ∷ []) (omega arith)
+    reading_program_of [] (omega arith) (stmt.Get n ∷ x_is_seven ∷ y_is_x ∷ stmt.Free (record { 0 = 1 }) y ∷ n_is_minus_n ∷ []) (omega arith)
     (other_following_handler ∷ []) (omega arith)
 
 pub overflowing_form : stmt_forms overflowing ≡ overflowing_stmts
@@ -297,8 +296,7 @@ overflowing_handles = simp (statement_rules, expression_rules)
 
 pub overflowing_breaks : Breaks LostValue overflowing
 unfolding expression_form uses_in
-overflowing_breaks =
-    (spot, flow_by overflowing overflowing_stmts overflowing_handlers overflowing_form overflowing_handles (faults spot LostValue) refl)
+overflowing_breaks = breaks_by overflowing overflowing_stmts overflowing_handlers overflowing_form overflowing_handles LostValue spot refl refl refl
 
 -- The input has the first Integer, whose opposite is none.
 pub overflows : HaltsAfter raising_events (Erroneous FollowsGone) overflowing
@@ -324,7 +322,7 @@ outliving_form = simp (statement_rules, expression_rules)
 
 pub outliving_breaks : Breaks LostValue outliving
 unfolding uses_in
-outliving_breaks = (spot, flow_by outliving outliving_stmts no_handlers outliving_form refl (faults spot LostValue) refl)
+outliving_breaks = breaks_by outliving outliving_stmts no_handlers outliving_form refl LostValue spot refl refl refl
 
 -- What is behind the block follows what went with its collection.
 pub outlives : HaltsAfter outliving_events (Erroneous FollowsGone) outliving
@@ -345,7 +343,7 @@ escaping_form = simp (statement_rules, expression_rules)
 
 pub escaping_breaks : Breaks LoopState escaping
 unfolding uses_in
-escaping_breaks = (spot, flow_by escaping escaping_stmts no_handlers escaping_form refl (faults spot LoopState) refl)
+escaping_breaks = breaks_by escaping escaping_stmts no_handlers escaping_form refl LoopState spot refl refl refl
 
 -- What is behind the loop follows what went with the block's collection at the exit.
 pub escapes : HaltsAfter outliving_events (Erroneous FollowsGone) escaping
@@ -366,9 +364,9 @@ mistyping = two_access_program_of outer_declarations (omega arith) (mistyping_bl
 pub mistyping_form : stmt_forms mistyping ≡ mistyping_stmts
 mistyping_form = simp (statement_rules, expression_rules)
 
-pub mistyping_breaks : Breaks LostValue mistyping
+pub mistyping_ill_formed : IsIllFormed mistyping
 unfolding uses_in
-mistyping_breaks = (spot, flow_by mistyping mistyping_stmts no_handlers mistyping_form refl (faults spot LostValue) refl)
+mistyping_ill_formed = ill_formed_by mistyping mistyping_stmts no_handlers mistyping_form refl _ _ refl refl refl
 
 -- X names what went with the block's collection.
 pub mistypes : HaltsAfter mistyping_events (Erroneous FollowsGone) mistyping

@@ -11,14 +11,14 @@ use Rattle.ada_program.specs.declared.program.Stmt as stmt
 use Rattle.ada_program.specs.declared.program.Program.{Program}
 use Rattle.ada_program.specs.Form.{expression_form, stmt_form, stmt_forms, no_handlers, statement_rules, expression_rules}
 use Rattle.ada_flow.specs.declared.rule.Rule.TheVariants.{LostValue}
-use Rattle.ada_flow.specs.Flow.{faults, uses_in, ObeysRules}
+use Rattle.ada_flow.specs.Flow.{uses_in}
 use Rattle.ada_meaning.specs.declared.event.Halt.TheVariants.{Finished, Erroneous}
 use Rattle.ada_meaning.specs.declared.event.Why.TheVariants.{FollowsGone}
 use Rattle.ada_meaning.specs.Named.{next}
 use Rattle.ada_meaning.specs.Run.{grants, takes}
-use Rattle.ada_sound.specs.Always.{FinishesAfter, Breaks, HaltsAfter}
+use Rattle.ada_sound.specs.Always.{IsChecked, FinishesAfter, Breaks, HaltsAfter}
 use Rattle.ada_sound.specs.Examples.{filling_stmts, filling_events, storing_stmts, storing_events}
-use Rattle.ada_sound.proofs.Choices.{halts_after, flow_by}
+use Rattle.ada_sound.proofs.Choices.{halts_after, accepted_by, breaks_by}
 use Rattle.ada_sound.proofs.Example.{steps, vec, spot, program_of, with_number, y, value_of_x, x_is_seven, y_is_x}
 
 -- X := new Cell'(Value => 7); Get (X.Value);
@@ -34,9 +34,9 @@ filling = program_of (x_is_seven ∷ stmt.Get value_of_x ∷ filling_loop ∷ st
 pub filling_form : stmt_forms filling ≡ filling_stmts
 filling_form = simp (statement_rules, expression_rules)
 
-pub filling_obeys : ObeysRules filling
+pub filling_accepted : IsChecked filling
 unfolding expression_form stmt_form uses_in
-filling_obeys = (_, _, flow_by filling filling_stmts no_handlers filling_form refl _ refl)
+filling_accepted = accepted_by filling filling_stmts no_handlers filling_form refl _ _ refl refl refl
 
 -- Two turns.
 pub fills : FinishesAfter filling_events filling
@@ -52,7 +52,7 @@ storing_form = simp (statement_rules, expression_rules)
 
 pub storing_breaks : Breaks LostValue storing
 unfolding expression_form stmt_form uses_in
-storing_breaks = (spot, flow_by storing storing_stmts no_handlers storing_form refl (faults spot LostValue) refl)
+storing_breaks = breaks_by storing storing_stmts no_handlers storing_form refl LostValue spot refl refl refl
 
 -- What is freed by the one variable would be assigned to by the other.
 pub stores : HaltsAfter storing_events (Erroneous FollowsGone) storing

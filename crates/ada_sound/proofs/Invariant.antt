@@ -1,17 +1,18 @@
 -- What every step keeps: control typed by its flow, places that fit, objects that are stored.
 
-use Rattle.std.proofs.Common.{◌≡◌, ℕ, suc, ◌≤◌, Bool, true, false, ◌&&◌, List, [], ◌∷◌}
+use Rattle.std.proofs.Common.{◌≡◌, ◌≢◌, ℕ, suc, ◌≤◌, Bool, true, false, ◌&&◌, ◌||◌, List, [], ◌∷◌, ◌++◌, length, ◌⊎◌}
 use Rattle.std.specs.Prelude.{ℤ, Option, Some, None}
 use Rattle.std.specs.List.{slice_set}
 use Rattle.ada_program.specs.declared.program.Exception.{Exception}
 use Rattle.ada_program.specs.declared.program.Exception.TheVariants.{ConstraintError, StorageError, EndError}
-use Rattle.ada_program.specs.Form.{ExpressionForm, RightForm, computes, StmtsForm, BranchesForm, HandlersForm, DeclarationForm}
-use Rattle.ada_program.specs.ProgramForm.{VariableForm}
+use Rattle.ada_program.specs.Form.{PathForm, ExpressionForm, ItemForm, null_item, item_of_path, item_of_value, RightForm, nothing, value_of, allocates, computes, assigns, StmtsForm, a_stmt, BranchesForm, HandlersForm, DeclarationForm}
+use Rattle.ada_program.specs.ProgramForm.{ComponentForm, VariableForm, ProgramForm}
+use Rattle.ada_program.specs.WellFormed.{reached_components, items_fit}
 use Rattle.ada_program.specs.Handling.{is_same, handler_of}
 use Rattle.ada_effects.specs.Effects.{expression_raises, links_raise, items_raise, condition_raises, unary_raises, binary_raises, right_raises, declaration_raises, stmts_raise, branches_raise, handlers_raise}
 use Rattle.ada_flow.specs.declared.rule.Hold.TheVariants as hold
 use Rattle.ada_flow.specs.declared.rule.Region.TheVariants.{Whole}
-use Rattle.ada_flow.specs.Flow.{Holds, hold_at, variable_access, held_as, Outcome, faults, goes, Use, uses_in, uses_in_links, uses_in_items, lost_among, gives, are_as_good, have_exit, branches_have_exit, handlers_have_exit, is_left, condition_flow, stmts_flow, branches_flow, handlers_flow, declaration_flow, collected, is_among, left, Around, in_loop}
+use Rattle.ada_flow.specs.Flow.{Holds, hold_at, variable_access, Outcome, faults, goes, Use, uses_in, uses_in_links, uses_in_item, broken_among, without_values, moved_by_item, moved_by_items, gives, gives_component, clears, are_as_good, have_exit, branches_have_exit, handlers_have_exit, is_left, condition_flow, stmts_flow, branches_flow, handlers_flow, declaration_flow, collected, is_among, left, Around, in_loop}
 use Rattle.ada_meaning.specs.declared.state.Id.{Id}
 use Rattle.ada_meaning.specs.declared.state.Value.{Value}
 use Rattle.ada_meaning.specs.declared.state.Value.TheVariants.{Null, Names, Scalar}
@@ -25,14 +26,18 @@ use Rattle.ada_meaning.specs.declared.event.Halt.TheVariants.{Finished, Unhandle
 use Rattle.ada_meaning.specs.Frame.{Frame, Elaborates, Does, Decides, Repeats, Turns, Ranges, Counts, Exits, Handles, Closes, Leaves, Evaluates, Computes, Follows, TestsNull, Continues, Applies, AppliesAlone, Fills, Creates, Stores, Targets, StoresIn, Receives, Declares, Writes, Ends, GivesBack, Clears}
 use Rattle.ada_meaning.specs.Event.{Born, Finalized, Back, Followed, Left, Line, Quiet}
 use Rattle.ada_meaning.specs.State.{Activation, Owned, declared, collection, Item, Master}
-use Rattle.ada_meaning.specs.Step.{halts, moves, tells, asks, picks, first_or, places, operands}
-use Rattle.ada_meaning.specs.Named.{Object, State, Next, object_at}
+use Rattle.ada_meaning.specs.Heap.{finds}
+use Rattle.ada_meaning.specs.Step.{halts, moves, tells, asks, picks, first_or, older, before_last, last_of, places, operands}
+use Rattle.ada_meaning.specs.Named.{Object, State, Next, object_at, store}
 use Rattle.ada_meaning.specs.Run.{Event}
 use Rattle.ada_meaning.specs.Law.{AtItem, leaving_by, LeavesHome}
 use Rattle.ada_sound.specs.Agreement.{Turning, Comes, ComesBy, ComesTo}
 use Rattle.ada_sound.proofs.Items.{NoMaster}
 use Rattle.ada_sound.proofs.Stored.{Stored}
-use Rattle.ada_sound.proofs.Values.{GivesAccess, MayGiveAccess, Fit, IsOwn, NoOwner}
+use Rattle.ada_owners.specs.Keeping.{IsThere}
+use Rattle.ada_owners.specs.Places.{component_in}
+use Rattle.ada_owners.specs.Walks.{walk}
+use Rattle.ada_sound.proofs.Fits.{Fit, IsOwn, MayFollow, component_access, none_spared, going, place_at}
 use Rattle.ada_sound.proofs.Orderings.{AsGood}
 use Rattle.ada_sound.proofs.Alters.{BackIn, Alters}
 
@@ -40,9 +45,9 @@ use Rattle.ada_sound.proofs.Alters.{BackIn, Alters}
 abbrev pub Control : Type 0
 Control = List (Frame Value)
 
--- The program's variables, and what is known where flow comes to a place.
+-- The program, and what is known where flow comes to a place.
 pub record Known : Type 1 where
-  pub variables : List VariableForm
+  pub program : ProgramForm
   pub At : Control → Holds → Type 0
 
 -- The access types of the collections that each master may own, innermost first.
@@ -94,15 +99,15 @@ Raised among w holds = (e : Exception) → among e ≡ true → To (w.raised e) 
 -- Flow comes to places from these statements on, from these branches on, or from these handlers on, before a control.
 abbrev pub From : Known → Around → Control → StmtsForm → Holds → Type 0
 From known around k fs holds =
-    (way : List Turning) (place : Control) (at : Holds) → Comes known.variables around k fs holds way place at → known.At place at
+    (way : List Turning) (place : Control) (at : Holds) → Comes known.program.variables around k fs holds way place at → known.At place at
 
 abbrev pub FromBy : Known → Around → Control → BranchesForm → Holds → Type 0
 FromBy known around k branches holds =
-    (way : List Turning) (place : Control) (at : Holds) → ComesBy known.variables around k branches holds way place at → known.At place at
+    (way : List Turning) (place : Control) (at : Holds) → ComesBy known.program.variables around k branches holds way place at → known.At place at
 
 abbrev pub FromTo : Known → Around → Control → HandlersForm → Holds → Type 0
 FromTo known around k hs holds =
-    (way : List Turning) (place : Control) (at : Holds) → ComesTo known.variables around k hs holds way place at → known.At place at
+    (way : List Turning) (place : Control) (at : Holds) → ComesTo known.program.variables around k hs holds way place at → known.At place at
 
 -- What may leave a loop with this start, through blocks with collections of these types, does so with no less known.
 abbrev pub MayExit : List VariableForm → Option Holds → List ℕ → Holds → Type 0
@@ -120,27 +125,27 @@ OnReturn w = (holds : Holds) → w.returned holds
 abbrev pub Doing : Known → StmtsForm → Control → Ways → Holds → Type 0
 Doing known fs k w holds =
     (around : Around) × From known around k fs holds
-    × Goes (stmts_flow known.variables around fs holds) (To w.normal) (Raised (λ e. stmts_raise (is_same e) fs) w)
-    × OnExit known.variables (have_exit fs) around w.exited × OnReturn w
+    × Goes (stmts_flow known.program.variables around fs holds) (To w.normal) (Raised (λ e. stmts_raise (is_same e) fs) w)
+    × OnExit known.program.variables (have_exit fs) around w.exited × OnReturn w
 
 -- The same of branches, and of handlers.
 abbrev pub Choosing : Known → BranchesForm → Control → Ways → Holds → Type 0
 Choosing known branches k w holds =
     (around : Around) × FromBy known around k branches holds
-    × Goes (branches_flow known.variables around branches holds) (To w.normal) (Raised (λ e. branches_raise (is_same e) branches) w)
-    × OnExit known.variables (branches_have_exit branches) around w.exited × OnReturn w
+    × Goes (branches_flow known.program.variables around branches holds) (To w.normal) (Raised (λ e. branches_raise (is_same e) branches) w)
+    × OnExit known.program.variables (branches_have_exit branches) around w.exited × OnReturn w
 
 abbrev pub Handling : Known → HandlersForm → Control → Ways → Holds → Type 0
 Handling known hs k w holds =
     (around : Around) × FromTo known around k hs holds
-    × Goes (handlers_flow known.variables around hs holds) (To w.normal) (Raised (λ e. handlers_raise (is_same e) hs) w)
-    × OnExit known.variables (handlers_have_exit hs) around w.exited × OnReturn w
+    × Goes (handlers_flow known.program.variables around hs holds) (To w.normal) (Raised (λ e. handlers_raise (is_same e) hs) w)
+    × OnExit known.program.variables (handlers_have_exit hs) around w.exited × OnReturn w
 
 -- A turn of a loop: it leads back to the start with no less known.
 abbrev pub TurnsTo : Known → StmtsForm → Control → Ways → (start mid : Holds) → Type 0
 TurnsTo known body k w start mid =
     From known (in_loop (Some start)) k body mid
-    × Goes (stmts_flow known.variables (in_loop (Some start)) body mid) (λ after. AsGood after start) (Raised (λ e. stmts_raise (is_same e) body) w)
+    × Goes (stmts_flow known.program.variables (in_loop (Some start)) body mid) (λ after. AsGood after start) (Raised (λ e. stmts_raise (is_same e) body) w)
 
 -- The condition of a loop may raise an exception.
 abbrev pub condition_among : Option ExpressionForm → Exception → Bool
@@ -184,7 +189,7 @@ Outside variables types w = record {
 abbrev pub Elaborating : Known → List DeclarationForm → (more : Holds → Type 0) → Ways → Holds → Type 0
 Elaborating known [] more w holds = more holds
 Elaborating known (d ∷ ds) more w holds =
-    Goes (declaration_flow known.variables d holds) (Elaborating known ds more w) (Raised (λ e. declaration_raises (is_same e) d) w)
+    Goes (declaration_flow known.program.variables d holds) (Elaborating known ds more w) (Raised (λ e. declaration_raises (is_same e) d) w)
 
 -- By the mode.
 abbrev pub By : Mode → Ways → Holds → Type 0
@@ -209,8 +214,8 @@ abbrev pub ways : Known → Control → Rooms → Ways
 ways known [] [] = anywhere
 ways known [] (types ∷ rooms) = nowhere
 ways known (Elaborates ds fs hs ∷ k) [] = nowhere
-ways known (Elaborates ds fs hs ∷ k) (types ∷ rooms) = record (Outside known.variables types (ways known k rooms)) {
-  normal = λ holds. AllAmong (collected ds) types × Elaborating known ds (Doing known fs (Handles hs ∷ Closes ∷ k) (Handled known hs (Closes ∷ k) (Outside known.variables types (ways known k rooms)))) (Outside known.variables types (ways known k rooms)) holds;
+ways known (Elaborates ds fs hs ∷ k) (types ∷ rooms) = record (Outside known.program.variables types (ways known k rooms)) {
+  normal = λ holds. AllAmong (collected ds) types × Elaborating known ds (Doing known fs (Handles hs ∷ Closes ∷ k) (Handled known hs (Closes ∷ k) (Outside known.program.variables types (ways known k rooms)))) (Outside known.program.variables types (ways known k rooms)) holds;
 }
 ways known (Does fs ∷ k) rooms = record (ways known k rooms) { normal = λ holds. Doing known fs k (ways known k rooms) holds }
 ways known (Repeats condition body ∷ k) rooms = record (ways known k rooms) {
@@ -223,9 +228,9 @@ ways known (Counts x next last body ∷ k) rooms = record (ways known k rooms) {
 }
 ways known (Handles hs ∷ k) rooms = Handled known hs k (ways known k rooms)
 ways known (Closes ∷ k) [] = nowhere
-ways known (Closes ∷ k) (types ∷ rooms) = Outside known.variables types (ways known k rooms)
+ways known (Closes ∷ k) (types ∷ rooms) = Outside known.program.variables types (ways known k rooms)
 ways known (Leaves mode ∷ k) [] = nowhere
-ways known (Leaves mode ∷ k) (types ∷ rooms) = record nowhere { normal = λ holds. OwnsNone known.variables types holds × To (By mode (ways known k rooms)) holds }
+ways known (Leaves mode ∷ k) (types ∷ rooms) = record nowhere { normal = λ holds. OwnsNone known.program.variables types holds × To (By mode (ways known k rooms)) holds }
 ways known (f ∷ k) rooms = record (ways known k rooms) { normal = λ holds. ⊥ }
 
 -- What runs on is known in these rooms.
@@ -235,59 +240,170 @@ RunsOn known k rooms holds = (ways known k rooms).normal holds
 abbrev pub GoesOn : Known → Mode → Control → Rooms → Holds → Type 0
 GoesOn known mode k rooms holds = By mode (ways known k rooms) holds
 
--- None of these paths uses a lost value.
-abbrev pub NoneIsLost : Holds → List Use → Type 0
-NoneIsLost holds uses = lost_among holds uses ≡ None
+-- None of these paths breaks a rule.
+abbrev pub NoneBroken : Holds → List Use → Type 0
+NoneBroken holds uses = broken_among holds uses ≡ None
 
 -- If this may be raised, what passes the frames is known.
 abbrev pub MayRaise : Known → Bool → Exception → Control → Rooms → Holds → Type 0
 MayRaise known may e k rooms holds = may ≡ true → To ((ways known k rooms).raised e) holds
 
 -- A value is awaited by a variable, or by a component of an object.
-abbrev pub StoresTo : Control → (ℕ → Control → Type 0) → (Value → Control → Type 0) → Type 0
+abbrev pub StoresTo : Control → (ℕ → Control → Type 0) → (Value → (c : ℕ) → Control → Type 0) → Type 0
 StoresTo [] more into = ⊥
 StoresTo (Stores x ∷ k) more into = more x k
 StoresTo (Declares x ∷ k) more into = more x k
-StoresTo (StoresIn o c ∷ k) more into = into o k
+StoresTo (StoresIn o c ∷ k) more into = into o c k
 StoresTo (f ∷ k) more into = ⊥
 
-abbrev pub Gives : Known → RightForm → Rooms → Holds → ℕ → Control → Type 0
-Gives known right rooms holds x k =
-    Goes (gives known.variables x right holds) (RunsOn known k rooms) (Raised (λ e. right_raises (is_same e) right) (ways known k rooms))
+-- The selectors of a path but the last one, and that one.
+abbrev pub front : List ℕ → List ℕ
+front [] = []
+front (c ∷ cs) = before_last c cs
 
--- An object is there as long as a component of it awaits a value. Nothing relies on what components hold.
-abbrev pub Into : Known → List Object → Rooms → Holds → Value → Control → Type 0
-Into known heap rooms holds o k = GivesAccess heap o × RunsOn known k rooms holds
+abbrev pub final : List ℕ → Option ℕ
+final [] = None
+final (c ∷ cs) = Some (last_of c cs)
 
--- A component is given what an expression gives; no access value, before components own what they hold.
-abbrev pub Computing : Known → RightForm → Rooms → Holds → Control → Type 0
-Computing known (computes e) rooms holds k =
-    NoneIsLost holds (uses_in e) × MayRaise known (expression_raises e) ConstraintError k rooms holds × RunsOn known k rooms holds
-Computing known right rooms holds k = ⊥
+-- The next statement sets this path to null.
+abbrev pub IsCleared : PathForm → Control → Type 0
+IsCleared path [] = ⊥
+IsCleared path (Does fs ∷ k) = clears path fs ≡ true
+IsCleared path (f ∷ k) = ⊥
 
-abbrev pub GivesInto : Known → List Object → RightForm → Rooms → Holds → Value → Control → Type 0
-GivesInto known heap right rooms holds o k = GivesAccess heap o × Computing known right rooms holds k
+-- The first half of a take pair: its target leaves the path alone that is moved, and the next statement clears that one.
+abbrev pub Pairs : (cleared : Bool) → RightForm → (leaves : PathForm → Type 0) → Control → Type 0
+Pairs false right leaves k = Unit {0}
+Pairs true nothing leaves k = ⊥
+Pairs true (value_of path) leaves k = leaves path × IsCleared path k
+Pairs true (allocates access items) leaves k = ⊥
+Pairs true (computes e) leaves k = ⊥
 
+-- One selector, behind a variable.
+abbrev pub IsOne : List ℕ → Type 0
+IsOne [] = ⊥
+IsOne (c ∷ []) = Unit {0}
+IsOne (c ∷ d ∷ cs) = ⊥
+
+-- A variable gets what is assigned.
+abbrev pub GivesTo : Known → RightForm → Rooms → Holds → ℕ → Control → Type 0
+GivesTo known right rooms holds x k =
+    (cleared : Bool)
+    × Goes (gives cleared x right holds) (RunsOn known k rooms) (Raised (λ e. right_raises (is_same e) right) (ways known k rooms))
+    × Pairs cleared right (λ path. x ≢ path.root) k
+
+-- A declaration is no half of a take pair.
+abbrev pub IsAlone : (cleared : Bool) → Type 0
+IsAlone false = Unit {0}
+IsAlone true = ⊥
+
+-- A variable is declared with what is assigned.
+abbrev pub DeclaresTo : Known → RightForm → Rooms → Holds → ℕ → Control → Type 0
+DeclaresTo known right rooms holds x k =
+    (cleared : Bool)
+    × Goes (gives cleared x right holds) (RunsOn known k rooms) (Raised (λ e. right_raises (is_same e) right) (ways known k rooms))
+    × IsAlone cleared
+
+-- Which exceptions an assignment to a component may raise.
+abbrev pub component_among : RightForm → Exception → Bool
+component_among right e = is_same e ConstraintError || right_raises (is_same e) right
+
+-- A component gets what is assigned.
+abbrev pub FillsIn : Known → RightForm → Rooms → Holds → Control → Type 0
+FillsIn known right rooms holds k =
+    (path : PathForm) × (cleared : Bool)
+    × Goes (gives_component cleared path right holds) (RunsOn known k rooms) (Raised (component_among right) (ways known k rooms))
+    × Pairs cleared right (λ taken. IsOne taken.selectors) k
+
+-- An object that a component lies in is there.
+abbrev pub IsHolder : List Object → Value → Type 0
+IsHolder heap Null = ⊥
+IsHolder heap (Names o) = IsThere heap o
+IsHolder heap (Scalar v) = ⊥
+
+-- What is evaluated is awaited by a variable, or by a component of an object that is there. Null that is awaited by a component is none of these.
 abbrev pub Takes : Known → List Object → RightForm → Control → Rooms → Holds → Type 0
-Takes known heap right k rooms holds = StoresTo k (Gives known right rooms holds) (GivesInto known heap right rooms holds)
+Takes known heap right [] rooms holds = ⊥
+Takes known heap right (Stores x ∷ k) rooms holds = GivesTo known right rooms holds x k
+Takes known heap right (Declares x ∷ k) rooms holds = DeclaresTo known right rooms holds x k
+Takes known heap right (StoresIn o c ∷ k) rooms holds = IsHolder heap o × FillsIn known right rooms holds k
+Takes known heap right (f ∷ k) rooms holds = ⊥
 
--- A new object is awaited.
-abbrev pub Owns : Known → (access : ℕ) → Rooms → Holds → ℕ → Control → Type 0
-Owns known access rooms holds x k = RunsOn known k rooms (slice_set holds x (held_as known.variables (Some access) x (hold.Own Whole)))
+-- An object is there, and one of its components holds values of this access type, or Integers or Booleans.
+abbrev pub Accepts : Known → List Object → Value → (c : ℕ) → Option ℕ → Type 0
+Accepts known heap Null c access = ⊥
+Accepts known heap (Names o) c access =
+    (object : Object) × (object_at heap o ≡ Some object) × (object.listed ≡ true) × (component_access known.program.types object c ≡ access)
+Accepts known heap (Scalar v) c access = ⊥
 
-abbrev pub Creating : Known → List Object → (access : ℕ) → Control → Rooms → Holds → Type 0
-Creating known heap access k rooms holds =
-    MayRaise known true StorageError k rooms holds × StoresTo k (Owns known access rooms holds) (Into known heap rooms holds)
+-- Items of an allocator, newest first, and those behind them.
+abbrev pub back_onto : List ItemForm → List ItemForm → List ItemForm
+back_onto [] todo = todo
+back_onto (d ∷ done) todo = back_onto done (d ∷ todo)
 
--- A component is a target (5.2): the value before it is null, or gives access to its object. What the component gets is computed next, or is
--- the next number of the input.
+-- The variables that items move, newest first.
+abbrev pub moved_of : List ItemForm → List ℕ
+moved_of [] = []
+moved_of (d ∷ done) = moved_by_item d ++ moved_of done
+
+-- Items break no rule, behind others that move these variables; or newest first.
+abbrev pub ItemsKeep : Holds → (earlier : List ℕ) → List ItemForm → Type 0
+ItemsKeep holds earlier [] = Unit {0}
+ItemsKeep holds earlier (i ∷ is) = NoneBroken holds (uses_in_item earlier i) × ItemsKeep holds (moved_by_item i ++ earlier) is
+
+abbrev pub DoneKeep : Holds → List ItemForm → Type 0
+DoneKeep holds [] = Unit {0}
+DoneKeep holds (d ∷ done) = NoneBroken holds (uses_in_item (moved_of done) d) × DoneKeep holds done
+
+-- The value of an item that is moved is that of its variable.
+abbrev pub FilledPath : List Value → List ℕ → (root : ℕ) → Value → Type 0
+FilledPath places [] x v = v ≡ place_at places x
+FilledPath places (c ∷ cs) x v = ⊥
+
+abbrev pub FilledBy : List Value → ItemForm → Value → Type 0
+FilledBy places null_item v = v ≡ Null
+FilledBy places (item_of_path path) v = FilledPath places path.selectors path.root v
+FilledBy places (item_of_value e) v = Unit {0}
+
+-- The newest operands are the values of items, newest first.
+abbrev pub Filled : List Value → List ItemForm → List Value → Type 0
+Filled places [] operands = Unit {0}
+Filled places (d ∷ done) [] = ⊥
+Filled places (d ∷ done) (v ∷ vs) = FilledBy places d v × Filled places done vs
+
+-- What an allocator with all these items leads to.
+pub record Allocating (known : Known) (heap : List Object) (access : ℕ) (all : List ItemForm) (k : Control) (rooms : Rooms) (holds : Holds) : Type 0 where
+  pub components : List ComponentForm
+  pub reached : reached_components known.program.types access ≡ Some components
+  pub fit : items_fit known.program.types known.program.variables components all ≡ true
+  pub fails : MayRaise known (items_raise all) ConstraintError k rooms holds
+  pub refused : MayRaise known true StorageError k rooms holds
+  pub to : StoresTo k
+      (λ x k'. (variable_access known.program.variables x ≡ Some access)
+      × RunsOn known k' rooms (slice_set (without_values (moved_by_items all) holds) x (hold.Own Whole)))
+      (λ o c k'. Accepts known heap o c (Some access) × RunsOn known k' rooms (without_values (moved_by_items all) holds))
+
+-- Some items are evaluated, and these are left.
+pub record Filling (known : Known) (heap : List Object) (places : List Value) (access count : ℕ) (todo : List ItemForm) (k : Control) (operands : List Value) (rooms : Rooms) (holds : Holds) : Type 0 where
+  pub done : List ItemForm
+  pub filled : Filled places done operands
+  pub counted : count ≡ length (back_onto done todo)
+  pub before : DoneKeep holds done
+  pub behind : ItemsKeep holds (moved_of done) todo
+  pub leads : Allocating known heap access (back_onto done todo) k rooms holds
+
+abbrev pub FillsTo : Known → List Object → List Value → List ItemForm → Control → (operands : List Value) → Rooms → Holds → Type 0
+FillsTo known heap places todo [] operands rooms holds = ⊥
+FillsTo known heap places todo (Creates access count ∷ k) operands rooms holds = Filling known heap places access count todo k operands rooms holds
+FillsTo known heap places todo (f ∷ k) operands rooms holds = ⊥
+
+-- A component is a target (5.2): the value before it is null, or gives access to its object.
 abbrev pub Targeting : Known → List Object → Value → RightForm → Control → Rooms → Holds → Type 0
-Targeting known heap v right k rooms holds =
-    MayGiveAccess heap v × MayRaise known true ConstraintError k rooms holds × Computing known right rooms holds k
+Targeting known heap v right k rooms holds = MayFollow heap v × MayRaise known true ConstraintError k rooms holds × FillsIn known right rooms holds k
 
 abbrev pub Receiving : Known → List Object → Value → Control → Rooms → Holds → Type 0
 Receiving known heap v k rooms holds =
-    MayGiveAccess heap v × MayRaise known true ConstraintError k rooms holds × MayRaise known true EndError k rooms holds × RunsOn known k rooms holds
+    MayFollow heap v × MayRaise known true ConstraintError k rooms holds × MayRaise known true EndError k rooms holds × RunsOn known k rooms holds
 
 -- A condition is awaited: by branches, by a loop, by an exit.
 abbrev pub Deciding : Known → StmtsForm → BranchesForm → Control → Rooms → Holds → Type 0
@@ -300,31 +416,35 @@ TurningOn known e body k rooms holds =
 abbrev pub ExitingTo : Known → Control → Rooms → Holds → Type 0
 ExitingTo known k rooms holds = RunsOn known k rooms holds × (ways known k rooms).exited holds
 
--- What is left of an expression, or of an allocator's items, uses nothing that is lost; and nothing relies on an expression's value. An object
--- of which a component awaits it is there.
-abbrev pub Awaits : Known → List Object → Control → Rooms → Holds → Type 0
-Awaits known heap [] rooms holds = ⊥
-Awaits known heap (Computes e ∷ k) rooms holds =
-    NoneIsLost holds (uses_in e) × MayRaise known (expression_raises e) ConstraintError k rooms holds × Awaits known heap k rooms holds
-Awaits known heap (Continues links ∷ k) rooms holds =
-    NoneIsLost holds (uses_in_links links) × MayRaise known (links_raise links) ConstraintError k rooms holds × Awaits known heap k rooms holds
-Awaits known heap (TestsNull equal ∷ k) rooms holds = Awaits known heap k rooms holds
-Awaits known heap (Decides fs branches ∷ k) rooms holds = Deciding known fs branches k rooms holds
-Awaits known heap (Turns e body ∷ k) rooms holds = TurningOn known e body k rooms holds
-Awaits known heap (Ranges x body ∷ k) rooms holds = Counting known x body k (ways known k rooms) holds
-Awaits known heap (Exits ∷ k) rooms holds = ExitingTo known k rooms holds
-Awaits known heap (Applies operator ∷ k) rooms holds =
-    MayRaise known (binary_raises operator) ConstraintError k rooms holds × Awaits known heap k rooms holds
-Awaits known heap (AppliesAlone operator ∷ k) rooms holds =
-    MayRaise known (unary_raises operator) ConstraintError k rooms holds × Awaits known heap k rooms holds
-Awaits known heap (Fills items ∷ k) rooms holds =
-    NoneIsLost holds (uses_in_items items) × MayRaise known (items_raise items) ConstraintError k rooms holds × Awaits known heap k rooms holds
-Awaits known heap (Creates access count ∷ k) rooms holds = Creating known heap access k rooms holds
-Awaits known heap (Stores x ∷ k) rooms holds = RunsOn known k rooms (slice_set holds x hold.Lost)
-Awaits known heap (Declares x ∷ k) rooms holds = RunsOn known k rooms (slice_set holds x hold.Lost)
-Awaits known heap (StoresIn o c ∷ k) rooms holds = Into known heap rooms holds o k
-Awaits known heap (Writes ∷ k) rooms holds = RunsOn known k rooms holds
-Awaits known heap (f ∷ k) rooms holds = ⊥
+-- What is left of an expression, or of an allocator's items, breaks no rule; and nothing relies on an expression's value. These are the operands
+-- below the one that is awaited.
+abbrev pub Awaits : Known → List Object → List Value → (below : List Value) → Control → Rooms → Holds → Type 0
+Awaits known heap places below [] rooms holds = ⊥
+Awaits known heap places below (Computes e ∷ k) rooms holds =
+    NoneBroken holds (uses_in e) × MayRaise known (expression_raises e) ConstraintError k rooms holds
+    × ((v : Value) → Awaits known heap places (v ∷ below) k rooms holds)
+Awaits known heap places below (Continues links ∷ k) rooms holds =
+    NoneBroken holds (uses_in_links links) × MayRaise known (links_raise links) ConstraintError k rooms holds × Awaits known heap places below k rooms holds
+Awaits known heap places below (TestsNull equal ∷ k) rooms holds = Awaits known heap places below k rooms holds
+Awaits known heap places below (Decides fs branches ∷ k) rooms holds = Deciding known fs branches k rooms holds
+Awaits known heap places below (Turns e body ∷ k) rooms holds = TurningOn known e body k rooms holds
+Awaits known heap places below (Ranges x body ∷ k) rooms holds = Counting known x body k (ways known k rooms) holds
+Awaits known heap places below (Exits ∷ k) rooms holds = ExitingTo known k rooms holds
+Awaits known heap places below (Applies operator ∷ k) rooms holds =
+    MayRaise known (binary_raises operator) ConstraintError k rooms holds × Awaits known heap places (older below) k rooms holds
+Awaits known heap places below (AppliesAlone operator ∷ k) rooms holds =
+    MayRaise known (unary_raises operator) ConstraintError k rooms holds × Awaits known heap places below k rooms holds
+Awaits known heap places below (Fills items ∷ k) rooms holds = (v : Value) → FillsTo known heap places items k (v ∷ below) rooms holds
+Awaits known heap places below (Stores x ∷ k) rooms holds = RunsOn known k rooms (slice_set holds x hold.Lost)
+Awaits known heap places below (Declares x ∷ k) rooms holds = RunsOn known k rooms (slice_set holds x hold.Lost)
+Awaits known heap places below (StoresIn o c ∷ k) rooms holds = Accepts known heap o c None × RunsOn known k rooms holds
+Awaits known heap places below (Writes ∷ k) rooms holds = RunsOn known k rooms holds
+Awaits known heap places below (f ∷ k) rooms holds = ⊥
+
+-- An expression is next, with these operands.
+abbrev pub Computing : Known → List Object → List Value → (operands : List Value) → ExpressionForm → Control → Rooms → Holds → Type 0
+Computing known heap places operands e k rooms holds =
+    NoneBroken holds (uses_in e) × MayRaise known (expression_raises e) ConstraintError k rooms holds × Awaits known heap places operands k rooms holds
 
 -- The program is at work, and no object is under way.
 pub record Working (known : Known) (heap : List Object) (places : List Value) (masters : List Master) (more : Rooms → Holds → Type 0) : Type 0 where
@@ -332,39 +452,52 @@ pub record Working (known : Known) (heap : List Object) (places : List Value) (m
   pub holds : Holds
   pub stored : Stored None heap masters
   pub roomed : Roomed masters rooms
-  pub fit : Fit heap known.variables places holds
+  pub fit : Fit known.program.types known.program.variables none_spared heap places holds
   pub rest : more rooms holds
 
--- The same while an object is under way that no owner names.
-pub record Freed (known : Known) (o : Id) (heap : List Object) (places : List Value) (masters : List Master) (more : Rooms → Holds → Type 0) : Type 0 where
+-- The items of the innermost master.
+abbrev pub innermost : List Master → List Item
+innermost [] = []
+innermost (m ∷ ms) = m.items
+
+-- The same while the innermost master is being left: nothing relies on the components of its objects.
+pub record Parting (known : Known) (heap : List Object) (places : List Value) (masters : List Master) (more : Rooms → Holds → Type 0) : Type 0 where
+  pub rooms : Rooms
+  pub holds : Holds
+  pub stored : Stored None heap masters
+  pub roomed : Roomed masters rooms
+  pub fit : Fit known.program.types known.program.variables (going heap (innermost masters)) heap places holds
+  pub rest : more rooms holds
+
+-- The same while an object is under way, which nothing relies on.
+pub record Freed (known : Known) (spared : Id → Bool) (heap : List Object) (places : List Value) (masters : List Master) (more : Rooms → Holds → Type 0) : Type 0 where
   pub rooms : Rooms
   pub holds : Holds
   pub roomed : Roomed masters rooms
-  pub fit : Fit heap known.variables places holds
-  pub apart : NoOwner places holds o
+  pub fit : Fit known.program.types known.program.variables spared heap places holds
   pub rest : more rooms holds
 
 -- What is behind an object under way, by what ends it: a Free, whose variable becomes null; or the leaving of a master, at the object's home.
-abbrev pub ClearsTo : Known → Id → List Object → List Value → List Master → Control → Type 0
-ClearsTo known o heap places masters [] = ⊥
-ClearsTo known o heap places masters (Clears x ∷ k) = Freed known o heap (slice_set places x Null) masters (RunsOn known k)
-ClearsTo known o heap places masters (f ∷ k) = ⊥
+abbrev pub ClearsTo : Known → List Object → List Value → List Master → Control → Type 0
+ClearsTo known heap places masters [] = ⊥
+ClearsTo known heap places masters (Clears x ∷ k) = Freed known none_spared heap (slice_set places x Null) masters (RunsOn known k)
+ClearsTo known heap places masters (f ∷ k) = ⊥
 
-abbrev pub LeavesTo : Known → Id → List Object → List Value → List Master → Control → Type 0
-LeavesTo known o heap places masters [] = ⊥
-LeavesTo known o heap places masters (Leaves mode ∷ k) = Freed known o heap places masters (RunsOn known (Leaves mode ∷ k))
-LeavesTo known o heap places masters (f ∷ k) = ⊥
+abbrev pub LeavesTo : Known → List Object → List Value → List Master → Control → Type 0
+LeavesTo known heap places masters [] = ⊥
+LeavesTo known heap places masters (Leaves mode ∷ k) = Freed known (going heap (innermost masters)) heap places masters (RunsOn known (Leaves mode ∷ k))
+LeavesTo known heap places masters (f ∷ k) = ⊥
 
-abbrev pub Behind : Known → Cause → Id → (home : ℕ) → List Object → List Value → List Master → Control → Type 0
-Behind known (Leaving m item) o home heap places masters k = (item ≡ home) × LeavesTo known o heap places masters k
-Behind known (Freeing number) o home heap places masters k = ClearsTo known o heap places masters k
-Behind known (Assigning number) o home heap places masters k = ⊥
-Behind known (Undoing number) o home heap places masters k = ⊥
+abbrev pub Behind : Known → Cause → (home : ℕ) → List Object → List Value → List Master → Control → Type 0
+Behind known (Leaving m item) home heap places masters k = (item ≡ home) × LeavesTo known heap places masters k
+Behind known (Freeing number) home heap places masters k = ClearsTo known heap places masters k
+Behind known (Assigning number) home heap places masters k = ⊥
+Behind known (Undoing number) home heap places masters k = ⊥
 
 -- Its words go back next to the standard pool.
 abbrev pub ThenBack : Known → Id → (home : ℕ) → List Object → List Value → List Master → Control → Type 0
 ThenBack known o home heap places masters [] = ⊥
-ThenBack known o home heap places masters (GivesBack (Names p) cause pool ∷ k) = (p ≡ o) × (pool ≡ 0) × Behind known cause o home heap places masters k
+ThenBack known o home heap places masters (GivesBack (Names p) cause pool ∷ k) = (p ≡ o) × (pool ≡ 0) × Behind known cause home heap places masters k
 ThenBack known o home heap places masters (f ∷ k) = ⊥
 
 -- An object is to cease to exist.
@@ -372,6 +505,7 @@ pub record Ending (known : Known) (o : Id) (k : Control) (heap : List Object) (p
   pub object : Object
   pub found : object_at heap o ≡ Some object
   pub exists : object.stage ≡ Existing
+  pub parted : object.listed ≡ false
   pub stored : Stored (Some o) heap masters
   pub rest : ThenBack known o object.cell.home.item heap places masters k
 
@@ -388,38 +522,113 @@ pub record Backing (known : Known) (o : Id) (cause : Cause) (pool : ℕ) (k : Co
   pub out : object.out ≡ true
   pub standard : pool ≡ 0
   pub stored : Stored (Some o) heap masters
-  pub rest : Behind known cause o object.cell.home.item heap places masters k
+  pub rest : Behind known cause object.cell.home.item heap places masters k
 
 abbrev pub BackingBy : Known → Value → Cause → ℕ → Control → List Object → List Value → List Master → Type 0
 BackingBy known Null cause pool k heap places masters = ⊥
 BackingBy known (Names o) cause pool k heap places masters = Backing known o cause pool k heap places masters
 BackingBy known (Scalar v) cause pool k heap places masters = ⊥
 
+-- The second half of a take pair is next: its path leads to an object that is there, and the component counts as null already; what it still names
+-- is there.
+pub record Half (known : Known) (fs : StmtsForm) (k : Control) (heap : List Object) (places : List Value) (masters : List Master) : Type 0 where
+  pub path : PathForm
+  pub later : StmtsForm
+  pub o : Id
+  pub c : ℕ
+  pub is : fs ≡ a_stmt (assigns path nothing) later
+  pub last : final path.selectors ≡ Some c
+  pub found : walk heap (place_at places path.root) (front path.selectors) ≡ finds (Names o)
+  pub there : IsThere heap o
+  pub kept : (p : Id) → component_in (object_at heap o) c ≡ Names p → IsThere heap p
+  pub works : Working known (store heap (Names o) c Null) places masters (RunsOn known (Does fs ∷ k))
+
+abbrev pub HalfBy : Known → Control → List Object → List Value → List Master → Type 0
+HalfBy known [] heap places masters = ⊥
+HalfBy known (Does fs ∷ k) heap places masters = Half known fs k heap places masters
+HalfBy known (f ∷ k) heap places masters = ⊥
+
+-- What is left goes on, perhaps with the second half of a take pair.
+abbrev pub Resumes : Known → List Object → List Value → List Master → Control → Type 0
+Resumes known heap places masters k = Working known heap places masters (RunsOn known k) ⊎ HalfBy known k heap places masters
+
+-- A component of an object that is there counts as null already.
+abbrev pub Clearing : Known → Value → (c : ℕ) → Control → List Object → List Value → List Master → Type 0
+Clearing known Null c k heap places masters = ⊥
+Clearing known (Names o) c k heap places masters = IsThere heap o × Working known (store heap (Names o) c Null) places masters (RunsOn known k)
+Clearing known (Scalar v) c k heap places masters = ⊥
+
+-- What is evaluated goes to a variable, or to a component; null to a component counts as stored already.
+abbrev pub EvaluatesTo : Known → RightForm → Control → List Object → List Value → List Master → Type 0
+EvaluatesTo known nothing (StoresIn o c ∷ k) heap places masters = Clearing known o c k heap places masters
+EvaluatesTo known right k heap places masters = Working known heap places masters (Takes known heap right k)
+
+-- The object of a component that is assigned to is found next; in the second half of a take pair it is known to be there.
+abbrev pub TargetsTo : Known → Value → (c : ℕ) → RightForm → Control → List Object → List Value → List Master → Type 0
+TargetsTo known v c right k heap places masters =
+    Working known heap places masters (Targeting known heap v right k) ⊎ ((right ≡ nothing) × Clearing known v c k heap places masters)
+
+-- A value goes into a component: what it was in hand counts as stored already; an Integer or a Boolean does not.
+abbrev pub StoringIn : Known → Value → (c : ℕ) → Value → Control → List Object → List Value → List Master → Type 0
+StoringIn known o c v k heap places masters =
+    (IsHolder heap o × Resumes known (store heap o c v) places masters k)
+    ⊎ Working known heap places masters (λ rooms holds. Accepts known heap o c None × RunsOn known k rooms holds)
+
+-- A path that is moved leads on from this value, by these selectors.
+abbrev pub WalksOn : List Object → List Value → PathForm → Value → List ℕ → Type 0
+WalksOn heap places path w cs = (walk heap (place_at places path.root) (front path.selectors) ≡ walk heap w (front cs)) × (final path.selectors ≡ final cs)
+
+-- What a path is followed for: a value that is read; a component that is a target; or a value that is moved.
+abbrev pub FindsFor : Known → List Object → Control → Rooms → Holds → Type 0
+FindsFor known heap [] rooms holds = ⊥
+FindsFor known heap (Targets c right ∷ k) rooms holds = FillsIn known right rooms holds k
+FindsFor known heap (Receives c ∷ k) rooms holds = MayRaise known true EndError k rooms holds × RunsOn known k rooms holds
+FindsFor known heap (f ∷ k) rooms holds = ⊥
+
+abbrev pub MovesOn : Known → List Object → List Value → Value → List ℕ → Control → Rooms → Holds → Type 0
+MovesOn known heap places w [] k rooms holds = ⊥
+MovesOn known heap places w (c ∷ cs) k rooms holds = (path : PathForm) × WalksOn heap places path w (c ∷ cs) × Takes known heap (value_of path) k rooms holds
+
+abbrev pub FollowsFor : Known → List Object → List Value → Value → (below : List Value) → List ℕ → Control → Rooms → Holds → Type 0
+FollowsFor known heap places w below cs k rooms holds =
+    MayFollow heap w × MayRaise known true ConstraintError k rooms holds
+    × (Awaits known heap places below k rooms holds ⊎ (FindsFor known heap k rooms holds ⊎ MovesOn known heap places w cs k rooms holds))
+
+-- The path of the second half of a take pair is followed: it leads to an object that is there.
+abbrev pub HalfFollows : Known → Value → List ℕ → Control → List Object → List Value → List Master → Type 0
+HalfFollows known w cs [] heap places masters = ⊥
+HalfFollows known w cs (Targets c right ∷ k) heap places masters =
+    (right ≡ nothing) × (o : Id) × (walk heap w cs ≡ finds (Names o)) × Clearing known (Names o) c k heap places masters
+HalfFollows known w cs (f ∷ k) heap places masters = ⊥
+
 -- What holds where a frame is next. What is awaited counts as stored already.
 abbrev pub ReadyBy : Known → Frame Value → Control → List Object → (places operands : List Value) → List Master → Type 0
 ReadyBy known (Elaborates ds fs hs) k heap places operands masters = Working known heap places masters (RunsOn known (Elaborates ds fs hs ∷ k))
-ReadyBy known (Does fs) k heap places operands masters = Working known heap places masters (RunsOn known (Does fs ∷ k))
+ReadyBy known (Does fs) k heap places operands masters = Resumes known heap places masters (Does fs ∷ k)
 ReadyBy known (Decides fs branches) k heap places operands masters = Working known heap places masters (Deciding known fs branches k)
 ReadyBy known (Repeats condition body) k heap places operands masters = Working known heap places masters (RunsOn known (Repeats condition body ∷ k))
 ReadyBy known (Turns e body) k heap places operands masters = Working known heap places masters (TurningOn known e body k)
-ReadyBy known (Ranges x body) k heap places operands masters = Working known heap places masters (Awaits known heap (Ranges x body ∷ k))
+ReadyBy known (Ranges x body) k heap places operands masters = Working known heap places masters (λ rooms holds. Counting known x body k (ways known k rooms) holds)
 ReadyBy known (Counts x next last body) k heap places operands masters = Working known heap places masters (RunsOn known (Counts x next last body ∷ k))
 ReadyBy known Exits k heap places operands masters = Working known heap places masters (ExitingTo known k)
 ReadyBy known (Handles hs) k heap places operands masters = Working known heap places masters (RunsOn known (Handles hs ∷ k))
 ReadyBy known Closes k heap places operands masters = Working known heap places masters (RunsOn known (Closes ∷ k))
-ReadyBy known (Leaves mode) k heap places operands masters = Working known heap places masters (RunsOn known (Leaves mode ∷ k))
-ReadyBy known (Evaluates right) k heap places operands masters = Working known heap places masters (Takes known heap right k)
-ReadyBy known (Computes e) k heap places operands masters = Working known heap places masters (Awaits known heap (Computes e ∷ k))
-ReadyBy known (Follows cs) k heap places operands masters = ⊥
-ReadyBy known (TestsNull equal) k heap places operands masters = Working known heap places masters (Awaits known heap k)
-ReadyBy known (Continues links) k heap places operands masters = Working known heap places masters (Awaits known heap (Continues links ∷ k))
-ReadyBy known (Applies operator) k heap places operands masters = Working known heap places masters (Awaits known heap (Applies operator ∷ k))
-ReadyBy known (AppliesAlone operator) k heap places operands masters = Working known heap places masters (Awaits known heap (AppliesAlone operator ∷ k))
-ReadyBy known (Fills items) k heap places operands masters = Working known heap places masters (Awaits known heap (Fills items ∷ k))
-ReadyBy known (Creates access count) k heap places operands masters = Working known heap places masters (Creating known heap access k)
-ReadyBy known (Stores x) k heap places operands masters = Working known heap (slice_set places x (first_or Null operands)) masters (RunsOn known k)
-ReadyBy known (Targets c right) k heap places operands masters = Working known heap places masters (Targeting known heap (first_or Null operands) right k)
-ReadyBy known (StoresIn o c) k heap places operands masters = Working known heap places masters (Awaits known heap (StoresIn o c ∷ k))
+ReadyBy known (Leaves mode) k heap places operands masters = Parting known heap places masters (RunsOn known (Leaves mode ∷ k))
+ReadyBy known (Evaluates right) k heap places operands masters = EvaluatesTo known right k heap places masters
+ReadyBy known (Computes e) k heap places operands masters = Working known heap places masters (Computing known heap places operands e k)
+ReadyBy known (Follows cs) k heap places operands masters =
+    Working known heap places masters (FollowsFor known heap places (first_or Null operands) (older operands) cs k)
+    ⊎ HalfFollows known (first_or Null operands) cs k heap places masters
+ReadyBy known (TestsNull equal) k heap places operands masters = Working known heap places masters (Awaits known heap places (older operands) k)
+ReadyBy known (Continues links) k heap places operands masters = Working known heap places masters (Awaits known heap places (older operands) (Continues links ∷ k))
+ReadyBy known (Applies operator) k heap places operands masters = Working known heap places masters (Awaits known heap places (older operands) (Applies operator ∷ k))
+ReadyBy known (AppliesAlone operator) k heap places operands masters =
+    Working known heap places masters (Awaits known heap places (older operands) (AppliesAlone operator ∷ k))
+ReadyBy known (Fills items) k heap places operands masters = Working known heap places masters (FillsTo known heap places items k operands)
+ReadyBy known (Creates access count) k heap places operands masters = Working known heap places masters (Filling known heap places access count [] k operands)
+ReadyBy known (Stores x) k heap places operands masters = Resumes known heap (slice_set places x (first_or Null operands)) masters k
+ReadyBy known (Targets c right) k heap places operands masters = TargetsTo known (first_or Null operands) c right k heap places masters
+ReadyBy known (StoresIn o c) k heap places operands masters = StoringIn known o c (first_or Null operands) k heap places masters
 ReadyBy known (Receives c) k heap places operands masters = Working known heap places masters (Receiving known heap (first_or Null operands) k)
 ReadyBy known (Declares x) k heap places operands masters = Working known heap (slice_set places x (first_or Null operands)) masters (RunsOn known k)
 ReadyBy known Writes k heap places operands masters = Working known heap places masters (RunsOn known k)

@@ -20,7 +20,7 @@ use Rattle.ada_sound.proofs.Leavings.{left_good, owns_none}
 
 module _ (known : Known) (k : Control) where
   -- What comes to the end of a master leaves it.
-  closes_by : (mode : Mode) (types : _) (rooms : Rooms) (holds : Holds) → By mode (Outside known.variables types (ways known k rooms)) holds → To (By mode (ways known k rooms)) (left known.variables types holds)
+  closes_by : (mode : Mode) (types : _) (rooms : Rooms) (holds : Holds) → By mode (Outside known.program.variables types (ways known k rooms)) holds → To (By mode (ways known k rooms)) (left known.program.variables types holds)
   closes_by Running types rooms holds r = r
   closes_by (Raising e) types rooms holds r = r
   closes_by Exiting types rooms holds r = r
@@ -34,7 +34,7 @@ module _ (known : Known) (k : Control) where
 
   pub leaves_from : (mode : Mode) (rooms : Rooms) (holds : Holds) → GoesOn known mode (Closes ∷ k) rooms holds → To (RunsOn known (Leaves mode ∷ k) rooms) holds
   leaves_from mode [] holds r = absurd (none_closes mode holds r)
-  leaves_from mode (types ∷ rooms) holds r = (left known.variables types holds, left_good known.variables types holds, (owns_none known.variables types holds, closes_by mode types rooms holds r))
+  leaves_from mode (types ∷ rooms) holds r = (left known.program.variables types holds, left_good known.program.variables types holds, (owns_none known.program.variables types holds, closes_by mode types rooms holds r))
 
   -- An exception in declarations, and what never is one, leaves the master as well.
   module _ (ds : List DeclarationForm) (fs : StmtsForm) (hs : HandlersForm) where

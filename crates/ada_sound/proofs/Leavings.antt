@@ -1,18 +1,25 @@
--- Behind a block its collections are gone: what is known of variables, and which objects nothing relies on.
+-- Behind a block its collections are gone: what is known of variables, and that a member that is taken has no owner.
 
-use Rattle.std.proofs.Common.{◌≡◌, ℕ, zero, suc, Bool, true, false, ◌||◌, not, List, [], ◌∷◌, ◌++◌, refl, ap, ◌∙◌, ◌⊎◌, inl, inr}
+use Rattle.std.proofs.Common.{◌≡◌, ℕ, zero, suc, Bool, true, false, ◌||◌, not, List, [], ◌∷◌, ◌++◌, refl, sym, ap, ◌⊎◌, inl, inr}
 use Rattle.std.proofs.lemmas.Bool.{eq-eqb}
-use Rattle.std.specs.Prelude.{Option, Some}
-use Rattle.ada_program.specs.ProgramForm.{VariableForm}
+use Rattle.std.specs.Prelude.{Option, Some, None, if◌then◌else◌}
+use Rattle.std.specs.List.{slice_get, slice_index_or}
+use Rattle.ada_program.specs.ProgramForm.{TypeForm, VariableForm}
 use Rattle.ada_program.specs.WellFormed.{access_of, is_this}
 use Rattle.ada_flow.specs.declared.rule.Hold.{Hold}
 use Rattle.ada_flow.specs.declared.rule.Hold.TheVariants as hold
 use Rattle.ada_flow.specs.Flow.{Holds, hold_at, variable_access, if_own, is_as_good, is_among, left}
 use Rattle.ada_meaning.specs.declared.state.Id.{Id}
 use Rattle.ada_meaning.specs.declared.state.Value.{Value}
-use Rattle.ada_meaning.specs.declared.state.Value.TheVariants.{Names}
+use Rattle.ada_meaning.specs.declared.state.Value.TheVariants.{Null, Names}
+use Rattle.ada_meaning.specs.State.{Item, Master}
 use Rattle.ada_meaning.specs.Named.{Object, object_at}
-use Rattle.ada_sound.proofs.Values.{Fits, IsLive, IsOwn, Fit, NoOwner, place_at}
+use Rattle.ada_scopes.specs.Scopes.{is_innermost, Holds as HoldsName}
+use Rattle.ada_owners.specs.Places.{Place, variable, component, elsewhere, component_in, value_at, access_at}
+use Rattle.ada_owners.specs.Reliance.{IsOf, Owns, component_hold}
+use Rattle.ada_owners.proofs.Ends.{IsUnnamed}
+use Rattle.ada_owners.proofs.Kernel as kernel
+use Rattle.ada_sound.proofs.Fits.{Fit, IsOwn, relied, hold_in, bare, going, lies_among, hand_is_unnamed}
 use Rattle.ada_sound.proofs.Orderings.{AsGood, good_here, good_lost}
 use Rattle.ada_sound.proofs.Invariant.{AllAmong, OwnsNone}
 
@@ -85,18 +92,59 @@ pub all_among : (ts : List ℕ) → AllAmong ts ts
 all_among [] = tt
 all_among (t ∷ ts) = (among_here t ts, all_more ts ts t (all_among ts))
 
--- An object of a type of which nothing is owned has no owner.
-owned_type : (objects : List Object) (access : Option ℕ) (h : Hold) (v : Value) (o : Id) (x : Object) → IsOwn h → Fits objects access h v → v ≡ Names o → object_at objects o ≡ Some x → access ≡ Some x.cell.access
-owned_type objects access hold.Null v o x own f is found = absurd own
-owned_type objects access (hold.Own r) v o x own f is found =
-    let live : IsLive objects access (Names o) = rw is at f in
-    let same : live.0 ≡ x = cc (live.1, found) in
-    live.3 ∙ ap (λ y. Some y.cell.access) same
-owned_type objects access (hold.Alias r) v o x own f is found = absurd own
-owned_type objects access hold.Lost v o x own f is found = absurd own
+-- While a master is left, whatever object holds the name of one whose home is an item of the innermost master has its own home there.
+abbrev pub HeldIn : List Object → List Master → Type 0
+HeldIn heap ms = (holder held : Object) → HoldsName heap holder held → is_innermost ms held.cell.home.item ≡ true → is_innermost ms holder.cell.home.item ≡ true
 
-pub none_owns : (objects : List Object) (variables : List VariableForm) (places : List Value) (holds : Holds) (types : List ℕ) (o : Id) (x : Object) → Fit objects variables places holds → OwnsNone variables types holds → object_at objects o ≡ Some x → is_among types (Some x.cell.access) ≡ true → NoOwner places holds o
-none_owns objects variables places holds types o x fit none found among y own is =
-    let type = owned_type objects (variable_access variables y) (hold_at holds y) (place_at places y) o x own (fit.each y) is found in
-    let apart = none y own in
-    absurd (cc (among, apart, type))
+-- What a list holds that is a name.
+get_named : (vs : List Value) (c : ℕ) (o : Id) → slice_index_or vs c Null ≡ Names o → slice_get vs c ≡ Some (Names o)
+get_named [] c o e = absurd (cc e)
+get_named (v ∷ vs) zero o e = ap Some e
+get_named (v ∷ vs) (suc c) o e = get_named vs c o e
+
+listed_names : (b : Bool) (v : Value) (o : Id) → (if b then v else Null) ≡ Names o → (b ≡ true) × (v ≡ Names o)
+listed_names true v o e = (refl, e)
+listed_names false v o e = absurd (cc e)
+
+relied_owns : (h : Hold) → Owns (relied h) → IsOwn h
+relied_owns hold.Null own = own
+relied_owns (hold.Own r) own = own
+relied_owns (hold.Alias r) own = own
+relied_owns hold.Lost own = own
+
+-- A member of the newest collection of the innermost master, of a type of which no variable owns an object, is in hand where nothing relies on the
+-- components of that master's objects.
+module _ (types : List TypeForm) (variables : List VariableForm) (heap : List Object) (places : List Value) (holds : Holds) (number : ℕ) (item : Item) (items : List Item) (ms : List Master) (gone : List ℕ) (fit : Fit types variables (going heap (item ∷ items)) heap places holds) (none : OwnsNone variables gone holds) (held : HeldIn heap (record { number = number; items = item ∷ items } ∷ ms)) (o : Id) (x : Object) (found : object_at heap o ≡ Some x) (listed : x.listed ≡ true) (home : x.cell.home.item ≡ item.number) (among : is_among gone (Some x.cell.access) ≡ true) where
+  access_here : access_at heap o ≡ Some x.cell.access
+  access_here = rw (found, listed) refl
+
+  no_variable : (y : ℕ) (kind : Option ℕ) → variable_access variables y ≡ kind → IsOwn (hold_at holds y) → IsOf (access_at heap) kind o → ⊥
+  no_variable y None is own of = of
+  no_variable y (Some t) is own of =
+      let apart = none y own in
+      let here = access_here in
+      absurd (cc (among, apart, is, of, here))
+
+  -- An object that names it lies in the same master, and so it does not count.
+  no_component : (p : Id) (c : ℕ) (t : Option Object) → object_at heap p ≡ t → Owns (component_hold (lies_among t (item ∷ items))) → component_in t c ≡ Names o → ⊥
+  no_component p c None at own names = cc names
+  no_component p c (Some holder) at own names =
+      let it = listed_names holder.listed (slice_index_or holder.cell.values c Null) o names in
+      let inside = held holder x (p, o, c, (at, it.0), (found, listed), get_named holder.cell.values c o it.1) (rw (eq-eqb item.number x.cell.home.item (sym home)) refl) in
+      rw inside at own
+
+  no_owner : (q : Place) → Owns (hold_in (going heap (item ∷ items)) holds q) → value_at heap (bare places) q ≡ Names o → ⊥
+  no_owner (variable y) own names = no_variable y (variable_access variables y) refl (relied_owns (hold_at holds y) own) (kernel.owned_at fit.owners.fit (variable y) own o names)
+  no_owner (component p c) own names = no_component p c (object_at heap p) refl own names
+  no_owner (elsewhere d y) own names = own
+
+  pub taken_unnamed : IsUnnamed heap (bare places) (hold_in (going heap (item ∷ items)) holds) o
+  taken_unnamed = hand_is_unnamed types variables (going heap (item ∷ items)) heap places holds (Some x.cell.access) o (record {
+    hand = record {
+      right = λ p e. let same : o ≡ p = name_is o p e in rw (← same) access_here;
+      free = λ p e q own names. let same : o ≡ p = name_is o p e in no_owner q own (rw (← same) at names);
+    };
+  })
+    where
+      name_is : (p q : Id) → Names p ≡ Names q → p ≡ q
+      name_is p q e = cc e

@@ -1,9 +1,13 @@
+-- what is relied on in a run
+pub mod Fits
 -- what objects are after a step
 pub mod Objects
 -- items and masters
 pub mod Items
 -- objects and their homes
 pub mod Stored
+-- back from a heap in which a component was written
+pub mod Back
 -- values and holds
 pub mod Values
 -- what is known of variables, from most to least
@@ -12,8 +16,12 @@ pub mod Orderings
 pub mod Alters
 -- what every step keeps
 pub mod Invariant
+-- objects are stored in each state
+pub mod StoredStates
 -- what is left of the program
 pub mod Ready
+-- masters and the collections that they may own
+pub mod Rooms
 -- paths that are used
 pub mod Followings
 -- outcomes of flow
@@ -24,28 +32,42 @@ pub mod Raising
 pub mod Leavings
 -- expressions
 pub mod Expressions
--- statements in which others nest
-pub mod Nestings
--- declarations and statements
-pub mod Statements
+-- how paths are walked
+pub mod Walks
+-- what typing says of what is assigned
+pub mod Assigned
+-- values that are moved
+pub mod Taken
+-- what the items of an allocator give
+pub mod Filled
+-- allocators
+pub mod Allocators
 -- what is assigned
 pub mod Evaluations
+-- what Free does
+pub mod Frees
+-- statements in which others nest
+pub mod Nestings
 -- components that are assigned to
 pub mod Targets
+-- declarations and statements
+pub mod Statements
 -- what ends
 pub mod Endings
 -- jumps on their way
 pub mod Jumps
+-- the first state
+pub mod Starts
 -- one step
 pub mod Steps
 -- whole runs
 pub mod Runs
 -- the laws of order
 pub mod Order
--- the first state
-pub mod Starts
--- the laws
-pub mod Headline
+-- nothing relies on Integers and Booleans
+pub mod Scalars
+-- what the rules let through
+pub mod Moves
 -- runs by their choices
 pub mod Choices
 -- programs that meet the premises, and that need the rules
@@ -54,3 +76,9 @@ pub mod Example
 pub mod ExampleBlocks
 -- the same with components that are assigned to
 pub mod ExampleTargets
+-- the same with components that own
+pub mod ExampleOwners
+-- where a statement begins
+pub mod Agreeing
+-- the laws
+pub mod Headline

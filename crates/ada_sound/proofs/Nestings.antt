@@ -8,12 +8,12 @@ use Rattle.ada_program.specs.declared.program.Exception.TheVariants.{ConstraintE
 use Rattle.ada_program.specs.Form.{ExpressionForm, DeclarationForm, StmtForm, chooses, repeats, counts, encloses, StmtsForm, a_stmt, BranchesForm, otherwise, a_branch, HandlersForm, no_handlers, a_handler}
 use Rattle.ada_program.specs.Handling.{is_same, some_takes, handler_of}
 use Rattle.ada_effects.specs.Effects.{expression_raises, untaken, declaration_raises, declarations_raise, stmt_raises, stmts_raise, branches_raise, handlers_raise, passes}
-use Rattle.ada_flow.specs.Flow.{Holds, Outcome, loop_flow, uses_in, computed as computed_flow, bounds_flow, either_of, opened_by_all, counting_start, has_exit, have_exit, branches_have_exit, handlers_have_exit, is_left, condition_flow, ends_turn, exit_of, exit_flow, declaration_flow, declarations_flow, collected, left, Around, in_loop, in_block, stmt_flow, stmts_flow, branches_flow, handlers_flow, handled, then_flow, goes}
+use Rattle.ada_flow.specs.Flow.{Holds, Outcome, loop_flow, uses_in, computed as computed_flow, bounds_flow, either_of, opened_by_all, counting_start, has_exit, have_exit, branches_have_exit, handlers_have_exit, is_left, condition_flow, ends_turn, exit_of, exit_flow, declaration_flow, declarations_flow, collected, left, Around, in_loop, in_block, begins_pair, stmt_flow, stmts_flow, branches_flow, handlers_flow, handled, then_flow, goes}
 use Rattle.ada_meaning.specs.Frame.{Does, Repeats, Counts, Handles, Closes}
 use Rattle.ada_sound.specs.Agreement.{Turning, past, into, counting, behind, in_branches, in_body, in_count, in_enclosed, in_others, in_this, in_next, to_this, to_next, ComesInside, in_statements, in_handlers}
 use Rattle.ada_sound.proofs.Orderings.{AsGood, as_good_then, good_each, all_good, good_to_lost}
 use Rattle.ada_sound.proofs.Values.{lost_here}
-use Rattle.ada_sound.proofs.Invariant.{Known, Control, Goes, To, Ways, Raised, From, MayExit, OnExit, OnReturn, Doing, Choosing, Handling, TurnsTo, condition_among, Repeating, Counting, TakenBy, Handled, Outside, Elaborating, NoneIsLost}
+use Rattle.ada_sound.proofs.Invariant.{Known, Control, Goes, To, Ways, Raised, From, MayExit, OnExit, OnReturn, Doing, Choosing, Handling, TurnsTo, condition_among, Repeating, Counting, TakenBy, Handled, Outside, Elaborating, NoneBroken}
 use Rattle.ada_sound.proofs.Outcomes.{goes_map, goes_with, to_here, to_before, raised_before, raised_less, then_goes, either_goes, computed_goes, worse_goes, turn_goes, left_goes, block_goes, handled_goes}
 use Rattle.ada_sound.proofs.Raising.{or_left, or_right, raises_untaken, raises_past}
 use Rattle.ada_sound.proofs.Leavings.{left_good, left_twice}
@@ -31,24 +31,24 @@ module _ (known : Known) where
   abbrev pub Starting : Around → StmtForm → StmtsForm → Control → Ways → Holds → Type 0
   Starting around f fs k w holds =
       From known around k (a_stmt f fs) holds
-      × Goes (stmt_flow known.variables around f holds) (Doing known fs k w) (Raised (λ e. stmt_raises (is_same e) f) w)
-      × OnExit known.variables (has_exit f) around w.exited × OnReturn w
+      × Goes (stmt_flow known.program.variables around (begins_pair f fs) f holds) (Doing known fs k w) (Raised (λ e. stmt_raises (is_same e) f) w)
+      × OnExit known.program.variables (has_exit f) around w.exited × OnReturn w
 
   -- Behind the first statement come the others, where it comes to its end.
   pub starts : (f : StmtForm) (fs : StmtsForm) (k : Control) (w : Ways) (holds : Holds) (d : Doing known (a_stmt f fs) k w holds) → Starting d.0 f fs k w holds
   starts f fs k w holds (around, from, g, exits', returns') = (
     from,
-    goes_with (stmt_flow known.variables around f holds) (λ h. Goes (stmts_flow known.variables around fs h) (To w.normal) (Raised (λ e. stmts_raise (is_same e) (a_stmt f fs)) w)) (Raised (λ e. stmts_raise (is_same e) (a_stmt f fs)) w) (Doing known fs k w) (Raised (λ e. stmt_raises (is_same e) f) w)
+    goes_with (stmt_flow known.program.variables around (begins_pair f fs) f holds) (λ h. Goes (stmts_flow known.program.variables around fs h) (To w.normal) (Raised (λ e. stmts_raise (is_same e) (a_stmt f fs)) w)) (Raised (λ e. stmts_raise (is_same e) (a_stmt f fs)) w) (Doing known fs k w) (Raised (λ e. stmt_raises (is_same e) f) w)
         (λ mid raising is more. (
           around,
           (λ way place at c. from (past ∷ way) place at (behind mid is c)),
-          goes_map (stmts_flow known.variables around fs mid) (To w.normal) (Raised (λ e. stmts_raise (is_same e) (a_stmt f fs)) w) (To w.normal) (Raised (λ e. stmts_raise (is_same e) fs) w)
+          goes_map (stmts_flow known.program.variables around fs mid) (To w.normal) (Raised (λ e. stmts_raise (is_same e) (a_stmt f fs)) w) (To w.normal) (Raised (λ e. stmts_raise (is_same e) fs) w)
               (λ h m. m) (λ h r. raised_less (λ e. stmts_raise (is_same e) (a_stmt f fs)) (λ e. stmts_raise (is_same e) fs) w (λ e i. or_right (stmt_raises (is_same e) f) (stmts_raise (is_same e) fs) i) h r) more,
           (λ e. exits' (or_right (has_exit f) (have_exit fs) e)),
           returns',
         ))
         (λ normal h is r. raised_less (λ e. stmts_raise (is_same e) (a_stmt f fs)) (λ e. stmt_raises (is_same e) f) w (λ e i. or_left (stmt_raises (is_same e) f) (stmts_raise (is_same e) fs) i) h r)
-        (then_goes (stmt_flow known.variables around f holds) (stmts_flow known.variables around fs) (To w.normal) (Raised (λ e. stmts_raise (is_same e) (a_stmt f fs)) w) (raised_before (λ e. stmts_raise (is_same e) (a_stmt f fs)) w) g),
+        (then_goes (stmt_flow known.program.variables around (begins_pair f fs) f holds) (stmts_flow known.program.variables around fs) (To w.normal) (Raised (λ e. stmts_raise (is_same e) (a_stmt f fs)) w) (raised_before (λ e. stmts_raise (is_same e) (a_stmt f fs)) w) g),
     (λ e. exits' (or_left (has_exit f) (have_exit fs) e)),
     returns',
   )
@@ -58,9 +58,9 @@ module _ (known : Known) where
   others_do fs k w holds c = (c.0, (λ way place at d. c.1 (into ∷ way) place at (in_others d)), c.2, c.3, c.4)
 
   -- A condition uses nothing that is lost, and its branch is done, or others are.
-  pub branch_does : (e : ExpressionForm) (fs : StmtsForm) (branches : BranchesForm) (k : Control) (w : Ways) (holds : Holds) → Choosing known (a_branch e fs branches) k w holds → (NoneIsLost holds (uses_in e)) × (expression_raises e ≡ true → To (w.raised ConstraintError) holds) × Doing known fs k w holds × Choosing known branches k w holds
+  pub branch_does : (e : ExpressionForm) (fs : StmtsForm) (branches : BranchesForm) (k : Control) (w : Ways) (holds : Holds) → Choosing known (a_branch e fs branches) k w holds → NoneBroken holds (uses_in e) × (expression_raises e ≡ true → To (w.raised ConstraintError) holds) × Doing known fs k w holds × Choosing known branches k w holds
   branch_does e fs branches k w holds (around, from, g, out, returns') =
-      let v = known.variables in
+      let v = known.program.variables in
       let among : Exception → Bool = λ x. branches_raise (is_same x) (a_branch e fs branches) in
       let both = computed_goes e holds _ (Raised among w) (goes_with (computed_flow e holds) (λ h. Goes (either_of (stmts_flow v around fs h) (branches_flow v around branches h)) (To w.normal) (Raised among w)) (Raised among w)
       (λ h. ((raising : Option Holds) × (computed_flow e holds ≡ goes (Some h) raising)) × Goes (stmts_flow v around fs h) (To w.normal) (Raised among w) × Goes (branches_flow v around branches h) (To w.normal) (Raised among w)) (Raised among w)
@@ -92,7 +92,7 @@ module _ (known : Known) where
   chooses_from around branches fs k w holds (from, g, out, returns') = (
     around,
     (λ way place at c. from (into ∷ way) place at (in_branches c)),
-    goes_map (branches_flow known.variables around branches holds) (Doing known fs k w) (Raised (λ e. branches_raise (is_same e) branches) w) (To (Then fs k w).normal) (Raised (λ e. branches_raise (is_same e) branches) w) (to_here (Then fs k w).normal) (λ h r. r) g,
+    goes_map (branches_flow known.program.variables around branches holds) (Doing known fs k w) (Raised (λ e. branches_raise (is_same e) branches) w) (To (Then fs k w).normal) (Raised (λ e. branches_raise (is_same e) branches) w) (to_here (Then fs k w).normal) (λ h r. r) g,
     out,
     returns',
   )
@@ -100,7 +100,7 @@ module _ (known : Known) where
   -- A loop begins with its first turn (5.5).
   pub repeats_from : (around : Around) (condition : Option ExpressionForm) (body : StmtsForm) (end_spot : Spot) (fs : StmtsForm) (k : Control) (w : Ways) (holds : Holds) → Starting around (repeats condition body end_spot) fs k w holds → Repeating known condition body (Does fs ∷ k) (Then fs k w) holds
   repeats_from around condition body end_spot fs k w holds (from, g, out, returns') =
-      let v = known.variables in
+      let v = known.program.variables in
       let first = opened_by_all body holds in
       let among : Exception → Bool = λ x. stmt_raises (is_same x) (repeats condition body end_spot) in
       let left = left_goes (is_left condition body) first (then_flow (condition_flow condition first) (λ hs. ends_turn first end_spot (stmts_flow v (in_loop (Some first)) body hs))) (Doing known fs k w) (Raised among w) g in (
@@ -120,8 +120,8 @@ module _ (known : Known) where
       )
 
   -- What may leave a loop is known behind it.
-  exits_loop : (start : Holds) (w : Ways) → To w.normal start → (holds : Holds) → MayExit known.variables (Some start) [] holds → To w.normal holds
-  exits_loop start w behind' holds may = to_before w.normal holds start (as_good_then holds (left known.variables [] holds) start (left_good known.variables [] holds) (good_each (left known.variables [] holds) start may)) behind'
+  exits_loop : (start : Holds) (w : Ways) → To w.normal start → (holds : Holds) → MayExit known.program.variables (Some start) [] holds → To w.normal holds
+  exits_loop start w behind' holds may = to_before w.normal holds start (as_good_then holds (left known.program.variables [] holds) start (left_good known.program.variables [] holds) (good_each (left known.program.variables [] holds) start may)) behind'
 
   -- The body of a loop is followed by the next turn, and its exits lead behind the loop.
   abbrev pub Again : Option ExpressionForm → StmtsForm → Control → Ways → Ways
@@ -131,7 +131,7 @@ module _ (known : Known) where
   turn_runs condition body k w holds (start, good', turns, left, returns') t = (
     in_loop (Some start),
     t.0,
-    goes_map (stmts_flow known.variables (in_loop (Some start)) body start) (λ after. AsGood after start) (Raised (λ e. stmts_raise (is_same e) body) w) (To (Again condition body k w).normal) (Raised (λ e. stmts_raise (is_same e) body) w)
+    goes_map (stmts_flow known.program.variables (in_loop (Some start)) body start) (λ after. AsGood after start) (Raised (λ e. stmts_raise (is_same e) body) w) (To (Again condition body k w).normal) (Raised (λ e. stmts_raise (is_same e) body) w)
         (λ after good. to_here (Again condition body k w).normal after (start, good, turns, left, returns')) (λ h r. r) t.1,
     (λ has_one holds may. exits_loop start w (left (exit_leaves condition body has_one)) holds may),
     returns',
@@ -140,7 +140,7 @@ module _ (known : Known) where
   -- A `for` loop begins once its bounds are computed.
   pub counts_from : (around : Around) (x : ℕ) (low high : ExpressionForm) (body : StmtsForm) (end_spot : Spot) (fs : StmtsForm) (k : Control) (w : Ways) (holds : Holds) → Starting around (counts x low high body end_spot) fs k w holds → Goes (bounds_flow low high holds) (Counting known x body (Does fs ∷ k) (Then fs k w)) (Raised (λ e. is_same e ConstraintError && (expression_raises low || expression_raises high)) w)
   counts_from around x low high body end_spot fs k w holds (from, g, out, returns') =
-      let v = known.variables in
+      let v = known.program.variables in
       let among : Exception → Bool = λ y. stmt_raises (is_same y) (counts x low high body end_spot) in
       let stmt_loop : Holds → Outcome = λ hs. loop_flow None true end_spot (λ start h. stmts_flow v (in_loop start) body h) (counting_start x body hs) in
       let turn : Holds → Holds → Outcome = λ first h. ends_turn first end_spot (stmts_flow v (in_loop (Some first)) body h) in
@@ -172,24 +172,24 @@ module _ (known : Known) where
   count_runs x next last body k w holds (start, good', lost, turns, behind', returns') = (
     in_loop (Some start),
     (turns next last).0,
-    goes_map (stmts_flow known.variables (in_loop (Some start)) body start) (λ after. AsGood after start) (Raised (λ e. stmts_raise (is_same e) body) w) (To (Next x body k w).normal) (Raised (λ e. stmts_raise (is_same e) body) w)
+    goes_map (stmts_flow known.program.variables (in_loop (Some start)) body start) (λ after. AsGood after start) (Raised (λ e. stmts_raise (is_same e) body) w) (To (Next x body k w).normal) (Raised (λ e. stmts_raise (is_same e) body) w)
         (λ after good. to_here (Next x body k w).normal after (start, good, lost, turns, behind', returns')) (λ h r. r) (turns next last).1,
     (λ has_one holds may. exits_loop start w behind' holds may),
     returns',
   )
 
   -- An exit goes behind the loop, or on (5.7).
-  pub exit_parts : (start : Option Holds) (inside : List ℕ) (condition : Option ExpressionForm) (spot : Spot) (holds : Holds) (more raised exited : Holds → Type 0) → Goes (exit_flow known.variables start inside condition spot holds) more raised → ((h : Holds) → MayExit known.variables start inside h → exited h) → Goes (exit_of condition holds) more raised × exited holds
+  pub exit_parts : (start : Option Holds) (inside : List ℕ) (condition : Option ExpressionForm) (spot : Spot) (holds : Holds) (more raised exited : Holds → Type 0) → Goes (exit_flow known.program.variables start inside condition spot holds) more raised → ((h : Holds) → MayExit known.program.variables start inside h → exited h) → Goes (exit_of condition holds) more raised × exited holds
   exit_parts None inside condition spot holds more raised exited g out = (g, out holds tt)
   exit_parts (Some start) inside condition spot holds more raised exited g out =
-      let h = worse_goes start (left known.variables inside holds) spot (exit_of condition holds) more raised g in
+      let h = worse_goes start (left known.program.variables inside holds) spot (exit_of condition holds) more raised g in
       (h.1, out holds h.0)
 
   -- A handler takes an exception, or it passes all of them (11.4).
   pub taken_from : (e : Exception) (hs : HandlersForm) (k : Control) (w : Ways) (holds : Holds) → Handling known hs k w holds → (handler_of e hs ≡ None → To (w.raised e) holds) → TakenBy known k w e (handler_of e hs) holds
   taken_from e no_handlers k w holds h none = none refl
   taken_from e (a_handler choices fs hs) k w holds (around, from, g, out, returns') none =
-      let v = known.variables in
+      let v = known.program.variables in
       let among : Exception → Bool = λ x. handlers_raise (is_same x) (a_handler choices fs hs) in
       let two = either_goes (stmts_flow v around fs holds) (handlers_flow v around hs holds) (To w.normal) (Raised among w) (to_before w.normal) (raised_before among w) g in
       pick (some_takes e choices) (
@@ -213,13 +213,13 @@ module _ (known : Known) where
       pick false here more past' = more past'
 
   -- Declarations come one after another.
-  elaborates_from : (ds : List DeclarationForm) (holds : Holds) (more : Holds → Type 0) (among : Exception → Bool) (w : Ways) → ((e : Exception) → declarations_raise (is_same e) ds ≡ true → among e ≡ true) → Goes (declarations_flow known.variables ds holds) more (Raised among w) → Elaborating known ds more w holds
+  elaborates_from : (ds : List DeclarationForm) (holds : Holds) (more : Holds → Type 0) (among : Exception → Bool) (w : Ways) → ((e : Exception) → declarations_raise (is_same e) ds ≡ true → among e ≡ true) → Goes (declarations_flow known.program.variables ds holds) more (Raised among w) → Elaborating known ds more w holds
   elaborates_from [] holds more among w m g = g.0
   elaborates_from (d ∷ ds) holds more among w m g =
-      goes_map (declaration_flow known.variables d holds) (λ h. Goes (declarations_flow known.variables ds h) more (Raised among w)) (Raised among w) (Elaborating known ds more w) (Raised (λ e. declaration_raises (is_same e) d) w)
+      goes_map (declaration_flow known.program.variables d holds) (λ h. Goes (declarations_flow known.program.variables ds h) more (Raised among w)) (Raised among w) (Elaborating known ds more w) (Raised (λ e. declaration_raises (is_same e) d) w)
       (λ h n. elaborates_from ds h more among w (λ e i. m e (or_right (declaration_raises (is_same e) d) (declarations_raise (is_same e) ds) i)) n)
       (λ h r. raised_less among (λ e. declaration_raises (is_same e) d) w (λ e i. m e (or_left (declaration_raises (is_same e) d) (declarations_raise (is_same e) ds) i)) h r)
-      (then_goes (declaration_flow known.variables d holds) (declarations_flow known.variables ds) more (Raised among w) (raised_before among w) g)
+      (then_goes (declaration_flow known.program.variables d holds) (declarations_flow known.program.variables ds) more (Raised among w) (raised_before among w) g)
 
   -- What a part may raise: its declarations, its statements past their handlers, its handlers.
   pub record PartRaises (ds : List DeclarationForm) (fs : StmtsForm) (hs : HandlersForm) (among : Exception → Bool) : Type 0 where
@@ -229,12 +229,12 @@ module _ (known : Known) where
 
   -- Declarations, the statements behind them, and their handlers, before a master is left.
   pub part_from : (inner : Around) (k : Control) (ds : List DeclarationForm) (fs : StmtsForm) (hs : HandlersForm) (o : Ways) (among : Exception → Bool) (holds : Holds) → PartRaises ds fs hs among
-      → ((way : List Turning) (place : Control) (at : Holds) → ComesInside known.variables inner k ds fs hs holds way place at → known.At place at)
-      → Goes (then_flow (declarations_flow known.variables ds holds) (λ at. handled (passes fs hs) (handlers_flow known.variables inner hs) (stmts_flow known.variables inner fs at))) (To o.normal) (Raised among o)
-      → OnExit known.variables (have_exit fs) inner o.exited → OnExit known.variables (handlers_have_exit hs) inner o.exited → OnReturn o
+      → ((way : List Turning) (place : Control) (at : Holds) → ComesInside known.program.variables inner k ds fs hs holds way place at → known.At place at)
+      → Goes (then_flow (declarations_flow known.program.variables ds holds) (λ at. handled (passes fs hs) (handlers_flow known.program.variables inner hs) (stmts_flow known.program.variables inner fs at))) (To o.normal) (Raised among o)
+      → OnExit known.program.variables (have_exit fs) inner o.exited → OnExit known.program.variables (handlers_have_exit hs) inner o.exited → OnReturn o
       → Elaborating known ds (Doing known fs (Handles hs ∷ Closes ∷ k) (Handled known hs (Closes ∷ k) o)) o holds
   part_from inner k ds fs hs o among holds p from g exits' exits'' returns' =
-      let v = known.variables in
+      let v = known.program.variables in
       let part : Holds → Outcome = λ at. handled (passes fs hs) (handlers_flow v inner hs) (stmts_flow v inner fs at) in
       elaborates_from ds holds (Doing known fs (Handles hs ∷ Closes ∷ k) (Handled known hs (Closes ∷ k) o)) among o p.by_declarations
       (goes_with (declarations_flow v ds holds) (λ at. Goes (part at) (To o.normal) (Raised among o)) (Raised among o) (Doing known fs (Handles hs ∷ Closes ∷ k) (Handled known hs (Closes ∷ k) o)) (Raised among o)
@@ -258,15 +258,15 @@ module _ (known : Known) where
       (then_goes (declarations_flow v ds holds) part (To o.normal) (Raised among o) (raised_before among o) g))
 
   -- What leaves a block on its way behind a loop.
-  exits_block : (types inside : List ℕ) (start : Option Holds) (holds : Holds) → MayExit known.variables start (types ++ inside) holds → MayExit known.variables start inside (left known.variables types holds)
+  exits_block : (types inside : List ℕ) (start : Option Holds) (holds : Holds) → MayExit known.program.variables start (types ++ inside) holds → MayExit known.program.variables start inside (left known.program.variables types holds)
   exits_block types inside None holds may = tt
-  exits_block types inside (Some start) holds may = rw (← left_twice known.variables types inside holds) may
+  exits_block types inside (Some start) holds may = rw (← left_twice known.program.variables types inside holds) may
 
   -- A block begins with its declarations (5.6).
   pub encloses_from : (around : Around) (ds : List DeclarationForm) (body : StmtsForm) (hs : HandlersForm) (fs : StmtsForm) (k : Control) (w : Ways) (holds : Holds) → Starting around (encloses ds body hs) fs k w holds
-      → Elaborating known ds (Doing known body (Handles hs ∷ Closes ∷ Does fs ∷ k) (Handled known hs (Closes ∷ Does fs ∷ k) (Outside known.variables (collected ds) (Then fs k w)))) (Outside known.variables (collected ds) (Then fs k w)) holds
+      → Elaborating known ds (Doing known body (Handles hs ∷ Closes ∷ Does fs ∷ k) (Handled known hs (Closes ∷ Does fs ∷ k) (Outside known.program.variables (collected ds) (Then fs k w)))) (Outside known.program.variables (collected ds) (Then fs k w)) holds
   encloses_from around ds body hs fs k w holds (from, g, out, returns') =
-      let v = known.variables in
+      let v = known.program.variables in
       let types = collected ds in
       let inner = in_block (collected ds) around in
       let o : Ways = Outside v (collected ds) (Then fs k w) in

@@ -1,24 +1,23 @@
 -- What is left of the program is ready to run, or to be passed by a jump.
 
-use Rattle.std.proofs.Common.{ℕ, List, [], ◌∷◌}
+use Rattle.std.proofs.Common.{ℕ, List, [], ◌∷◌, inl, inr}
 use Rattle.std.specs.List.{slice_set}
 use Rattle.ada_flow.specs.declared.rule.Hold.TheVariants as hold
 use Rattle.ada_flow.specs.Flow.{Holds}
 use Rattle.ada_meaning.specs.declared.state.Value.{Value}
-use Rattle.ada_meaning.specs.declared.state.Value.TheVariants.{Null}
 use Rattle.ada_meaning.specs.declared.state.Mode.{Mode}
 use Rattle.ada_meaning.specs.declared.state.Mode.TheVariants.{Running, Raising, Exiting, Returning}
-use Rattle.ada_meaning.specs.Frame.{Elaborates, Does, Decides, Repeats, Turns, Ranges, Counts, Exits, Handles, Closes, Leaves, Computes, TestsNull, Continues, Applies, AppliesAlone, Fills, Creates, Stores, StoresIn, Declares, Writes}
+use Rattle.ada_meaning.specs.Frame.{Elaborates, Does, Decides, Repeats, Turns, Ranges, Counts, Exits, Handles, Closes, Leaves, Computes, TestsNull, Continues, Applies, AppliesAlone, Fills, Stores, StoresIn, Declares, Writes}
 use Rattle.ada_meaning.specs.Event.{Quiet}
 use Rattle.ada_meaning.specs.State.{Activation, Master}
-use Rattle.ada_meaning.specs.Step.{first_or, jumping}
+use Rattle.ada_meaning.specs.Step.{jumping}
 use Rattle.ada_meaning.specs.Named.{Object, State}
 use Rattle.ada_meaning.specs.Run.{Event}
 use Rattle.ada_sound.proofs.Items.{NoMaster}
-use Rattle.ada_sound.proofs.Values.{put_fit, weaker_fit}
+use Rattle.ada_sound.proofs.Fits.{weaker_fit, spare_fit, put_lost, going}
 use Rattle.ada_sound.proofs.Orderings.{AsGood}
 use Rattle.ada_sound.proofs.Alters.{alters_same}
-use Rattle.ada_sound.proofs.Invariant.{Known, Control, Rooms, Roomed, To, RunsOn, GoesOn, Awaits, Working, ReadyIn, Ready, Says, Stepped, By, ways}
+use Rattle.ada_sound.proofs.Invariant.{Known, Control, Rooms, Roomed, To, RunsOn, GoesOn, Awaits, Working, Parting, HalfBy, Resumes, ReadyIn, Ready, Says, Stepped, By, innermost, ways}
 
 -- The state at work on something, with a running activation; and in another mode.
 abbrev pub running : Control → Activation Value → List (Activation Value) → State → State
@@ -53,15 +52,19 @@ module _ (known : Known) where
   pub stays : (e : Event) (after : State) → Ready known after → Says e after.heap after → Stepped known after.heap e after
   stays e after r says = record { ready = r; alters = alters_same after.heap e; says = says }
 
+  -- Where a master is to be left, nothing relies on the components of its objects.
+  pub parts : {heap : List Object} {places : List Value} {ms : List Master} {more : Rooms → Holds → Type 0} → Working known heap places ms more → Parting known heap places ms more
+  parts {heap} {places} {ms} w = record { rooms = w.rooms; holds = w.holds; stored = w.stored; roomed = w.roomed; fit = spare_fit (going heap (innermost ms)) w.fit; rest = w.rest }
+
   pub runs_ready : (k : Control) (heap : List Object) (places operands : List Value) (ms : List Master) → Working known heap places ms (RunsOn known k) → ReadyIn known Running k heap places operands ms
   runs_ready [] heap places operands ms w = (w.stored, none_left known Running ms w.rooms w.holds w.roomed w.rest)
   runs_ready (Elaborates ds fs hs ∷ k) heap places operands ms w = w
-  runs_ready (Does fs ∷ k) heap places operands ms w = w
+  runs_ready (Does fs ∷ k) heap places operands ms w = inl w
   runs_ready (Repeats condition body ∷ k) heap places operands ms w = w
   runs_ready (Counts x next last body ∷ k) heap places operands ms w = w
   runs_ready (Handles hs ∷ k) heap places operands ms w = w
   runs_ready (Closes ∷ k) heap places operands ms w = w
-  runs_ready (Leaves mode ∷ k) heap places operands ms w = w
+  runs_ready (Leaves mode ∷ k) heap places operands ms w = parts w
   runs_ready (f ∷ k) heap places operands ms w = absurd (w.rest)
 
   -- What is left goes on in a mode.
@@ -74,38 +77,54 @@ module _ (known : Known) where
   goes_ready Returning [] heap places operands ms w = (w.stored, none_left known Returning ms w.rooms w.holds w.roomed w.rest)
   goes_ready Returning (f ∷ k) heap places operands ms w = w
 
+  -- So does what is left with the second half of a take pair.
+  half_ready : (k : Control) (heap : List Object) (places operands : List Value) (ms : List Master) → HalfBy known k heap places ms → ReadyIn known Running k heap places operands ms
+  half_ready [] heap places operands ms h = absurd h
+  half_ready (Does fs ∷ k) heap places operands ms h = inr h
+  half_ready (f ∷ k) heap places operands ms h = absurd h
+
+  pub resumes_ready : (k : Control) (heap : List Object) (places operands : List Value) (ms : List Master) → Resumes known heap places ms k → ReadyIn known Running k heap places operands ms
+  resumes_ready k heap places operands ms (inl w) = runs_ready k heap places operands ms w
+  resumes_ready k heap places operands ms (inr h) = half_ready k heap places operands ms h
+
   -- Any value is stored where nothing relies on it.
   pub lost_stored : (x : ℕ) (k : Control) (v : Value) (heap : List Object) (places : List Value) (ms : List Master) → Working known heap places ms (λ rooms holds. RunsOn known k rooms (slice_set holds x hold.Lost)) → Working known heap (slice_set places x v) ms (RunsOn known k)
-  lost_stored x k v heap places ms w = record { rooms = w.rooms; holds = slice_set w.holds x hold.Lost; stored = w.stored; roomed = w.roomed; fit = put_fit heap known.variables places w.holds x hold.Lost v (λ e. absurd e) tt w.fit; rest = w.rest }
+  lost_stored x k v heap places ms w = record { rooms = w.rooms; holds = slice_set w.holds x hold.Lost; stored = w.stored; roomed = w.roomed; fit = put_lost x v w.fit; rest = w.rest }
 
-  -- What awaits a value goes on, whatever is computed.
-  pub awaits_ready : (k : Control) (heap : List Object) (places operands : List Value) (ms : List Master) → Working known heap places ms (Awaits known heap k) → ReadyIn known Running k heap places operands ms
-  awaits_ready [] heap places operands ms w = absurd (w.rest)
-  awaits_ready (Computes e ∷ k) heap places operands ms w = w
-  awaits_ready (Continues links ∷ k) heap places operands ms w = w
-  awaits_ready (TestsNull equal ∷ k) heap places operands ms w = w
-  awaits_ready (Decides fs branches ∷ k) heap places operands ms w = w
-  awaits_ready (Turns e body ∷ k) heap places operands ms w = w
-  awaits_ready (Ranges x body ∷ k) heap places operands ms w = w
-  awaits_ready (Exits ∷ k) heap places operands ms w = w
-  awaits_ready (Applies operator ∷ k) heap places operands ms w = w
-  awaits_ready (AppliesAlone operator ∷ k) heap places operands ms w = w
-  awaits_ready (Fills items ∷ k) heap places operands ms w = w
-  awaits_ready (Creates access count ∷ k) heap places operands ms w = w
-  awaits_ready (Stores x ∷ k) heap places operands ms w = lost_stored x k (first_or Null operands) heap places ms w
-  awaits_ready (StoresIn o c ∷ k) heap places operands ms w = w
-  awaits_ready (Declares x ∷ k) heap places operands ms w = lost_stored x k (first_or Null operands) heap places ms w
-  awaits_ready (Writes ∷ k) heap places operands ms w = w
-  awaits_ready (f ∷ k) heap places operands ms w = absurd (w.rest)
+  -- What awaits a value goes on with one, whatever it is.
+  pub awaits_ready : (k : Control) (heap : List Object) (places : List Value) (v : Value) (below : List Value) (ms : List Master) → Working known heap places ms (Awaits known heap places below k) → ReadyIn known Running k heap places (v ∷ below) ms
+  awaits_ready [] heap places v below ms w = absurd (w.rest)
+  awaits_ready (Computes e ∷ k) heap places v below ms w = at_work w (w.rest.0, w.rest.1, w.rest.2 v)
+  awaits_ready (Continues links ∷ k) heap places v below ms w = w
+  awaits_ready (TestsNull equal ∷ k) heap places v below ms w = w
+  awaits_ready (Decides fs branches ∷ k) heap places v below ms w = w
+  awaits_ready (Turns e body ∷ k) heap places v below ms w = w
+  awaits_ready (Ranges x body ∷ k) heap places v below ms w = w
+  awaits_ready (Exits ∷ k) heap places v below ms w = w
+  awaits_ready (Applies operator ∷ k) heap places v below ms w = w
+  awaits_ready (AppliesAlone operator ∷ k) heap places v below ms w = w
+  awaits_ready (Fills items ∷ k) heap places v below ms w = at_work w (w.rest v)
+  awaits_ready (Stores x ∷ k) heap places v below ms w = inl (lost_stored x k v heap places ms w)
+  awaits_ready (StoresIn o c ∷ k) heap places v below ms w = inr w
+  awaits_ready (Declares x ∷ k) heap places v below ms w = lost_stored x k v heap places ms w
+  awaits_ready (Writes ∷ k) heap places v below ms w = w
+  awaits_ready (f ∷ k) heap places v below ms w = absurd (w.rest)
 
   module _ (k : Control) (a : Activation Value) (rest : List (Activation Value)) (s : State) where
-    -- What awaits a value goes on with one, or without.
-    pub goes_on : Working known s.heap a.places s.masters (Awaits known s.heap k) → (vs : List Value) → Stepped known s.heap Quiet (running k (record a { operands = vs }) rest s)
-    goes_on w vs = stays Quiet (running k (record a { operands = vs }) rest s) (tt, awaits_ready k s.heap a.places vs s.masters w) tt
+    -- What awaits a value goes on with one.
+    pub goes_on : (v : Value) (below : List Value) → Working known s.heap a.places s.masters (Awaits known s.heap a.places below k) → Stepped known s.heap Quiet (running k (record a { operands = v ∷ below }) rest s)
+    goes_on v below w = stays Quiet (running k (record a { operands = v ∷ below }) rest s) (tt, awaits_ready k s.heap a.places v below s.masters w) tt
+
+    -- Something is ready with these operands.
+    pub ready_on : (vs : List Value) → ReadyIn known Running k s.heap a.places vs s.masters → Stepped known s.heap Quiet (running k (record a { operands = vs }) rest s)
+    ready_on vs r = stays Quiet (running k (record a { operands = vs }) rest s) (tt, r) tt
 
     -- What is left of the program goes on.
     pub runs_on : Working known s.heap a.places s.masters (RunsOn known k) → (e : Event) → Says e s.heap (running k a rest s) → Stepped known s.heap e (running k a rest s)
     runs_on w e says = stays e (running k a rest s) (tt, runs_ready k s.heap a.places a.operands s.masters w) says
+
+    pub resumes_on : Resumes known s.heap a.places s.masters k → (e : Event) → Says e s.heap (running k a rest s) → Stepped known s.heap e (running k a rest s)
+    resumes_on r e says = stays e (running k a rest s) (tt, resumes_ready k s.heap a.places a.operands s.masters r) says
 
     pub goes_in_mode : (mode : Mode) → Working known s.heap a.places s.masters (GoesOn known mode k) → Stepped known s.heap Quiet (in_mode mode k a rest s)
     goes_in_mode mode w = stays Quiet (in_mode mode k a rest s) (tt, goes_ready mode k s.heap a.places a.operands s.masters w) tt

@@ -1,7 +1,11 @@
 -- One step keeps the invariant.
 
-use Rattle.std.proofs.Common.{List, [], ◌∷◌}
+use Rattle.std.proofs.Common.{◌≡◌, ℕ, List, [], ◌∷◌, refl, sym, ◌∙◌, inl}
 use Rattle.ada_program.specs.declared.program.TypeDefinition.{TypeDefinition}
+use Rattle.ada_program.specs.declared.program.VariableKind.{VariableKind}
+use Rattle.ada_program.specs.declared.program.VariableKind.TheVariants as variable
+use Rattle.ada_program.specs.Form.{LinksForm, RightForm}
+use Rattle.ada_program.specs.ProgramForm.{VariableForm}
 use Rattle.ada_program.specs.Typed.{words_of}
 use Rattle.ada_meaning.specs.declared.state.Value.{Value}
 use Rattle.ada_meaning.specs.declared.state.Value.TheVariants.{Null}
@@ -10,72 +14,115 @@ use Rattle.ada_meaning.specs.declared.state.Mode.TheVariants.{Running, Raising, 
 use Rattle.ada_meaning.specs.Frame.{Frame, Elaborates, Does, Decides, Repeats, Turns, Ranges, Counts, Exits, Handles, Closes, Leaves, Evaluates, Computes, Follows, TestsNull, Continues, Applies, AppliesAlone, Fills, Creates, Stores, Targets, StoresIn, Receives, Declares, Writes, Ends, GivesBack, Clears}
 use Rattle.ada_meaning.specs.Event.{Quiet}
 use Rattle.ada_meaning.specs.State.{Activation}
-use Rattle.ada_meaning.specs.Step.{first_or, older, frame_next, mode_next}
-use Rattle.ada_meaning.specs.Named.{State, named, next}
+use Rattle.ada_meaning.specs.Step.{first_or, older, operands_of, frame_next, mode_next}
+use Rattle.ada_meaning.specs.Named.{Object, State, named, next}
 use Rattle.ada_effects.specs.Effects.{unary_raises, binary_raises}
+use Rattle.ada_scopes.specs.Scopes.{InnermostHeldInside}
+use Rattle.ada_typed.specs.Holding.{Cells, cells_of}
+use Rattle.ada_typed.proofs.Values.{AreComputed, kind_of}
+use Rattle.ada_typed.proofs.Values as typing
+use Rattle.ada_typed.proofs.Control as typed
 use Rattle.ada_sound.proofs.Invariant.{Known, Control, ReadyBy, ReadyIn, IsActive, Ready, Fine}
 use Rattle.ada_sound.proofs.Ready.{running, at_work, at_less, runs_on}
 use Rattle.ada_sound.proofs.Raising.{unary_only, binary_only}
-use Rattle.ada_sound.proofs.Expressions.{outcome_fine, null_test_fine, expression_fine, links_fine, items_fine}
+use Rattle.ada_sound.proofs.Expressions.{outcome_fine, null_test_fine, expression_fine, links_fine}
 use Rattle.ada_sound.proofs.Statements.{declarations_fine, repeats_fine, counts_fine, ranges_fine, decided_fine, turned_fine, exited_fine, stmts_fine}
-use Rattle.ada_sound.proofs.Evaluations.{creates_fine, right_fine, stores_fine, declares_fine, writes_fine}
+use Rattle.ada_sound.proofs.Allocators.{items_fine, creates_fine}
+use Rattle.ada_sound.proofs.Evaluations.{right_fine, follows_fine, stores_fine, declares_fine, writes_fine}
 use Rattle.ada_sound.proofs.Targets.{target_fine, store_fine, receive_fine}
+use Rattle.ada_sound.proofs.Leavings.{HeldIn}
 use Rattle.ada_sound.proofs.Endings.{ends_fine, backs_fine, leave_fine}
 use Rattle.ada_sound.proofs.Jumps.{closes_fine, raising_fine, exiting_fine, returning_fine}
 
+-- Where a kind is waited for, an operand is there.
+no_operand : (cells : Cells) (kinds : List VariableKind) (kind : VariableKind) (ks : List VariableKind) → kinds ≡ kind ∷ ks → AreComputed cells kinds [] → ⊥
+no_operand cells kinds kind ks is computed = let none : AreComputed cells (kind ∷ ks) [] = rw is at computed in none
+
+-- What typing says of a state where no jump is on its way.
+abbrev RunsTyped : Known → List Object → Control → (operands : List Value) → Type 0
+RunsTyped known heap k operands = (kinds : List VariableKind) × typed.Fits known.program (cells_of heap) kinds k × AreComputed (cells_of heap) kinds operands
+
+active_computed : (cells : Cells) (variables : List VariableForm) (kinds : List VariableKind) (all : List (Activation Value)) → typing.IsActive cells variables kinds all → AreComputed cells kinds (operands_of all)
+active_computed cells variables kinds [] active = absurd active
+active_computed cells variables kinds (a ∷ rest) active = active.1
+
+runs_typed : (known : Known) (s : State) → typed.Typed known.program s → s.mode ≡ Running → RunsTyped known s.heap s.control (operands_of s.activations)
+runs_typed known s (typed.running kinds ready fits) runs = (kinds, fits, active_computed (cells_of s.heap) known.program.variables kinds s.activations ready.active)
+runs_typed known s (typed.on_jump mode jumps goes) runs =
+    let same : mode ≡ Running = sym jumps.jumps ∙ runs in
+    let none : typed.Goes known.program (cells_of s.heap) Running s.control = rw same at goes in
+    absurd none
+
 module _ (known : Known) where
   module _ (types : List TypeDefinition) (k : Control) (a : Activation Value) (rest : List (Activation Value)) (s : State) where
-    frame_fine : (f : Frame Value) → ReadyBy known f k s.heap a.places a.operands s.masters → Fine known s.heap s.masters (frame_next named types f (running k a rest s))
-    frame_fine (Elaborates ds fs hs) r = declarations_fine known a rest s fs hs k ds r
-    frame_fine (Does fs) r = stmts_fine known a rest s fs k r
-    frame_fine (Decides fs branches) r = decided_fine known (record a { operands = older a.operands }) rest s fs branches (named.reads_boolean (first_or Null a.operands)) k r
-    frame_fine (Repeats condition body) r = repeats_fine known a rest s condition body k r
-    frame_fine (Turns e body) r = turned_fine known (record a { operands = older a.operands }) rest s e body (named.reads_boolean (first_or Null a.operands)) k r
-    frame_fine (Ranges x body) r = ranges_fine known (record a { operands = older (older a.operands) }) rest s x body (named.reads_integer (first_or Null (older a.operands))) (named.reads_integer (first_or Null a.operands)) k r
-    frame_fine (Counts x next last body) r = counts_fine known a rest s x next last body k r
-    frame_fine Exits r = exited_fine known (record a { operands = older a.operands }) rest s (named.reads_boolean (first_or Null a.operands)) k r
-    frame_fine (Handles hs) r = runs_on known k a rest s (at_less r r.rest) Quiet tt
-    frame_fine Closes r = closes_fine known k a rest s Running r
-    frame_fine (Leaves mode) r = leave_fine known mode k a rest s s.masters r
-    frame_fine (Evaluates right) r = right_fine known k a rest s right r
-    frame_fine (Computes e) r = expression_fine known k a rest s e r
-    frame_fine (Follows cs) r = absurd r
-    frame_fine (TestsNull equal) r = null_test_fine known k a rest s r equal (named.reads_null (first_or Null a.operands)) (older a.operands)
-    frame_fine (Continues links) r = links_fine known k a rest s links r
-    frame_fine (Applies operator) r =
+    -- Frames that take an operand, which is there.
+    path_fine : (cs : List ℕ) (operands : List Value) → RunsTyped known s.heap (Follows cs ∷ k) operands → ReadyBy known (Follows cs) k s.heap a.places operands s.masters → Fine known s.heap s.masters (frame_next named types (Follows cs) (running k (record a { operands = operands }) rest s))
+    path_fine cs [] t r = let fits = t.1 in absurd (no_operand (cells_of s.heap) t.0 fits.1 fits.0 fits.3 t.2)
+    path_fine cs (v ∷ below) t r = follows_fine known k a rest s cs v below t.0 t.1 t.2 r
+
+    chain_fine : (links : LinksForm) (operands : List Value) → RunsTyped known s.heap (Continues links ∷ k) operands → ReadyBy known (Continues links) k s.heap a.places operands s.masters → Fine known s.heap s.masters (frame_next named types (Continues links) (running k (record a { operands = operands }) rest s))
+    chain_fine links [] t r = let fits = t.1 in absurd (no_operand (cells_of s.heap) t.0 (kind_of fits.1) fits.0 fits.3 t.2)
+    chain_fine links (v ∷ below) t r = links_fine known k a rest s v below links r
+
+    found_fine : (c : ℕ) (right : RightForm) (operands : List Value) → RunsTyped known s.heap (Targets c right ∷ k) operands → ReadyBy known (Targets c right) k s.heap a.places operands s.masters → Fine known s.heap s.masters (frame_next named types (Targets c right) (running k (record a { operands = operands }) rest s))
+    found_fine c right [] t r = let fits = t.1 in absurd (no_operand (cells_of s.heap) t.0 (variable.Access fits.1) fits.0 fits.3 t.2)
+    found_fine c right (v ∷ below) t r = target_fine known k a rest s v below c right t.0 t.1 t.2 r
+
+    put_fine : (o : Value) (c : ℕ) (operands : List Value) → RunsTyped known s.heap (StoresIn o c ∷ k) operands → ReadyBy known (StoresIn o c) k s.heap a.places operands s.masters → Fine known s.heap s.masters (frame_next named types (StoresIn o c) (running k (record a { operands = operands }) rest s))
+    put_fine o c [] t r = let fits = t.1 in absurd (no_operand (cells_of s.heap) t.0 fits.2 fits.0 fits.3 t.2)
+    put_fine o c (v ∷ below) t r = store_fine known k a rest s o v below c t.0 t.1 t.2 r
+
+    frame_fine : (f : Frame Value) → RunsTyped known s.heap (f ∷ k) a.operands → HeldIn s.heap s.masters → ReadyBy known f k s.heap a.places a.operands s.masters → Fine known s.heap s.masters (frame_next named types f (running k a rest s))
+    frame_fine (Elaborates ds fs hs) t held r = declarations_fine known a rest s fs hs k ds r
+    frame_fine (Does fs) t held r = stmts_fine known a rest s fs k r
+    frame_fine (Decides fs branches) t held r = decided_fine known (record a { operands = older a.operands }) rest s fs branches (named.reads_boolean (first_or Null a.operands)) k r
+    frame_fine (Repeats condition body) t held r = repeats_fine known a rest s condition body k r
+    frame_fine (Turns e body) t held r = turned_fine known (record a { operands = older a.operands }) rest s e body (named.reads_boolean (first_or Null a.operands)) k r
+    frame_fine (Ranges x body) t held r = ranges_fine known (record a { operands = older (older a.operands) }) rest s x body (named.reads_integer (first_or Null (older a.operands))) (named.reads_integer (first_or Null a.operands)) k r
+    frame_fine (Counts x next last body) t held r = counts_fine known a rest s x next last body k r
+    frame_fine Exits t held r = exited_fine known (record a { operands = older a.operands }) rest s (named.reads_boolean (first_or Null a.operands)) k r
+    frame_fine (Handles hs) t held r = runs_on known k a rest s (at_less r r.rest) Quiet tt
+    frame_fine Closes t held r = closes_fine known k a rest s Running r
+    frame_fine (Leaves mode) t held r = leave_fine known mode k a rest s s.masters r held
+    frame_fine (Evaluates right) t held r = right_fine known k a rest s right t.0 t.1 r
+    frame_fine (Computes e) t held r = expression_fine known k a rest s e r
+    frame_fine (Follows cs) t held r = path_fine cs a.operands t r
+    frame_fine (TestsNull equal) t held r = null_test_fine known k a rest s (older a.operands) r equal (named.reads_null (first_or Null a.operands))
+    frame_fine (Continues links) t held r = chain_fine links a.operands t r
+    frame_fine (Applies operator) t held r =
         let left = first_or Null (older a.operands) in
         let right = first_or Null a.operands in
-        outcome_fine known k a rest s (at_work r r.rest.1) (binary_raises operator) (named.binary operator left right) (binary_only operator left right) r.rest.0 (older (older a.operands))
-    frame_fine (AppliesAlone operator) r =
+        outcome_fine known k a rest s (older (older a.operands)) (at_work r r.rest.1) (binary_raises operator) (named.binary operator left right) (binary_only operator left right) r.rest.0
+    frame_fine (AppliesAlone operator) t held r =
         let operand = first_or Null a.operands in
-        outcome_fine known k a rest s (at_work r r.rest.1) (unary_raises operator) (named.unary operator operand) (unary_only operator operand) r.rest.0 (older a.operands)
-    frame_fine (Fills items) r = items_fine known k a rest s items r
-    frame_fine (Creates access count) r = creates_fine known k a rest s access count (words_of types access) r
-    frame_fine (Stores x) r = stores_fine known k a rest s x (first_or Null a.operands) (older a.operands) r
-    frame_fine (Targets c right) r = target_fine known k (record a { operands = older a.operands }) rest s (first_or Null a.operands) c right r
-    frame_fine (StoresIn o c) r = store_fine known k (record a { operands = older a.operands }) rest s o c (first_or Null a.operands) r
-    frame_fine (Receives c) r = receive_fine known k (record a { operands = older a.operands }) rest s (first_or Null a.operands) c r
-    frame_fine (Declares x) r = declares_fine known k a rest s x (first_or Null a.operands) (older a.operands) r
-    frame_fine Writes r = writes_fine known k a rest s (named.reads_integer (first_or Null a.operands)) (older a.operands) r
-    frame_fine (Ends v) r = ends_fine known a rest s v k r
-    frame_fine (GivesBack v cause pool) r = backs_fine known a rest s v cause pool k r
-    frame_fine (Clears x) r = stores_fine known k a rest s x Null a.operands r
+        outcome_fine known k a rest s (older a.operands) (at_work r r.rest.1) (unary_raises operator) (named.unary operator operand) (unary_only operator operand) r.rest.0
+    frame_fine (Fills items) t held r = items_fine known k a rest s items r
+    frame_fine (Creates access count) t held r = creates_fine known k a rest s access count (words_of types access) t.0 t.1 t.2 r
+    frame_fine (Stores x) t held r = stores_fine known k a rest s x (first_or Null a.operands) (older a.operands) r
+    frame_fine (Targets c right) t held r = found_fine c right a.operands t r
+    frame_fine (StoresIn o c) t held r = put_fine o c a.operands t r
+    frame_fine (Receives c) t held r = receive_fine known k a rest s (first_or Null a.operands) (older a.operands) c r
+    frame_fine (Declares x) t held r = declares_fine known k a rest s x (first_or Null a.operands) (older a.operands) r
+    frame_fine Writes t held r = writes_fine known k a rest s (named.reads_integer (first_or Null a.operands)) (older a.operands) r
+    frame_fine (Ends v) t held r = ends_fine known a rest s v k r
+    frame_fine (GivesBack v cause pool) t held r = backs_fine known a rest s v cause pool k r
+    frame_fine (Clears x) t held r = stores_fine known k a rest s x Null a.operands (inl r)
 
-  mode_fine : (types : List TypeDefinition) (mode : Mode) (k : Control) (a : Activation Value) (rest : List (Activation Value)) (s : State) → ReadyIn known mode k s.heap a.places a.operands s.masters → Fine known s.heap s.masters (mode_next named types mode (record s { mode = mode; control = k; activations = a ∷ rest }))
-  mode_fine types Running [] a rest s r = r
-  mode_fine types Running (f ∷ k) a rest s r = frame_fine types k a rest s f r
-  mode_fine types (Raising e) [] a rest s r = r
-  mode_fine types (Raising e) (f ∷ k) a rest s r = raising_fine known k a rest s e f r
-  mode_fine types Exiting [] a rest s r = tt
-  mode_fine types Exiting (f ∷ k) a rest s r = exiting_fine known k a rest s f r
-  mode_fine types Returning [] a rest s r = r
-  mode_fine types Returning (f ∷ k) a rest s r = returning_fine known k a rest s f r
+  mode_fine : (types : List TypeDefinition) (mode : Mode) (k : Control) (a : Activation Value) (rest : List (Activation Value)) (s : State) → (mode ≡ Running → RunsTyped known s.heap k a.operands) → HeldIn s.heap s.masters → ReadyIn known mode k s.heap a.places a.operands s.masters → Fine known s.heap s.masters (mode_next named types mode (record s { mode = mode; control = k; activations = a ∷ rest }))
+  mode_fine types Running [] a rest s t held r = r
+  mode_fine types Running (f ∷ k) a rest s t held r = frame_fine types k a rest s f (t refl) held r
+  mode_fine types (Raising e) [] a rest s t held r = r
+  mode_fine types (Raising e) (f ∷ k) a rest s t held r = raising_fine known k a rest s e f r
+  mode_fine types Exiting [] a rest s t held r = tt
+  mode_fine types Exiting (f ∷ k) a rest s t held r = exiting_fine known k a rest s f r
+  mode_fine types Returning [] a rest s t held r = r
+  mode_fine types Returning (f ∷ k) a rest s t held r = returning_fine known k a rest s f r
 
-  active_fine : (types : List TypeDefinition) (all : List (Activation Value)) (s : State) → IsActive all → Ready known (record s { activations = all }) → Fine known s.heap s.masters (mode_next named types s.mode (record s { activations = all }))
-  active_fine types [] s i r = absurd i
-  active_fine types (a ∷ rest) s i r = mode_fine types s.mode s.control a rest s r.1
+  active_fine : (types : List TypeDefinition) (all : List (Activation Value)) (s : State) → IsActive all → (s.mode ≡ Running → RunsTyped known s.heap s.control (operands_of all)) → HeldIn s.heap s.masters → Ready known (record s { activations = all }) → Fine known s.heap s.masters (mode_next named types s.mode (record s { activations = all }))
+  active_fine types [] s i t held r = absurd i
+  active_fine types (a ∷ rest) s i t held r = mode_fine types s.mode s.control a rest s t held r.1
 
   -- One step keeps the invariant.
-  pub fine : (types : List TypeDefinition) (s : State) → Ready known s → Fine known s.heap s.masters (next types s)
+  pub fine : (types : List TypeDefinition) (s : State) → typed.Typed known.program s → InnermostHeldInside s → Ready known s → Fine known s.heap s.masters (next types s)
   unfolding next
-  fine types s r = active_fine types s.activations s r.0 r
+  fine types s typing held r = active_fine types s.activations s r.0 (runs_typed known s typing) held r

@@ -1,70 +1,198 @@
--- Components that are assigned to (5.2): their object is found first, and it is still there when the value is stored.
+-- Components that are assigned to: their objects are found, and a value goes into them.
 
-use Rattle.std.proofs.Common.{◌≡◌, ℕ, List, [], ◌∷◌, refl, inl}
+use Rattle.std.proofs.Common.{◌≡◌, Bool, true, false, ℕ, List, [], ◌∷◌, ◌++◌, refl, sym, ◌∙◌, inl, inr}
 use Rattle.std.specs.Prelude.{ℤ, Option, Some, None}
-use Rattle.std.specs.List.{slice_get, slice_set}
+use Rattle.std.specs.List.{slice_get}
 use Rattle.ada_program.specs.declared.program.Exception.TheVariants.{ConstraintError, EndError}
-use Rattle.ada_program.specs.Form.{RightForm}
-use Rattle.ada_flow.specs.Flow.{Holds}
+use Rattle.ada_program.specs.declared.program.VariableKind.{VariableKind}
+use Rattle.ada_program.specs.declared.program.VariableKind.TheVariants as variable
+use Rattle.ada_program.specs.Form.{PathForm, RightForm, nothing, value_of, allocates, computes, StmtsForm, a_stmt, assigns}
+use Rattle.ada_program.specs.Handling.{is_same}
+use Rattle.ada_effects.specs.Effects.{stmt_raises}
+use Rattle.ada_flow.specs.Flow.{Holds, reads_it, gives_component, gives_path, uses_in_target, uses_in_right, ends_with, without_values, moved_by_right}
 use Rattle.ada_meaning.specs.declared.state.Id.{Id}
 use Rattle.ada_meaning.specs.declared.state.Value.{Value}
 use Rattle.ada_meaning.specs.declared.state.Value.TheVariants.{Null, Names, Scalar}
-use Rattle.ada_meaning.specs.declared.state.Mode.TheVariants.{Raising}
-use Rattle.ada_meaning.specs.Frame.{Evaluates, StoresIn}
+use Rattle.ada_meaning.specs.declared.state.Mode.TheVariants.{Running, Raising}
 use Rattle.ada_meaning.specs.Event.{Followed}
+use Rattle.ada_meaning.specs.Frame.{Does, Evaluates, Targets, StoresIn, Receives}
+use Rattle.ada_meaning.specs.Heap.{finds}
 use Rattle.ada_meaning.specs.State.{Activation, Master}
-use Rattle.ada_meaning.specs.Step.{jumping, target_next, stored_next, store_next, received_next, receive_next}
-use Rattle.ada_meaning.specs.Named.{Object, State, object_at, look, named, filled}
-use Rattle.ada_sound.proofs.Stored.{exists_out, stored_filled}
-use Rattle.ada_sound.proofs.Values.{Exists, fit_kept}
+use Rattle.ada_meaning.specs.Step.{jumping, before_last, last_of, path_next, target_next, stored_next, store_next, received_next, receive_next, assign_next, stmts_next}
+use Rattle.ada_meaning.specs.Named.{Object, State, object_at, filled, store, look, named}
+use Rattle.ada_owners.specs.Keeping.{IsThere}
+use Rattle.ada_owners.specs.Walks.{walk}
+use Rattle.ada_owners.proofs.Changes.{store_is}
+use Rattle.ada_typed.specs.Holding.{cells_of}
+use Rattle.ada_typed.proofs.Values.{AreComputed}
+use Rattle.ada_typed.proofs.Control as typed
+use Rattle.ada_sound.proofs.Fits.{MayFollow, component_access, place_at, root_follows, store_blank}
+use Rattle.ada_sound.proofs.Stored.{Stored, exists_out, stored_filled}
 use Rattle.ada_sound.proofs.Alters.{alters_set}
-use Rattle.ada_sound.proofs.Invariant.{Known, Control, Rooms, RunsOn, Into, Targeting, Receiving, Working, IsFollowed, Stepped, Fine}
-use Rattle.ada_sound.proofs.Ready.{running, at_work, at_less, stays, runs_ready, goes_ready, jumps_less}
+use Rattle.ada_sound.proofs.Invariant.{Known, Control, Rooms, ReadyIn, Goes, Raised, RunsOn, NoneBroken, MayRaise, Pairs, IsOne, component_among, Doing, FillsIn, Receiving, Working, Half, HalfBy, Resumes, EvaluatesTo, TargetsTo, StoringIn, IsFollowed, Stepped, Fine, front, final, ways}
+use Rattle.ada_sound.proofs.Ready.{running, at_work, at_less, stays, runs_ready, resumes_ready, goes_ready, jumps_less}
+use Rattle.ada_sound.proofs.Followings.{first_kept, kept_apart}
+use Rattle.ada_sound.proofs.Outcomes.{using_goes, ends_goes}
+use Rattle.ada_sound.proofs.Nestings.{starts}
+use Rattle.ada_sound.proofs.Back.{stored_before}
+use Rattle.ada_sound.proofs.Assigned.{kind_names, kind_blank, selected_of}
+use Rattle.ada_sound.proofs.Walks.{finds_fine, half_fine}
 
--- The words of an object that is followed are out.
-followed : {known : Known} {heap : List Object} {places : List Value} {ms : List Master} {more : Rooms → Holds → Type 0} (o : Id) → Exists heap o → Working known heap places ms more → IsFollowed (Names o) heap
-followed o e w = record { id = o; object = e.0; is = refl; found = e.1; out = exists_out o e.0 e.1 e.2 w.stored }
+-- The words of an object that is there are out.
+followed : {under : Option Id} {heap : List Object} {ms : List Master} (o : Id) → IsThere heap o → Stored under heap ms → IsFollowed (Names o) heap
+followed o (object, found, listed) stored =
+    record { id = o; object = object; is = refl; found = found; out = exists_out o object found ((stored.sane o object found).listed_exists listed) stored }
 
--- A component of an object gets another value.
-filled_works : {known : Known} {heap : List Object} {places : List Value} {ms : List Master} {more : Rooms → Holds → Type 0} (o : Id) (x : Object) (c : ℕ) (v : Value) → object_at heap o ≡ Some x → Working known heap places ms more → Working known (slice_set heap o.0 (filled c v x)) places ms more
-filled_works {heap = heap} o x c v found w = record { rooms = w.rooms; holds = w.holds; stored = stored_filled o x c v found w.stored; roomed = w.roomed; fit = fit_kept heap o x (filled c v x) found refl refl w.fit; rest = w.rest }
+-- A component gets what names nothing.
+blank_works : {known : Known} {heap : List Object} {places : List Value} {ms : List Master} {more : Rooms → Holds → Type 0} (o : Id) (object : Object) (c : ℕ) (v : Value) → object_at heap o ≡ Some object → ((p : Id) → v ≡ Names p → ⊥) → Working known heap places ms more → Working known (store heap (Names o) c v) places ms more
+blank_works {heap = heap} o object c v found none w = record {
+  rooms = w.rooms;
+  holds = w.holds;
+  stored = rw (store_is heap o object found c v) (stored_filled o object c v found w.stored);
+  roomed = w.roomed;
+  fit = store_blank o object c v found none w.fit;
+  rest = w.rest;
+}
 
-module _ (known : Known) (k : Control) (a : Activation Value) (rest : List (Activation Value)) where
-  fill_fine : (s : State) (o : Id) (e : Exists s.heap o) (c : ℕ) (v : Value) → Working known s.heap a.places s.masters (RunsOn known k) → Stepped known s.heap (Followed (Names o)) (record (running k a rest s) { heap = slice_set s.heap o.0 (filled c v e.0) })
-  fill_fine s o e c v w = record {
-    ready = (tt, runs_ready known k (slice_set s.heap o.0 (filled c v e.0)) a.places a.operands s.masters (filled_works o e.0 c v e.1 w));
-    alters = alters_set s.heap (Followed (Names o)) o e.0 (filled c v e.0) e.1 (refl, refl, refl) (λ h. h) (λ h. inl h);
-    says = followed o e w;
+-- What flow says of a component that is a target: its path uses nothing that is lost, variables that are moved are lost where it comes to its end, and
+-- it may raise an exception.
+target_goes : (cleared : Bool) (path : PathForm) (right : RightForm) (holds : Holds) (more raised : Holds → Type 0) → Goes (gives_component cleared path right holds) more raised → (NoneBroken holds (uses_in_target path)) × more (without_values (moved_by_right right) holds) × raised holds
+target_goes cleared path right holds more raised g =
+    let after = without_values (moved_by_right right) holds in
+    let u = using_goes (uses_in_target path ++ uses_in_right cleared right) holds (ends_with true holds after) more raised g in
+    let n = ends_goes true holds after more raised u.1 in
+    ((kept_apart holds (uses_in_target path) (uses_in_right cleared right) u.0).0, n.0, n.1 refl)
+
+-- Null leaves all that is known as it is.
+cleared_goes : (cs : List ℕ) (d : ℕ) (ds : List ℕ) (path : PathForm) (holds : Holds) (more raised : Holds → Type 0) → cs ≡ d ∷ ds → Goes (gives_path false cs path nothing holds) more raised → more holds
+cleared_goes [] d ds path holds more raised is g = absurd (cc is)
+cleared_goes (c ∷ cs) d ds path holds more raised is g = (target_goes false path nothing holds more raised g).1
+
+module _ (known : Known) (a : Activation Value) (rest : List (Activation Value)) (s : State) where
+  -- The path of a target may be followed.
+  target_follows : {more : Rooms → Holds → Type 0} (c : ℕ) (cs : List ℕ) (target : PathForm) → target.selectors ≡ c ∷ cs → (w : Working known s.heap a.places s.masters more) → NoneBroken w.holds (uses_in_target target) → MayFollow s.heap (place_at a.places target.root)
+  target_follows c cs target is w kept = root_follows target.root target.spot (rw is at (first_kept w.holds (reads_it target) [] kept).0) w.fit
+
+  -- An assignment to a component begins: its object is found first.
+  pub component_begins : (cleared : Bool) (c : ℕ) (cs : List ℕ) (target : PathForm) (right : RightForm) (fs : StmtsForm) (k : Control) → target.selectors ≡ c ∷ cs → Working known s.heap a.places s.masters (λ rooms holds. Goes (gives_component cleared target right holds) (RunsOn known (Does fs ∷ k) rooms) (Raised (component_among right) (ways known k rooms)) × Pairs cleared right (λ taken. IsOne taken.selectors) (Does fs ∷ k)) → Fine known s.heap s.masters (path_next named (before_last c cs) (place_at a.places target.root) (running (Targets (last_of c cs) right ∷ Does fs ∷ k) a rest s))
+  component_begins cleared c cs target right fs k is w =
+      let g = target_goes cleared target right w.holds (RunsOn known (Does fs ∷ k) w.rooms) (Raised (component_among right) (ways known k w.rooms)) w.rest.0 in
+      finds_fine known a rest s a.operands (Targets (last_of c cs) right ∷ Does fs ∷ k) (before_last c cs) (place_at a.places target.root)
+      (at_work w (target, cleared, w.rest.0, w.rest.1)) (target_follows c cs target is w g.0) (λ may. g.2 ConstraintError refl)
+
+  -- So does a read into a component.
+  pub get_begins : (c : ℕ) (cs : List ℕ) (target : PathForm) (fs : StmtsForm) (k : Control) → target.selectors ≡ c ∷ cs → Working known s.heap a.places s.masters (λ rooms holds. NoneBroken holds (uses_in_target target) × MayRaise known true ConstraintError (Does fs ∷ k) rooms holds × MayRaise known true EndError (Does fs ∷ k) rooms holds × RunsOn known (Does fs ∷ k) rooms holds) → Fine known s.heap s.masters (path_next named (before_last c cs) (place_at a.places target.root) (running (Receives (last_of c cs) ∷ Does fs ∷ k) a rest s))
+  get_begins c cs target fs k is w =
+      finds_fine known a rest s a.operands (Receives (last_of c cs) ∷ Does fs ∷ k) (before_last c cs) (place_at a.places target.root)
+      (at_work w (w.rest.2, w.rest.3)) (target_follows c cs target is w w.rest.0) w.rest.1
+
+  -- Behind the second half of a take pair come the other statements.
+  cleared_runs : (o : Id) (c d : ℕ) (ds : List ℕ) (path : PathForm) (later : StmtsForm) (k : Control) → path.selectors ≡ d ∷ ds → Working known (store s.heap (Names o) c Null) a.places s.masters (RunsOn known (Does (a_stmt (assigns path nothing) later) ∷ k)) → Working known (store s.heap (Names o) c Null) a.places s.masters (RunsOn known (Does later ∷ k))
+  cleared_runs o c d ds path later k is w =
+      let runs = ways known k w.rooms in
+      let first = starts known (assigns path nothing) later k runs w.holds w.rest in
+      at_work w (cleared_goes path.selectors d ds path w.holds (Doing known later k runs) (Raised (λ e. stmt_raises (is_same e) (assigns path nothing)) runs) is first.1)
+
+  -- Its object is found first, which is known to be there.
+  pair_ends : (path : PathForm) (cs : List ℕ) (later : StmtsForm) (k : Control) (o : Id) (c : ℕ) → path.selectors ≡ cs → final path.selectors ≡ Some c → walk s.heap (place_at a.places path.root) (front path.selectors) ≡ finds (Names o) → IsThere s.heap o → Working known (store s.heap (Names o) c Null) a.places s.masters (RunsOn known (Does (a_stmt (assigns path nothing) later) ∷ k)) → Fine known s.heap s.masters (assign_next named cs path.root nothing (running (Does later ∷ k) a rest s))
+  pair_ends path [] later k o c is last found there w = absurd (cc (rw is at last))
+  pair_ends path (d ∷ ds) later k o c is last found there w =
+      let same : last_of d ds ≡ c = cc (rw is at last) in
+      let walks : walk s.heap (place_at a.places path.root) (before_last d ds) ≡ finds (Names o) = rw is at found in
+      half_fine known a rest s a.operands (Targets (last_of d ds) nothing ∷ Does later ∷ k) (before_last d ds) (place_at a.places path.root)
+      (refl, o, walks, rw same (there, cleared_runs o c d ds path later k is w))
+
+  -- The second half of a take pair begins.
+  pub half_begins : (fs : StmtsForm) (k : Control) → Half known fs k s.heap a.places s.masters → Fine known s.heap s.masters (stmts_next named fs (running k a rest s))
+  half_begins fs k h = rw h.is (pair_ends h.path h.path.selectors h.later k h.o h.c refl h.last h.found h.there (rw h.is at h.works))
+
+module _ (known : Known) (k : Control) (a : Activation Value) (rest : List (Activation Value)) (s : State) where
+  -- What goes into the component of the object that was found is evaluated next: null counts as stored already.
+  evaluates : (right : RightForm) (o : Id) (object : Object) (c : ℕ) → object_at s.heap o ≡ Some object → object.listed ≡ true → Working known s.heap a.places s.masters (λ rooms holds. FillsIn known right rooms holds k) → EvaluatesTo known right (StoresIn (Names o) c ∷ k) s.heap a.places s.masters
+  evaluates nothing o object c found listed w =
+      let g = target_goes w.rest.1 w.rest.0 nothing w.holds (RunsOn known k w.rooms) (Raised (component_among nothing) (ways known k w.rooms)) w.rest.2 in
+      ((object, found, listed), blank_works {more = RunsOn known k} o object c Null found (λ p e. cc e) (at_work w g.1))
+  evaluates (value_of path) o object c found listed w = at_work w ((object, found, listed), w.rest)
+  evaluates (allocates access items) o object c found listed w = at_work w ((object, found, listed), w.rest)
+  evaluates (computes e) o object c found listed w = at_work w ((object, found, listed), w.rest)
+
+  -- The object that was found is there.
+  found_fine : {under : Option Id} (o : Id) (there : IsThere s.heap o) (c : ℕ) (right : RightForm) (below : List Value) → Stored under s.heap s.masters → EvaluatesTo known right (StoresIn (Names o) c ∷ k) s.heap a.places s.masters → Fine known s.heap s.masters (target_next named (Names o) c right (look s.heap (Names o)) (running k (record a { operands = below }) rest s))
+  found_fine o (object, found, listed) c right below stored r =
+      rw (found, (stored.sane o object found).listed_exists listed)
+      (stays known (Followed (Names o)) (running (Evaluates right ∷ StoresIn (Names o) c ∷ k) (record a { operands = below }) rest s) (tt, r) (followed o (object, found, listed) stored))
+
+  -- The object is there, or null raises Constraint_Error.
+  pub target_fine : (v : Value) (below : List Value) (c : ℕ) (right : RightForm) (kinds : List VariableKind) → typed.Fits known.program (cells_of s.heap) kinds (Targets c right ∷ k) → AreComputed (cells_of s.heap) kinds (v ∷ below) → TargetsTo known v c right k s.heap a.places s.masters → Fine known s.heap s.masters (target_next named v c right (look s.heap v) (running k (record a { operands = below }) rest s))
+  target_fine Null below c right kinds fits computed (inl w) = jumps_less known k (record a { operands = below }) rest s (Raising ConstraintError) (at_work w (w.rest.1 refl))
+  target_fine (Names o) below c right kinds fits computed (inl w) =
+      let there : IsThere s.heap o = w.rest.0 in
+      found_fine o there c right below w.stored (evaluates right o there.0 c there.1 there.2 (at_work w w.rest.2))
+  target_fine (Scalar n) below c right kinds fits computed (inl w) = tt
+  target_fine Null below c right kinds fits computed (inr h) = absurd h.1
+  target_fine (Names o) below c right kinds fits computed (inr h) =
+      rw (h.0) (found_fine o h.1.0 c nothing below (stored_before s.heap s.masters (Names o) c Null h.1.1.stored) h.1)
+  target_fine (Scalar n) below c right kinds fits computed (inr h) = absurd h.1
+
+  -- A value is stored in an object that is there, if it has such a component.
+  put_fine : {under : Option Id} (input : List ℤ) (o : Id) (object : Object) (c : ℕ) (v : Value) (below : List Value) → object_at s.heap o ≡ Some object → object.listed ≡ true → Stored under s.heap s.masters → ReadyIn known Running k (store s.heap (Names o) c v) a.places below s.masters → Stepped known s.heap (Followed (Names o)) (record (running k (record a { operands = below }) rest s) { heap = store s.heap (Names o) c v; input = input })
+  put_fine input o object c v below found listed stored r = record {
+    ready = (tt, r);
+    alters = rw (store_is s.heap o object found c v) (alters_set s.heap (Followed (Names o)) o object (filled c v object) found (refl, refl, refl) (λ h. h) (λ h. inl h));
+    says = followed o (object, found, listed) stored;
   }
 
-  module _ (s : State) where
-    -- What is assigned is computed once the object is found; null raises Constraint_Error before.
-    pub target_fine : (v : Value) (c : ℕ) (right : RightForm) → Working known s.heap a.places s.masters (Targeting known s.heap v right k) → Fine known s.heap s.masters (target_next named v c right (look s.heap v) (running k a rest s))
-    target_fine Null c right w = jumps_less known k a rest s (Raising ConstraintError) (at_work w (w.rest.1 refl))
-    target_fine (Names o) c right w =
-        let e = w.rest.0 in
-        rw (e.1, e.2) (stays known (Followed (Names o)) (running (Evaluates right ∷ StoresIn (Names o) c ∷ k) a rest s) (tt, at_work w (e, w.rest.2)) (followed o e w))
-    target_fine (Scalar n) c right w = absurd (w.rest.0)
+  stored_fine : {under : Option Id} (o : Id) (object : Object) (c : ℕ) (v : Value) (below : List Value) (t : Option Value) → object_at s.heap o ≡ Some object → object.listed ≡ true → Stored under s.heap s.masters → ReadyIn known Running k (store s.heap (Names o) c v) a.places below s.masters → Fine known s.heap s.masters (stored_next named (Names o) c v t (running k (record a { operands = below }) rest s))
+  stored_fine o object c v below None found listed stored r = tt
+  stored_fine o object c v below (Some before) found listed stored r = put_fine s.input o object c v below found listed stored r
 
-    -- The value is stored.
-    stored_fine : (o : Id) (e : Exists s.heap o) (c : ℕ) (v : Value) (before : Option Value) → Working known s.heap a.places s.masters (RunsOn known k) → Fine known s.heap s.masters (stored_next named (Names o) c v before (running k a rest s))
-    stored_fine o e c v None w = tt
-    stored_fine o e c v (Some before) w = rw e.1 (fill_fine s o e c v w)
+  filled_fine : {under : Option Id} (o : Id) (there : IsThere s.heap o) (c : ℕ) (v : Value) (below : List Value) → Stored under s.heap s.masters → ReadyIn known Running k (store s.heap (Names o) c v) a.places below s.masters → Fine known s.heap s.masters (store_next named (Names o) c v (look s.heap (Names o)) (running k (record a { operands = below }) rest s))
+  filled_fine o (object, found, listed) c v below stored r =
+      let looks : look s.heap (Names o) ≡ finds object.cell = rw (found, (stored.sane o object found).listed_exists listed) refl in
+      rw looks (stored_fine o object c v below (slice_get object.cell.values c) found listed stored r)
 
-    pub store_fine : (o : Value) (c : ℕ) (v : Value) → Working known s.heap a.places s.masters (λ rooms holds. Into known s.heap rooms holds o k) → Fine known s.heap s.masters (store_next named o c v (look s.heap o) (running k a rest s))
-    store_fine Null c v w = absurd (w.rest.0)
-    store_fine (Names o) c v w = let e = w.rest.0 in rw (e.1, e.2) (stored_fine o e c v (slice_get e.0.cell.values c) (at_work w w.rest.1))
-    store_fine (Scalar n) c v w = absurd (w.rest.0)
+  -- Objects are stored before a value comes, on which a take pair may rely.
+  half_stored : (heap : List Object) (k : Control) → HalfBy known k heap a.places s.masters → Stored None heap s.masters
+  half_stored heap [] h = absurd h
+  half_stored heap (Does fs ∷ k) h = stored_before heap s.masters (Names h.o) h.c Null h.works.stored
+  half_stored heap (f ∷ k) h = absurd h
 
-    -- The next number of the input is stored, if there is one.
-    received_fine : (o : Id) (e : Exists s.heap o) (c : ℕ) (input : List ℤ) (before : Option Value) → Working known s.heap a.places s.masters (Receiving known s.heap (Names o) k) → Fine known s.heap s.masters (received_next named (Names o) c input before (running k a rest s))
-    received_fine o e c input None w = tt
-    received_fine o e c [] (Some before) w =
-        stays known (Followed (Names o)) (jumping (Raising EndError) (running k a rest s))
-        (tt, goes_ready known (Raising EndError) k s.heap a.places [] s.masters (at_less w (w.rest.2 refl))) (followed o e w)
-    received_fine o e c (i ∷ is) (Some before) w = rw e.1 (fill_fine (record s { input = is }) o e c (named.integer i) (at_work w w.rest.3))
+  resumed_stored : (heap : List Object) → Resumes known heap a.places s.masters k → Stored None heap s.masters
+  resumed_stored heap (inl w) = w.stored
+  resumed_stored heap (inr h) = half_stored heap k h
 
-    pub receive_fine : (v : Value) (c : ℕ) → Working known s.heap a.places s.masters (Receiving known s.heap v k) → Fine known s.heap s.masters (receive_next named v c (look s.heap v) (running k a rest s))
-    receive_fine Null c w = jumps_less known k a rest s (Raising ConstraintError) (at_work w (w.rest.1 refl))
-    receive_fine (Names o) c w = let e = w.rest.0 in rw (e.1, e.2) (received_fine o e c s.input (slice_get e.0.cell.values c) w)
-    receive_fine (Scalar n) c w = absurd (w.rest.0)
+  -- Where a component holds no access values, what comes names nothing.
+  stored_blank : (o : Id) (object : Object) (c : ℕ) (v : Value) (below : List Value) (kinds : List VariableKind) → object_at s.heap o ≡ Some object → component_access known.program.types object c ≡ None → typed.Fits known.program (cells_of s.heap) kinds (StoresIn (Names o) c ∷ k) → AreComputed (cells_of s.heap) kinds (v ∷ below) → (p : Id) → v ≡ Names p → ⊥
+  stored_blank o object c v below kinds found none (ks, access, kind, is, name, designates, selected, later) computed =
+      let newest : AreComputed (cells_of s.heap) (kind ∷ ks) (v ∷ below) = rw is at computed in
+      let here = kind_names s.heap (variable.Access access) o object designates found in
+      let same = selected_of known.program.types (Some (variable.Access access)) object c kind here selected in
+      kind_blank (cells_of s.heap) kind v (sym same ∙ none) newest.0
+
+  -- A value goes into a component.
+  pub store_fine : (o v : Value) (below : List Value) (c : ℕ) (kinds : List VariableKind) → typed.Fits known.program (cells_of s.heap) kinds (StoresIn o c ∷ k) → AreComputed (cells_of s.heap) kinds (v ∷ below) → StoringIn known o c v k s.heap a.places s.masters → Fine known s.heap s.masters (store_next named o c v (look s.heap o) (running k (record a { operands = below }) rest s))
+  store_fine Null v below c kinds fits computed (inl t) = absurd t.0
+  store_fine (Names o) v below c kinds fits computed (inl t) = filled_fine o t.0 c v below (stored_before s.heap s.masters (Names o) c v (resumed_stored (store s.heap (Names o) c v) t.1)) (resumes_ready known k (store s.heap (Names o) c v) a.places below s.masters t.1)
+  store_fine (Scalar n) v below c kinds fits computed (inl t) = absurd t.0
+  store_fine Null v below c kinds fits computed (inr w) = absurd w.rest.0
+  store_fine (Names o) v below c kinds fits computed (inr w) =
+      let r = w.rest.0 in
+      filled_fine o (r.0, r.1, r.2) c v below w.stored (runs_ready known k (store s.heap (Names o) c v) a.places below s.masters (blank_works {more = RunsOn known k} o r.0 c v r.1 (stored_blank o r.0 c v below kinds r.1 r.3 fits computed) (at_work w w.rest.1)))
+  store_fine (Scalar n) v below c kinds fits computed (inr w) = absurd w.rest.0
+
+  -- So does a number of the input, if there is one.
+  received_fine : (o : Id) (object : Object) (c : ℕ) (below : List Value) (input : List ℤ) (t : Option Value) → object_at s.heap o ≡ Some object → object.listed ≡ true → Working known s.heap a.places s.masters (Receiving known s.heap (Names o) k) → Fine known s.heap s.masters (received_next named (Names o) c input t (running k (record a { operands = below }) rest s))
+  received_fine o object c below input None found listed w = tt
+  received_fine o object c below [] (Some before) found listed w =
+      stays known (Followed (Names o)) (jumping (Raising EndError) (running k (record a { operands = below }) rest s))
+      (tt, goes_ready known (Raising EndError) k s.heap a.places [] s.masters (at_less w (w.rest.2 refl))) (followed o (object, found, listed) w.stored)
+  received_fine o object c below (i ∷ is) (Some before) found listed w =
+      put_fine is o object c (named.integer i) below found listed w.stored
+      (runs_ready known k (store s.heap (Names o) c (named.integer i)) a.places below s.masters (blank_works {more = RunsOn known k} o object c (named.integer i) found (λ p e. cc e) (at_work w w.rest.3)))
+
+  pub receive_fine : (v : Value) (below : List Value) (c : ℕ) → Working known s.heap a.places s.masters (Receiving known s.heap v k) → Fine known s.heap s.masters (receive_next named v c (look s.heap v) (running k (record a { operands = below }) rest s))
+  receive_fine Null below c w = jumps_less known k (record a { operands = below }) rest s (Raising ConstraintError) (at_work w (w.rest.1 refl))
+  receive_fine (Names o) below c w =
+      let r = w.rest.0 in
+      rw (r.1, (w.stored.sane o r.0 r.1).listed_exists r.2) (received_fine o r.0 c below s.input (slice_get r.0.cell.values c) r.1 r.2 w)
+  receive_fine (Scalar n) below c w = tt

@@ -1,15 +1,17 @@
--- What flow says of a variable, and what the variable then holds.
+-- What flow says of a variable, and what the variable then holds; and what components hold.
 
-use Rattle.std.specs.Prelude.{◌≡◌, ◌≢◌, ℕ, ℤ, List, [], ◌∷◌, Option, Some, Contains}
+use Rattle.std.specs.Prelude.{◌≡◌, ◌≢◌, ◌⊎◌, ℕ, ℤ, true, List, [], ◌∷◌, Option, Some, Contains}
+use Rattle.std.specs.List.{slice_get}
 use Rattle.ada_program.specs.declared.program.Choice.{Choice}
 use Rattle.ada_program.specs.declared.program.Program.{Program}
 use Rattle.ada_text.specs.declared.spot.Spot.{Spot}
-use Rattle.ada_program.specs.Form.{ExpressionForm, DeclarationForm, StmtForm, chooses, repeats, counts, encloses, StmtsForm, a_stmt, BranchesForm, otherwise, a_branch, HandlersForm, a_handler, declaration_forms, stmt_forms, handler_forms}
-use Rattle.ada_program.specs.ProgramForm.{VariableForm}
+use Rattle.ada_program.specs.Form.{PathForm, ExpressionForm, nothing, DeclarationForm, StmtForm, assigns, chooses, repeats, counts, encloses, StmtsForm, a_stmt, BranchesForm, otherwise, a_branch, HandlersForm, a_handler, declaration_forms, stmt_forms, handler_forms}
+use Rattle.ada_program.specs.ProgramForm.{TypeForm, VariableForm}
+use Rattle.ada_program.specs.WellFormed.{access_of, reached_components, kind_among}
 use Rattle.ada_flow.specs.declared.rule.Hold.{Hold}
 use Rattle.ada_flow.specs.declared.rule.Hold.TheVariants as hold
 use Rattle.ada_flow.specs.declared.rule.Region.{Region}
-use Rattle.ada_flow.specs.Flow.{Holds, goes, hold_at, variable_access, declarations_flow, computed, bounds_flow, condition_flow, opened_by_all, counting_start, collected, Around, outermost, in_loop, in_block, stmt_flow, stmts_flow, first_holds, variables_of}
+use Rattle.ada_flow.specs.Flow.{Holds, goes, hold_at, variable_access, declarations_flow, computed, bounds_flow, condition_flow, opened_by_all, counting_start, collected, Around, outermost, in_loop, in_block, begins_pair, stmt_flow, stmts_flow, first_holds, variables_of}
 use Rattle.ada_meaning.specs.declared.state.Id.{Id}
 use Rattle.ada_meaning.specs.declared.state.Value.{Value}
 use Rattle.ada_meaning.specs.declared.state.Value.TheVariants.{Null, Names, Scalar}
@@ -17,9 +19,13 @@ use Rattle.ada_meaning.specs.declared.state.Stage.TheVariants.{Existing}
 use Rattle.ada_meaning.specs.Frame.{Frame}
 use Rattle.ada_meaning.specs.Frame as frame
 use Rattle.ada_meaning.specs.State.{collection, Item, Master}
-use Rattle.ada_meaning.specs.Step.{held}
+use Rattle.ada_meaning.specs.Heap.{finds}
+use Rattle.ada_meaning.specs.Step.{before_last, last_of, held}
 use Rattle.ada_meaning.specs.Named.{Object, State, object_at, named}
 use Rattle.ada_meaning.specs.Law.{items_of}
+use Rattle.ada_owners.specs.Places as owners
+use Rattle.ada_owners.specs.Places.{value_at}
+use Rattle.ada_owners.specs.Walks.{walk}
 
 -- An open collection of the object's own access type is its home (7.6.1).
 abbrev pub IsAtHome : List Master → Object → Type 0
@@ -69,7 +75,7 @@ mutual
   pub data Comes (variables : List VariableForm) : Around → (outer : Place) → StmtsForm → Holds → List Turning → Place → Holds → Type 0 where
     here : {around : Around} {outer : Place} {fs : StmtsForm} {holds : Holds} → Comes variables around outer fs holds [] (frame.Does fs ∷ outer) holds
     behind : {around : Around} {raising : Option Holds} {outer place : Place} {f : StmtForm} {fs : StmtsForm} {holds at : Holds} {way : List Turning}
-        (mid : Holds) → stmt_flow variables around f holds ≡ goes (Some mid) raising → Comes variables around outer fs mid way place at
+        (mid : Holds) → stmt_flow variables around (begins_pair f fs) f holds ≡ goes (Some mid) raising → Comes variables around outer fs mid way place at
         → Comes variables around outer (a_stmt f fs) holds (past ∷ way) place at
     in_branches : {around : Around} {outer place : Place} {branches : BranchesForm} {fs : StmtsForm} {holds at : Holds} {way : List Turning}
         → ComesBy variables around (frame.Does fs ∷ outer) branches holds way place at
@@ -82,7 +88,8 @@ mutual
     in_count : {around : Around} {raising : Option Holds} {outer place : Place}
         {x : ℕ} {low high : ExpressionForm} {body fs : StmtsForm} {end_spot : Spot} {holds at : Holds} {next last : ℤ} {way : List Turning}
         (mid : Holds) → bounds_flow low high holds ≡ goes (Some mid) raising
-        → Comes variables (in_loop (Some (counting_start x body mid))) (frame.Counts x next last body ∷ frame.Does fs ∷ outer) body (counting_start x body mid) way place at
+        → Comes variables (in_loop (Some (counting_start x body mid))) (frame.Counts x next last body ∷ frame.Does fs ∷ outer)
+        body (counting_start x body mid) way place at
         → Comes variables around outer (a_stmt (counts x low high body end_spot) fs) holds (counting next last ∷ way) place at
     in_enclosed : {around : Around} {outer place : Place}
         {ds : List DeclarationForm} {body fs : StmtsForm} {hs : HandlersForm} {holds at : Holds} {way : List Turning}
@@ -110,7 +117,8 @@ mutual
         → ComesTo variables around outer hs holds way place at → ComesTo variables around outer (a_handler choices fs hs) holds (past ∷ way) place at
 
   -- Flow comes to a place from the declarations of a master on: into its statements, or, from where these raise an exception, into their handlers.
-  pub data ComesInside (variables : List VariableForm) : Around → (outer : Place) → List DeclarationForm → StmtsForm → HandlersForm → Holds → List Turning → Place → Holds → Type 0 where
+  pub data ComesInside (variables : List VariableForm)
+      : Around → (outer : Place) → List DeclarationForm → StmtsForm → HandlersForm → Holds → List Turning → Place → Holds → Type 0 where
     in_statements : {around : Around} {raising : Option Holds} {outer place : Place}
         {ds : List DeclarationForm} {body : StmtsForm} {hs : HandlersForm} {holds at : Holds} {way : List Turning}
         (mid : Holds) → declarations_flow variables ds holds ≡ goes (Some mid) raising
@@ -118,7 +126,8 @@ mutual
         → ComesInside variables around outer ds body hs holds (into ∷ way) place at
     in_handlers : {around : Around} {raising normal : Option Holds} {outer place : Place}
         {ds : List DeclarationForm} {body : StmtsForm} {hs : HandlersForm} {holds at : Holds} {way : List Turning}
-        (mid raised : Holds) → declarations_flow variables ds holds ≡ goes (Some mid) raising → stmts_flow variables around body mid ≡ goes normal (Some raised)
+        (mid raised : Holds) → declarations_flow variables ds holds ≡ goes (Some mid) raising
+        → stmts_flow variables around body mid ≡ goes normal (Some raised)
         → ComesTo variables around (frame.Closes ∷ outer) hs raised way place at
         → ComesInside variables around outer ds body hs holds (past ∷ way) place at
 
@@ -138,8 +147,45 @@ OneFlow =
 abbrev pub value_in : State → ℕ → Value
 value_in s x = held named s x
 
--- Each variable holds what it is relied on to hold, and no two that own name one object.
-pub record Agrees (variables : List VariableForm) (s : State) (holds : Holds) : Type 0 where
+-- The access type of a component of an object (3.8, 3.10): none, if it is an Integer or a Boolean.
+abbrev pub component_access : List TypeForm → Object → (c : ℕ) → Option ℕ
+component_access types object c = access_of (kind_among (reached_components types object.cell.access) c)
+
+-- What a component of this access type holds: null, an Integer or a Boolean, or the name of an object of its access type that exists.
+abbrev pub IsKept : List Object → List Master → Option ℕ → Value → Type 0
+IsKept objects masters access Null = Unit {0}
+IsKept objects masters access (Names o) = Exists objects masters access o
+IsKept objects masters access (Scalar v) = Unit {0}
+
+-- A place owns what it names: a variable by what flow says of it, and each component. A component of an object that has left its collection is
+-- read as null.
+abbrev pub IsOwning : Holds → owners.Place → Type 0
+IsOwning holds (owners.variable x) = (r : Region) × (hold_at holds x ≡ hold.Own r)
+IsOwning holds (owners.component o c) = Unit {0}
+IsOwning holds (owners.elsewhere activation x) = ⊥
+
+-- The statement that begins sets a place to null: its path leads to an object, and names this component of it.
+pub record IsCleared (s : State) (p : owners.Place) : Type 0 where
+  pub path : PathForm
+  pub later : StmtsForm
+  pub outer : Place
+  pub c : ℕ
+  pub cs : List ℕ
+  pub object : Id
+  pub begins : s.control ≡ frame.Does (a_stmt (assigns path nothing) later) ∷ outer
+  pub selects : path.selectors ≡ c ∷ cs
+  pub leads : walk s.heap (value_in s path.root) (before_last c cs) ≡ finds (Names object)
+  pub is : p ≡ owners.component object (last_of c cs)
+
+-- Each variable holds what it is relied on to hold, and no two that own name one object. Each component of an object in its collection holds null,
+-- an Integer or a Boolean, or names an object that exists. No object has two owners among variables and components: only between the two
+-- statements of a take pair, of which the second sets the component to null that the first one read.
+pub record Agrees (types : List TypeForm) (variables : List VariableForm) (s : State) (holds : Holds) : Type 0 where
   pub each : (x : ℕ) → IsAs s.heap s.masters (variable_access variables x) (hold_at holds x) (value_in s x)
   pub one_owner : (x y : ℕ) (q r : Region) (o : Id) → x ≢ y
       → hold_at holds x ≡ hold.Own q → hold_at holds y ≡ hold.Own r → value_in s x ≡ Names o → value_in s y ≡ Names o → ⊥
+  pub components : (o : Id) (object : Object) (c : ℕ) (v : Value)
+      → object_at s.heap o ≡ Some object → object.listed ≡ true → slice_get object.cell.values c ≡ Some v
+      → IsKept s.heap s.masters (component_access types object c) v
+  pub one_owner_each : (p q : owners.Place) (o : Id) → IsOwning holds p → IsOwning holds q
+      → value_at s.heap s.activations p ≡ Names o → value_at s.heap s.activations q ≡ Names o → (p ≡ q) ⊎ (IsCleared s p ⊎ IsCleared s q)

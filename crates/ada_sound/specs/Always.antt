@@ -6,6 +6,9 @@ use Rattle.ada_program.specs.declared.program.Program.{Program}
 use Rattle.ada_text.specs.declared.spot.Spot.{Spot}
 use Rattle.ada_flow.specs.declared.rule.Rule.{Rule}
 use Rattle.ada_program.specs.Form.{declaration_forms, stmt_forms, handler_forms}
+use Rattle.ada_program.specs.ProgramForm.{program_form}
+use Rattle.ada_program.specs.WellFormed.{IsWellFormed}
+use Rattle.ada_program.specs.Nested.{CollectionsNest}
 use Rattle.ada_flow.specs.Flow.{Holds, goes, faults, outermost, declarations_flow, stmts_flow, handlers_flow, first_holds, program_flow, variables_of, ObeysRules}
 use Rattle.ada_meaning.specs.declared.state.Id.{Id}
 use Rattle.ada_meaning.specs.declared.event.Halt.{Halt}
@@ -22,9 +25,18 @@ use Rattle.ada_sound.specs.Agreement.{Agrees, Turning, IsFlowAt}
 abbrev pub InEveryRun : Program → (List Event → State → Type 0) → Type 0
 InEveryRun program P = (input : List ℤ) (events : List Event) (last : State) → Run program (first_state program input) events last → P events last
 
--- It holds in every run of each program that obeys the rules.
-abbrev pub InEveryObedientRun : (List Event → State → Type 0) → Type 0
-InEveryObedientRun P = (program : Program) → ObeysRules program → InEveryRun program P
+-- A program has passed all checks.
+pub record IsChecked (program : Program) : Type 0 where
+  -- each number is that of something there, and each form has the types that it wants
+  pub well_formed : IsWellFormed (program_form program)
+  -- no object lies in a collection that lasts longer than one in which its components' objects lie (3.10.2, 7.6.1)
+  pub nests : CollectionsNest (program_form program)
+  -- the flow of values breaks no rule
+  pub obeys : ObeysRules program
+
+-- It holds in every run of each program that is accepted.
+abbrev pub InEveryCheckedRun : (List Event → State → Type 0) → Type 0
+InEveryCheckedRun P = (program : Program) → IsChecked program → InEveryRun program P
 
 -- No run ends so.
 abbrev pub NeverHalts : Halt → Program → Type 0
@@ -34,10 +46,11 @@ NeverHalts halt program = InEveryRun program (λ events last. Halts program last
 abbrev pub NeverErroneous : Why → Program → Type 0
 NeverErroneous why program = NeverHalts (Erroneous why) program
 
--- Wherever a statement begins, flow comes to what is left to do there, and each variable holds what flow says.
+-- Wherever a statement begins, flow comes to what is left to do there, each variable holds what flow says, and components own what they name.
 abbrev pub AgreesWithFlow : Program → Type 0
 AgreesWithFlow program = InEveryRun program
-    (λ events last. BeginsStatement last → (way : List Turning) × (holds : Holds) × IsFlowAt program way last.control holds × Agrees (variables_of program) last holds)
+    (λ events last. BeginsStatement last → (way : List Turning) × (holds : Holds) × IsFlowAt program way last.control holds
+    × Agrees (program_form program).types (variables_of program) last holds)
 
 -- Any two events, the first before the second.
 abbrev pub InPairs : (Event → Event → Type 0) → List Event → State → Type 0
@@ -91,9 +104,24 @@ HaltsAfter seen halt program = InSomeRun program (λ events last. Halts program 
 abbrev pub FinishesAfter : List Event → Program → Type 0
 FinishesAfter seen program = HaltsAfter seen Finished program
 
--- Flow refuses the program, first by this rule.
-abbrev pub Breaks : Rule → Program → Type 0
-Breaks rule program = (spot : Spot) × (program_flow program ≡ faults spot rule)
+-- The program is well formed and its collections nest, but flow refuses it, first by this rule.
+pub record Breaks (rule : Rule) (program : Program) : Type 0 where
+  pub well_formed : IsWellFormed (program_form program)
+  pub nests : CollectionsNest (program_form program)
+  pub spot : Spot
+  pub faults_there : program_flow program ≡ faults spot rule
+
+-- The program obeys the rules and its collections nest, but it is not well formed.
+pub record IsIllFormed (program : Program) : Type 0 where
+  pub ill_formed : IsWellFormed (program_form program) → ⊥
+  pub nests : CollectionsNest (program_form program)
+  pub obeys : ObeysRules program
+
+-- The program is well formed and obeys the rules, but its collections do not nest.
+pub record IsIllNested (program : Program) : Type 0 where
+  pub well_formed : IsWellFormed (program_form program)
+  pub ill_nested : CollectionsNest (program_form program) → ⊥
+  pub obeys : ObeysRules program
 
 -- Flow knows this of the variables where the statements of the main procedure begin, and again where they come to their end; and handlers
 -- that began with it would keep the rules.

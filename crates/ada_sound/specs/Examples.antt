@@ -379,7 +379,7 @@ escaping_block = encloses (collects 2 ∷ []) (a_stmt inner_object (a_stmt (exit
 abbrev pub escaping_stmts : StmtsForm
 escaping_stmts = a_stmt (repeats None (a_stmt escaping_block no_stmts) example_spot) (a_stmt (writes (value_at 1)) no_stmts)
 
--- X is an outer variable of another access type:
+-- X is an outer variable of another access type, so that this is not well formed:
 -- declare type Inner is access Cell; Y : Inner; begin Y := new Cell'(Value => 8); X := Y; end; Put_Line (Integer'Image (X.Value));
 abbrev pub mistyping_block : StmtForm
 mistyping_block =

@@ -1,10 +1,12 @@
 -- The laws, in the order in which they are read.
 
--- what flow says of a variable, and what the variable then holds
+-- what flow says of a variable, what the variable then holds, and what components hold
 pub mod Agreement
 -- what holds in every run
 pub mod Always
 -- programs that meet the premises, and that need the rules
 pub mod Examples
+-- the same where components own
+pub mod OwnerExamples
 -- what the rules let through
 pub mod Owners

@@ -1,24 +1,49 @@
--- What the rules let through: only owners are freed and moved, and they own nothing after.
+-- What the rules let through: only owners are freed and moved, and they own nothing after; a component is moved by a take pair alone.
 
-use Rattle.std.specs.Prelude.{◌≡◌, ◌≢◌, ℕ, List, Option, Some}
-use Rattle.ada_program.specs.Form.{PathForm, StmtForm, value_of, assigns, frees}
+use Rattle.std.specs.Prelude.{◌≡◌, ◌≢◌, ◌⊎◌, ℕ, Bool, true, List, [], ◌∷◌, Option, Some}
+use Rattle.std.specs.List.{slice_get}
+use Rattle.ada_program.specs.Form.{PathForm, ItemForm, item_of_path, nothing, value_of, allocates, StmtForm, assigns, frees, StmtsForm, a_stmt}
 use Rattle.ada_flow.specs.declared.rule.Hold.TheVariants.{Own}
 use Rattle.ada_flow.specs.declared.rule.Region.{Region}
 use Rattle.ada_program.specs.ProgramForm.{VariableForm}
-use Rattle.ada_flow.specs.Flow.{Holds, goes, hold_at, Around, stmt_flow}
+use Rattle.ada_flow.specs.Flow.{Holds, goes, hold_at, Around, begins_pair, stmt_flow, stmts_flow}
 use Rattle.ada_sound.specs.Agreement.{IsOwner}
 
--- A statement breaks no rule from these holds.
+-- A statement, the first of a take pair or not, breaks no rule from these holds.
 abbrev pub IsLetThrough : StmtForm → Holds → Type 0
-IsLetThrough f holds = (variables : List VariableForm) × (around : Around) × (normal raising : Option Holds) × (stmt_flow variables around f holds ≡ goes normal raising)
+IsLetThrough f holds =
+    (variables : List VariableForm) × (around : Around) × (cleared : Bool) × (normal raising : Option Holds)
+    × (stmt_flow variables around cleared f holds ≡ goes normal raising)
 
 -- It comes to its end with these.
 abbrev pub EndsWith : StmtForm → (holds after : Holds) → Type 0
-EndsWith f holds after = (variables : List VariableForm) × (around : Around) × (raising : Option Holds) × (stmt_flow variables around f holds ≡ goes (Some after) raising)
+EndsWith f holds after =
+    (variables : List VariableForm) × (around : Around) × (cleared : Bool) × (raising : Option Holds)
+    × (stmt_flow variables around cleared f holds ≡ goes (Some after) raising)
+
+-- It raises an exception with these.
+abbrev pub RaisesWith : StmtForm → (holds raised : Holds) → Type 0
+RaisesWith f holds raised =
+    (variables : List VariableForm) × (around : Around) × (cleared : Bool) × (normal : Option Holds)
+    × (stmt_flow variables around cleared f holds ≡ goes normal (Some raised))
+
+-- Statements break no rule from these holds.
+abbrev pub AreLetThrough : StmtsForm → Holds → Type 0
+AreLetThrough fs holds =
+    (variables : List VariableForm) × (around : Around) × (normal raising : Option Holds)
+    × (stmts_flow variables around fs holds ≡ goes normal raising)
 
 -- A variable owns nothing.
 abbrev pub OwnsNothing : Holds → ℕ → Type 0
 OwnsNothing holds x = (r : Region) → hold_at holds x ≢ Own r
+
+-- A path is a variable, or a component.
+abbrev pub IsVariable : PathForm → Type 0
+IsVariable path = path.selectors ≡ []
+
+-- What is assigned to is a component, or another variable than this one.
+abbrev pub IsElsewhere : (target : PathForm) (x : ℕ) → Type 0
+IsElsewhere target x = IsVariable target → x ≢ target.root
 
 -- Free (X) (13.11.2).
 abbrev pub OnlyOwnersAreFreed : Type 0
@@ -30,13 +55,61 @@ abbrev pub FreedOwnsNothing : Type 0
 FreedOwnsNothing =
     (access : ℕ) (variable : PathForm) (holds after : Holds) → EndsWith (frees access variable) holds after → OwnsNothing after variable.root
 
--- X := Y (5.2).
+-- P := Y (5.2).
 abbrev pub OnlyOwnersAreMoved : Type 0
 OnlyOwnersAreMoved =
-    (target path : PathForm) (holds : Holds) → IsLetThrough (assigns target (value_of path)) holds → IsOwner (hold_at holds path.root)
+    (target path : PathForm) (holds : Holds) → IsVariable path
+    → IsLetThrough (assigns target (value_of path)) holds → IsOwner (hold_at holds path.root)
 
 -- A variable whose value was moved owns nothing.
 abbrev pub MovedOwnsNothing : Type 0
 MovedOwnsNothing =
-    (target path : PathForm) (holds after : Holds) → path.root ≢ target.root
+    (target path : PathForm) (holds after : Holds) → IsVariable path → IsElsewhere target path.root
     → EndsWith (assigns target (value_of path)) holds after → OwnsNothing after path.root
+
+-- P := new T'(.., Y, ..) (4.8): what an item moves is a variable, and an owner.
+abbrev pub OnlyOwnersAreItems : Type 0
+OnlyOwnersAreItems =
+    (target path : PathForm) (access i : ℕ) (items : List ItemForm) (holds : Holds) → slice_get items i ≡ Some (item_of_path path)
+    → IsLetThrough (assigns target (allocates access items)) holds → IsVariable path × IsOwner (hold_at holds path.root)
+
+-- Two items move two variables.
+abbrev pub ItemsMoveApart : Type 0
+ItemsMoveApart =
+    (target path other : PathForm) (access i k : ℕ) (items : List ItemForm) (holds : Holds) → i ≢ k
+    → slice_get items i ≡ Some (item_of_path path) → slice_get items k ≡ Some (item_of_path other)
+    → IsLetThrough (assigns target (allocates access items)) holds → path.root ≢ other.root
+
+-- A variable that an item moved owns nothing where the allocator comes to its end.
+abbrev pub ItemsOwnNothing : Type 0
+ItemsOwnNothing =
+    (target path : PathForm) (access i : ℕ) (items : List ItemForm) (holds after : Holds) → slice_get items i ≡ Some (item_of_path path)
+    → IsElsewhere target path.root → EndsWith (assigns target (allocates access items)) holds after → OwnsNothing after path.root
+
+-- Where the allocator raises an exception, each variable is what it was.
+abbrev pub ItemsStayWhereRaised : Type 0
+ItemsStayWhereRaised =
+    (target : PathForm) (access : ℕ) (items : List ItemForm) (holds raised : Holds)
+    → RaisesWith (assigns target (allocates access items)) holds raised → raised ≡ holds
+
+-- The statement behind `T := P.C;` is `P.C := null;`; T is another variable than the one that P begins with, or a component, and then P is
+-- that variable alone. So the statement changes nothing on the way to P.C.
+pub record IsTakePair (target path : PathForm) (behind : StmtsForm) : Type 0 where
+  pub cleared : PathForm
+  pub later : StmtsForm
+  pub is_next : behind ≡ a_stmt (assigns cleared nothing) later
+  pub root : cleared.root ≡ path.root
+  pub selectors : cleared.selectors ≡ path.selectors
+  pub leaves_way : (IsVariable target × (target.root ≢ path.root)) ⊎ ((target.selectors ≢ []) × (c : ℕ) × (path.selectors ≡ c ∷ []))
+
+-- What is moved out of a component is moved by the first statement of a take pair.
+abbrev pub OnlyPairsTake : Type 0
+OnlyPairsTake =
+    (target path : PathForm) (behind : StmtsForm) (holds : Holds) → path.selectors ≢ []
+    → AreLetThrough (a_stmt (assigns target (value_of path)) behind) holds
+    → begins_pair (assigns target (value_of path)) behind ≡ true
+
+-- The first statement of a take pair is one.
+abbrev pub PairsAreTakePairs : Type 0
+PairsAreTakePairs =
+    (target path : PathForm) (behind : StmtsForm) → begins_pair (assigns target (value_of path)) behind ≡ true → IsTakePair target path behind

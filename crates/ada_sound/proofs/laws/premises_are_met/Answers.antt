@@ -1,38 +1,42 @@
--- By eleven programs and their runs.
+-- By twelve programs and their runs.
 use Rattle.ada_sound.proofs.Example as example
 use Rattle.ada_sound.proofs.ExampleBlocks as blocks
 use Rattle.ada_sound.proofs.ExampleTargets as targets
+use Rattle.ada_sound.proofs.ExampleOwners as owners
 use Rattle.ada_sound.proofs.laws.premises_are_met.Goals as goal
 
 pub returns-clause-begins : goal.returns-clause-begins
-returns-clause-begins c = (example.program, example.obeys, example.reaches)
+returns-clause-begins c = (example.program, example.accepted, example.reaches)
 
 pub returns-clause-finishes : goal.returns-clause-finishes
-returns-clause-finishes c = (example.program, example.obeys, example.finishes)
+returns-clause-finishes c = (example.program, example.accepted, example.finishes)
 
 pub returns-clause-raises : goal.returns-clause-raises
-returns-clause-raises c = (example.raising, example.raising_obeys, example.raises)
+returns-clause-raises c = (example.raising, example.raising_accepted, example.raises)
 
 pub returns-clause-repeats : goal.returns-clause-repeats
-returns-clause-repeats c = (example.repeating, example.repeating_form, example.repeating_obeys, example.repeats)
+returns-clause-repeats c = (example.repeating, example.repeating_form, example.repeating_accepted, example.repeats)
 
 pub returns-clause-returns : goal.returns-clause-returns
-returns-clause-returns c = (example.returning, example.returning_form, example.returning_obeys, example.returns)
+returns-clause-returns c = (example.returning, example.returning_form, example.returning_accepted, example.returns)
 
 pub returns-clause-nests : goal.returns-clause-nests
-returns-clause-nests c = (example.nesting, example.nesting_form, example.nesting_obeys, example.nests)
+returns-clause-nests c = (example.nesting, example.nesting_form, example.nesting_accepted, example.nests)
 
 pub returns-clause-handles : goal.returns-clause-handles
-returns-clause-handles c = (blocks.handling, blocks.handling_form, blocks.handling_handles, blocks.handling_obeys, blocks.handles)
+returns-clause-handles c = (blocks.handling, blocks.handling_form, blocks.handling_handles, blocks.handling_accepted, blocks.handles)
 
 pub returns-clause-encloses : goal.returns-clause-encloses
-returns-clause-encloses c = (blocks.enclosing, blocks.enclosing_form, blocks.enclosing_obeys, blocks.encloses)
+returns-clause-encloses c = (blocks.enclosing, blocks.enclosing_form, blocks.enclosing_accepted, blocks.encloses)
 
 pub returns-clause-unwinds : goal.returns-clause-unwinds
-returns-clause-unwinds c = (blocks.unwinding, blocks.unwinding_form, blocks.unwinding_handles, blocks.unwinding_obeys, blocks.unwinds)
+returns-clause-unwinds c = (blocks.unwinding, blocks.unwinding_form, blocks.unwinding_handles, blocks.unwinding_accepted, blocks.unwinds)
 
 pub returns-clause-counts : goal.returns-clause-counts
-returns-clause-counts c = (blocks.counting, blocks.counting_form, blocks.counting_handles, blocks.counting_obeys, blocks.counts)
+returns-clause-counts c = (blocks.counting, blocks.counting_form, blocks.counting_handles, blocks.counting_accepted, blocks.counts)
 
 pub returns-clause-fills : goal.returns-clause-fills
-returns-clause-fills c = (targets.filling, targets.filling_form, targets.filling_obeys, targets.fills)
+returns-clause-fills c = (targets.filling, targets.filling_form, targets.filling_accepted, targets.fills)
+
+pub returns-clause-owns : goal.returns-clause-owns
+returns-clause-owns c = (owners.owning, owners.owning_form, owners.owning_accepted, owners.owns)

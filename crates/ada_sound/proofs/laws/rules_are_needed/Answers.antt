@@ -1,7 +1,8 @@
--- By ten programs and their runs.
+-- By thirteen programs and their runs.
 use Rattle.ada_sound.proofs.Example as example
 use Rattle.ada_sound.proofs.ExampleBlocks as blocks
 use Rattle.ada_sound.proofs.ExampleTargets as targets
+use Rattle.ada_sound.proofs.ExampleOwners as owners
 use Rattle.ada_sound.proofs.laws.rules_are_needed.Goals as goal
 
 pub returns-clause-follows : goal.returns-clause-follows
@@ -36,7 +37,16 @@ pub returns-clause-escapes : goal.returns-clause-escapes
 returns-clause-escapes c = (blocks.escaping, blocks.escaping_form, blocks.escaping_breaks, blocks.escapes)
 
 pub returns-clause-mistypes : goal.returns-clause-mistypes
-returns-clause-mistypes c = (blocks.mistyping, blocks.mistyping_form, blocks.mistyping_breaks, blocks.mistypes)
+returns-clause-mistypes c = (blocks.mistyping, blocks.mistyping_form, blocks.mistyping_ill_formed, blocks.mistypes)
 
 pub returns-clause-stores : goal.returns-clause-stores
 returns-clause-stores c = (targets.storing, targets.storing_form, targets.storing_breaks, targets.stores)
+
+pub returns-clause-pairs : goal.returns-clause-pairs
+returns-clause-pairs c = (owners.pairing, owners.pairing_form, owners.pairing_breaks, owners.pairs)
+
+pub returns-clause-items : goal.returns-clause-items
+returns-clause-items c = (owners.sharing, owners.sharing_form, owners.sharing_breaks, owners.shares)
+
+pub returns-clause-nests : goal.returns-clause-nests
+returns-clause-nests c = (owners.outlasting, owners.outlasting_form, owners.outlasting_ill_nested, owners.outlasts)

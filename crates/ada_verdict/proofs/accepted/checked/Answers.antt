@@ -16,6 +16,13 @@ invariant_of-result c = record {
   obeys = obeys c.in_ok-program.program c.in_ok-flow.ensures;
 }
 
+pub returns-clause-sound : goal.returns-clause-sound
+returns-clause-sound c = record {
+  well_formed = c.in_ok-program.ensures.formed;
+  nests = c.in_ok-program.ensures.nests;
+  obeys = obeys c.in_ok-program.program c.in_ok-flow.ensures;
+}
+
 -- it is the source's, and obeys the rules
 pub returns-clause-accepted : goal.returns-clause-accepted
 returns-clause-accepted c = (c.in_ok-program.ensures.meant, obeys c.in_ok-program.program c.in_ok-flow.ensures)

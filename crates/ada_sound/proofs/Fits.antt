@@ -1,0 +1,488 @@
+-- What is relied on in a run: variables of the running activation by their holds, and components, which own what they hold.
+
+use Rattle.std.proofs.Common.{◌≡◌, ◌≢◌, ℕ, zero, suc, Bool, true, false, List, [], ◌∷◌, map, refl, sym, ap, ◌∙◌, ◌⊎◌, inl, inr}
+use Rattle.std.specs.Prelude.{Option, Some, None, ◌==◌, ◌||◌, if◌then◌else◌}
+use Rattle.std.specs.List.{slice_get, slice_set, slice_index_or}
+use Rattle.std.proofs.lemmas.Bool.{eqb-true}
+use Rattle.ada_text.specs.declared.spot.Spot.{Spot}
+use Rattle.ada_program.specs.ProgramForm.{TypeForm, VariableForm}
+use Rattle.ada_program.specs.WellFormed.{access_of, reached_components, kind_among}
+use Rattle.ada_flow.specs.declared.rule.Hold.{Hold}
+use Rattle.ada_flow.specs.declared.rule.Hold.TheVariants as hold
+use Rattle.ada_flow.specs.declared.rule.Region.{Region}
+use Rattle.ada_flow.specs.declared.rule.Region.TheVariants.{Whole}
+use Rattle.ada_flow.specs.Flow.{Holds, hold_at, variable_access, lost_by, is_as_good, left_by_move, without_value, without_values}
+use Rattle.ada_meaning.specs.declared.state.Id.{Id}
+use Rattle.ada_meaning.specs.declared.state.Value.{Value}
+use Rattle.ada_meaning.specs.declared.state.Value.TheVariants.{Null, Names, Scalar}
+use Rattle.ada_meaning.specs.Heap.{Cell}
+use Rattle.ada_meaning.specs.State.{Activation, Item}
+use Rattle.ada_meaning.specs.Named.{Object, object_at, create, created, store, parted, finished, returned}
+use Rattle.ada_scopes.specs.Scopes.{is_number_of}
+use Rattle.ada_owners.specs.Places.{Place, variable, component, elsewhere, component_in, value_at, access_at}
+use Rattle.ada_owners.specs.Reliance.{IsOf, Says, Owns, Borrows, Kinds, kind_of, Reliance, component_hold, hold_of, with_hold, Fits, IsInHand, AreInHand}
+use Rattle.ada_owners.specs.Keeping.{IsThere}
+use Rattle.ada_owners.proofs.Kernel as kernel
+use Rattle.ada_owners.proofs.Kernel.{same_or_not, same_id, same_place, lost_owns}
+use Rattle.ada_owners.proofs.Objects.{read_same, read_other, at_other, listed_at, component_listed}
+use Rattle.ada_owners.proofs.Changes as changes
+use Rattle.ada_owners.proofs.Changes.{weaken, taken, nulls, put_fits, put_hand, put_blank, put_reads, put_value, at_here, changed_is, store_hand}
+use Rattle.ada_owners.proofs.Creations.{create_fits, created_hand}
+use Rattle.ada_owners.proofs.Ends.{IsUnnamed, part_fits, finish_parted, back_fits}
+use Rattle.ada_owners.proofs.Reliances.{good_same, good_lost}
+use Rattle.ada_owners.proofs.Keeping.{take_pairs_keep, component_pairs_keep}
+
+-- The access types of components and of variables; no activation is suspended.
+abbrev pub kinds_of : List TypeForm → List VariableForm → Kinds
+kinds_of types variables = record {
+  components = λ t c. access_of (kind_among (reached_components types t) c);
+  variables = variable_access variables;
+  outer = λ d x. None;
+}
+
+-- An activation with these variables, and no operands.
+abbrev pub bare : List Value → List (Activation Value)
+bare places = record { places = places; operands = [] } ∷ []
+
+-- No form gives an alias yet: what is called one is null.
+abbrev pub relied : Hold → Hold
+relied hold.Null = hold.Null
+relied (hold.Own r) = hold.Own r
+relied (hold.Alias r) = hold.Null
+relied hold.Lost = hold.Lost
+
+-- Nothing relies on the components of some objects: of none; or of those whose home is one of these items.
+abbrev pub none_spared : Id → Bool
+none_spared o = false
+
+abbrev pub lies_among : Option Object → List Item → Bool
+lies_among None items = false
+lies_among (Some x) items = is_number_of items x.cell.home.item
+
+abbrev pub going : List Object → List Item → Id → Bool
+going heap items o = lies_among (object_at heap o) items
+
+-- What a place is relied on for.
+abbrev pub hold_in : (spared : Id → Bool) → Holds → Place → Hold
+hold_in spared holds (variable x) = relied (hold_at holds x)
+hold_in spared holds (component o c) = component_hold (spared o)
+hold_in spared holds (elsewhere d x) = hold.Lost
+
+-- A variable that is called null, or an alias, is null.
+abbrev pub IsBlank : Hold → Value → Type 0
+IsBlank hold.Null v = v ≡ Null
+IsBlank (hold.Own r) v = Unit {0}
+IsBlank (hold.Alias r) v = v ≡ Null
+IsBlank hold.Lost v = Unit {0}
+
+abbrev pub place_at : List Value → ℕ → Value
+place_at places x = slice_index_or places x Null
+
+-- All places are as they are relied on to be.
+pub record Fit (types : List TypeForm) (variables : List VariableForm) (spared : Id → Bool) (heap : List Object) (places : List Value) (holds : Holds) : Type 0 where
+  pub owners : Fits (kinds_of types variables) heap (bare places) (hold_in spared holds)
+  pub nulls : (x : ℕ) → IsBlank (hold_at holds x) (place_at places x)
+
+-- A value is in hand: no place owns what it names.
+abbrev pub Hand : List TypeForm → List VariableForm → (spared : Id → Bool) → List Object → List Value → Holds → (kind : Option ℕ) → Value → Type 0
+Hand types variables spared heap places holds kind v = IsInHand heap (bare places) (hold_in spared holds) kind v
+
+-- It owns what is there.
+abbrev pub IsOwn : Hold → Type 0
+IsOwn hold.Null = ⊥
+IsOwn (hold.Own r) = Unit {0}
+IsOwn (hold.Alias r) = ⊥
+IsOwn hold.Lost = ⊥
+
+-- A value that may be followed: null raises, and what is named is there; another value is no access value.
+abbrev pub MayFollow : List Object → Value → Type 0
+MayFollow heap Null = Unit {0}
+MayFollow heap (Names o) = IsThere heap o
+MayFollow heap (Scalar v) = Unit {0}
+
+-- The access type of a component of an object.
+abbrev pub component_access : List TypeForm → Object → (c : ℕ) → Option ℕ
+component_access types x c = access_of (kind_among (reached_components types x.cell.access) c)
+
+-- What is as good stays so where an alias counts as null.
+relied_good : (g h : Hold) → is_as_good g h ≡ true → is_as_good (relied g) (relied h) ≡ true
+relied_good hold.Null h e = refl
+relied_good (hold.Alias r) h e = refl
+relied_good g hold.Lost e = good_lost (relied g)
+relied_good (hold.Own Whole) (hold.Own Whole) e = refl
+relied_good g h e = absurd (cc e)
+
+-- What is called null, or an alias, by less was called so before.
+blank_good : (g h : Hold) (v : Value) → is_as_good g h ≡ true → IsBlank g v → IsBlank h v
+blank_good g (hold.Own r) v e is = tt
+blank_good g hold.Lost v e is = tt
+blank_good hold.Null hold.Null v e is = is
+blank_good hold.Null (hold.Alias r) v e is = is
+blank_good (hold.Alias Whole) (hold.Alias r) v e is = is
+blank_good g h v e is = absurd (cc e)
+
+-- What is relied on is as good everywhere, if it is so for variables.
+weaker_holds : (spared : Id → Bool) (holds less : Holds) → ((x : ℕ) → is_as_good (hold_at holds x) (hold_at less x) ≡ true) → (p : Place) → is_as_good (hold_in spared holds p) (hold_in spared less p) ≡ true
+weaker_holds spared holds less good (variable x) = relied_good (hold_at holds x) (hold_at less x) (good x)
+weaker_holds spared holds less good (component o c) = good_same (component_hold (spared o))
+weaker_holds spared holds less good (elsewhere d x) = refl
+
+-- Less is known.
+pub weaker_fit : {types : List TypeForm} {variables : List VariableForm} {spared : Id → Bool} {heap : List Object} {places : List Value} {holds : Holds} (less : Holds) → ((x : ℕ) → is_as_good (hold_at holds x) (hold_at less x) ≡ true) → Fit types variables spared heap places holds → Fit types variables spared heap places less
+weaker_fit {spared = spared} {places = places} {holds = holds} less good f = record {
+  owners = weaken (hold_in spared less) (weaker_holds spared holds less good) f.owners;
+  nulls = λ x. blank_good (hold_at holds x) (hold_at less x) (place_at places x) (good x) (f.nulls x);
+}
+
+-- A component that may be spared says no more than one that isn't.
+spared_good : (b : Bool) → is_as_good (hold.Own Whole) (component_hold b) ≡ true
+spared_good true = refl
+spared_good false = refl
+
+spared_holds : (spared : Id → Bool) (holds : Holds) (p : Place) → is_as_good (hold_in none_spared holds p) (hold_in spared holds p) ≡ true
+spared_holds spared holds (variable x) = good_same (relied (hold_at holds x))
+spared_holds spared holds (component o c) = spared_good (spared o)
+spared_holds spared holds (elsewhere d x) = refl
+
+-- Nothing relies on components of some objects any more.
+pub spare_fit : {types : List TypeForm} {variables : List VariableForm} {heap : List Object} {places : List Value} {holds : Holds} (spared : Id → Bool) → Fit types variables none_spared heap places holds → Fit types variables spared heap places holds
+spare_fit {holds = holds} spared f = record {
+  owners = weaken (hold_in spared holds) (spared_holds spared holds) f.owners;
+  nulls = f.nulls;
+}
+
+-- A variable has another hold, that says no more.
+set_good : (holds : Holds) (y : ℕ) (h : Hold) → is_as_good (hold_at holds y) h ≡ true → (x : ℕ) → is_as_good (hold_at holds x) (hold_at (slice_set holds y h) x) ≡ true
+set_good holds y h good x = go (same_or_not x y) (read_same holds y h hold.Lost)
+  where
+    go : (x ≡ y) ⊎ (x ≢ y) → (hold_at (slice_set holds y h) y ≡ h) ⊎ (hold_at (slice_set holds y h) y ≡ hold.Lost) → is_as_good (hold_at holds x) (hold_at (slice_set holds y h) x) ≡ true
+    go (inl e) (inl is) = rw (e, is) good
+    go (inl e) (inr is) = rw (e, is) (good_lost (hold_at holds y))
+    go (inr ne) is = rw (read_other holds y x h hold.Lost ne) (good_same (hold_at holds x))
+
+moved_good : (h : Hold) → is_as_good h (left_by_move h) ≡ true
+moved_good hold.Null = refl
+moved_good (hold.Own Whole) = refl
+moved_good (hold.Alias Whole) = refl
+moved_good hold.Lost = refl
+
+-- A variable loses what it holds; variables that were moved do.
+pub lose : {types : List TypeForm} {variables : List VariableForm} {spared : Id → Bool} {heap : List Object} {places : List Value} {holds : Holds} (y : ℕ) → Fit types variables spared heap places holds → Fit types variables spared heap places (slice_set holds y hold.Lost)
+lose {holds = holds} y f = weaker_fit (slice_set holds y hold.Lost) (set_good holds y hold.Lost (good_lost (hold_at holds y))) f
+
+pub lose_all : {types : List TypeForm} {variables : List VariableForm} {spared : Id → Bool} {heap : List Object} {places : List Value} {holds : Holds} (ys : List ℕ) → Fit types variables spared heap places holds → Fit types variables spared heap places (without_values ys holds)
+lose_all [] f = f
+lose_all {holds = holds} (y ∷ ys) f =
+    lose_all ys (weaker_fit (without_value y holds) (set_good holds y (left_by_move (hold_at holds y)) (moved_good (hold_at holds y))) f)
+
+-- A variable has another hold: it is relied on for that, or lost, and other places are relied on as before.
+set_here : (spared : Id → Bool) (holds : Holds) (x : ℕ) (h : Hold) → (hold_in spared (slice_set holds x h) (variable x) ≡ relied h) ⊎ (hold_in spared (slice_set holds x h) (variable x) ≡ hold.Lost)
+set_here spared holds x h = elim (read_same holds x h hold.Lost) [ inl e ↦ inl (ap relied e) | inr e ↦ inr (ap relied e) ]
+
+set_others : (spared : Id → Bool) (holds : Holds) (x : ℕ) (h : Hold) (q : Place) → q ≢ variable x → hold_in spared (slice_set holds x h) q ≡ hold_in spared holds q
+set_others spared holds x h (variable y) ne = ap relied (read_other holds x y h hold.Lost (λ e. ne (ap variable e)))
+set_others spared holds x h (component o c) ne = refl
+set_others spared holds x h (elsewhere d y) ne = refl
+
+set_lost : (spared : Id → Bool) (holds : Holds) (x : ℕ) → hold_in spared (slice_set holds x hold.Lost) (variable x) ≡ hold.Lost
+set_lost spared holds x = elim (set_here spared holds x hold.Lost) [ inl e ↦ e | inr e ↦ e ]
+
+some_by : (g : Hold) (r : Region) → (g ≡ hold.Own r) ⊎ (g ≡ hold.Lost) → g ≢ hold.Null
+some_by g r (inl e) n = cc (e, n)
+some_by g r (inr e) n = cc (e, n)
+
+-- What is called null then is null.
+blank_by : (g h : Hold) (v : Value) → (g ≡ h) ⊎ (g ≡ hold.Lost) → IsBlank h v → IsBlank g v
+blank_by g h v (inl e) is = rw e is
+blank_by g h v (inr e) is = rw e tt
+
+set_nulls : (holds : Holds) (places after : List Value) (x : ℕ) (h : Hold) → ((y : ℕ) → y ≢ x → place_at after y ≡ place_at places y) → IsBlank h (place_at after x) → ((y : ℕ) → IsBlank (hold_at holds y) (place_at places y)) → (y : ℕ) → IsBlank (hold_at (slice_set holds x h) y) (place_at after y)
+set_nulls holds places after x h others here blank y = go (same_or_not y x)
+  where
+    go : (y ≡ x) ⊎ (y ≢ x) → IsBlank (hold_at (slice_set holds x h) y) (place_at after y)
+    go (inl e) = rw e (blank_by (hold_at (slice_set holds x h) x) h (place_at after x) (read_same holds x h hold.Lost) here)
+    go (inr ne) = rw (read_other holds x y h hold.Lost ne, others y ne) (blank y)
+
+put_nulls : (holds : Holds) (places : List Value) (x : ℕ) (v : Value) (h : Hold) → IsBlank h (place_at (slice_set places x v) x) → ((y : ℕ) → IsBlank (hold_at holds y) (place_at places y)) → (y : ℕ) → IsBlank (hold_at (slice_set holds x h) y) (place_at (slice_set places x v) y)
+put_nulls holds places x v h here blank = set_nulls holds places (slice_set places x v) x h (λ y ne. read_other places x y v Null ne) here blank
+
+null_put : (places : List Value) (x : ℕ) → place_at (slice_set places x Null) x ≡ Null
+null_put places x = elim (read_same places x Null Null) [ inl e ↦ e | inr e ↦ e ]
+
+-- A variable gets any value, on which nothing relies; null; or what is in hand.
+pub put_lost : {types : List TypeForm} {variables : List VariableForm} {spared : Id → Bool} {heap : List Object} {places : List Value} {holds : Holds} (x : ℕ) (v : Value) → Fit types variables spared heap places holds → Fit types variables spared heap (slice_set places x v) (slice_set holds x hold.Lost)
+put_lost {spared = spared} {places = places} {holds = holds} x v f = record {
+  owners = put_fits x v (hold_in spared (slice_set holds x hold.Lost)) (set_others spared holds x hold.Lost) f.owners
+      (λ o e. rw (set_lost spared holds x) tt)
+      (λ o own. absurd (lost_owns (hold_in spared (slice_set holds x hold.Lost) (variable x)) (set_lost spared holds x) own));
+  nulls = put_nulls holds places x v hold.Lost tt f.nulls;
+}
+
+pub put_null : {types : List TypeForm} {variables : List VariableForm} {spared : Id → Bool} {heap : List Object} {places : List Value} {holds : Holds} (x : ℕ) → Fit types variables spared heap places holds → Fit types variables spared heap (slice_set places x Null) (slice_set holds x hold.Null)
+put_null {spared = spared} {places = places} {holds = holds} x f = record {
+  owners = put_blank x Null (hold_in spared (slice_set holds x hold.Null)) (set_others spared holds x hold.Null) f.owners (λ o e. cc e);
+  nulls = put_nulls holds places x Null hold.Null (null_put places x) f.nulls;
+}
+
+pub put_owner : {types : List TypeForm} {variables : List VariableForm} {spared : Id → Bool} {heap : List Object} {places : List Value} {holds : Holds} (x : ℕ) (v : Value) (r : Region) → Hand types variables spared heap places holds (variable_access variables x) v → Fit types variables spared heap places holds → Fit types variables spared heap (slice_set places x v) (slice_set holds x (hold.Own r))
+put_owner {spared = spared} {places = places} {holds = holds} x v r hand f = record {
+  owners = put_hand x v (hold_in spared (slice_set holds x (hold.Own r))) (set_others spared holds x (hold.Own r)) f.owners
+      (some_by (hold_in spared (slice_set holds x (hold.Own r)) (variable x)) r (set_here spared holds x (hold.Own r))) hand;
+  nulls = put_nulls holds places x v (hold.Own r) tt f.nulls;
+}
+
+-- A variable that is null may be called so.
+pub null_fit : {types : List TypeForm} {variables : List VariableForm} {spared : Id → Bool} {heap : List Object} {places : List Value} {holds : Holds} (y : ℕ) → place_at places y ≡ Null → Fit types variables spared heap places holds → Fit types variables spared heap places (slice_set holds y hold.Null)
+null_fit {spared = spared} {places = places} {holds = holds} y is f = record {
+  owners = nulls (variable y) (hold_in spared (slice_set holds y hold.Null)) (set_others spared holds y hold.Null) (λ o e. cc (is, e)) f.owners;
+  nulls = set_nulls holds places places y hold.Null (λ x ne. refl) is f.nulls;
+}
+
+-- What owns is relied on to own.
+own_owns : (h : Hold) → IsOwn h → Owns (relied h)
+own_owns (hold.Own r) own = tt
+own_owns h own = absurd own
+
+-- The value of an owner is in hand once the owner is lost.
+pub hand_of : {types : List TypeForm} {variables : List VariableForm} {spared : Id → Bool} {heap : List Object} {places : List Value} {holds : Holds} (y : ℕ) → IsOwn (hold_at holds y) → Fit types variables spared heap places holds → Hand types variables spared heap places (slice_set holds y hold.Lost) (variable_access variables y) (place_at places y)
+hand_of {spared = spared} {holds = holds} y own f =
+    taken (variable y) (hold_in spared (slice_set holds y hold.Lost)) (own_owns (hold_at holds y) own)
+    (λ a. lost_owns (hold_in spared (slice_set holds y hold.Lost) (variable y)) (set_lost spared holds y) a) (set_others spared holds y hold.Lost) f.owners
+
+-- X := Y, where Y is an owner of X's access type: also where X is Y.
+pub move_fit : {types : List TypeForm} {variables : List VariableForm} {spared : Id → Bool} {heap : List Object} {places : List Value} {holds : Holds} (x y : ℕ) (r : Region) → IsOwn (hold_at holds y) → variable_access variables x ≡ variable_access variables y → Fit types variables spared heap places holds → Fit types variables spared heap (slice_set places x (place_at places y)) (slice_set (slice_set holds y hold.Lost) x (hold.Own r))
+move_fit {places = places} x y r own same f = put_owner x (place_at places y) r (rw same (hand_of y own f)) (lose y f)
+
+-- What is relied on to name an object names one that is there.
+there_by : (heap : List Object) (kind : Option ℕ) (o : Id) → IsOf (access_at heap) kind o → IsThere heap o
+there_by heap None o s = absurd s
+there_by heap (Some t) o s = let h = listed_at heap o t s in (h.object, h.found, h.listed)
+
+says_there : (heap : List Object) (h : Hold) (spot : Spot) (kind : Option ℕ) (o : Id) → lost_by h spot ≡ None → Says (access_at heap) (relied h) kind o → IsThere heap o
+says_there heap hold.Null spot kind o kept s = absurd s
+says_there heap (hold.Own r) spot kind o kept s = there_by heap kind o s
+says_there heap (hold.Alias r) spot kind o kept s = absurd s
+says_there heap hold.Lost spot kind o kept s = absurd (cc kept)
+
+follows_by : (heap : List Object) (v : Value) → ((o : Id) → v ≡ Names o → IsThere heap o) → MayFollow heap v
+follows_by heap Null there = tt
+follows_by heap (Names o) there = there o refl
+follows_by heap (Scalar v) there = tt
+
+-- What a component of an object in its collection holds, and its access type.
+got : (values : List Value) (c : ℕ) (v : Value) → slice_get values c ≡ Some v → slice_index_or values c Null ≡ v
+got [] c v e = absurd (cc e)
+got (w ∷ values) zero v e = cc e
+got (w ∷ values) (suc c) v e = got values c v e
+
+pub component_value : (heap : List Object) (activations : List (Activation Value)) (o : Id) (object : Object) (c : ℕ) (v : Value) → object_at heap o ≡ Some object → object.listed ≡ true → slice_get object.cell.values c ≡ Some v → value_at heap activations (component o c) ≡ v
+component_value heap activations o object c v found listed at =
+    ap (λ t. component_in t c) found ∙ component_listed object c listed ∙ got object.cell.values c v at
+
+pub access_is : (heap : List Object) (o : Id) (object : Object) → object_at heap o ≡ Some object → object.listed ≡ true → access_at heap o ≡ Some object.cell.access
+access_is heap o object found listed = rw (found, listed) refl
+
+-- What a variable holds that is not lost may be followed, and so may what a component holds.
+pub root_follows : {types : List TypeForm} {variables : List VariableForm} {spared : Id → Bool} {heap : List Object} {places : List Value} {holds : Holds} (x : ℕ) (spot : Spot) → lost_by (hold_at holds x) spot ≡ None → Fit types variables spared heap places holds → MayFollow heap (place_at places x)
+root_follows {variables = variables} {heap = heap} {places = places} {holds = holds} x spot kept f =
+    follows_by heap (place_at places x) (λ o e. says_there heap (hold_at holds x) spot (variable_access variables x) o kept (f.owners.fit.relied (variable x) o e))
+
+pub component_is : {types : List TypeForm} {variables : List VariableForm} {spared : Id → Bool} {heap : List Object} {places : List Value} {holds : Holds} (o : Id) (object : Object) (c : ℕ) (v : Value) (p : Id) → spared o ≡ false → object_at heap o ≡ Some object → object.listed ≡ true → slice_get object.cell.values c ≡ Some v → v ≡ Names p → Fit types variables spared heap places holds → IsOf (access_at heap) (component_access types object c) p
+component_is {spared = spared} {heap = heap} {places = places} o object c v p kept found listed at is f =
+    let own : Owns (component_hold (spared o)) = rw kept tt in
+    let names = component_value heap (bare places) o object c v found listed at ∙ is in
+    rw (access_is heap o object found listed) at (kernel.owned_at f.owners.fit (component o c) own p names)
+
+pub component_follows : {types : List TypeForm} {variables : List VariableForm} {spared : Id → Bool} {heap : List Object} {places : List Value} {holds : Holds} (o : Id) (object : Object) (c : ℕ) (v : Value) → spared o ≡ false → object_at heap o ≡ Some object → object.listed ≡ true → slice_get object.cell.values c ≡ Some v → Fit types variables spared heap places holds → MayFollow heap v
+component_follows {types = types} {heap = heap} o object c v kept found listed at f =
+    follows_by heap v (λ p is. there_by heap (component_access types object c) p (component_is o object c v p kept found listed at is f))
+
+-- A component gets what names nothing, or what is in hand.
+pub store_blank : {types : List TypeForm} {variables : List VariableForm} {spared : Id → Bool} {heap : List Object} {places : List Value} {holds : Holds} (o : Id) (object : Object) (c : ℕ) (v : Value) → object_at heap o ≡ Some object → ((p : Id) → v ≡ Names p → ⊥) → Fit types variables spared heap places holds → Fit types variables spared (store heap (Names o) c v) places holds
+store_blank {spared = spared} {heap = heap} {holds = holds} o object c v found none f = record {
+  owners = changes.store_blank heap o object found c v (hold_in spared holds) (λ q ne. refl) f.owners none;
+  nulls = f.nulls;
+}
+
+pub store_owner : {types : List TypeForm} {variables : List VariableForm} {heap : List Object} {places : List Value} {holds : Holds} (o : Id) (object : Object) (c : ℕ) (v : Value) → object_at heap o ≡ Some object → object.listed ≡ true → Hand types variables none_spared heap places holds (component_access types object c) v → Fit types variables none_spared heap places holds → Fit types variables none_spared (store heap (Names o) c v) places holds
+store_owner {heap = heap} {holds = holds} o object c v found listed hand f = record {
+  owners = store_hand heap o object found c v (hold_in none_spared holds) (λ q ne. refl) f.owners (λ e. cc e) (rw (access_is heap o object found listed) hand);
+  nulls = f.nulls;
+}
+
+-- What is relied on, in the form that the laws of owners take: no component is lent.
+abbrev as_reliance : Holds → Reliance
+as_reliance holds = record { holds = map relied holds; outer = λ d. []; lent = [] }
+
+read_relied : (holds : Holds) (x : ℕ) → hold_at (map relied holds) x ≡ relied (hold_at holds x)
+read_relied [] x = refl
+read_relied (h ∷ hs) zero = refl
+read_relied (h ∷ hs) (suc x) = read_relied hs x
+
+set_relied : (holds : Holds) (x : ℕ) (h : Hold) → slice_set (map relied holds) x (relied h) ≡ map relied (slice_set holds x h)
+set_relied [] x h = refl
+set_relied (g ∷ gs) zero h = refl
+set_relied (g ∷ gs) (suc x) h = ap (λ l. relied g ∷ l) (set_relied gs x h)
+
+same_reliance : (holds : Holds) (p : Place) → hold_of (as_reliance holds) p ≡ hold_in none_spared holds p
+same_reliance holds (variable x) = read_relied holds x
+same_reliance holds (component o c) = refl
+same_reliance holds (elsewhere d x) = refl
+
+to_reliance : {kinds : Kinds} {heap : List Object} {activations : List (Activation Value)} (holds : Holds) → Fits kinds heap activations (hold_in none_spared holds) → Fits kinds heap activations (hold_of (as_reliance holds))
+to_reliance holds f = record { fit = kernel.held_same f.fit (hold_of (as_reliance holds)) (λ p o e. same_reliance holds p) }
+
+from_reliance : {kinds : Kinds} {heap : List Object} {activations : List (Activation Value)} (holds : Holds) → Fits kinds heap activations (hold_of (as_reliance holds)) → Fits kinds heap activations (hold_in none_spared holds)
+from_reliance holds f = record { fit = kernel.held_same f.fit (hold_in none_spared holds) (λ p o e. sym (same_reliance holds p)) }
+
+from_reliance_with : {kinds : Kinds} {heap : List Object} {activations : List (Activation Value)} (holds : Holds) (x : ℕ) (r : Region) → Fits kinds heap activations (hold_of (with_hold x (hold.Own Whole) (as_reliance holds))) → Fits kinds heap activations (hold_in none_spared (slice_set holds x (hold.Own r)))
+from_reliance_with holds x Whole f = from_reliance (slice_set holds x (hold.Own Whole)) (rw (← set_relied holds x (hold.Own Whole)) f)
+
+-- A take pair, T := O.C; O.C := null;, with another variable for T, or with a component.
+pub take_variable : {types : List TypeForm} {variables : List VariableForm} {heap : List Object} {places : List Value} {holds : Holds} (x : ℕ) (r : Region) (o : Id) (object : Object) (c : ℕ) (v : Value) → object_at heap o ≡ Some object → object.listed ≡ true → slice_get object.cell.values c ≡ Some v → variable_access variables x ≡ component_access types object c → Fit types variables none_spared heap places holds → Fit types variables none_spared (store heap (Names o) c Null) (slice_set places x v) (slice_set holds x (hold.Own r))
+take_variable {types = types} {variables = variables} {heap = heap} {places = places} {holds = holds} x r o object c v found listed at same f =
+    let t = object.cell.access in
+    let at_t = access_is heap o object found listed in
+    let pair = take_pairs_keep (kinds_of types variables) heap (bare places) (as_reliance holds) (to_reliance holds f.owners) x o c t at_t (sym same) refl in
+    record {
+      owners = from_reliance_with holds x r (rw (component_value heap (bare places) o object c v found listed at) at pair);
+      nulls = put_nulls holds places x v (hold.Own r) tt f.nulls;
+    }
+
+pub take_component : {types : List TypeForm} {variables : List VariableForm} {heap : List Object} {places : List Value} {holds : Holds} (k : Id) (holder : Object) (d : ℕ) (o : Id) (object : Object) (c : ℕ) (v : Value) → object_at heap k ≡ Some holder → holder.listed ≡ true → object_at heap o ≡ Some object → object.listed ≡ true → slice_get object.cell.values c ≡ Some v → component_access types holder d ≡ component_access types object c → Fit types variables none_spared heap places holds → Fit types variables none_spared (store (store heap (Names k) d v) (Names o) c Null) places holds
+take_component {types = types} {variables = variables} {heap = heap} {places = places} {holds = holds} k holder d o object c v at_k listed_k found listed at same f =
+    let u = holder.cell.access in
+    let t = object.cell.access in
+    let at_u = access_is heap k holder at_k listed_k in
+    let at_t = access_is heap o object found listed in
+    let pair = component_pairs_keep (kinds_of types variables) heap (bare places) (as_reliance holds) (to_reliance holds f.owners) k o d c u t at_u at_t same refl in
+    record { owners = from_reliance holds (rw (component_value heap (bare places) o object c v found listed at) at pair); nulls = f.nulls }
+
+-- A new object, whose items were in hand: its name is in hand.
+pub create_fit : {types : List TypeForm} {variables : List VariableForm} {heap : List Object} {places : List Value} {holds : Holds} (words : ℕ) (cell : Cell Value) → AreInHand heap (bare places) (hold_in none_spared holds) (λ c. access_of (kind_among (reached_components types cell.access) c)) 0 cell.values → Fit types variables none_spared heap places holds → Fit types variables none_spared (create heap words cell) places holds × Hand types variables none_spared (create heap words cell) places holds (Some cell.access) (created heap words)
+create_fit {heap = heap} words cell items f =
+    (record { owners = create_fits heap words cell (λ c e. cc e) f.owners items; nulls = f.nulls }, created_hand heap words cell f.owners items)
+
+-- No place borrows yet.
+relied_borrows : (h : Hold) → Borrows (relied h) → ⊥
+relied_borrows hold.Null b = b
+relied_borrows h b = b
+
+component_borrows : (b : Bool) → Borrows (component_hold b) → ⊥
+component_borrows true b = b
+component_borrows false b = b
+
+none_borrows : (spared : Id → Bool) (holds : Holds) (q : Place) → Borrows (hold_in spared holds q) → ⊥
+none_borrows spared holds (variable x) b = relied_borrows (hold_at holds x) b
+none_borrows spared holds (component o c) b = component_borrows (spared o) b
+none_borrows spared holds (elsewhere d x) b = b
+
+-- Of what is in hand, no place is an owner; and none borrows yet.
+pub hand_is_unnamed : (types : List TypeForm) (variables : List VariableForm) (spared : Id → Bool) (heap : List Object) (places : List Value) (holds : Holds) (kind : Option ℕ) (o : Id) → Hand types variables spared heap places holds kind (Names o) → IsUnnamed heap (bare places) (hold_in spared holds) o
+hand_is_unnamed types variables spared heap places holds kind o hand = record {
+  unowned = λ q a b. hand.hand.free o refl q a b;
+  unborrowed = λ q a b. none_borrows spared holds q a;
+}
+
+-- An object that no owner names leaves its collection; then it ceases to exist, and its words go back.
+pub part_fit : {types : List TypeForm} {variables : List VariableForm} {spared : Id → Bool} {heap : List Object} {places : List Value} {holds : Holds} (o : Id) (x : Object) → object_at heap o ≡ Some x → IsUnnamed heap (bare places) (hold_in spared holds) o → Fit types variables spared heap places holds → Fit types variables spared (slice_set heap o.0 (parted x)) places holds
+part_fit {heap = heap} o x found none f = record {
+  owners = rw (changed_is heap o x found (parted x) parted refl) at (part_fits heap o x found f.owners none);
+  nulls = f.nulls;
+}
+
+pub finish_fit : {types : List TypeForm} {variables : List VariableForm} {spared : Id → Bool} {heap : List Object} {places : List Value} {holds : Holds} (o : Id) (x : Object) → object_at heap o ≡ Some x → x.listed ≡ false → Fit types variables spared heap places holds → Fit types variables spared (slice_set heap o.0 (finished x)) places holds
+finish_fit {heap = heap} o x found off f = record {
+  owners = rw (changed_is heap o x found (finished x) finished refl) at (finish_parted heap o x found off f.owners);
+  nulls = f.nulls;
+}
+
+pub back_fit : {types : List TypeForm} {variables : List VariableForm} {spared : Id → Bool} {heap : List Object} {places : List Value} {holds : Holds} (o : Id) (x : Object) → object_at heap o ≡ Some x → Fit types variables spared heap places holds → Fit types variables spared (slice_set heap o.0 (returned x)) places holds
+back_fit {heap = heap} o x found f = record {
+  owners = rw (changed_is heap o x found (returned x) returned refl) at (back_fits heap o x found f.owners);
+  nulls = f.nulls;
+}
+
+-- Free (X), where X owns: X is null then, and its object has no owner.
+pub freed_unnamed : {types : List TypeForm} {variables : List VariableForm} {spared : Id → Bool} {heap : List Object} {places : List Value} {holds : Holds} (x : ℕ) (o : Id) → IsOwn (hold_at holds x) → place_at places x ≡ Names o → Fit types variables spared heap places holds → Fit types variables spared heap (slice_set places x Null) (slice_set holds x hold.Null) × IsUnnamed heap (bare (slice_set places x Null)) (hold_in spared (slice_set holds x hold.Null)) o × IsThere heap o
+freed_unnamed {variables = variables} {spared = spared} {heap = heap} {places = places} {holds = holds} x o own is f =
+    let owns = own_owns (hold_at holds x) own in
+    let none : IsUnnamed heap (bare (slice_set places x Null)) (hold_in spared (slice_set holds x hold.Null)) o = record {
+      unowned = λ q a b. go owns q (same_place q (variable x)) a b;
+      unborrowed = λ q a b. none_borrows spared (slice_set holds x hold.Null) q a;
+    } in
+    (put_null x f, none, there_by heap (variable_access variables x) o (kernel.owned_at f.owners.fit (variable x) owns o is))
+  where
+    go : Owns (relied (hold_at holds x)) → (q : Place) → (q ≡ variable x) ⊎ (q ≢ variable x) → Owns (hold_in spared (slice_set holds x hold.Null) q) → value_at heap (bare (slice_set places x Null)) q ≡ Names o → ⊥
+    go owns q (inl e) a b = let null : Null ≡ Names o = put_value heap (bare places) x Null o (rw e at b) in cc null
+    go owns q (inr ne) a b =
+        let before = sym (put_reads heap (bare places) x Null q ne) ∙ b in
+        ne (f.owners.fit.apart q (variable x) o (rw (set_others spared holds x hold.Null q ne) at a) owns before is)
+
+-- Components of other objects are spared, none of which names anything.
+respare : {types : List TypeForm} {variables : List VariableForm} {heap : List Object} {places : List Value} {holds : Holds} (spared to : Id → Bool) → ((o : Id) (c : ℕ) (k : Id) → component_in (object_at heap o) c ≡ Names k → to o ≡ spared o) → Fit types variables spared heap places holds → Fit types variables to heap places holds
+respare {heap = heap} {places = places} {holds = holds} spared to same f = record {
+  owners = record { fit = kernel.held_same f.owners.fit (hold_in to holds) go };
+  nulls = f.nulls;
+}
+  where
+    go : (p : Place) (k : Id) → value_at heap (bare places) p ≡ Names k → hold_in to holds p ≡ hold_in spared holds p
+    go (variable x) k e = refl
+    go (component o c) k e = ap component_hold (same o c k e)
+    go (elsewhere d x) k e = refl
+
+-- Which objects are of a master that is left stays, where one changes and keeps its home; and where an item goes that has no object any more.
+going_stays : (heap : List Object) (items : List Item) (o : Id) (x y : Object) → object_at heap o ≡ Some x → y.cell.home ≡ x.cell.home → (k : Id) → going (slice_set heap o.0 y) items k ≡ going heap items k
+going_stays heap items o x y found same k = go (same_id k o)
+  where
+    go : (k ≡ o) ⊎ (k ≢ o) → going (slice_set heap o.0 y) items k ≡ going heap items k
+    go (inl e) = rw (e, at_here heap o x found y, found) (ap (λ h. is_number_of items h.item) same)
+    go (inr ne) = ap (λ t. lies_among t items) (at_other heap o k y ne)
+
+first_only : (b rest : Bool) → (b ≡ true → ⊥) → rest ≡ b || rest
+first_only true rest none = absurd (none refl)
+first_only false rest none = refl
+
+-- A component that names something is one of an object in its collection.
+is_listed : (b : Bool) (v : Value) (k : Id) → (if b then v else Null) ≡ Names k → b ≡ true
+is_listed true v k e = refl
+is_listed false v k e = absurd (cc e)
+
+shorter_stays : (item : Item) (items : List Item) (t : Option Object) (c : ℕ) (k : Id) → ((x : Object) → t ≡ Some x → x.listed ≡ true → x.cell.home.item ≡ item.number → ⊥) → component_in t c ≡ Names k → lies_among t items ≡ lies_among t (item ∷ items)
+shorter_stays item items None c k none e = refl
+shorter_stays item items (Some x) c k none e =
+    let listed = is_listed x.listed (slice_index_or x.cell.values c Null) k e in
+    first_only (item.number == x.cell.home.item) (is_number_of items x.cell.home.item) (λ is. none x refl listed (sym (eqb-true item.number x.cell.home.item is)))
+
+lies_nowhere : (t : Option Object) → false ≡ lies_among t []
+lies_nowhere None = refl
+lies_nowhere (Some x) = refl
+
+-- While a master is left, homes stay as they are; an item goes whose collection is empty; and where none is left, all is relied on again.
+pub going_set : {types : List TypeForm} {variables : List VariableForm} {places : List Value} {holds : Holds} (heap : List Object) (items : List Item) (o : Id) (x y : Object) → object_at heap o ≡ Some x → y.cell.home ≡ x.cell.home → Fit types variables (going heap items) (slice_set heap o.0 y) places holds → Fit types variables (going (slice_set heap o.0 y) items) (slice_set heap o.0 y) places holds
+going_set heap items o x y found same f =
+    respare (going heap items) (going (slice_set heap o.0 y) items) (λ k c n e. going_stays heap items o x y found same k) f
+
+pub going_shorter : {types : List TypeForm} {variables : List VariableForm} {heap : List Object} {places : List Value} {holds : Holds} (item : Item) (items : List Item) → ((o : Id) (x : Object) → object_at heap o ≡ Some x → x.listed ≡ true → x.cell.home.item ≡ item.number → ⊥) → Fit types variables (going heap (item ∷ items)) heap places holds → Fit types variables (going heap items) heap places holds
+going_shorter {heap = heap} item items none f =
+    respare (going heap (item ∷ items)) (going heap items) (λ o c k e. shorter_stays item items (object_at heap o) c k (none o) e) f
+
+pub going_left : {types : List TypeForm} {variables : List VariableForm} {heap : List Object} {places : List Value} {holds : Holds} → Fit types variables (going heap []) heap places holds → Fit types variables none_spared heap places holds
+going_left {heap = heap} f = respare (going heap []) none_spared (λ o c k e. lies_nowhere (object_at heap o)) f
+
+-- Before anything is allocated, all variables are lost.
+pub first_fit : (types : List TypeForm) (variables : List VariableForm) (places : List Value) (holds : Holds) → ((x : ℕ) → hold_at holds x ≡ hold.Lost) → Fit types variables none_spared [] places holds
+first_fit types variables places holds lost = record {
+  owners = record { fit = record { relied = relied_first; apart = λ p q o a b c d. absurd (none_owns p o a c) } };
+  nulls = λ x. rw (lost x) tt;
+}
+  where
+    relied_first : (p : Place) (o : Id) → value_at [] (bare places) p ≡ Names o → Says (access_at []) (hold_in none_spared holds p) (kind_of (kinds_of types variables) (access_at []) p) o
+    relied_first (variable x) o e = rw (lost x) tt
+    relied_first (component k c) o e = absurd (cc e)
+    relied_first (elsewhere d x) o e = tt
+
+    none_owns : (p : Place) (o : Id) → Owns (hold_in none_spared holds p) → value_at [] (bare places) p ≡ Names o → ⊥
+    none_owns (variable x) o own e = lost_owns (relied (hold_at holds x)) (ap relied (lost x)) own
+    none_owns (component k c) o own e = cc e
+    none_owns (elsewhere d x) o own e = own

@@ -1,0 +1,356 @@
+-- Nothing relies on an Integer or a Boolean: in a well-formed program flow calls it lost, wherever it comes to.
+
+use Rattle.std.proofs.Common.{◌≡◌, ◌≢◌, ℕ, zero, suc, Bool, true, false, List, [], ◌∷◌, ◌++◌, length, refl, ◌⊎◌, inl, inr}
+use Rattle.std.specs.Prelude.{Option, Some, None, if◌then◌else◌}
+use Rattle.std.specs.List.{list_all, slice_set}
+use Rattle.std.proofs.Math.ListN.{replicate}
+use Rattle.std.proofs.lemmas.Bool.{and_parts}
+use Rattle.ada_text.specs.declared.spot.Spot.{Spot}
+use Rattle.ada_program.specs.declared.program.Program.{Program}
+use Rattle.ada_program.specs.declared.program.VariableKind.{VariableKind}
+use Rattle.ada_program.specs.declared.program.VariableKind.TheVariants as variable
+use Rattle.ada_program.specs.Form.{PathForm, ExpressionForm, RightForm, computes, DeclarationForm, collects, declares, StmtForm, skips, assigns, frees, gets, writes, writes_text, chooses, repeats, counts, exits, returns, raises, encloses, StmtsForm, no_stmts, a_stmt, BranchesForm, otherwise, a_branch, HandlersForm, no_handlers, a_handler}
+use Rattle.ada_program.specs.ProgramForm.{TypeForm, VariableForm, program_form}
+use Rattle.ada_program.specs.WellFormed.{access_of, variable_kind, selectors_kind, right_fits, initial_fits, is_freed_by, statement_fits, stmts_fit, branches_fit, handlers_fit, IsWellFormed}
+use Rattle.ada_effects.specs.Effects.{expression_raises, passes}
+use Rattle.ada_flow.specs.declared.rule.Hold.{Hold}
+use Rattle.ada_flow.specs.declared.rule.Hold.TheVariants.{Null, Own, Alias, Lost}
+use Rattle.ada_flow.specs.declared.rule.Rule.TheVariants.{LoopState}
+use Rattle.ada_flow.specs.Flow.{Holds, hold_at, variable_access, join, join_option, Outcome, faults, goes, also_raises, then_flow, raising_if, ends_with, Use, uses_in, uses_in_right, uses_in_target, Breach, broken_among, unless_broken, using_paths, computed, left_by_move, without_value, without_values, moved_by_right, right_hold, evaluation_raises, gives, gives_path, released, frees_path, gets_path, either_of, are_as_good, opened_hold, opened, opened_target, opened_by, opened_by_all, opened_by_branches, opened_by_handlers, ends_turn, left_with, is_left, condition_flow, loop_flow, collected, if_own, left, left_option, leaves_block, handled, Around, in_loop, in_block, exit_of, exit_flow, declaration_flow, declarations_flow, bounds_flow, counting_start, begins_pair, stmt_flow, stmts_flow, branches_flow, handlers_flow, variables_of}
+use Rattle.ada_sound.specs.Agreement.{Place, Turning, Comes, here, behind, in_branches, in_body, in_count, in_enclosed, ComesBy, in_others, in_this, in_next, ComesTo, to_this, to_next, ComesInside, in_statements, in_handlers, IsFlowAt}
+use Rattle.ada_sound.proofs.Values.{read_same, read_other, same_or_not}
+
+-- What is lost stays lost where ways meet.
+join_lost : (a b : Holds) (x : ℕ) → hold_at a x ≡ Lost → hold_at b x ≡ Lost → hold_at (join a b) x ≡ Lost
+join_lost [] b x e f = refl
+join_lost (g ∷ gs) [] x e f = refl
+join_lost (g ∷ gs) (h ∷ hs) zero e f = rw e refl
+join_lost (g ∷ gs) (h ∷ hs) (suc x) e f = join_lost gs hs x e f
+
+-- It does so behind a block.
+own_lost : (b : Bool) → if_own b Lost ≡ Lost
+own_lost true = refl
+own_lost false = refl
+
+left_lost : (variables : List VariableForm) (types : List ℕ) (holds : Holds) (x : ℕ) → hold_at holds x ≡ Lost → hold_at (left variables types holds) x ≡ Lost
+left_lost [] types holds x e = refl
+left_lost (v ∷ vs) types [] x e = refl
+left_lost (v ∷ vs) types (h ∷ hs) zero e = rw e (own_lost _)
+left_lost (v ∷ vs) types (h ∷ hs) (suc x) e = left_lost vs types hs x e
+
+-- At first each variable is.
+first_lost : (n x : ℕ) → hold_at (replicate n Lost) x ≡ Lost
+first_lost zero x = refl
+first_lost (suc n) zero = refl
+first_lost (suc n) (suc x) = first_lost n x
+
+-- What is assigned to an Integer or a Boolean is one.
+right_lost : (types : List TypeForm) (variables : List VariableForm) (kind : Option VariableKind) (right : RightForm) (holds : Holds) → right_fits types variables kind right ≡ true → access_of kind ≡ None → right_hold right holds ≡ Lost
+right_lost types variables kind (computes e) holds fits none = refl
+right_lost types variables None right holds fits none = absurd (cc fits)
+right_lost types variables (Some variable.Integer) right holds fits none = absurd (cc fits)
+right_lost types variables (Some variable.Boolean) right holds fits none = absurd (cc fits)
+right_lost types variables (Some (variable.Access access)) right holds fits none = absurd (cc none)
+
+module _ (types : List TypeForm) (variables : List VariableForm) (texts exceptions : List (List ℕ)) where
+  -- All variables without an access type are lost.
+  abbrev Scalars : Holds → Type 0
+  Scalars holds = (x : ℕ) → variable_access variables x ≡ None → hold_at holds x ≡ Lost
+
+  abbrev OnWay : Option Holds → Type 0
+  OnWay None = Unit {0}
+  OnWay (Some holds) = Scalars holds
+
+  -- So they are wherever an outcome leads.
+  abbrev Keeps : Outcome → Type 0
+  Keeps (faults spot rule) = Unit {0}
+  Keeps (goes normal raising) = OnWay normal × OnWay raising
+
+  -- A variable has another hold.
+  set_keeps : (holds : Holds) (y : ℕ) (h : Hold) → (variable_access variables y ≡ None → h ≡ Lost) → Scalars holds → Scalars (slice_set holds y h)
+  set_keeps holds y h new s x none = go (same_or_not x y)
+    where
+      here_lost : variable_access variables y ≡ None → (hold_at (slice_set holds y h) y ≡ h) ⊎ (hold_at (slice_set holds y h) y ≡ Lost) → hold_at (slice_set holds y h) y ≡ Lost
+      here_lost n (inl e) = rw e (new n)
+      here_lost n (inr e) = e
+
+      go : (x ≡ y) ⊎ (x ≢ y) → hold_at (slice_set holds y h) x ≡ Lost
+      go (inl e) = rw e (here_lost (rw e at none) (read_same holds y h Lost))
+      go (inr ne) = rw (read_other holds y x h Lost ne) (s x none)
+
+  without_keeps : (ys : List ℕ) (holds : Holds) → Scalars holds → Scalars (without_values ys holds)
+  without_keeps [] holds s = s
+  without_keeps (y ∷ ys) holds s = without_keeps ys (without_value y holds) (set_keeps holds y (left_by_move (hold_at holds y)) (λ n. rw (s y n) refl) s)
+
+  join_keeps : (a b : Option Holds) → OnWay a → OnWay b → OnWay (join_option a b)
+  join_keeps None b p q = q
+  join_keeps (Some a) None p q = p
+  join_keeps (Some a) (Some b) p q = λ x none. join_lost a b x (p x none) (q x none)
+
+  if_keeps : (b : Bool) (holds : Holds) → Scalars holds → OnWay (raising_if b holds)
+  if_keeps false holds s = tt
+  if_keeps true holds s = s
+
+  ends_keep : (b : Bool) (before after : Holds) → Scalars before → Scalars after → Keeps (ends_with b before after)
+  ends_keep b before after s k = (k, if_keeps b before s)
+
+  raises_keeps : (before : Option Holds) (o : Outcome) → OnWay before → Keeps o → Keeps (also_raises before o)
+  raises_keeps before (faults spot rule) b k = tt
+  raises_keeps before (goes normal raising) b k = (k.0, join_keeps before raising b k.1)
+
+  then_keeps : (o : Outcome) (more : Holds → Outcome) → Keeps o → ((holds : Holds) → Scalars holds → Keeps (more holds)) → Keeps (then_flow o more)
+  then_keeps (faults spot rule) more k m = tt
+  then_keeps (goes None raising) more k m = (tt, k.1)
+  then_keeps (goes (Some holds) raising) more k m = raises_keeps raising (more holds) k.1 (m holds k.0)
+
+  using_keeps : (uses : List Use) (holds : Holds) (more : Outcome) → Keeps more → Keeps (using_paths uses holds more)
+  using_keeps uses holds more k = go (broken_among holds uses)
+    where
+      go : (b : Option Breach) → Keeps (unless_broken b more)
+      go None = k
+      go (Some breach) = tt
+
+  either_keeps : (a b : Outcome) → Keeps a → Keeps b → Keeps (either_of a b)
+  either_keeps (faults spot rule) b k m = tt
+  either_keeps (goes normal raising) (faults spot rule) k m = tt
+  either_keeps (goes normal raising) (goes other others) k m = (join_keeps normal other k.0 m.0, join_keeps raising others k.1 m.1)
+
+  computed_keeps : (e : ExpressionForm) (holds : Holds) → Scalars holds → Keeps (computed e holds)
+  computed_keeps e holds s = using_keeps (uses_in e) holds (ends_with (expression_raises e) holds holds) (ends_keep (expression_raises e) holds holds s s)
+
+  condition_keeps : (condition : Option ExpressionForm) (holds : Holds) → Scalars holds → Keeps (condition_flow condition holds)
+  condition_keeps None holds s = (s, tt)
+  condition_keeps (Some e) holds s = computed_keeps e holds s
+
+  -- What is assigned.
+  gives_keeps : (cleared : Bool) (x : ℕ) (right : RightForm) (holds : Holds) → right_fits types variables (variable_kind variables x) right ≡ true → Scalars holds → Keeps (gives cleared x right holds)
+  gives_keeps cleared x right holds fits s =
+      let after = slice_set (without_values (moved_by_right right) holds) x (right_hold right holds) in
+      using_keeps (uses_in_right cleared right) holds (ends_with (evaluation_raises right) holds after)
+      (ends_keep (evaluation_raises right) holds after s
+      (set_keeps (without_values (moved_by_right right) holds) x (right_hold right holds)
+      (right_lost types variables (variable_kind variables x) right holds fits) (without_keeps (moved_by_right right) holds s)))
+
+  path_keeps : (cleared : Bool) (cs : List ℕ) (path : PathForm) (right : RightForm) (holds : Holds) → right_fits types variables (selectors_kind types (variable_kind variables path.root) cs) right ≡ true → Scalars holds → Keeps (gives_path cleared cs path right holds)
+  path_keeps cleared [] path right holds fits s = gives_keeps cleared path.root right holds fits s
+  path_keeps cleared (c ∷ cs) path right holds fits s =
+      using_keeps (uses_in_target path ++ uses_in_right cleared right) holds (ends_with true holds (without_values (moved_by_right right) holds))
+      (ends_keep true holds (without_values (moved_by_right right) holds) s (without_keeps (moved_by_right right) holds s))
+
+  released_keeps : (x : ℕ) (spot : Spot) (holds : Holds) (h : Hold) → (variable_access variables x ≡ None → ⊥) → Scalars holds → Keeps (released x spot holds h)
+  released_keeps x spot holds Null some s = (set_keeps holds x Null (λ n. absurd (some n)) s, tt)
+  released_keeps x spot holds (Own r) some s = (set_keeps holds x Null (λ n. absurd (some n)) s, tt)
+  released_keeps x spot holds (Alias r) some s = tt
+  released_keeps x spot holds Lost some s = tt
+
+  frees_keeps : (cs : List ℕ) (access : ℕ) (path : PathForm) (holds : Holds) → is_freed_by types access (access_of (selectors_kind types (variable_kind variables path.root) cs)) ≡ true → Scalars holds → Keeps (frees_path cs path holds)
+  frees_keeps [] access path holds fits s =
+      released_keeps path.root path.spot holds (hold_at holds path.root) (λ n. let freed : is_freed_by types access None ≡ true = rw n at fits in cc freed) s
+  frees_keeps (c ∷ cs) access path holds fits s = tt
+
+  gets_keeps : (cs : List ℕ) (path : PathForm) (holds : Holds) → Scalars holds → Keeps (gets_path cs path holds)
+  gets_keeps [] path holds s = (set_keeps holds path.root Lost (λ n. refl) s, s)
+  gets_keeps (c ∷ cs) path holds s = using_keeps (uses_in_target path) holds (ends_with true holds holds) (ends_keep true holds holds s s)
+
+  -- Loops and blocks.
+  opened_keeps : (y : ℕ) (holds : Holds) → Scalars holds → Scalars (opened y holds)
+  opened_keeps y holds s = set_keeps holds y (opened_hold (hold_at holds y)) (λ n. rw (s y n) refl) s
+
+  target_keeps : (cs : List ℕ) (y : ℕ) (holds : Holds) → Scalars holds → Scalars (opened_target cs y holds)
+  target_keeps [] y holds s = opened_keeps y holds s
+  target_keeps (c ∷ cs) y holds s = s
+
+  mutual
+    opens : (f : StmtForm) (holds : Holds) → Scalars holds → Scalars (opened_by f holds)
+    opens skips holds s = s
+    opens (assigns target right) holds s = target_keeps target.selectors target.root holds s
+    opens (frees access path) holds s = s
+    opens (gets target) holds s = s
+    opens (writes e) holds s = s
+    opens (writes_text text) holds s = s
+    opens (chooses branches) holds s = opens_branches branches holds s
+    opens (repeats condition fs end_spot) holds s = opens_all fs holds s
+    opens (counts x low high fs end_spot) holds s = opens_all fs holds s
+    opens (exits condition spot) holds s = s
+    opens (returns spot) holds s = s
+    opens (raises e) holds s = s
+    opens (encloses ds fs hs) holds s = opens_handlers hs (opened_by_all fs holds) (opens_all fs holds s)
+
+    opens_all : (fs : StmtsForm) (holds : Holds) → Scalars holds → Scalars (opened_by_all fs holds)
+    opens_all no_stmts holds s = s
+    opens_all (a_stmt f fs) holds s = opens_all fs (opened_by f holds) (opens f holds s)
+
+    opens_branches : (branches : BranchesForm) (holds : Holds) → Scalars holds → Scalars (opened_by_branches branches holds)
+    opens_branches (otherwise fs) holds s = opens_all fs holds s
+    opens_branches (a_branch e fs branches) holds s = opens_branches branches (opened_by_all fs holds) (opens_all fs holds s)
+
+    opens_handlers : (hs : HandlersForm) (holds : Holds) → Scalars holds → Scalars (opened_by_handlers hs holds)
+    opens_handlers no_handlers holds s = s
+    opens_handlers (a_handler choices fs hs) holds s = opens_handlers hs (opened_by_all fs holds) (opens_all fs holds s)
+
+  counting_keeps : (x : ℕ) (fs : StmtsForm) (holds : Holds) → Scalars holds → Scalars (counting_start x fs holds)
+  counting_keeps x fs holds s = set_keeps (opened_by_all fs holds) x Lost (λ n. refl) (opens_all fs holds s)
+
+  worse_keeps : (b : Bool) (spot : Spot) (more : Outcome) → Keeps more → Keeps (if b then more else faults spot LoopState)
+  worse_keeps true spot more k = k
+  worse_keeps false spot more k = tt
+
+  turn_keeps : (start : Holds) (spot : Spot) (o : Outcome) → Keeps o → Keeps (ends_turn start spot o)
+  turn_keeps start spot (faults other rule) k = tt
+  turn_keeps start spot (goes None raising) k = k
+  turn_keeps start spot (goes (Some holds) raising) k = worse_keeps (are_as_good holds start) spot (goes (Some holds) raising) k
+
+  some_keeps : (b : Bool) (holds : Holds) → Scalars holds → OnWay (if b then Some holds else None)
+  some_keeps true holds s = s
+  some_keeps false holds s = tt
+
+  behind_keeps : (b : Bool) (start : Holds) (o : Outcome) → Scalars start → Keeps o → Keeps (left_with b start o)
+  behind_keeps b start (faults spot rule) s k = tt
+  behind_keeps b start (goes normal raising) s k = (some_keeps b start s, k.1)
+
+  loop_keeps : (condition : Option ExpressionForm) (b : Bool) (spot : Spot) (turn : Option Holds → Holds → Outcome) (start : Holds) → Scalars start → ((holds : Holds) → Scalars holds → Keeps (turn (Some start) holds)) → Keeps (loop_flow condition b spot turn start)
+  loop_keeps condition b spot turn start s t =
+      behind_keeps b start _ s
+      (then_keeps (condition_flow condition start) (λ hs. ends_turn start spot (turn (Some start) hs)) (condition_keeps condition start s)
+      (λ holds k. turn_keeps start spot (turn (Some start) holds) (t holds k)))
+
+  exit_keeps : (start : Option Holds) (inside : List ℕ) (condition : Option ExpressionForm) (spot : Spot) (holds : Holds) → Scalars holds → Keeps (exit_flow variables start inside condition spot holds)
+  exit_keeps start inside condition spot holds s = go start (once condition)
+    where
+      once : (e : Option ExpressionForm) → Keeps (exit_of e holds)
+      once None = (tt, tt)
+      once (Some e) = computed_keeps e holds s
+
+      go : (start : Option Holds) → Keeps (exit_of condition holds) → Keeps (exit_flow variables start inside condition spot holds)
+      go None k = k
+      go (Some start) k = worse_keeps (are_as_good (left variables inside holds) start) spot (exit_of condition holds) k
+
+  left_keeps : (collections : List ℕ) (way : Option Holds) → OnWay way → OnWay (left_option variables collections way)
+  left_keeps collections None k = tt
+  left_keeps collections (Some holds) k = λ x none. left_lost variables collections holds x (k x none)
+
+  block_keeps : (collections : List ℕ) (o : Outcome) → Keeps o → Keeps (leaves_block variables collections o)
+  block_keeps collections (faults spot rule) k = tt
+  block_keeps collections (goes normal raising) k = (left_keeps collections normal k.0, left_keeps collections raising k.1)
+
+  handled_keeps : (b : Bool) (handlers : Holds → Outcome) (o : Outcome) → Keeps o → ((holds : Holds) → Scalars holds → Keeps (handlers holds)) → Keeps (handled b handlers o)
+  handled_keeps b handlers (faults spot rule) k h = tt
+  handled_keeps b handlers (goes normal None) k h = (k.0, tt)
+  handled_keeps b handlers (goes normal (Some raising)) k h = either_keeps (goes normal (raising_if b raising)) (handlers raising) (k.0, if_keeps b raising k.1) (h raising k.1)
+
+  declarations_keep : (ds : List DeclarationForm) (holds : Holds) → list_all (initial_fits types variables) ds ≡ true → Scalars holds → Keeps (declarations_flow variables ds holds)
+  declarations_keep [] holds fits s = (s, tt)
+  declarations_keep (d ∷ ds) holds fits s =
+      let parts = and_parts _ _ fits in
+      then_keeps (declaration_flow variables d holds) (declarations_flow variables ds) (one d parts.0) (λ hs k. declarations_keep ds hs parts.1 k)
+    where
+      one : (d : DeclarationForm) → initial_fits types variables d ≡ true → Keeps (declaration_flow variables d holds)
+      one (collects access) e = (s, tt)
+      one (declares x right) e = gives_keeps false x right holds (and_parts _ _ e).1 s
+
+  bounds_keep : (low high : ExpressionForm) (holds : Holds) → Scalars holds → Keeps (bounds_flow low high holds)
+  bounds_keep low high holds s = then_keeps (computed low holds) (computed high) (computed_keeps low holds s) (λ hs k. computed_keeps high hs k)
+
+  -- Statements.
+  mutual
+    stmt_keeps : (around : Around) (inside cleared : Bool) (f : StmtForm) (holds : Holds) → statement_fits types variables texts exceptions inside f ≡ true → Scalars holds → Keeps (stmt_flow variables around cleared f holds)
+    stmt_keeps around inside cleared skips holds fits s = (s, tt)
+    stmt_keeps around inside cleared (assigns target right) holds fits s = path_keeps cleared target.selectors target right holds fits s
+    stmt_keeps around inside cleared (frees access path) holds fits s = frees_keeps path.selectors access path holds (and_parts _ _ fits).1 s
+    stmt_keeps around inside cleared (gets target) holds fits s = gets_keeps target.selectors target holds s
+    stmt_keeps around inside cleared (writes e) holds fits s = computed_keeps e holds s
+    stmt_keeps around inside cleared (writes_text text) holds fits s = (s, tt)
+    stmt_keeps around inside cleared (chooses branches) holds fits s = branches_keep around inside branches holds fits s
+    stmt_keeps around inside cleared (repeats condition fs end_spot) holds fits s =
+        loop_keeps condition (is_left condition fs) end_spot (λ start hs. stmts_flow variables (in_loop start) fs hs) (opened_by_all fs holds) (opens_all fs holds s)
+        (λ hs k. stmts_keep (in_loop (Some (opened_by_all fs holds))) true fs hs (and_parts _ _ fits).1 k)
+    stmt_keeps around inside cleared (counts x low high fs end_spot) holds fits s =
+        then_keeps (bounds_flow low high holds) _ (bounds_keep low high holds s)
+        (λ hs k.
+        loop_keeps None true end_spot (λ start gs. stmts_flow variables (in_loop start) fs gs) (counting_start x fs hs) (counting_keeps x fs hs k)
+        (λ gs m. stmts_keep (in_loop (Some (counting_start x fs hs))) true fs gs (and_parts _ _ fits).1 m))
+    stmt_keeps around inside cleared (exits condition spot) holds fits s = exit_keeps around.start around.inside condition spot holds s
+    stmt_keeps around inside cleared (returns spot) holds fits s = (tt, tt)
+    stmt_keeps around inside cleared (raises e) holds fits s = (tt, s)
+    stmt_keeps around inside cleared (encloses ds fs hs) holds fits s =
+        let parts = and_parts _ _ fits in
+        let more = and_parts _ _ parts.0 in
+        block_keeps (collected ds) _
+        (then_keeps (declarations_flow variables ds holds) _ (declarations_keep ds holds (and_parts _ _ more.0).1 s)
+        (λ at k.
+        handled_keeps (passes fs hs) (handlers_flow variables (in_block (collected ds) around) hs) (stmts_flow variables (in_block (collected ds) around) fs at)
+        (stmts_keep (in_block (collected ds) around) inside fs at more.1 k)
+        (λ gs m. handlers_keep (in_block (collected ds) around) inside hs gs parts.1 m)))
+
+    stmts_keep : (around : Around) (inside : Bool) (fs : StmtsForm) (holds : Holds) → stmts_fit types variables texts exceptions inside fs ≡ true → Scalars holds → Keeps (stmts_flow variables around fs holds)
+    stmts_keep around inside no_stmts holds fits s = (s, tt)
+    stmts_keep around inside (a_stmt f fs) holds fits s =
+        let parts = and_parts _ _ fits in
+        then_keeps (stmt_flow variables around (begins_pair f fs) f holds) (stmts_flow variables around fs)
+        (stmt_keeps around inside (begins_pair f fs) f holds parts.0 s) (λ hs k. stmts_keep around inside fs hs parts.1 k)
+
+    branches_keep : (around : Around) (inside : Bool) (branches : BranchesForm) (holds : Holds) → branches_fit types variables texts exceptions inside branches ≡ true → Scalars holds → Keeps (branches_flow variables around branches holds)
+    branches_keep around inside (otherwise fs) holds fits s = stmts_keep around inside fs holds fits s
+    branches_keep around inside (a_branch e fs branches) holds fits s =
+        let parts = and_parts _ _ fits in
+        then_keeps (computed e holds) _ (computed_keeps e holds s)
+        (λ hs k.
+        either_keeps (stmts_flow variables around fs hs) (branches_flow variables around branches hs)
+        (stmts_keep around inside fs hs (and_parts _ _ parts.0).1 k) (branches_keep around inside branches hs parts.1 k))
+
+    handlers_keep : (around : Around) (inside : Bool) (hs : HandlersForm) (holds : Holds) → handlers_fit types variables texts exceptions inside hs ≡ true → Scalars holds → Keeps (handlers_flow variables around hs holds)
+    handlers_keep around inside no_handlers holds fits s = (tt, tt)
+    handlers_keep around inside (a_handler choices fs hs) holds fits s =
+        let parts = and_parts _ _ fits in
+        either_keeps (stmts_flow variables around fs holds) (handlers_flow variables around hs holds)
+        (stmts_keep around inside fs holds (and_parts _ _ parts.0).1 s) (handlers_keep around inside hs holds parts.1 s)
+
+  -- What holds behind a form that comes to its end.
+  normal_of : (o : Outcome) (mid : Holds) (raising : Option Holds) → o ≡ goes (Some mid) raising → Keeps o → Scalars mid
+  normal_of o mid raising e k = (rw e at k).0
+
+  raised_of : (o : Outcome) (normal : Option Holds) (mid : Holds) → o ≡ goes normal (Some mid) → Keeps o → Scalars mid
+  raised_of o normal mid e k = (rw e at k).1
+
+  -- Wherever flow comes to.
+  mutual
+    comes_keep : {around : Around} {outer place : Place} {fs : StmtsForm} {holds at : Holds} {way : List Turning} (inside : Bool) → stmts_fit types variables texts exceptions inside fs ≡ true → Scalars holds → Comes variables around outer fs holds way place at → Scalars at
+    comes_keep inside fits s here = s
+    comes_keep {around = around} inside fits s (behind {raising = raising} {f = f} {fs = fs} {holds = holds} mid is more) =
+        let parts = and_parts _ _ fits in
+        comes_keep inside parts.1 (normal_of _ mid raising is (stmt_keeps around inside (begins_pair f fs) f holds parts.0 s)) more
+    comes_keep inside fits s (in_branches more) = branches_comes inside (and_parts _ _ fits).0 s more
+    comes_keep inside fits s (in_body {raising = raising} {condition = condition} {body = body} {holds = holds} mid is more) =
+        let parts = and_parts _ _ (and_parts _ _ fits).0 in
+        comes_keep true parts.1 (normal_of _ mid raising is (condition_keeps condition (opened_by_all body holds) (opens_all body holds s))) more
+    comes_keep inside fits s (in_count {raising = raising} {x = x} {low = low} {high = high} {body = body} {holds = holds} mid is more) =
+        let parts = and_parts _ _ (and_parts _ _ fits).0 in
+        comes_keep true parts.1 (counting_keeps x body mid (normal_of _ mid raising is (bounds_keep low high holds s))) more
+    comes_keep inside fits s (in_enclosed more) =
+        let parts = and_parts _ _ (and_parts _ _ fits).0 in
+        let others = and_parts _ _ parts.0 in
+        inside_comes inside (and_parts _ _ others.0).1 others.1 parts.1 s more
+
+    branches_comes : {around : Around} {outer place : Place} {branches : BranchesForm} {holds at : Holds} {way : List Turning} (inside : Bool) → branches_fit types variables texts exceptions inside branches ≡ true → Scalars holds → ComesBy variables around outer branches holds way place at → Scalars at
+    branches_comes inside fits s (in_others more) = comes_keep inside fits s more
+    branches_comes inside fits s (in_this {raising = raising} {e = e} {holds = holds} mid is more) =
+        comes_keep inside (and_parts _ _ (and_parts _ _ fits).0).1 (normal_of _ mid raising is (computed_keeps e holds s)) more
+    branches_comes inside fits s (in_next {raising = raising} {e = e} {holds = holds} mid is more) =
+        branches_comes inside (and_parts _ _ fits).1 (normal_of _ mid raising is (computed_keeps e holds s)) more
+
+    handlers_comes : {around : Around} {outer place : Place} {hs : HandlersForm} {holds at : Holds} {way : List Turning} (inside : Bool) → handlers_fit types variables texts exceptions inside hs ≡ true → Scalars holds → ComesTo variables around outer hs holds way place at → Scalars at
+    handlers_comes inside fits s (to_this more) = comes_keep inside (and_parts _ _ (and_parts _ _ fits).0).1 s more
+    handlers_comes inside fits s (to_next more) = handlers_comes inside (and_parts _ _ fits).1 s more
+
+    inside_comes : {around : Around} {outer place : Place} {ds : List DeclarationForm} {fs : StmtsForm} {hs : HandlersForm} {holds at : Holds} {way : List Turning} (inside : Bool) → list_all (initial_fits types variables) ds ≡ true → stmts_fit types variables texts exceptions inside fs ≡ true → handlers_fit types variables texts exceptions inside hs ≡ true → Scalars holds → ComesInside variables around outer ds fs hs holds way place at → Scalars at
+    inside_comes inside initials statements handlers s (in_statements {raising = raising} {ds = ds} {holds = holds} mid is more) =
+        comes_keep inside statements (normal_of _ mid raising is (declarations_keep ds holds initials s)) more
+    inside_comes {around = around} inside initials statements handlers s (in_handlers {raising = raising} {normal = normal} {ds = ds} {body = body} {holds = holds} mid raised is at more) =
+        handlers_comes inside handlers
+        (raised_of _ normal raised at (stmts_keep around inside body mid statements (normal_of _ mid raising is (declarations_keep ds holds initials s)))) more
+
+-- In a well-formed program flow calls each Integer and Boolean lost.
+pub scalars_lost : (program : Program) (way : List Turning) (place : Place) (holds : Holds) → IsWellFormed (program_form program) → IsFlowAt program way place holds → (x : ℕ) → variable_access (variables_of program) x ≡ None → hold_at holds x ≡ Lost
+scalars_lost program way place holds w at =
+    inside_comes (program_form program).types (variables_of program) (program_form program).texts (program_form program).exceptions false
+    w.initials_fit w.statements_fit w.handlers_fit (λ x none. first_lost (length program.variables.items) x) at

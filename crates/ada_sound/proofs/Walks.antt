@@ -1,0 +1,160 @@
+-- Paths that are followed: one selector further, and to their end.
+
+use Rattle.std.proofs.Common.{◌≡◌, ℕ, Bool, true, false, List, [], ◌∷◌, refl, ap, ◌∙◌, inl, inr}
+use Rattle.std.specs.Prelude.{Option, Some, None}
+use Rattle.std.specs.List.{slice_get}
+use Rattle.ada_program.specs.declared.program.Exception.TheVariants.{ConstraintError}
+use Rattle.ada_program.specs.Form.{PathForm, RightForm, nothing}
+use Rattle.ada_meaning.specs.declared.state.Id.{Id}
+use Rattle.ada_meaning.specs.declared.state.Value.{Value}
+use Rattle.ada_meaning.specs.declared.state.Value.TheVariants.{Null, Names, Scalar}
+use Rattle.ada_meaning.specs.declared.state.Stage.{Stage}
+use Rattle.ada_meaning.specs.declared.state.Stage.TheVariants.{Building, Existing, Gone}
+use Rattle.ada_meaning.specs.declared.state.Mode.TheVariants.{Running, Raising}
+use Rattle.ada_meaning.specs.Frame.{Targets, Receives, Follows}
+use Rattle.ada_meaning.specs.Event.{Followed, Quiet}
+use Rattle.ada_meaning.specs.Heap.{finds}
+use Rattle.ada_meaning.specs.State.{Activation, Master}
+use Rattle.ada_meaning.specs.Step.{raised, reading, component_next, path_next, before_last}
+use Rattle.ada_meaning.specs.Named.{Object, State, object_at, existing, seen, look, named}
+use Rattle.ada_owners.specs.Walks.{then_found, value_found, behind, walk}
+use Rattle.ada_sound.proofs.Stored.{Stored, exists_out}
+use Rattle.ada_sound.proofs.Fits.{MayFollow, place_at, component_follows}
+use Rattle.ada_sound.proofs.Invariant.{Known, Control, MayRaise, Working, Clearing, FindsFor, WalksOn, HalfFollows, ReadyIn, Stepped, Fine, front, final}
+use Rattle.ada_sound.proofs.Ready.{running, at_work, stays, jumps_less}
+use Rattle.ada_sound.proofs.Back.{stored_before}
+
+-- The words of an object that is not gone are out.
+pub stage_out : {under : Option Id} {heap : List Object} {masters : List Master} (o : Id) (x : Object) → object_at heap o ≡ Some x → (x.stage ≡ Gone → ⊥) → Stored under heap masters → x.out ≡ true
+stage_out o x found there stored = go x.out refl
+  where
+    go : (b : Bool) → x.out ≡ b → x.out ≡ true
+    go true e = e
+    go false e = absurd (there ((stored.sane o x found).back_gone e))
+
+-- What is behind a value that names an object that exists is what its component holds.
+pub behind_is : (heap : List Object) (o : Id) (x : Object) (c : ℕ) (w : Value) → object_at heap o ≡ Some x → x.stage ≡ Existing → slice_get x.cell.values c ≡ Some w → behind heap (Names o) c ≡ finds w
+behind_is heap o x c w found exists at = rw (found, exists, at) refl
+
+-- A walk goes one selector on.
+pub walk_behind : (heap : List Object) (v : Value) (c : ℕ) (cs : List ℕ) (w : Value) → behind heap v c ≡ finds w → walk heap v (c ∷ cs) ≡ walk heap w cs
+walk_behind heap v c cs w is = ap (λ f. then_found f (λ u. walk heap u cs)) is
+
+-- So does the walk of a path that is moved, as long as two selectors are left; it begins at the path's variable, and ends where one is left.
+pub walks_first : (heap : List Object) (places : List Value) (path : PathForm) → WalksOn heap places path (place_at places path.root) path.selectors
+walks_first heap places path = (refl, refl)
+
+pub walks_next : (heap : List Object) (places : List Value) (path : PathForm) (v : Value) (c d : ℕ) (cs : List ℕ) (w : Value) → behind heap v c ≡ finds w → WalksOn heap places path v (c ∷ d ∷ cs) → WalksOn heap places path w (d ∷ cs)
+walks_next heap places path v c d cs w is on = (on.0 ∙ walk_behind heap v c (before_last d cs) w is, on.1)
+
+pub walks_last : (heap : List Object) (places : List Value) (path : PathForm) (v : Value) (c : ℕ) → WalksOn heap places path v (c ∷ []) → (walk heap (place_at places path.root) (front path.selectors) ≡ finds v) × (final path.selectors ≡ Some c)
+walks_last heap places path v c on = on
+
+-- What a walk that finds something has gone through: an object that is not gone, and one of its components.
+pub record Passes (heap : List Object) (v : Value) (c : ℕ) (cs : List ℕ) (found : Value) : Type 0 where
+  pub o : Id
+  pub object : Object
+  pub w : Value
+  pub names : v ≡ Names o
+  pub at : object_at heap o ≡ Some object
+  pub there : object.stage ≡ Gone → ⊥
+  pub looks : look heap (Names o) ≡ finds object.cell
+  pub holds : slice_get object.cell.values c ≡ Some w
+  pub goes_on : walk heap w cs ≡ finds found
+
+module _ (heap : List Object) (c : ℕ) (cs : List ℕ) (u : Value) where
+  passes_value : (o : Id) (x : Object) (t : Option Value) → object_at heap o ≡ Some x → (x.stage ≡ Gone → ⊥) → look heap (Names o) ≡ finds x.cell → slice_get x.cell.values c ≡ t → then_found (value_found t) (λ w. walk heap w cs) ≡ finds u → Passes heap (Names o) c cs u
+  passes_value o x None at there looks is e = absurd (cc e)
+  passes_value o x (Some w) at there looks is e = record { o = o; object = x; w = w; names = refl; at = at; there = there; looks = looks; holds = is; goes_on = e }
+
+  passes_object : (o : Id) (x : Object) (stage : Stage) → object_at heap o ≡ Some x → x.stage ≡ stage → then_found (then_found (existing x stage) (λ cell. value_found (slice_get cell.values c))) (λ w. walk heap w cs) ≡ finds u → Passes heap (Names o) c cs u
+  passes_object o x Building at is e = passes_value o x (slice_get x.cell.values c) at (λ g. cc (is, g)) (rw (at, is) refl) refl e
+  passes_object o x Existing at is e = passes_value o x (slice_get x.cell.values c) at (λ g. cc (is, g)) (rw (at, is) refl) refl e
+  passes_object o x Gone at is e = absurd (cc e)
+
+  passes_name : (o : Id) (t : Option Object) → object_at heap o ≡ t → then_found (then_found (seen t) (λ cell. value_found (slice_get cell.values c))) (λ w. walk heap w cs) ≡ finds u → Passes heap (Names o) c cs u
+  passes_name o None at e = absurd (cc e)
+  passes_name o (Some x) at e = passes_object o x x.stage at refl e
+
+  pub passes : (v : Value) → walk heap v (c ∷ cs) ≡ finds u → Passes heap v c cs u
+  passes Null e = absurd (cc e)
+  passes (Names o) e = passes_name o (object_at heap o) refl e
+  passes (Scalar n) e = absurd (cc e)
+
+-- What is left to do where a value is found: the selectors behind it are followed first.
+abbrev pub behind_these : List ℕ → Control → Control
+behind_these [] k = k
+behind_these (c ∷ cs) k = Follows (c ∷ cs) ∷ k
+
+module _ (known : Known) (k : Control) (a : Activation Value) (rest : List (Activation Value)) (s : State) (below : List Value) where
+  -- An object's component is read: it is there, or is followed on.
+  followed_fine : (o : Id) (object : Object) (cs : List ℕ) (w : Value) → object_at s.heap o ≡ Some object → object.out ≡ true → ReadyIn known Running (behind_these cs k) s.heap a.places (w ∷ below) s.masters → Stepped known s.heap (Followed (Names o)) (reading named cs w (running k (record a { operands = below }) rest s))
+  followed_fine o object [] w found out r =
+      stays known (Followed (Names o)) (running k (record a { operands = w ∷ below }) rest s) (tt, r)
+      (record { id = o; object = object; is = refl; found = found; out = out })
+  followed_fine o object (c ∷ cs) w found out r =
+      stays known (Followed (Names o)) (running (Follows (c ∷ cs) ∷ k) (record a { operands = w ∷ below }) rest s) (tt, r)
+      (record { id = o; object = object; is = refl; found = found; out = out })
+
+  got_fine : (o : Id) (object : Object) (cs : List ℕ) (t : Option Value) → object_at s.heap o ≡ Some object → object.out ≡ true → ((w : Value) → t ≡ Some w → ReadyIn known Running (behind_these cs k) s.heap a.places (w ∷ below) s.masters) → Fine known s.heap s.masters (component_next named (Names o) cs t (running k (record a { operands = below }) rest s))
+  got_fine o object cs None found out r = tt
+  got_fine o object cs (Some w) found out r = followed_fine o object cs w found out (r w refl)
+
+  -- A value that may be followed is followed by one selector: null raises Constraint_Error.
+  pub follow_fine : {under : Option Id} (c : ℕ) (cs : List ℕ) (v : Value) → Stored under s.heap s.masters → MayFollow s.heap v → (v ≡ Null → Stepped known s.heap Quiet (raised ConstraintError (running k (record a { operands = below }) rest s))) → ((o : Id) (object : Object) (w : Value) → v ≡ Names o → object_at s.heap o ≡ Some object → object.listed ≡ true → slice_get object.cell.values c ≡ Some w → ReadyIn known Running (behind_these cs k) s.heap a.places (w ∷ below) s.masters) → Fine known s.heap s.masters (path_next named (c ∷ cs) v (running k (record a { operands = below }) rest s))
+  follow_fine c cs Null stored follows fails r = fails refl
+  follow_fine c cs (Names o) stored (object, found, listed) fails r =
+      let exists = (stored.sane o object found).listed_exists listed in
+      rw (found, exists)
+      (got_fine o object cs (slice_get object.cell.values c) found (exists_out o object found exists stored) (λ w is. r o object w refl found listed is))
+  follow_fine c cs (Scalar n) stored follows fails r = tt
+
+  -- One selector of a walk that finds something.
+  pub passes_fine : {under : Option Id} (c : ℕ) (cs : List ℕ) (v u : Value) → Stored under s.heap s.masters → walk s.heap v (c ∷ cs) ≡ finds u → ((w : Value) → walk s.heap w cs ≡ finds u → ReadyIn known Running (behind_these cs k) s.heap a.places (w ∷ below) s.masters) → Fine known s.heap s.masters (path_next named (c ∷ cs) v (running k (record a { operands = below }) rest s))
+  passes_fine c cs v u stored is r =
+      let p = passes s.heap c cs u v is in
+      rw (p.names, p.looks, p.holds)
+      (followed_fine p.o p.object cs p.w p.at (stage_out p.o p.object p.at p.there stored) (r p.w p.goes_on))
+
+-- A target's object is found: it is there, or null.
+finds_ready : (known : Known) (k : Control) (heap : List Object) (places : List Value) (v : Value) (below : List Value) (ms : List Master) (w : Working known heap places ms (FindsFor known heap k)) → MayFollow heap v → MayRaise known true ConstraintError k w.rooms w.holds → ReadyIn known Running k heap places (v ∷ below) ms
+finds_ready known [] heap places v below ms w follows raise = absurd (w.rest)
+finds_ready known (Targets c right ∷ k) heap places v below ms w follows raise = inl (at_work w (follows, raise, w.rest))
+finds_ready known (Receives c ∷ k) heap places v below ms w follows raise = at_work w (follows, raise, w.rest.0, w.rest.1)
+finds_ready known (f ∷ k) heap places v below ms w follows raise = absurd (w.rest)
+
+module _ (known : Known) (a : Activation Value) (rest : List (Activation Value)) (s : State) (below : List Value) where
+  -- A target's path is followed.
+  pub finds_fine : (k : Control) (cs : List ℕ) (v : Value) (w : Working known s.heap a.places s.masters (FindsFor known s.heap k)) → MayFollow s.heap v → MayRaise known true ConstraintError k w.rooms w.holds → Fine known s.heap s.masters (path_next named cs v (running k (record a { operands = below }) rest s))
+  finds_fine k [] v w follows raise =
+      stays known Quiet (running k (record a { operands = v ∷ below }) rest s) (tt, finds_ready known k s.heap a.places v below s.masters w follows raise) tt
+  finds_fine k (c ∷ cs) v w follows raise =
+      follow_fine known k a rest s below c cs v w.stored follows
+      (λ is. jumps_less known k (record a { operands = below }) rest s (Raising ConstraintError) (at_work w (raise refl)))
+      (λ o object u is found listed at. next cs u (component_follows o object c u refl found listed at w.fit))
+    where
+      next : (cs : List ℕ) (u : Value) → MayFollow s.heap u → ReadyIn known Running (behind_these cs k) s.heap a.places (u ∷ below) s.masters
+      next [] u there = finds_ready known k s.heap a.places u below s.masters w there raise
+      next (d ∷ ds) u there = inl (at_work w (there, raise, inr (inl w.rest)))
+
+  -- Objects are stored before a component is cleared, too.
+  clearing_stored : (o : Id) (c : ℕ) (k : Control) → Clearing known (Names o) c k s.heap a.places s.masters → Stored None s.heap s.masters
+  clearing_stored o c k clears = stored_before s.heap s.masters (Names o) c Null clears.1.stored
+
+  -- What the path of the second half of a take pair leads to is the object of the component; on the way it is followed on.
+  half_found : (o : Id) (c : ℕ) (right : RightForm) (k : Control) (v : Value) → right ≡ nothing → Clearing known (Names o) c k s.heap a.places s.masters → walk s.heap v [] ≡ finds (Names o) → ReadyIn known Running (Targets c right ∷ k) s.heap a.places (v ∷ below) s.masters
+  half_found o c right k v is clears found = let same : v ≡ Names o = cc found in inr (is, rw same clears)
+
+  half_next : (o : Id) (c : ℕ) (right : RightForm) (k : Control) (cs : List ℕ) (v : Value) → right ≡ nothing → Clearing known (Names o) c k s.heap a.places s.masters → walk s.heap v cs ≡ finds (Names o) → ReadyIn known Running (behind_these cs (Targets c right ∷ k)) s.heap a.places (v ∷ below) s.masters
+  half_next o c right k [] v is clears found = half_found o c right k v is clears found
+  half_next o c right k (d ∷ ds) v is clears found = inr (is, o, found, clears)
+
+  -- That path is followed: its object is there.
+  pub half_fine : (k : Control) (cs : List ℕ) (v : Value) → HalfFollows known v cs k s.heap a.places s.masters → Fine known s.heap s.masters (path_next named cs v (running k (record a { operands = below }) rest s))
+  half_fine [] cs v h = absurd h
+  half_fine (Targets c right ∷ k) [] v (is, o, found, clears) =
+      stays known Quiet (running (Targets c right ∷ k) (record a { operands = v ∷ below }) rest s) (tt, half_found o c right k v is clears found) tt
+  half_fine (Targets c right ∷ k) (d ∷ ds) v (is, o, found, clears) =
+      passes_fine known (Targets c right ∷ k) a rest s below d ds v (Names o) (clearing_stored o c k clears) found
+      (λ w on. half_next o c right k ds w is clears on)
+  half_fine (f ∷ k) cs v h = absurd h

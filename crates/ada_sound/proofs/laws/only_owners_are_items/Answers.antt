@@ -1,0 +1,15 @@
+-- By what each item moves, behind the items before it.
+use Rattle.ada_sound.proofs.Moves as moves
+use Rattle.ada_sound.proofs.laws.only_owners_are_items.Goals as goal
+
+pub returns-clause-owner : goal.returns-clause-owner
+returns-clause-owner c = moves.only_owners_are_items
+
+pub returns-clause-once : goal.returns-clause-once
+returns-clause-once c = moves.items_move_apart
+
+pub returns-clause-nothing_after : goal.returns-clause-nothing_after
+returns-clause-nothing_after c = moves.items_own_nothing
+
+pub returns-clause-unchanged_where_raised : goal.returns-clause-unchanged_where_raised
+returns-clause-unchanged_where_raised c = moves.items_stay_where_raised
