@@ -125,6 +125,22 @@ creations program = fits.creations (program_form program)
 abbrev pub has_collections : List Creation → List TypeDefinition → Bool
 has_collections cs types = fits.has_collections cs 0 (types_in types)
 
+-- Whether the variable of a number is a borrower (3.10).
+abbrev pub is_borrower : List Variable → ℕ → Bool
+is_borrower variables x = fits.is_borrower (variables_in variables) x
+
+-- Whether a path names a borrower.
+abbrev pub names_borrower : List Variable → Path → Bool
+names_borrower variables path = fits.names_borrower (variables_in variables) (path_form path)
+
+-- Whether an item is no borrower (4.8).
+abbrev pub item_owns : List Variable → Item → Bool
+item_owns variables i = fits.item_owns (variables_in variables) (item_form i)
+
+-- Whether what is assigned suits what it goes to, a borrower or not.
+abbrev pub lends_to : List Variable → (borrows : Bool) → Right → Bool
+lends_to variables borrows right = fits.lends_to (variables_in variables) borrows (right_form right)
+
 -- Whether an initial value names earlier variables, and has the variable's type (3.3.1).
 abbrev pub initial_fits : List TypeDefinition → List Variable → Declaration → Bool
 initial_fits types variables d =

@@ -1,6 +1,6 @@
 -- A whole program as plain data: its types, its variables, and what it does, whatever the program keeps them in.
 
-use Rattle.std.specs.Prelude.{ℕ, List, map}
+use Rattle.std.specs.Prelude.{ℕ, Bool, List, map}
 use Rattle.std.specs.String.{string_bytes}
 use Rattle.ada_program.specs.declared.program.Component.{Component}
 use Rattle.ada_program.specs.declared.program.ComponentKind.{ComponentKind}
@@ -21,10 +21,11 @@ pub data TypeForm : Type 0 where
   record_of : List ℕ → List ComponentForm → TypeForm
   access_to : List ℕ → ℕ → TypeForm
 
--- A variable: its name, and what it holds (3.3.1).
+-- A variable: its name, what it holds (3.3.1), and whether it is a borrower: one of an anonymous access type (3.10).
 pub record VariableForm : Type 0 where
   pub name : List ℕ
   pub kind : VariableKind
+  pub borrows : Bool
 
 -- A program: types, variables, texts and exceptions by their numbers, its declarations (3.11), its statements and their handlers (11.2).
 pub record ProgramForm : Type 0 where
@@ -47,7 +48,7 @@ type_form (definition.Access name designated) = access_to (string_bytes name) de
 
 -- A variable, as the program keeps it.
 abbrev pub variable_form : Variable → VariableForm
-variable_form o = record { name = string_bytes o.name; kind = o.kind }
+variable_form o = record { name = string_bytes o.name; kind = o.kind; borrows = o.borrows }
 
 -- A program, whatever it keeps its parts in.
 abbrev pub program_form : Program → ProgramForm

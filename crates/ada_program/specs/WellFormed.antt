@@ -1,6 +1,6 @@
 -- What a well-formed program is: each number is that of something there, and each form has the types that it wants.
 
-use Rattle.std.specs.Prelude.{◌≡◌, ℕ, ◌+◌, Bool, true, false, ◌&&◌, ◌||◌, ◌==◌, nat_lt, if◌then◌else◌, List, [], ◌∷◌, ◌++◌, length, map, count_by, Option, Some, None, is_some}
+use Rattle.std.specs.Prelude.{◌≡◌, ℕ, ◌+◌, Bool, true, false, ◌&&◌, ◌||◌, not, ◌==◌, nat_lt, if◌then◌else◌, List, [], ◌∷◌, ◌++◌, length, map, count_by, Option, Some, None, is_some}
 use Rattle.std.specs.List.{list_all, slice_get}
 use Rattle.ada_values.specs.declared.operator.UnaryOperator.{UnaryOperator}
 use Rattle.ada_values.specs.declared.operator.UnaryOperator.TheVariants as unary
@@ -77,9 +77,15 @@ variable_kind_fits types variable.Integer = true
 variable_kind_fits types variable.Boolean = true
 variable_kind_fits types (variable.Access access) = is_access types access.0
 
--- A variable's kind fits (3.3.1).
+-- A variable holds access values (3.10).
+abbrev pub is_access_kind : VariableKind → Bool
+is_access_kind variable.Integer = false
+is_access_kind variable.Boolean = false
+is_access_kind (variable.Access access) = true
+
+-- A variable's kind fits (3.3.1), and what borrows holds access values.
 abbrev pub variable_fits : List TypeForm → VariableForm → Bool
-variable_fits types x = variable_kind_fits types x.kind
+variable_fits types x = variable_kind_fits types x.kind && (not x.borrows || is_access_kind x.kind)
 
 -- What is created where a program runs (3.11, 7.6.1): the collection of an access type, or a variable; a loop parameter is one (5.5).
 pub data Creation : Type 0 where
@@ -168,6 +174,15 @@ kind_in (Some x) = Some x.kind
 -- What the variable of a number holds (3.3.1).
 abbrev pub variable_kind : List VariableForm → ℕ → Option VariableKind
 variable_kind variables x = kind_in (slice_get variables x)
+
+-- A variable is a borrower, if there is one.
+abbrev pub borrows_in : Option VariableForm → Bool
+borrows_in None = false
+borrows_in (Some x) = x.borrows
+
+-- The variable of a number is a borrower: one of an anonymous access type (3.10), which owns nothing.
+abbrev pub is_borrower : List VariableForm → ℕ → Bool
+is_borrower variables x = borrows_in (slice_get variables x)
 
 -- The access type of a value (3.10): none, if it is an Integer or a Boolean.
 abbrev pub access_of : Option VariableKind → Option ℕ
@@ -357,6 +372,24 @@ abbrev pub right_fits : List TypeForm → List VariableForm → Option VariableK
 right_fits types variables None right = false
 right_fits types variables (Some kind) right = kind_takes types variables kind right
 
+-- A path names a borrower: it is one, and no component.
+abbrev pub names_borrower : List VariableForm → PathForm → Bool
+names_borrower variables path = names_variable path && is_borrower variables path.root
+
+-- An item is no borrower: a component owns what it names (4.8).
+abbrev pub item_owns : List VariableForm → ItemForm → Bool
+item_owns variables null_item = true
+item_owns variables (item_of_path path) = not (names_borrower variables path)
+item_owns variables (item_of_value e) = true
+
+-- What is assigned suits what it goes to, a borrower or not (3.10.2, 4.6): what a borrower holds goes to borrowers only, and a new object goes to
+-- what owns it.
+abbrev pub lends_to : List VariableForm → (borrows : Bool) → RightForm → Bool
+lends_to variables borrows nothing = true
+lends_to variables borrows (value_of path) = borrows || not (names_borrower variables path)
+lends_to variables borrows (allocates access items) = not borrows && list_all (item_owns variables) items
+lends_to variables borrows (computes e) = true
+
 abbrev mutual
   -- An expression names only variables that are declared before one (8.3).
   pub expression_before : ℕ → ExpressionForm → Bool
@@ -385,10 +418,11 @@ names_before x (value_of path) = nat_lt path.root x
 names_before x (allocates t items) = list_all (item_before x) items
 names_before x (computes e) = expression_before x e
 
--- An initial value is one that could be assigned (3.3.1).
+-- An initial value names what is declared before, and is one that could be assigned (3.3.1).
 abbrev pub initial_fits : List TypeForm → List VariableForm → DeclarationForm → Bool
 initial_fits types variables (collects access) = true
-initial_fits types variables (declares x right) = names_before x right && right_fits types variables (variable_kind variables x) right
+initial_fits types variables (declares x right) =
+    names_before x right && right_fits types variables (variable_kind variables x) right && lends_to variables (is_borrower variables x) right
 
 -- Two access types designate one record type (13.11.2): the types that they designate, if any, are the same.
 abbrev pub same_record : Option ℕ → Option ℕ → Bool
@@ -439,9 +473,9 @@ abbrev mutual
   pub statement_fits : List TypeForm → List VariableForm → (texts exceptions : List (List ℕ)) → (inside_loop : Bool) → StmtForm → Bool
   statement_fits types variables texts exceptions inside_loop skips = true
   statement_fits types variables texts exceptions inside_loop (assigns target right) =
-      right_fits types variables (path_kind types variables target) right
+      right_fits types variables (path_kind types variables target) right && lends_to variables (names_borrower variables target) right
   statement_fits types variables texts exceptions inside_loop (frees access path) =
-      names_variable path && is_freed_by types access (path_access types variables path)
+      names_variable path && is_freed_by types access (path_access types variables path) && not (names_borrower variables path)
   statement_fits types variables texts exceptions inside_loop (gets target) = is_integer_target types variables target
   statement_fits types variables texts exceptions inside_loop (writes e) = has_type types variables Integer e
   statement_fits types variables texts exceptions inside_loop (writes_text text) = nat_lt text (length texts)
@@ -482,7 +516,7 @@ abbrev mutual
 pub record IsWellFormed (p : ProgramForm) : Type 0 where
   -- components and designated types are types of the program of the right kind (3.8, 3.10)
   pub types_fit : list_all (type_fits p.types) p.types ≡ true
-  -- variables are Integers or Booleans, or of access types (3.3.1)
+  -- variables are Integers or Booleans, or of access types (3.3.1), and only the last are borrowers
   pub variables_fit : list_all (variable_fits p.types) p.variables ≡ true
   -- each variable is created once, in the order of the text (3.11)
   pub creates_in_order : creates_from (length p.variables) 0 (creations p) ≡ true

@@ -5,7 +5,9 @@
 //! well-formed program is.
 #![tactic(auto)]
 
+pub mod borrowers;
 mod creations;
+mod kinds;
 mod lookup;
 pub mod program;
 mod targets;

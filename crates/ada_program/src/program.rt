@@ -75,6 +75,9 @@ pub enum ComponentKind {
 pub struct Variable {
     pub name: String,
     pub kind: VariableKind,
+    /// Whether it is a borrower: declared with `access T` (3.10), it holds null or names an object that another owns.
+    /// Its kind is that of the access type whose values it borrows.
+    pub borrows: bool,
 }
 
 /// What a variable holds (3.3.1).

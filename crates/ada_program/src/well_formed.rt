@@ -3,19 +3,20 @@
 ghost use Rattle.std.specs.Prelude.{◌≡◌, ◌&&◌, true, map};
 ghost use Rattle.std.specs.List.{list_all};
 ghost use Rattle.ada_program.specs.Form.{StmtsForm, declaration_form, stmts_form};
-ghost use Rattle.ada_program.specs.ProgramForm.{component_form, type_form, variable_form, program_form};
+ghost use Rattle.ada_program.specs.ProgramForm.{program_form};
 ghost use Rattle.ada_program.specs.Kept as kept;
-ghost use Rattle.ada_program.specs.Kept.{types_in, texts_in};
+ghost use Rattle.ada_program.specs.Kept.{texts_in};
 ghost use Rattle.ada_program.specs.WellFormed as fits;
 
+use crate::borrowers::{is_borrower, lends_to, names_borrower};
 use crate::creations::{creates_in_order, has_collections};
+use crate::kinds::{types_fit, variables_fit};
 use crate::lookup::{
-    access_of, is_access, is_record, names_variable, path_access, path_kind, scalar_of,
-    variable_kind,
+    access_of, is_access, names_variable, path_access, path_kind, scalar_of, variable_kind,
 };
 use crate::program::{
-    Branch, Choice, Component, ComponentKind, Declaration, Exception, Expression, Handler, Program,
-    ScalarType, Stmt, TypeDefinition, Variable, VariableKind,
+    Branch, Choice, Declaration, Exception, Expression, Handler, Program, ScalarType, Stmt,
+    TypeDefinition, Variable,
 };
 use crate::targets::{is_freed_by, is_integer_target};
 use crate::typing::{has_type, is_type};
@@ -39,70 +40,6 @@ impl Program {
             && declarations_fit(types, variables, &self.declarations)
             && statements_fit(types, variables, texts, exceptions, false, &self.statements)
             && handlers_fit(types, variables, texts, exceptions, false, &self.handlers)
-    }
-}
-
-/// Whether each component and each designated type is of the right kind (3.8, 3.10).
-fn types_fit(types: &[TypeDefinition]) -> bool
-    ensures { result ≡ list_all (λ d. fits.type_fits (types_in types.now) (type_form d)) types.now }
-{
-    types.iter().all(|definition| type_fits(types, definition))
-}
-
-/// Whether a type is made of types of the right kind.
-#[tactic(auto, using(std::proofs::lemmas::Grind::common_steps, crate::proofs::Viewed::views))]
-fn type_fits(types: &[TypeDefinition], definition: &TypeDefinition) -> bool
-    ensures { result ≡ fits.type_fits (types_in types.now) (type_form definition.now) }
-{
-    match definition {
-        TypeDefinition::Record {
-            name: _,
-            components,
-        } => components_fit(types, components),
-        TypeDefinition::Access {
-            name: _,
-            designated,
-        } => is_record(types, designated.0),
-    }
-}
-
-/// Whether each component fits.
-fn components_fit(types: &[TypeDefinition], components: &[Component]) -> bool
-    ensures { result ≡ list_all (λ c. fits.component_fits (types_in types.now) (component_form c))
-        components.now }
-{
-    components
-        .iter()
-        .all(|component| kind_fits(types, component.kind))
-}
-
-/// Whether a component is an Integer or a Boolean, or of an access type (3.8).
-fn kind_fits(types: &[TypeDefinition], kind: ComponentKind) -> bool
-    ensures { result ≡ fits.kind_fits (types_in types.now) kind }
-{
-    match kind {
-        ComponentKind::Integer { initial: _ } | ComponentKind::Boolean { initial: _ } => true,
-        ComponentKind::Access(access) => is_access(types, access.0),
-    }
-}
-
-/// Whether each variable fits.
-fn variables_fit(types: &[TypeDefinition], variables: &[Variable]) -> bool
-    ensures { result
-        ≡ list_all (λ x. fits.variable_fits (types_in types.now) (variable_form x)) variables.now }
-{
-    variables
-        .iter()
-        .all(|variable| variable_kind_fits(types, variable.kind))
-}
-
-/// Whether a variable is an Integer or a Boolean, or of an access type (3.3.1).
-fn variable_kind_fits(types: &[TypeDefinition], kind: VariableKind) -> bool
-    ensures { result ≡ fits.variable_kind_fits (types_in types.now) kind }
-{
-    match kind {
-        VariableKind::Integer | VariableKind::Boolean => true,
-        VariableKind::Access(access) => is_access(types, access.0),
     }
 }
 
@@ -189,7 +126,8 @@ fn initial_fits(types: &[TypeDefinition], variables: &[Variable], declaration: &
                 variables,
                 variable_kind(variables, variable.0),
                 value,
-            ),
+            )
+            && lends_to(variables, is_borrower(variables, variable.0), value),
     }
 }
 
@@ -235,9 +173,10 @@ fn statement_fits(
             variables,
             path_kind(types, variables, target),
             value,
-        ),
+        ) && lends_to(variables, names_borrower(variables, target), value),
         Stmt::Free { access, variable } => names_variable(variable)
-            && is_freed_by(types, access.0, path_access(types, variables, variable)),
+            && is_freed_by(types, access.0, path_access(types, variables, variable))
+            && !names_borrower(variables, variable),
         Stmt::Get(target) => is_integer_target(types, variables, target),
         Stmt::PutImage(expression) => has_type(types, variables, ScalarType::Integer, expression),
         Stmt::PutText(text) => text.0 < texts.len(),

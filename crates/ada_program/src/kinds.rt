@@ -1,0 +1,91 @@
+//! Whether the types and the variables of a program are of the right kinds.
+
+ghost use Rattle.std.specs.Prelude.{◌≡◌};
+ghost use Rattle.std.specs.List.{list_all};
+ghost use Rattle.ada_program.specs.ProgramForm.{component_form, type_form, variable_form};
+ghost use Rattle.ada_program.specs.Kept.{types_in};
+ghost use Rattle.ada_program.specs.WellFormed as fits;
+
+use crate::lookup::{is_access, is_record};
+use crate::program::{Component, ComponentKind, TypeDefinition, Variable, VariableKind};
+
+/// Whether each component and each designated type is of the right kind (3.8, 3.10).
+pub(crate) fn types_fit(types: &[TypeDefinition]) -> bool
+    ensures { result ≡ list_all (λ d. fits.type_fits (types_in types.now) (type_form d)) types.now }
+{
+    types.iter().all(|definition| type_fits(types, definition))
+}
+
+/// Whether a type is made of types of the right kind.
+#[tactic(auto, using(std::proofs::lemmas::Grind::common_steps, crate::proofs::Viewed::views))]
+fn type_fits(types: &[TypeDefinition], definition: &TypeDefinition) -> bool
+    ensures { result ≡ fits.type_fits (types_in types.now) (type_form definition.now) }
+{
+    match definition {
+        TypeDefinition::Record {
+            name: _,
+            components,
+        } => components_fit(types, components),
+        TypeDefinition::Access {
+            name: _,
+            designated,
+        } => is_record(types, designated.0),
+    }
+}
+
+/// Whether each component fits.
+fn components_fit(types: &[TypeDefinition], components: &[Component]) -> bool
+    ensures { result ≡ list_all (λ c. fits.component_fits (types_in types.now) (component_form c))
+        components.now }
+{
+    components
+        .iter()
+        .all(|component| kind_fits(types, component.kind))
+}
+
+/// Whether a component is an Integer or a Boolean, or of an access type (3.8).
+fn kind_fits(types: &[TypeDefinition], kind: ComponentKind) -> bool
+    ensures { result ≡ fits.kind_fits (types_in types.now) kind }
+{
+    match kind {
+        ComponentKind::Integer { initial: _ } | ComponentKind::Boolean { initial: _ } => true,
+        ComponentKind::Access(access) => is_access(types, access.0),
+    }
+}
+
+/// Whether each variable fits.
+pub(crate) fn variables_fit(types: &[TypeDefinition], variables: &[Variable]) -> bool
+    ensures { result
+        ≡ list_all (λ x. fits.variable_fits (types_in types.now) (variable_form x)) variables.now }
+{
+    variables
+        .iter()
+        .all(|variable| variable_fits(types, variable))
+}
+
+/// Whether a variable's kind fits, and only what holds access values borrows.
+fn variable_fits(types: &[TypeDefinition], variable: &Variable) -> bool
+    ensures { result ≡ fits.variable_fits (types_in types.now) (variable_form variable.now) }
+{
+    variable_kind_fits(types, variable.kind) && (!variable.borrows || is_access_kind(variable.kind))
+}
+
+/// Whether a variable holds access values (3.10).
+fn is_access_kind(kind: VariableKind) -> bool
+    ensures { result ≡ fits.is_access_kind kind }
+{
+    match kind {
+        VariableKind::Integer | VariableKind::Boolean => false,
+        VariableKind::Access(_) => true,
+    }
+}
+
+/// Whether a variable is an Integer or a Boolean, or of an access type (3.3.1).
+fn variable_kind_fits(types: &[TypeDefinition], kind: VariableKind) -> bool
+    ensures { result ≡ fits.variable_kind_fits (types_in types.now) kind }
+{
+    match kind {
+        VariableKind::Integer | VariableKind::Boolean => true,
+        VariableKind::Access(access) => is_access(types, access.0),
+    }
+}
