@@ -8,5 +8,7 @@ pub mod Joined
 pub mod Noted
 -- the access types of variables, and blocks that are left
 pub mod Behind
--- what is written behind a slice
-pub mod Written
+-- whether a variable may hold an alias
+pub mod Aliased
+-- what is left behind a Free
+pub mod Freed

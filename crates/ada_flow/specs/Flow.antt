@@ -7,7 +7,7 @@ use Rattle.ada_text.specs.declared.spot.Spot.{Spot}
 use Rattle.ada_program.specs.declared.program.Program.{Program}
 use Rattle.ada_program.specs.Form.{PathForm, ExpressionForm, integer, boolean, reads, is_null, applied_to, chained, LinksForm, no_more_links, a_link, ItemForm, null_item, item_of_path, item_of_value, RightForm, nothing, value_of, allocates, computes, StmtForm, skips, assigns, frees, gets, writes, writes_text, chooses, repeats, counts, exits, returns, raises, encloses, StmtsForm, no_stmts, a_stmt, BranchesForm, otherwise, a_branch, HandlersForm, no_handlers, a_handler, DeclarationForm, collects, declares, declaration_forms, stmt_forms, handler_forms}
 use Rattle.ada_program.specs.ProgramForm.{VariableForm, variable_form}
-use Rattle.ada_program.specs.WellFormed.{access_of, variable_kind, is_this}
+use Rattle.ada_program.specs.WellFormed.{access_of, variable_kind, is_this, is_borrower}
 use Rattle.ada_effects.specs.Effects.{expression_raises, path_raises, passes}
 use Rattle.ada_flow.specs.declared.rule.Hold.{Hold}
 use Rattle.ada_flow.specs.declared.rule.Hold.TheVariants.{Null, Own, Alias, Lost}
@@ -81,10 +81,11 @@ ends_with may_raise before after = goes (Some after) (raising_if may_raise befor
 -- Paths that are used (4.1, 4.5.2, 5.2).
 
 -- A path that a statement uses: its value is read, or an access value is compared with null, or moved: out of a variable, or out of a component,
--- which the next statement clears then, or does not; or it is moved though an item before it moves it already (4.8).
+-- which the next statement clears then, or does not; or it is moved though an item before it moves it already (4.8); or it is lent to a borrower.
 pub data Use : Type 0 where
   reads_it : PathForm → Use
   compares_it : PathForm → Use
+  borrows_it : PathForm → Use
   moves_it : (cleared : Bool) → PathForm → Use
   moves_again : PathForm → Use
 
@@ -139,12 +140,16 @@ abbrev pub uses_in_items : (earlier : List ℕ) → List ItemForm → List Use
 uses_in_items earlier [] = []
 uses_in_items earlier (i ∷ is) = uses_in_item earlier i ++ uses_in_items (moved_by_item i ++ earlier) is
 
--- The paths in what is assigned, where the next statement clears what is moved, or does not.
-abbrev pub uses_in_right : (cleared : Bool) → RightForm → List Use
-uses_in_right cleared nothing = []
-uses_in_right cleared (value_of path) = moves_it cleared path ∷ []
-uses_in_right cleared (allocates access items) = uses_in_items [] items
-uses_in_right cleared (computes e) = uses_in e
+-- How an assignment uses the path whose value it assigns (5.2): it lends the value to a borrower, and else moves it.
+abbrev pub value_use : (borrows cleared : Bool) → PathForm → Use
+value_use borrows cleared path = if borrows then borrows_it path else moves_it cleared path
+
+-- The paths in what is assigned, to a borrower or not, where the next statement clears what is moved, or does not.
+abbrev pub uses_in_right : (borrows cleared : Bool) → RightForm → List Use
+uses_in_right borrows cleared nothing = []
+uses_in_right borrows cleared (value_of path) = value_use borrows cleared path ∷ []
+uses_in_right borrows cleared (allocates access items) = uses_in_items [] items
+uses_in_right borrows cleared (computes e) = uses_in e
 
 -- The path of a target is followed up to the object in which its component lies (5.2); a variable is not.
 abbrev pub uses_in_target : PathForm → List Use
@@ -200,6 +205,7 @@ moved_behind cleared (c ∷ cs) hold spot = taken_by cleared hold spot
 abbrev pub broken_in : Holds → Use → Option Breach
 broken_in holds (reads_it path) = lost_behind path.selectors (hold_at holds path.root) path.spot
 broken_in holds (compares_it path) = lost_by (hold_at holds path.root) path.spot
+broken_in holds (borrows_it path) = lost_by (hold_at holds path.root) path.spot
 broken_in holds (moves_it cleared path) = moved_behind cleared path.selectors (hold_at holds path.root) path.spot
 broken_in holds (moves_again path) = Some (path.spot, LostValue)
 
@@ -253,12 +259,16 @@ abbrev pub moved_by_items : List ItemForm → List ℕ
 moved_by_items [] = []
 moved_by_items (i ∷ is) = moved_by_item i ++ moved_by_items is
 
--- The variables that an assignment moves (5.2); items move theirs once the object is there (4.8).
-abbrev pub moved_by_right : RightForm → List ℕ
-moved_by_right nothing = []
-moved_by_right (value_of path) = variable_of path.selectors path.root
-moved_by_right (allocates access items) = moved_by_items items
-moved_by_right (computes e) = []
+-- The variable that the value of a path is moved out of, if it is: what is lent to a borrower stays where it is.
+abbrev pub moved_by_value : (borrows : Bool) → PathForm → List ℕ
+moved_by_value borrows path = if borrows then [] else variable_of path.selectors path.root
+
+-- The variables that an assignment moves (5.2), to a borrower or not; items move theirs once the object is there (4.8).
+abbrev pub moved_by_right : (borrows : Bool) → RightForm → List ℕ
+moved_by_right borrows nothing = []
+moved_by_right borrows (value_of path) = moved_by_value borrows path
+moved_by_right borrows (allocates access items) = moved_by_items items
+moved_by_right borrows (computes e) = []
 
 -- What the value of a path is relied on for: a variable's own hold; a component owns its value, which is null where the variable is.
 abbrev pub value_hold : List ℕ → Hold → Hold
@@ -268,12 +278,23 @@ value_hold (c ∷ cs) (Own r) = Own r
 value_hold (c ∷ cs) (Alias r) = Own r
 value_hold (c ∷ cs) Lost = Lost
 
+-- What a borrower holds with the value of a path, by what the path's variable holds: the object has an owner, or null is behind null.
+abbrev pub borrowed_hold : Hold → Hold
+borrowed_hold Null = Null
+borrowed_hold (Own r) = Alias r
+borrowed_hold (Alias r) = Alias r
+borrowed_hold Lost = Lost
+
+-- What a variable holds with the value of a path: a borrower an alias, any other what the path's value was relied on for.
+abbrev pub given_hold : (borrows : Bool) → List ℕ → Hold → Hold
+given_hold borrows selectors hold = if borrows then borrowed_hold hold else value_hold selectors hold
+
 -- What a variable holds with what is assigned: an Integer or a Boolean is not relied on.
-abbrev pub right_hold : RightForm → Holds → Hold
-right_hold nothing holds = Null
-right_hold (value_of path) holds = value_hold path.selectors (hold_at holds path.root)
-right_hold (allocates access items) holds = Own Whole
-right_hold (computes e) holds = Lost
+abbrev pub right_hold : (borrows : Bool) → RightForm → Holds → Hold
+right_hold borrows nothing holds = Null
+right_hold borrows (value_of path) holds = given_hold borrows path.selectors (hold_at holds path.root)
+right_hold borrows (allocates access items) holds = Own Whole
+right_hold borrows (computes e) holds = Lost
 
 -- Whether an assignment may raise an exception where it evaluates what is assigned: there may be no storage.
 abbrev pub evaluation_raises : RightForm → Bool
@@ -282,31 +303,59 @@ evaluation_raises (value_of path) = path_raises path.selectors
 evaluation_raises (allocates access items) = true
 evaluation_raises (computes e) = expression_raises e
 
--- After a variable gets a value (3.3.1, 5.2): what was moved goes there.
-abbrev pub gives : (cleared : Bool) → (x : ℕ) → RightForm → Holds → Outcome
-gives cleared x right holds =
-    using_paths (uses_in_right cleared right) holds
-    (ends_with (evaluation_raises right) holds (slice_set (without_values (moved_by_right right) holds) x (right_hold right holds)))
+-- After a variable, a borrower or not, gets a value (3.3.1, 5.2): what was moved goes there.
+abbrev pub gives_value : (borrows cleared : Bool) → (x : ℕ) → RightForm → Holds → Outcome
+gives_value borrows cleared x right holds =
+    using_paths (uses_in_right borrows cleared right) holds
+    (ends_with (evaluation_raises right) holds
+    (slice_set (without_values (moved_by_right borrows right) holds) x (right_hold borrows right holds)))
+
+-- After a variable gets a value: it is a borrower, or not.
+abbrev pub gives : List VariableForm → (cleared : Bool) → (x : ℕ) → RightForm → Holds → Outcome
+gives variables cleared x right holds = gives_value (is_borrower variables x) cleared x right holds
 
 -- After a component gets a value (5.2), whose object is found first: it owns what it gets, and no variable changes but those that are moved.
 abbrev pub gives_component : (cleared : Bool) → PathForm → RightForm → Holds → Outcome
 gives_component cleared path right holds =
-    using_paths (uses_in_target path ++ uses_in_right cleared right) holds
-    (ends_with true holds (without_values (moved_by_right right) holds))
+    using_paths (uses_in_target path ++ uses_in_right false cleared right) holds
+    (ends_with true holds (without_values (moved_by_right false right) holds))
 
 -- Statements (5.1).
 
--- After Free (X) (13.11.2), by what X holds: null; only an owner frees.
-abbrev pub released : (x : ℕ) → Spot → Holds → Hold → Outcome
-released x spot holds Null = ends_with false holds (slice_set holds x Null)
-released x spot holds (Own r) = ends_with false holds (slice_set holds x Null)
-released x spot holds (Alias r) = faults spot AliasMoved
-released x spot holds Lost = faults spot LostValue
+-- What is left of a hold, if an object may be gone that an alias names.
+abbrev pub without_alias : Bool → Hold → Hold
+without_alias false hold = hold
+without_alias true Null = Null
+without_alias true (Own r) = Own r
+without_alias true (Alias r) = Lost
+without_alias true Lost = Lost
+
+-- What is left where an object of an access type may be gone: every alias of the type is lost.
+abbrev pub without_aliases : List VariableForm → (access : ℕ) → Holds → Holds
+without_aliases [] t holds = []
+without_aliases (v ∷ vs) t [] = []
+without_aliases (v ∷ vs) t (h ∷ hs) = without_alias (is_this t (access_of (Some v.kind))) h ∷ without_aliases vs t hs
+
+-- What is left behind the end of an object of an access type, where there is such a type.
+abbrev pub behind_end : List VariableForm → Option ℕ → Holds → Holds
+behind_end variables None holds = holds
+behind_end variables (Some t) holds = without_aliases variables t holds
+
+-- What is left behind Free (X): X holds null, and whoever borrowed an object of its type may have borrowed this one.
+abbrev pub freed : List VariableForm → (x : ℕ) → Holds → Holds
+freed variables x holds = slice_set (behind_end variables (variable_access variables x) holds) x Null
+
+-- After Free (X) (13.11.2), by what X holds: only an owner frees.
+abbrev pub released : List VariableForm → (x : ℕ) → Spot → Holds → Hold → Outcome
+released variables x spot holds Null = ends_with false holds (freed variables x holds)
+released variables x spot holds (Own r) = ends_with false holds (freed variables x holds)
+released variables x spot holds (Alias r) = faults spot AliasMoved
+released variables x spot holds Lost = faults spot LostValue
 
 -- A target: a variable, or a component.
-abbrev pub gives_path : (cleared : Bool) → List ℕ → PathForm → RightForm → Holds → Outcome
-gives_path cleared [] path right holds = gives cleared path.root right holds
-gives_path cleared (c ∷ cs) path right holds = gives_component cleared path right holds
+abbrev pub gives_path : List VariableForm → (cleared : Bool) → List ℕ → PathForm → RightForm → Holds → Outcome
+gives_path variables cleared [] path right holds = gives variables cleared path.root right holds
+gives_path variables cleared (c ∷ cs) path right holds = gives_component cleared path right holds
 
 -- A take pair (5.2): `T := P.C;` and `P.C := null;`, one behind the other, move a value out of a component.
 
@@ -345,9 +394,9 @@ gets_path [] path holds = ends_with true holds (slice_set holds path.root Lost)
 gets_path (c ∷ cs) path holds = using_paths (uses_in_target path) holds (ends_with true holds holds)
 
 -- What freeing does that a path names: its variable owns nothing any more. In use so far: what is freed is a variable.
-abbrev pub frees_path : List ℕ → PathForm → Holds → Outcome
-frees_path [] path holds = released path.root path.spot holds (hold_at holds path.root)
-frees_path (c ∷ cs) path holds = faults path.spot LostValue
+abbrev pub frees_path : List VariableForm → List ℕ → PathForm → Holds → Outcome
+frees_path variables [] path holds = released variables path.root path.spot holds (hold_at holds path.root)
+frees_path variables (c ∷ cs) path holds = faults path.spot LostValue
 
 -- Two ways that join behind an `if` (5.3): the first fault in text order stands.
 abbrev pub either_of : Outcome → Outcome → Outcome
@@ -379,50 +428,54 @@ are_as_good holds [] = true
 are_as_good [] (h ∷ hs) = is_as_good Lost h && are_as_good [] hs
 are_as_good (g ∷ gs) (h ∷ hs) = is_as_good g h && are_as_good gs hs
 
--- A variable that holds null where a loop begins, and that its body assigns, may own an object at the start of each turn.
-abbrev pub opened_hold : Hold → Hold
-opened_hold Null = Own Whole
-opened_hold (Own r) = Own r
-opened_hold (Alias r) = Alias r
-opened_hold Lost = Lost
+-- What a variable may hold at the start of each turn of a loop whose body assigns it: a borrower an alias, any other an object of its own.
+abbrev pub opened_null : (borrows : Bool) → Hold
+opened_null borrows = if borrows then Alias Whole else Own Whole
 
--- A variable may own an object at the start of each turn, if it holds null where the loop begins.
-abbrev pub opened : ℕ → Holds → Holds
-opened x holds = slice_set holds x (opened_hold (hold_at holds x))
+-- A variable that holds null where a loop begins, and that its body assigns, may name an object at the start of each turn.
+abbrev pub opened_hold : (borrows : Bool) → Hold → Hold
+opened_hold borrows Null = opened_null borrows
+opened_hold borrows (Own r) = Own r
+opened_hold borrows (Alias r) = Alias r
+opened_hold borrows Lost = Lost
+
+-- A variable may name an object at the start of each turn, if it holds null where the loop begins.
+abbrev pub opened : List VariableForm → ℕ → Holds → Holds
+opened variables x holds = slice_set holds x (opened_hold (is_borrower variables x) (hold_at holds x))
 
 -- What a loop's start holds for a target of its body: a variable is opened, a component opens none.
-abbrev pub opened_target : List ℕ → (root : ℕ) → Holds → Holds
-opened_target [] x holds = opened x holds
-opened_target (c ∷ cs) x holds = holds
+abbrev pub opened_target : List VariableForm → List ℕ → (root : ℕ) → Holds → Holds
+opened_target variables [] x holds = opened variables x holds
+opened_target variables (c ∷ cs) x holds = holds
 
 abbrev mutual
   -- What a loop's start holds: each variable that a statement of its body assigns, wherever it stands there, is opened (5.2, 5.5).
-  pub opened_by : StmtForm → Holds → Holds
-  opened_by skips holds = holds
-  opened_by (assigns target right) holds = opened_target target.selectors target.root holds
-  opened_by (frees access variable) holds = holds
-  opened_by (gets target) holds = holds
-  opened_by (writes e) holds = holds
-  opened_by (writes_text text) holds = holds
-  opened_by (chooses branches) holds = opened_by_branches branches holds
-  opened_by (repeats condition fs end_spot) holds = opened_by_all fs holds
-  opened_by (counts x low high fs end_spot) holds = opened_by_all fs holds
-  opened_by (exits condition spot) holds = holds
-  opened_by (returns spot) holds = holds
-  opened_by (raises e) holds = holds
-  opened_by (encloses ds fs hs) holds = opened_by_handlers hs (opened_by_all fs holds)
+  pub opened_by : List VariableForm → StmtForm → Holds → Holds
+  opened_by variables skips holds = holds
+  opened_by variables (assigns target right) holds = opened_target variables target.selectors target.root holds
+  opened_by variables (frees access variable) holds = holds
+  opened_by variables (gets target) holds = holds
+  opened_by variables (writes e) holds = holds
+  opened_by variables (writes_text text) holds = holds
+  opened_by variables (chooses branches) holds = opened_by_branches variables branches holds
+  opened_by variables (repeats condition fs end_spot) holds = opened_by_all variables fs holds
+  opened_by variables (counts x low high fs end_spot) holds = opened_by_all variables fs holds
+  opened_by variables (exits condition spot) holds = holds
+  opened_by variables (returns spot) holds = holds
+  opened_by variables (raises e) holds = holds
+  opened_by variables (encloses ds fs hs) holds = opened_by_handlers variables hs (opened_by_all variables fs holds)
 
-  pub opened_by_all : StmtsForm → Holds → Holds
-  opened_by_all no_stmts holds = holds
-  opened_by_all (a_stmt f fs) holds = opened_by_all fs (opened_by f holds)
+  pub opened_by_all : List VariableForm → StmtsForm → Holds → Holds
+  opened_by_all variables no_stmts holds = holds
+  opened_by_all variables (a_stmt f fs) holds = opened_by_all variables fs (opened_by variables f holds)
 
-  pub opened_by_branches : BranchesForm → Holds → Holds
-  opened_by_branches (otherwise fs) holds = opened_by_all fs holds
-  opened_by_branches (a_branch e fs branches) holds = opened_by_branches branches (opened_by_all fs holds)
+  pub opened_by_branches : List VariableForm → BranchesForm → Holds → Holds
+  opened_by_branches variables (otherwise fs) holds = opened_by_all variables fs holds
+  opened_by_branches variables (a_branch e fs branches) holds = opened_by_branches variables branches (opened_by_all variables fs holds)
 
-  pub opened_by_handlers : HandlersForm → Holds → Holds
-  opened_by_handlers no_handlers holds = holds
-  opened_by_handlers (a_handler choices fs hs) holds = opened_by_handlers hs (opened_by_all fs holds)
+  pub opened_by_handlers : List VariableForm → HandlersForm → Holds → Holds
+  opened_by_handlers variables no_handlers holds = holds
+  opened_by_handlers variables (a_handler choices fs hs) holds = opened_by_handlers variables hs (opened_by_all variables fs holds)
 
 abbrev mutual
   -- Is there an exit from the loop whose body this is (5.7)? One inside another loop leaves that one.
@@ -550,7 +603,7 @@ exit_flow variables (Some start) inside condition spot holds = unless_worse star
 -- Declarations, in order (3.11).
 abbrev pub declaration_flow : List VariableForm → DeclarationForm → Holds → Outcome
 declaration_flow variables (collects access) holds = ends_with false holds holds
-declaration_flow variables (declares x right) holds = gives false x right holds
+declaration_flow variables (declares x right) holds = gives variables false x right holds
 
 -- The flow of declarations, in order (3.11).
 abbrev pub declarations_flow : List VariableForm → List DeclarationForm → Holds → Outcome
@@ -562,24 +615,24 @@ abbrev pub bounds_flow : (low high : ExpressionForm) → Holds → Outcome
 bounds_flow low high holds = then_flow (computed low holds) (computed high)
 
 -- Where each turn of it begins: its parameter is an Integer, on which nothing relies.
-abbrev pub counting_start : (parameter : ℕ) → StmtsForm → Holds → Holds
-counting_start x fs holds = slice_set (opened_by_all fs holds) x Lost
+abbrev pub counting_start : List VariableForm → (parameter : ℕ) → StmtsForm → Holds → Holds
+counting_start variables x fs holds = slice_set (opened_by_all variables fs holds) x Lost
 
 abbrev mutual
   -- After a statement, which is the first one of a take pair, or is not.
   pub stmt_flow : List VariableForm → Around → (cleared : Bool) → StmtForm → Holds → Outcome
   stmt_flow variables around cleared skips holds = ends_with false holds holds
-  stmt_flow variables around cleared (assigns target right) holds = gives_path cleared target.selectors target right holds
-  stmt_flow variables around cleared (frees access variable) holds = frees_path variable.selectors variable holds
+  stmt_flow variables around cleared (assigns target right) holds = gives_path variables cleared target.selectors target right holds
+  stmt_flow variables around cleared (frees access variable) holds = frees_path variables variable.selectors variable holds
   stmt_flow variables around cleared (gets target) holds = gets_path target.selectors target holds
   stmt_flow variables around cleared (writes e) holds = computed e holds
   stmt_flow variables around cleared (writes_text text) holds = ends_with false holds holds
   stmt_flow variables around cleared (chooses branches) holds = branches_flow variables around branches holds
   stmt_flow variables around cleared (repeats condition fs end_spot) holds =
-      loop_flow condition (is_left condition fs) end_spot (λ start hs. stmts_flow variables (in_loop start) fs hs) (opened_by_all fs holds)
+      loop_flow condition (is_left condition fs) end_spot (λ start hs. stmts_flow variables (in_loop start) fs hs) (opened_by_all variables fs holds)
   stmt_flow variables around cleared (counts x low high fs end_spot) holds =
       then_flow (bounds_flow low high holds)
-      (λ hs. loop_flow None true end_spot (λ start hs. stmts_flow variables (in_loop start) fs hs) (counting_start x fs hs))
+      (λ hs. loop_flow None true end_spot (λ start hs. stmts_flow variables (in_loop start) fs hs) (counting_start variables x fs hs))
   stmt_flow variables around cleared (exits condition spot) holds = exit_flow variables around.start around.inside condition spot holds
   stmt_flow variables around cleared (returns spot) holds = goes None None
   stmt_flow variables around cleared (raises e) holds = goes None (Some holds)

@@ -2,5 +2,7 @@
 
 -- what a variable may be relied on for, and the rules that follow
 pub mod Flow
+-- whether a variable holds an alias
+pub mod Aliases
 -- what flow tells
 pub mod Told

@@ -1,7 +1,6 @@
 -- How the answers of the code are tied to the outcomes of the flow of values.
 
 use Rattle.std.specs.Prelude.{◌≡◌, ℕ, Bool, true, false, List, [], ◌∷◌, map, not, Option, Some, None, IfSome, Result, Ok, Err}
-use Rattle.std.specs.Global.{Vec}
 use Rattle.std.specs.List.{slice_index_or}
 use Rattle.std.specs.Option.{option_copied}
 use Rattle.ada_text.specs.declared.spot.Spot.{Spot}
@@ -10,10 +9,10 @@ use Rattle.ada_flow.specs.declared.around.Around.{Around as HeldAround}
 use Rattle.ada_flow.specs.declared.fault.Breach.{Breach}
 use Rattle.ada_flow.specs.declared.fault.FlowFault.{FlowFault}
 use Rattle.ada_flow.specs.declared.fault.FlowFault.TheVariants.{Broken, NoMemory}
+use Rattle.ada_flow.specs.declared.known.Known.{Known}
 use Rattle.ada_flow.specs.declared.marks.Marks.{Marks}
 use Rattle.ada_flow.specs.declared.raised.Raised.{Raised}
 use Rattle.ada_flow.specs.declared.raised.Raised.TheVariants.{Unwanted, Wanted}
-use Rattle.ada_flow.specs.declared.rule.Hold.{Hold}
 use Rattle.ada_flow.specs.declared.rule.Rule.{Rule}
 use Rattle.ada_program.specs.declared.program.Program.{Program}
 use Rattle.ada_program.specs.declared.program.Branch.{Branch}
@@ -48,9 +47,9 @@ IsFirstFault program fault = IfSome (breach_of fault) (λ breach. judgement (pro
 -- Views of what the code keeps.
 
 -- What the variables hold where a form comes to its end; nothing, where it does not.
-abbrev pub held : Option (Vec Hold) → Option Holds
+abbrev pub held : Option Known → Option Holds
 held None = None
-held (Some holds) = Some holds.items
+held (Some known) = Some known.holds.items
 
 -- The rule that is broken, and where, if one is.
 abbrev pub broken : Option Breach → Option (Spot × Rule)
@@ -134,7 +133,7 @@ ending before (faults spot rule) = Err (spot, rule)
 ending before (goes normal raising) = Ok (normal, also_noted before raising)
 
 -- The answer for a form, with what is noted before and after it, is exactly its ending, want of memory aside.
-abbrev pub Ends : Result (Option (Vec Hold)) FlowFault → (before after : Raised) → Outcome → Type 0
+abbrev pub Ends : Result (Option Known) FlowFault → (before after : Raised) → Outcome → Type 0
 Ends answer before after outcome = Exactly (λ normal. (held normal, noted after)) breach_of answer (ending (noted before) outcome)
 
 -- The answer for a form that comes to its end is exactly its outcome, with what the variables hold there.
@@ -152,7 +151,7 @@ joined_end so_far (Err breach) = Err breach
 joined_end so_far (Ok end) = Ok (join_option so_far end.0, end.1)
 
 -- The answer for branches of an `if` joins their ends, whatever is done where no condition is true; or it is the first fault of all.
-abbrev pub Joins : Result (Option (Vec Hold)) FlowFault → (before after : Raised) → HeldAround → List Branch → Holds → Type 0
+abbrev pub Joins : Result (Option Known) FlowFault → (before after : Raised) → HeldAround → List Branch → Holds → Type 0
 Joins (Ok joined) before after around branches holds = (others : StmtsForm) →
     ending (noted before) (branches_flow (variables_in around) (around_of around) (branches_form branches others) holds)
     ≡ joined_end (held joined) (ending (noted after) (stmts_flow (variables_in around) (around_of around) others holds))
@@ -167,7 +166,7 @@ end_handled before passes handlers normal (wanted (Some raising)) =
     joined_end normal (ending (also_noted before (raising_if passes raising)) (handlers raising))
 
 -- The answer for handlers joins their ends with that of their statements.
-abbrev pub Handles : Result (Option (Vec Hold)) FlowFault → (after : Raised) → Result (Option Holds × Noted) (Spot × Rule) → Type 0
+abbrev pub Handles : Result (Option Known) FlowFault → (after : Raised) → Result (Option Holds × Noted) (Spot × Rule) → Type 0
 Handles answer after end = Exactly (λ normal. (held normal, noted after)) breach_of answer end
 
 -- The answer for paths that are used names the leftmost rule that one breaks, and where, if there is one.
@@ -204,15 +203,18 @@ turns_of variables condition leaves body end start =
 -- `loop`, or `while` with a condition.
 abbrev pub loop_of : List Variable → Option Expression → List Stmt → Spot → Holds → Outcome
 loop_of variables condition body end holds =
-    turns_of variables condition (is_left (condition_form condition) (stmts_form body)) body end (opened_by_all (stmts_form body) holds)
+    turns_of variables condition (is_left (condition_form condition) (stmts_form body)) body end
+    (opened_by_all (map variable_form variables) (stmts_form body) holds)
 
 -- `for`, behind its bounds.
 abbrev pub for_of : List Variable → (parameter : ℕ) → List Stmt → Spot → Holds → Outcome
-for_of variables parameter body end holds = turns_of variables None true body end (counting_start parameter (stmts_form body) holds)
+for_of variables parameter body end holds =
+    turns_of variables None true body end (counting_start (map variable_form variables) parameter (stmts_form body) holds)
 
 -- An assignment, which is the first one of a take pair, or is not.
-abbrev pub assignment_of : (cleared : Bool) → Path → Right → Holds → Outcome
-assignment_of cleared target value holds = gives_path cleared (path_form target).selectors (path_form target) (right_form value) holds
+abbrev pub assignment_of : List Variable → (cleared : Bool) → Path → Right → Holds → Outcome
+assignment_of variables cleared target value holds =
+    gives_path (map variable_form variables) cleared (path_form target).selectors (path_form target) (right_form value) holds
 
 -- Declarations, in order.
 abbrev pub declarations_of : List Variable → List Declaration → Holds → Outcome

@@ -8,8 +8,8 @@ ghost use Rattle.ada_program.specs.Form.{declaration_form};
 use crate::around::Around;
 use crate::fault::FlowFault;
 use crate::joins::join_ends;
+use crate::known::Known;
 use crate::raised::Raised;
-use crate::rule::Hold;
 use crate::statements::statements;
 use ada_effects::passes;
 use ada_program::program::{Declaration, Handler};
@@ -53,11 +53,11 @@ pub(crate) fn handled(
     alloc: Global,
     around: &Around<'_>,
     inner: Raised,
-    end: Option<Vec<Hold>>,
+    end: Option<Known>,
     raised: &mut Raised,
     handlers: &[Handler],
     statements: &[Stmt],
-) -> Result<Option<Vec<Hold>>, FlowFault>
+) -> Result<Option<Known>, FlowFault>
     ensures { Handles result raised.new
         (handled_in around.now (noted raised.old) statements.now handlers.now (held end) (noted inner)) }
 {
@@ -77,18 +77,18 @@ pub(crate) fn handled(
 fn handlers(
     alloc: Global,
     around: &Around<'_>,
-    raising: &[Hold],
+    raising: &Known,
     raised: &mut Raised,
     handlers: &[Handler],
-) -> Result<Option<Vec<Hold>>, FlowFault>
-    ensures { Ends result raised.old raised.new (handlers_in around.now handlers.now raising.now) }
+) -> Result<Option<Known>, FlowFault>
+    ensures { Ends result raised.old raised.new (handlers_in around.now handlers.now raising.now.holds.items) }
 {
     let mut joined = None;
     'handlers: for handler in handlers {
         let end = statements(
             alloc,
             around,
-            raising.to_vec(alloc)?,
+            raising.copy(alloc)?,
             raised,
             &handler.statements,
         )?;

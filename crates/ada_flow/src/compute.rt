@@ -7,8 +7,8 @@ ghost use Rattle.ada_program.specs.Form.{expression_form, condition_form};
 
 use crate::fault::FlowFault;
 use crate::follow::follow;
+use crate::known::Known;
 use crate::raised::Raised;
-use crate::rule::Hold;
 use ada_effects::expression_raises;
 use ada_program::program::Expression;
 use std::alloc::Global;
@@ -16,30 +16,30 @@ use std::alloc::Global;
 /// An expression is evaluated, which changes nothing.
 pub(crate) fn compute(
     alloc: Global,
-    holds: &[Hold],
+    known: &Known,
     raised: &mut Raised,
     expression: &Expression,
 ) -> Result<(), FlowFault>
-    ensures { Leads result holds.now raised.old raised.new
-        (computed (expression_form expression.now) holds.now) }
+    ensures { Leads result known.now.holds.items raised.old raised.new
+        (computed (expression_form expression.now) known.now.holds.items) }
 {
-    follow(holds, expression)?;
-    raised.note_if(expression_raises(expression), alloc, holds)?;
+    follow(known.holds(), expression)?;
+    raised.note_if(expression_raises(expression), alloc, known)?;
     Ok(())
 }
 
 /// A condition is evaluated, where there is one.
 pub(crate) fn compute_condition(
     alloc: Global,
-    holds: &[Hold],
+    known: &Known,
     raised: &mut Raised,
     condition: &Option<Expression>,
 ) -> Result<(), FlowFault>
-    ensures { Leads result holds.now raised.old raised.new
-        (condition_flow (condition_form condition.now) holds.now) }
+    ensures { Leads result known.now.holds.items raised.old raised.new
+        (condition_flow (condition_form condition.now) known.now.holds.items) }
 {
     match condition {
         None => Ok(()),
-        Some(condition) => compute(alloc, holds, raised, condition),
+        Some(condition) => compute(alloc, known, raised, condition),
     }
 }

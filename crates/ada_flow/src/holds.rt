@@ -1,6 +1,8 @@
 //! What each variable holds, by its number.
 
-ghost use Rattle.std.specs.Prelude.{◌≡◌, slice_set};
+ghost use Rattle.std.specs.Prelude.{◌≡◌};
+ghost use Rattle.std.specs.List.{list_any};
+ghost use Rattle.ada_flow.specs.Aliases.{is_alias};
 ghost use Rattle.ada_flow.specs.Flow.{hold_at};
 
 use crate::rule::Hold;
@@ -16,11 +18,16 @@ pub(crate) fn hold_of(holds: &[Hold], variable: VariableNo) -> Hold
     }
 }
 
-/// A variable holds this from now on.
-pub(crate) fn put(holds: &mut [Hold], variable: VariableNo, hold: Hold)
-    ensures { holds.new ≡ slice_set holds.old variable.0 hold }
+/// Whether a hold is an alias.
+pub(crate) fn is_alias(hold: Hold) -> bool
+    ensures { result ≡ is_alias hold }
 {
-    if variable.0 < holds.len() {
-        holds[variable.0] = hold;
-    }
+    matches!(hold, Hold::Alias(_))
+}
+
+/// Whether a variable holds an alias.
+pub(crate) fn have_alias(holds: &[Hold]) -> bool
+    ensures { result ≡ list_any is_alias holds.now }
+{
+    holds.iter().any(|hold| is_alias(*hold))
 }

@@ -4,6 +4,7 @@ ghost use Rattle.std.specs.Prelude.{◌≡◌};
 ghost use Rattle.ada_flow.specs.Flow as rules;
 ghost use Rattle.ada_flow.specs.Told.{held};
 
+use crate::known::Known;
 use crate::rule::{Hold, Region};
 
 /// What is known of a variable after two ways.
@@ -18,9 +19,9 @@ fn join_hold(one: Hold, other: Hold) -> Hold
     }
 }
 
-/// What is known of each variable after two ways, as far as both know of variables.
+/// What each variable holds after two ways, as far as both know of variables.
 #[tactic(auto, using(std::proofs::lemmas::Grind::common_steps, crate::proofs::Joined::join_short))]
-pub(crate) fn join_into(one: &mut Vec<Hold>, other: &[Hold])
+fn join_holds(one: &mut Vec<Hold>, other: &[Hold])
     ensures { one.new.items ≡ rules.join one.old.items other.now }
 {
     one.truncate(other.len());
@@ -29,8 +30,17 @@ pub(crate) fn join_into(one: &mut Vec<Hold>, other: &[Hold])
     }
 }
 
+/// What is known of each variable after two ways.
+#[tactic(auto, using(std::proofs::lemmas::Grind::common_steps, crate::proofs::Aliased::told_of_join))]
+pub(crate) fn join_into(one: &mut Known, other: &Known)
+    ensures { one.new.holds.items ≡ rules.join one.old.holds.items other.now.holds.items }
+{
+    join_holds(&mut one.holds, other.holds());
+    one.aliased |= other.aliased;
+}
+
 /// What is known where one way, or both, may not come to their end.
-pub(crate) fn join_ends(one: Option<Vec<Hold>>, other: Option<Vec<Hold>>) -> Option<Vec<Hold>>
+pub(crate) fn join_ends(one: Option<Known>, other: Option<Known>) -> Option<Known>
     ensures { held result ≡ rules.join_option (held one) (held other) }
 {
     match (one, other) {

@@ -7,6 +7,7 @@ ghost use Rattle.ada_program.specs.ProgramForm.{variable_form};
 ghost use Rattle.ada_program.specs.WellFormed.{access_of};
 
 use crate::holds::hold_of;
+use crate::known::Known;
 use crate::marks::Marks;
 use crate::rule::Hold;
 use ada_program::program::{Variable, VariableKind};
@@ -66,17 +67,32 @@ fn leave(
     Ok(lose(variables, &marks, holds))
 }
 
+/// What is known behind a block that is left.
+#[tactic(auto, using(std::proofs::lemmas::Grind::common_steps, crate::proofs::Aliased::told_of_left))]
+fn leave_known(
+    alloc: Global,
+    variables: &[Variable],
+    types: &[TypeNo],
+    known: Known,
+) -> Result<Known, AllocError>
+    ensures { IfOk result (λ behind. behind.holds.items ≡ rules.left (map variable_form variables.now) (map type_number types.now) known.holds.items) }
+{
+    let aliased = known.aliased;
+    let holds = leave(alloc, variables, types, known.holds)?;
+    Ok(Known { holds, aliased })
+}
+
 /// What is known behind a block that is left on a way that may not be gone.
 pub(crate) fn leave_end(
     alloc: Global,
     variables: &[Variable],
     types: &[TypeNo],
-    holds: Option<Vec<Hold>>,
-) -> Result<Option<Vec<Hold>>, AllocError>
-    ensures { IfOk result (λ end. held end ≡ rules.left_option (map variable_form variables.now) (map type_number types.now) (held holds)) }
+    known: Option<Known>,
+) -> Result<Option<Known>, AllocError>
+    ensures { IfOk result (λ end. held end ≡ rules.left_option (map variable_form variables.now) (map type_number types.now) (held known)) }
 {
-    match holds {
+    match known {
         None => Ok(None),
-        Some(holds) => Ok(Some(leave(alloc, variables, types, holds)?)),
+        Some(known) => Ok(Some(leave_known(alloc, variables, types, known)?)),
     }
 }

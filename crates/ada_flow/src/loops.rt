@@ -6,65 +6,73 @@ ghost use Rattle.ada_program.specs.Form.{StmtsForm, path_form, stmt_form, stmts_
 ghost use Rattle.ada_flow.specs.Told.{left_marked};
 ghost use Rattle.ada_program.specs.ProgramForm.{variable_form};
 
-use crate::holds::{hold_of, put};
+use crate::holds::hold_of;
 use crate::kinds::hold_behind;
+use crate::known::Known;
 use crate::marks::Marks;
 use crate::rule::{Hold, Region};
+use ada_program::borrowers::is_borrower;
 use ada_program::program::{Branch, Handler, Variable};
 use ada_program::{Path, Stmt, VariableNo};
 
-/// What is known of a variable that a loop's body assigns, where each turn begins.
-fn opened_hold(hold: Hold) -> Hold
-    ensures { result ≡ rules.opened_hold hold }
+/// What is known of a variable, a borrower or not, that a loop's body assigns, where each turn begins.
+fn opened_hold(borrows: bool, hold: Hold) -> Hold
+    ensures { result ≡ rules.opened_hold borrows hold }
 {
     match hold {
+        Hold::Null if borrows => Hold::Alias(Region::Whole),
         Hold::Null => Hold::Own(Region::Whole),
         hold => hold,
     }
 }
 
 /// A variable that a loop's body assigns is opened.
-fn open(holds: &mut [Hold], variable: VariableNo)
-    ensures { holds.new ≡ rules.opened variable.0 holds.old }
+fn open(variables: &[Variable], known: &mut Known, variable: VariableNo)
+    ensures { known.new.holds.items
+        ≡ rules.opened (map variable_form variables.now) variable.0 known.old.holds.items }
 {
-    let hold = opened_hold(hold_of(holds, variable));
-    put(holds, variable, hold);
+    let borrows = is_borrower(variables, variable.0);
+    let hold = opened_hold(borrows, hold_of(known.holds(), variable));
+    known.put(variable, hold);
 }
 
 /// A target that a loop's body assigns is opened, if it is a variable.
-fn open_target(holds: &mut [Hold], target: &Path)
+fn open_target(variables: &[Variable], known: &mut Known, target: &Path)
     ensures { let opened = path_form target.now in
-        holds.new ≡ rules.opened_target opened.selectors opened.root holds.old }
+        known.new.holds.items ≡ rules.opened_target
+        (map variable_form variables.now) opened.selectors opened.root known.old.holds.items }
 {
     if target.selectors.is_empty() {
-        open(holds, target.root);
+        open(variables, known, target.root);
     }
 }
 
 /// Each variable that statements of a loop's body assign, wherever they stand in it, is opened.
 #[cycle(opening)]
-pub(crate) fn open_all(holds: &mut [Hold], statements: &[Stmt])
-    ensures { holds.new ≡ rules.opened_by_all (stmts_form statements.now) holds.old }
+pub(crate) fn open_all(variables: &[Variable], known: &mut Known, statements: &[Stmt])
+    ensures { known.new.holds.items ≡ rules.opened_by_all
+        (map variable_form variables.now) (stmts_form statements.now) known.old.holds.items }
 {
     'statements: for statement in statements {
-        open_by(holds, statement);
+        open_by(variables, known, statement);
     }
 }
 
 /// Each variable that a statement of a loop's body assigns is opened.
 #[cycle(opening)]
 #[tactic(auto, using(std::proofs::lemmas::Grind::common_steps, ada_program::specs::Form::statement_rules))]
-fn open_by(holds: &mut [Hold], statement: &Stmt)
-    ensures { holds.new ≡ rules.opened_by (stmt_form statement.now) holds.old }
+fn open_by(variables: &[Variable], known: &mut Known, statement: &Stmt)
+    ensures { known.new.holds.items ≡ rules.opened_by
+        (map variable_form variables.now) (stmt_form statement.now) known.old.holds.items }
 {
     match statement {
-        Stmt::Assign { target, value: _ } => open_target(holds, target),
+        Stmt::Assign { target, value: _ } => open_target(variables, known, target),
         Stmt::If {
             branches,
             otherwise,
         } => {
-            open_branches(holds, branches);
-            open_all(holds, otherwise);
+            open_branches(variables, known, branches);
+            open_all(variables, known, otherwise);
         }
         Stmt::Loop {
             condition: _,
@@ -77,14 +85,14 @@ fn open_by(holds: &mut [Hold], statement: &Stmt)
             last: _,
             statements,
             end: _,
-        } => open_all(holds, statements),
+        } => open_all(variables, known, statements),
         Stmt::Block {
             declarations: _,
             statements,
             handlers,
         } => {
-            open_all(holds, statements);
-            open_handlers(holds, handlers);
+            open_all(variables, known, statements);
+            open_handlers(variables, known, handlers);
         }
         Stmt::Null
         | Stmt::Free { .. }
@@ -99,22 +107,24 @@ fn open_by(holds: &mut [Hold], statement: &Stmt)
 
 /// Each variable that a branch assigns is opened.
 #[cycle(opening)]
-fn open_branches(holds: &mut [Hold], branches: &[Branch])
+fn open_branches(variables: &[Variable], known: &mut Known, branches: &[Branch])
     ensures { (others : StmtsForm) → rules.opened_by_branches
-        (branches_form branches.now others) holds.old ≡ rules.opened_by_all others holds.new }
+        (map variable_form variables.now) (branches_form branches.now others) known.old.holds.items
+        ≡ rules.opened_by_all (map variable_form variables.now) others known.new.holds.items }
 {
     'branches: for branch in branches {
-        open_all(holds, &branch.statements);
+        open_all(variables, known, &branch.statements);
     }
 }
 
 /// Each variable that a handler assigns is opened.
 #[cycle(opening)]
-fn open_handlers(holds: &mut [Hold], handlers: &[Handler])
-    ensures { holds.new ≡ rules.opened_by_handlers (handlers_form handlers.now) holds.old }
+fn open_handlers(variables: &[Variable], known: &mut Known, handlers: &[Handler])
+    ensures { known.new.holds.items ≡ rules.opened_by_handlers
+        (map variable_form variables.now) (handlers_form handlers.now) known.old.holds.items }
 {
     'handlers: for handler in handlers {
-        open_all(holds, &handler.statements);
+        open_all(variables, known, &handler.statements);
     }
 }
 

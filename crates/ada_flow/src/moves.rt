@@ -1,30 +1,36 @@
 //! What an assignment moves: the rules that moved paths break, and what is known behind the move.
 
-ghost use Rattle.std.specs.Prelude.{◌≡◌, [], ◌++◌, map};
+ghost use Rattle.std.specs.Prelude.{◌≡◌, false, [], ◌++◌, map};
 ghost use Rattle.ada_flow.specs.Flow as rules;
 ghost use Rattle.ada_flow.specs.Told.{Follows, broken};
 ghost use Rattle.ada_program.specs.Form.{path_form, item_form, right_form};
 
 use crate::fault::Breach;
 use crate::follow::{broken_in, broken_in_target, leftmost, lost_by, unless_broken};
-use crate::holds::{hold_of, put};
+use crate::holds::hold_of;
+use crate::known::Known;
 use crate::rule::{Hold, Region, Rule};
 use ada_effects::expression_raises;
 use ada_program::program::{Item, Right};
 use ada_program::{Path, Spot, VariableNo};
 
-/// Uses what is assigned to a variable, where the next statement clears what is moved, or does not.
+/// Uses what is assigned to a variable, a borrower or not, where the next statement clears what is moved, or does not.
 ///
 /// # Errors
 /// The leftmost rule that a path of it breaks.
-pub(crate) fn use_right(holds: &[Hold], cleared: bool, value: &Right) -> Result<(), Breach>
+pub(crate) fn use_right(
+    holds: &[Hold],
+    borrows: bool,
+    cleared: bool,
+    value: &Right,
+) -> Result<(), Breach>
     ensures { Follows result
-        (rules.broken_among holds.now (rules.uses_in_right cleared (right_form value.now))) }
+        (rules.broken_among holds.now (rules.uses_in_right borrows cleared (right_form value.now))) }
 {
-    unless_broken(broken_in_right(holds, cleared, value))
+    unless_broken(broken_in_right(holds, borrows, cleared, value))
 }
 
-/// Uses the path of a component that gets a value, and what is assigned to it.
+/// Uses the path of a component that gets a value, and what is assigned to it: a component is no borrower.
 ///
 /// # Errors
 /// The leftmost rule that a path breaks.
@@ -35,26 +41,45 @@ pub(crate) fn use_assignment(
     value: &Right,
 ) -> Result<(), Breach>
     ensures { let place = rules.uses_in_target (path_form target.now) in
-        let assigned = rules.uses_in_right cleared (right_form value.now) in
+        let assigned = rules.uses_in_right false cleared (right_form value.now) in
         Follows result (rules.broken_among holds.now (place ++ assigned)) }
 {
     unless_broken(leftmost(
         broken_in_target(holds, target),
-        broken_in_right(holds, cleared, value),
+        broken_in_right(holds, false, cleared, value),
     ))
 }
 
-/// The leftmost rule that what is assigned breaks.
-fn broken_in_right(holds: &[Hold], cleared: bool, value: &Right) -> Option<Breach>
+/// The leftmost rule that what is assigned breaks, to a borrower or not.
+fn broken_in_right(holds: &[Hold], borrows: bool, cleared: bool, value: &Right) -> Option<Breach>
     ensures { broken result
-        ≡ rules.broken_among holds.now (rules.uses_in_right cleared (right_form value.now)) }
+        ≡ rules.broken_among holds.now (rules.uses_in_right borrows cleared (right_form value.now)) }
 {
     match value {
         Right::Null => None,
-        Right::Path(path) => leftmost(broken_in_move(holds, cleared, path), None),
+        Right::Path(path) => leftmost(broken_in_value(holds, borrows, cleared, path), None),
         Right::Allocator { access: _, items } => broken_in_items(holds, items),
         Right::Value(expression) => broken_in(holds, expression),
     }
+}
+
+/// The rule that a path breaks whose value is assigned: it is lent to a borrower, and else moved.
+fn broken_in_value(holds: &[Hold], borrows: bool, cleared: bool, path: &Path) -> Option<Breach>
+    ensures { broken result
+        ≡ rules.broken_in holds.now (rules.value_use borrows cleared (path_form path.now)) }
+{
+    if borrows {
+        broken_in_loan(holds, path)
+    } else {
+        broken_in_move(holds, cleared, path)
+    }
+}
+
+/// The rule that lending the value of a path breaks: its variable must not be lost.
+fn broken_in_loan(holds: &[Hold], path: &Path) -> Option<Breach>
+    ensures { broken result ≡ rules.broken_in holds.now (rules.borrows_it (path_form path.now)) }
+{
+    lost_by(hold_of(holds, path.root), path.spot)
 }
 
 /// The leftmost rule that the items of an allocator break.
@@ -161,15 +186,36 @@ fn taken_by(cleared: bool, hold: Hold, spot: Spot) -> Option<Breach>
     }
 }
 
-/// What a variable holds with what is assigned to it.
-pub(crate) fn right_hold(holds: &[Hold], value: &Right) -> Hold
-    ensures { result ≡ rules.right_hold (right_form value.now) holds.now }
+/// What a variable, a borrower or not, holds with what is assigned to it.
+pub(crate) fn right_hold(holds: &[Hold], borrows: bool, value: &Right) -> Hold
+    ensures { result ≡ rules.right_hold borrows (right_form value.now) holds.now }
 {
     match value {
         Right::Null => Hold::Null,
-        Right::Path(path) => value_hold(path, hold_of(holds, path.root)),
+        Right::Path(path) => given_hold(borrows, path, hold_of(holds, path.root)),
         Right::Allocator { .. } => Hold::Own(Region::Whole),
         Right::Value(_) => Hold::Lost,
+    }
+}
+
+/// What a variable holds with the value of a path: a borrower an alias, any other what the value was relied on for.
+fn given_hold(borrows: bool, path: &Path, hold: Hold) -> Hold
+    ensures { result ≡ rules.given_hold borrows (path_form path.now).selectors hold }
+{
+    if borrows {
+        borrowed_hold(hold)
+    } else {
+        value_hold(path, hold)
+    }
+}
+
+/// What a borrower holds with a value, by what its variable holds: another owns the object.
+fn borrowed_hold(hold: Hold) -> Hold
+    ensures { result ≡ rules.borrowed_hold hold }
+{
+    match hold {
+        Hold::Own(region) => Hold::Alias(region),
+        hold => hold,
     }
 }
 
@@ -195,48 +241,48 @@ pub(crate) fn evaluation_raises(value: &Right) -> bool
     }
 }
 
-/// The variables that an assignment moves own nothing any more.
-pub(crate) fn lose_moved(holds: &mut [Hold], value: &Right)
-    ensures { holds.new
-        ≡ rules.without_values (rules.moved_by_right (right_form value.now)) holds.old }
+/// The variables that an assignment moves own nothing any more; what is lent to a borrower stays where it is.
+pub(crate) fn lose_moved(known: &mut Known, borrows: bool, value: &Right)
+    ensures { known.new.holds.items
+        ≡ rules.without_values (rules.moved_by_right borrows (right_form value.now)) known.old.holds.items }
 {
     match value {
-        Right::Path(path) => lose_path(holds, path),
-        Right::Allocator { access: _, items } => lose_items(holds, items),
-        Right::Null | Right::Value(_) => {}
+        Right::Path(path) if !borrows => lose_path(known, path),
+        Right::Allocator { access: _, items } => lose_items(known, items),
+        Right::Null | Right::Path(_) | Right::Value(_) => {}
     }
 }
 
 /// The variables that items move own nothing any more.
 #[tactic(auto, using(std::proofs::lemmas::Grind::common_steps, crate::proofs::Moved::losing_steps))]
-fn lose_items(holds: &mut [Hold], items: &[Item])
-    ensures { holds.new
-        ≡ rules.without_values (rules.moved_by_items (map item_form items.now)) holds.old }
+fn lose_items(known: &mut Known, items: &[Item])
+    ensures { known.new.holds.items
+        ≡ rules.without_values (rules.moved_by_items (map item_form items.now)) known.old.holds.items }
 {
     'items: for item in items {
-        lose_item(holds, item);
+        lose_item(known, item);
     }
 }
 
 /// The variable that an item moves owns nothing any more.
-fn lose_item(holds: &mut [Hold], item: &Item)
-    ensures { holds.new
-        ≡ rules.without_values (rules.moved_by_item (item_form item.now)) holds.old }
+fn lose_item(known: &mut Known, item: &Item)
+    ensures { known.new.holds.items
+        ≡ rules.without_values (rules.moved_by_item (item_form item.now)) known.old.holds.items }
 {
     match item {
-        Item::Path(path) => lose_path(holds, path),
+        Item::Path(path) => lose_path(known, path),
         Item::Null | Item::Value(_) => {}
     }
 }
 
 /// A variable that is moved owns nothing any more; a component is cleared by the next statement.
-fn lose_path(holds: &mut [Hold], path: &Path)
+fn lose_path(known: &mut Known, path: &Path)
     ensures { let moved = path_form path.now in
-        holds.new ≡ rules.without_values (rules.variable_of moved.selectors moved.root) holds.old }
+        known.new.holds.items ≡ rules.without_values (rules.variable_of moved.selectors moved.root) known.old.holds.items }
 {
     if path.selectors.is_empty() {
-        let hold = left_by_move(hold_of(holds, path.root));
-        put(holds, path.root, hold);
+        let hold = left_by_move(hold_of(known.holds(), path.root));
+        known.put(path.root, hold);
     }
 }
 

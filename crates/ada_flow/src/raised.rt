@@ -8,7 +8,7 @@ ghost use Rattle.ada_program.specs.ProgramForm.{variable_form};
 
 use crate::joins::{join_ends, join_into};
 use crate::kinds::leave_end;
-use crate::rule::Hold;
+use crate::known::Known;
 use ada_program::TypeNo;
 use ada_program::program::{Handler, Variable};
 use std::alloc::{AllocError, Global};
@@ -19,7 +19,7 @@ pub(crate) enum Raised {
     /// Nothing around wants to know it.
     Unwanted,
     /// What is known at all those places so far, if there is one.
-    Wanted(Option<Vec<Hold>>),
+    Wanted(Option<Known>),
 }
 
 impl Raised {
@@ -58,13 +58,14 @@ impl Raised {
     }
 
     /// An exception may be raised where the variables hold this.
-    pub(crate) fn note(&mut self, alloc: Global, holds: &[Hold]) -> Result<(), AllocError>
-        ensures { OnOk result (noted self.new ≡ also_noted (noted self.old) (Some holds.now)) }
+    pub(crate) fn note(&mut self, alloc: Global, known: &Known) -> Result<(), AllocError>
+        ensures { OnOk result
+            (noted self.new ≡ also_noted (noted self.old) (Some known.now.holds.items)) }
     {
         match self {
             Raised::Unwanted => {}
-            Raised::Wanted(Some(known)) => join_into(known, holds),
-            Raised::Wanted(None) => *self = Raised::Wanted(Some(holds.to_vec(alloc)?)),
+            Raised::Wanted(Some(before)) => join_into(before, known),
+            Raised::Wanted(None) => *self = Raised::Wanted(Some(known.copy(alloc)?)),
         }
         Ok(())
     }
@@ -74,24 +75,24 @@ impl Raised {
         &mut self,
         may_raise: bool,
         alloc: Global,
-        holds: &[Hold],
+        known: &Known,
     ) -> Result<(), AllocError>
         ensures { OnOk result
-            (noted self.new ≡ also_noted (noted self.old) (raising_if may_raise holds.now)) }
+            (noted self.new ≡ also_noted (noted self.old) (raising_if may_raise known.now.holds.items)) }
     {
         if may_raise {
-            self.note(alloc, holds)?;
+            self.note(alloc, known)?;
         }
         Ok(())
     }
 
     /// Exceptions may be raised besides where the variables hold this, if anywhere.
-    pub(crate) fn add(&mut self, holds: Option<Vec<Hold>>)
-        ensures { noted self.new ≡ also_noted (noted self.old) (held holds) }
+    pub(crate) fn add(&mut self, known: Option<Known>)
+        ensures { noted self.new ≡ also_noted (noted self.old) (held known) }
     {
         match self {
             Raised::Unwanted => {}
-            Raised::Wanted(known) => *known = join_ends(known.take(), holds),
+            Raised::Wanted(before) => *before = join_ends(before.take(), known),
         }
     }
 
@@ -107,7 +108,7 @@ impl Raised {
     {
         match raised {
             Raised::Unwanted => {}
-            Raised::Wanted(holds) => self.add(leave_end(alloc, variables, types, holds)?),
+            Raised::Wanted(known) => self.add(leave_end(alloc, variables, types, known)?),
         }
         Ok(())
     }

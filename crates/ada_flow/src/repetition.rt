@@ -7,7 +7,7 @@ ghost use Rattle.ada_flow.specs.Told.{AreMarks, Ends, Tells, around_of, exit_beg
 use crate::around::Around;
 use crate::compute::compute_condition;
 use crate::fault::{Breach, FlowFault};
-use crate::holds::put;
+use crate::known::Known;
 use crate::loops::{are_as_good, are_as_good_behind, have_exit, open_all};
 use crate::marks::Marks;
 use crate::raised::Raised;
@@ -62,19 +62,19 @@ pub(crate) fn keeps_start(
 pub(crate) fn repeat(
     alloc: Global,
     variables: &[Variable],
-    mut holds: Vec<Hold>,
+    mut known: Known,
     raised: &mut Raised,
     condition: &Option<Expression>,
     body: &[Stmt],
     end: Spot,
-) -> Result<Option<Vec<Hold>>, FlowFault>
+) -> Result<Option<Known>, FlowFault>
     ensures { Ends result raised.old raised.new
-        (loop_of variables.now condition.now body.now end holds.items) }
+        (loop_of variables.now condition.now body.now end known.holds.items) }
 {
-    open_all(&mut holds, body);
+    open_all(variables, &mut known, body);
     let leaves = condition.is_some() || have_exit(body);
     turn(
-        alloc, variables, holds, raised, condition, body, end, leaves,
+        alloc, variables, known, raised, condition, body, end, leaves,
     )
 }
 
@@ -83,18 +83,18 @@ pub(crate) fn repeat(
 pub(crate) fn count(
     alloc: Global,
     variables: &[Variable],
-    mut holds: Vec<Hold>,
+    mut known: Known,
     raised: &mut Raised,
     parameter: VariableNo,
     body: &[Stmt],
     end: Spot,
-) -> Result<Option<Vec<Hold>>, FlowFault>
+) -> Result<Option<Known>, FlowFault>
     ensures { Ends result raised.old raised.new
-        (for_of variables.now parameter.0 body.now end holds.items) }
+        (for_of variables.now parameter.0 body.now end known.holds.items) }
 {
-    open_all(&mut holds, body);
-    put(&mut holds, parameter, Hold::Lost);
-    turn(alloc, variables, holds, raised, &None, body, end, true)
+    open_all(variables, &mut known, body);
+    known.put(parameter, Hold::Lost);
+    turn(alloc, variables, known, raised, &None, body, end, true)
 }
 
 /// One turn of a loop, from its start; behind the loop, if it is left, the variables hold what they did there.
@@ -103,20 +103,20 @@ pub(crate) fn count(
 fn turn(
     alloc: Global,
     variables: &[Variable],
-    start: Vec<Hold>,
+    start: Known,
     raised: &mut Raised,
     condition: &Option<Expression>,
     body: &[Stmt],
     end: Spot,
     leaves: bool,
-) -> Result<Option<Vec<Hold>>, FlowFault>
+) -> Result<Option<Known>, FlowFault>
     ensures { Ends result raised.old raised.new
-        (turns_of variables.now condition.now leaves body.now end start.items) }
+        (turns_of variables.now condition.now leaves body.now end start.holds.items) }
 {
     compute_condition(alloc, &start, raised, condition)?;
-    let around = Around::in_loop(variables, &start);
-    if let Some(after) = statements(alloc, &around, start.to_vec(alloc)?, raised, body)? {
-        unless_worse(&after, &start, end)?;
+    let around = Around::in_loop(variables, start.holds());
+    if let Some(after) = statements(alloc, &around, start.copy(alloc)?, raised, body)? {
+        unless_worse(after.holds(), start.holds(), end)?;
     }
     if leaves { Ok(Some(start)) } else { Ok(None) }
 }

@@ -14,7 +14,7 @@ pub enum Hold {
     Null,
     /// It holds null, or owns the object that it names: no other variable and no component owns it.
     Own(Region),
-    /// It holds null, or names an object that exists; another owns it. No variable holds one yet.
+    /// It holds null, or names an object that exists, which another may own: so does a borrower.
     Alias(Region),
     /// Nothing: its object may be gone.
     Lost,

@@ -5,18 +5,19 @@ ghost use Rattle.ada_flow.specs.Flow.{stmt_flow, stmts_flow};
 ghost use Rattle.ada_flow.specs.Told.{Joins, Ends, around_of, exit_in, variables_in};
 ghost use Rattle.ada_program.specs.Form.{condition_form, stmt_form, stmts_form};
 
-use crate::analysis::{assign, declare, get, release};
+use crate::analysis::{assign, declare, get};
 use crate::around::Around;
 use crate::blocks::{collected, handled, joined_types};
 use crate::compute::compute;
 use crate::fault::FlowFault;
+use crate::frees::release;
 use crate::joins::join_ends;
 use crate::kinds::leave_end;
+use crate::known::Known;
 use crate::marks::Marks;
 use crate::pairs::begins_pair;
 use crate::raised::Raised;
 use crate::repetition::{count, keeps_start, repeat};
-use crate::rule::Hold;
 use ada_program::program::{Branch, Expression};
 use ada_program::{Spot, Stmt};
 use std::alloc::Global;
@@ -25,21 +26,21 @@ use std::alloc::Global;
 fn exit(
     alloc: Global,
     around: &Around<'_>,
-    holds: Vec<Hold>,
+    known: Known,
     raised: &mut Raised,
     condition: &Option<Expression>,
     spot: Spot,
-) -> Result<Option<Vec<Hold>>, FlowFault>
+) -> Result<Option<Known>, FlowFault>
     ensures { Ends result raised.old raised.new
-        (exit_in around.now (condition_form condition.now) spot holds.items) }
+        (exit_in around.now (condition_form condition.now) spot known.holds.items) }
 {
     let inside = Marks::of(alloc, around.inside)?;
-    keeps_start(around, &inside, &holds, spot)?;
+    keeps_start(around, &inside, known.holds(), spot)?;
     match condition {
         None => Ok(None),
         Some(condition) => {
-            compute(alloc, &holds, raised, condition)?;
-            Ok(Some(holds))
+            compute(alloc, &known, raised, condition)?;
+            Ok(Some(known))
         }
     }
 }
@@ -50,31 +51,39 @@ fn exit(
 fn statement(
     alloc: Global,
     around: &Around<'_>,
-    mut holds: Vec<Hold>,
+    mut known: Known,
     raised: &mut Raised,
     cleared: bool,
     statement: &Stmt,
-) -> Result<Option<Vec<Hold>>, FlowFault>
+) -> Result<Option<Known>, FlowFault>
     ensures { Ends result raised.old raised.new
-        (stmt_flow (variables_in around.now) (around_of around.now) cleared (stmt_form statement.now) holds.items) }
+        (stmt_flow (variables_in around.now) (around_of around.now) cleared (stmt_form statement.now) known.holds.items) }
 {
     match statement {
         Stmt::Null | Stmt::PutText(_) => {}
         Stmt::Assign { target, value } => {
-            assign(alloc, &mut holds, raised, cleared, target, value)?;
+            assign(
+                alloc,
+                around.variables,
+                &mut known,
+                raised,
+                cleared,
+                target,
+                value,
+            )?;
         }
         Stmt::Free {
             access: _,
             variable,
-        } => release(&mut holds, variable)?,
-        Stmt::Get(target) => get(alloc, &mut holds, raised, target)?,
-        Stmt::PutImage(expression) => compute(alloc, &holds, raised, expression)?,
+        } => release(around.variables, &mut known, variable)?,
+        Stmt::Get(target) => get(alloc, &mut known, raised, target)?,
+        Stmt::PutImage(expression) => compute(alloc, &known, raised, expression)?,
         Stmt::If {
             branches,
             otherwise,
         } => {
-            let joined = self::branches(alloc, around, &holds, raised, branches)?;
-            let end = statements(alloc, around, holds, raised, otherwise)?;
+            let joined = self::branches(alloc, around, &known, raised, branches)?;
+            let end = statements(alloc, around, known, raised, otherwise)?;
             return Ok(join_ends(joined, end));
         }
         Stmt::Loop {
@@ -84,7 +93,7 @@ fn statement(
         } => return repeat(
             alloc,
             around.variables,
-            holds,
+            known,
             raised,
             condition,
             statements,
@@ -97,12 +106,12 @@ fn statement(
             statements,
             end,
         } => {
-            compute(alloc, &holds, raised, first)?;
-            compute(alloc, &holds, raised, last)?;
+            compute(alloc, &known, raised, first)?;
+            compute(alloc, &known, raised, last)?;
             return count(
                 alloc,
                 around.variables,
-                holds,
+                known,
                 raised,
                 *parameter,
                 statements,
@@ -110,11 +119,11 @@ fn statement(
             );
         }
         Stmt::Exit { condition, spot } => {
-            return exit(alloc, around, holds, raised, condition, *spot);
+            return exit(alloc, around, known, raised, condition, *spot);
         }
         Stmt::Return(_) => return Ok(None),
         Stmt::Raise(_) => {
-            raised.add(Some(holds));
+            raised.add(Some(known));
             return Ok(None);
         }
         Stmt::Block {
@@ -130,15 +139,15 @@ fn statement(
                 inside: &inside,
             };
             let mut own = raised.emptied();
-            declare(alloc, &mut holds, &mut own, declarations)?;
+            declare(alloc, around.variables, &mut known, &mut own, declarations)?;
             let mut inner = own.with_handlers(handlers);
-            let end = self::statements(alloc, &within, holds, &mut inner, statements)?;
+            let end = self::statements(alloc, &within, known, &mut inner, statements)?;
             let end = handled(alloc, &within, inner, end, &mut own, handlers, statements)?;
             raised.add_behind(alloc, around.variables, &types, own)?;
             return Ok(leave_end(alloc, around.variables, &types, end)?);
         }
     }
-    Ok(Some(holds))
+    Ok(Some(known))
 }
 
 /// The statements, in order, as far as each comes to its end.
@@ -147,21 +156,21 @@ fn statement(
 pub(crate) fn statements(
     alloc: Global,
     around: &Around<'_>,
-    mut holds: Vec<Hold>,
+    mut known: Known,
     raised: &mut Raised,
     statements: &[Stmt],
-) -> Result<Option<Vec<Hold>>, FlowFault>
+) -> Result<Option<Known>, FlowFault>
     ensures { Ends result raised.old raised.new
-        (stmts_flow (variables_in around.now) (around_of around.now) (stmts_form statements.now) holds.items) }
+        (stmts_flow (variables_in around.now) (around_of around.now) (stmts_form statements.now) known.holds.items) }
 {
     for (number, one) in statements.iter().enumerate() {
         let cleared = begins_pair(one, &statements[number + 1..]);
-        match statement(alloc, around, holds, raised, cleared, one)? {
+        match statement(alloc, around, known, raised, cleared, one)? {
             None => return Ok(None),
-            Some(after) => holds = after,
+            Some(after) => known = after,
         }
     }
-    Ok(Some(holds))
+    Ok(Some(known))
 }
 
 /// The branches of an `if`: each begins behind the conditions up to its own, and their ends join.
@@ -170,19 +179,19 @@ pub(crate) fn statements(
 fn branches(
     alloc: Global,
     around: &Around<'_>,
-    holds: &[Hold],
+    known: &Known,
     raised: &mut Raised,
     branches: &[Branch],
-) -> Result<Option<Vec<Hold>>, FlowFault>
-    ensures { Joins result raised.old raised.new around.now branches.now holds.now }
+) -> Result<Option<Known>, FlowFault>
+    ensures { Joins result raised.old raised.new around.now branches.now known.now.holds.items }
 {
     let mut joined = None;
     'branches: for branch in branches {
-        compute(alloc, holds, raised, &branch.condition)?;
+        compute(alloc, known, raised, &branch.condition)?;
         let end = statements(
             alloc,
             around,
-            holds.to_vec(alloc)?,
+            known.copy(alloc)?,
             raised,
             &branch.statements,
         )?;

@@ -1,5 +1,4 @@
-use Rattle.std.proofs.Common.{rules, ◌≡◌, ℕ, ◌+◌, ◌<◌, Bool, true, false, List, ◌∷◌, ◌++◌, map, length, get_or, take, drop, Option, Some, None, refl, sym, ap, ◌∙◌, subst, arith}
-use Rattle.std.proofs.lemmas.Grind.{common_steps}
+use Rattle.std.proofs.Common.{◌≡◌, ℕ, ◌+◌, ◌<◌, Bool, true, false, List, ◌∷◌, ◌++◌, map, length, get_or, drop, Option, Some, None, sym, ap, ◌∙◌, subst}
 use Rattle.std.proofs.lemmas.List.{at_drop_more}
 use Rattle.std.proofs.lemmas.Result.{err_from_is_err_and}
 use Rattle.std.specs.Prelude.{Ok, Err, IfSome, if◌then◌else◌}
@@ -14,7 +13,6 @@ use Rattle.ada_flow.specs.declared.fault.FlowFault.TheVariants.{Broken, NoMemory
 use Rattle.ada_flow.specs.Flow.{Holds, goes, Around, join_option, left_option, stmt_flow, stmts_flow, handlers_flow, unless_worse, condition_flow, loop_flow, in_loop, in_block, collected, declarations_flow}
 use Rattle.ada_flow.specs.Told.{Noted, emptied, ending, end_handled, around_of, breach_of, held, joined_end, noted, noted_behind, noted_for, start_in, type_number, variables_in}
 use Rattle.ada_flow.proofs.Noted.{End, handlers_end, turn_returns, turn_stops, block_declares_badly, block_breaks, block_handles}
-use Rattle.ada_flow.proofs.Written.{written_back}
 use Rattle.ada_flow.proofs.+flowing.Goals as goal
 use Rattle.ada_flow.proofs.+flowing.Goals.{repetition::turn-in-Some+in_ok-unless_worse, repetition::turn-in_default}
 
@@ -38,12 +36,11 @@ handler_step so_far joined end n k variables around handlers i one statements ra
 
 pub blocks::handlers-handlers-preserved : goal.blocks::handlers-handlers-preserved
 blocks::handlers-handlers-preserved t c =
-    let copy : c.in_ok-to_vec.field-0.items ≡ c.args.raising.now = c.in_ok-to_vec.ensures.items_if_clones_equal (λ x y h. h) in
     handler_step (held c.handlers.joined) (held c.join_ends-joined.result) (held c.in_ok-end.end) (noted c.handlers.raised) (noted c.statements.new.raised)
     (variables_in c.args.around.now) (around_of c.args.around.now) c.args.handlers.now c.handlers.handler-index c.handler-item.result c.deref.result.now
-    c.args.raising.now c.in_ok-to_vec.field-0.items
-    (ending (noted c.args.raised.now) (handlers_flow (variables_in c.args.around.now) (around_of c.args.around.now) (handlers_form c.args.handlers.now) c.args.raising.now))
-    c.handlers-test.true c.handler-item.is c.deref.ensures.value copy c.in_ok-end.ensures c.join_ends-joined.ensures c.handlers.invariant
+    c.args.raising.now.holds.items c.in_ok-copy.field-0.holds.items
+    (ending (noted c.args.raised.now) (handlers_flow (variables_in c.args.around.now) (around_of c.args.around.now) (handlers_form c.args.handlers.now) c.args.raising.now.holds.items))
+    c.handlers-test.true c.handler-item.is c.deref.ensures.value c.in_ok-copy.ensures c.in_ok-end.ensures c.join_ends-joined.ensures c.handlers.invariant
 
 -- one turn, where it leads back and where it doesn't
 turned : (leaves : Bool) (n m k : Noted) (condition : Option ExpressionForm) (spot : Spot) (variables : List VariableForm) (fs : StmtsForm) (start : Holds) (end : Option Holds) →
@@ -54,22 +51,19 @@ turned leaves n m k condition spot variables fs start None tests turns keeps = t
 turned leaves n m k condition spot variables fs start (Some after) tests turns keeps = turn_returns leaves n m k condition spot variables fs start after tests turns keeps
 
 -- the same of what the code keeps
-turned_in : (leaves b : Bool) (n m k : Noted) (condition : Option ExpressionForm) (spot : Spot) (variables vs : List VariableForm) (place : Around) (fs fs' : StmtsForm) (start tested placed copied : Holds) (end : Option Holds) →
-    leaves ≡ b → tested ≡ start → placed ≡ start → copied ≡ start → fs' ≡ fs → vs ≡ variables → place ≡ in_loop (Some placed) →
-    ending n (condition_flow condition tested) ≡ Ok (Some tested, m) → ending m (stmts_flow vs place fs' copied) ≡ Ok (end, k) →
+turned_in : (leaves b : Bool) (n m k : Noted) (condition : Option ExpressionForm) (spot : Spot) (variables vs : List VariableForm) (place : Around) (fs : StmtsForm) (start placed copied : Holds) (end : Option Holds) →
+    leaves ≡ b → placed ≡ start → copied ≡ start → vs ≡ variables → place ≡ in_loop (Some placed) →
+    ending n (condition_flow condition start) ≡ Ok (Some start, m) → ending m (stmts_flow vs place fs copied) ≡ Ok (end, k) →
     IfSome end (λ after. unless_worse start after spot (goes (Some after) None) ≡ goes (Some after) None) →
     ending n (loop_flow condition leaves spot (λ place hs. stmts_flow variables (in_loop place) fs hs) start) ≡ Ok ((if b then Some start else None), k)
-turned_in leaves b n m k condition spot variables vs place fs fs' start tested placed copied end leaves_is tested_is placed_is copied_is fs_is vs_is place_is tests turns keeps =
-    let first : ending n (condition_flow condition start) ≡ Ok (Some start, m) =
-    subst (λ (d : Holds). ending n (condition_flow condition d) ≡ Ok (Some d, m)) tested_is tests in
+turned_in leaves b n m k condition spot variables vs place fs start placed copied end leaves_is placed_is copied_is vs_is place_is tests turns keeps =
     let at_start : place ≡ in_loop (Some start) = place_is ∙ ap (λ (d : Holds). in_loop (Some d)) placed_is in
     let second : ending m (stmts_flow variables (in_loop (Some start)) fs start) ≡ Ok (end, k) =
     subst (λ (v : List VariableForm). ending m (stmts_flow v (in_loop (Some start)) fs start) ≡ Ok (end, k)) vs_is
     (subst (λ (p : Around). ending m (stmts_flow vs p fs start) ≡ Ok (end, k)) at_start
-    (subst (λ (f : StmtsForm). ending m (stmts_flow vs place f start) ≡ Ok (end, k)) fs_is
-    (subst (λ (d : Holds). ending m (stmts_flow vs place fs' d) ≡ Ok (end, k)) copied_is turns))) in
+    (subst (λ (d : Holds). ending m (stmts_flow vs place fs d) ≡ Ok (end, k)) copied_is turns)) in
     subst (λ (l : Bool). ending n (loop_flow condition leaves spot (λ place hs. stmts_flow variables (in_loop place) fs hs) start) ≡ Ok ((if l then Some start else None), k)) leaves_is
-    (turned leaves n m k condition spot variables fs start end first second keeps)
+    (turned leaves n m k condition spot variables fs start end tests second keeps)
 
 keeps_start : (start first after seen : Holds) (spot : Spot) → first ≡ start → seen ≡ after → unless_worse first seen spot (goes (Some seen) None) ≡ goes (Some seen) None →
     unless_worse start after spot (goes (Some after) None) ≡ goes (Some after) None
@@ -79,49 +73,45 @@ keeps_start start first after seen spot first_is seen_is keeps =
 
 pub repetition::turn-returns-then-leaves : goal.repetition::turn-returns-then-leaves
 repetition::turn-returns-then-leaves t c =
-    let copy : c.in_ok-to_vec.field-0.items ≡ c.deref-3.result.now = c.in_ok-to_vec.ensures.items_if_clones_equal (λ x y h. h) in
-    let keeps : IfSome (held c.in_ok-after.field-0) (λ after. unless_worse c.args.start.items after c.args.end (goes (Some after) None) ≡ goes (Some after) None) =
-    elim c.match-branch-4.branch as (λ _. IfSome (held c.in_ok-after.field-0) (λ after. unless_worse c.args.start.items after c.args.end (goes (Some after) None) ≡ goes (Some after) None)) [
-      | repetition::turn-in-Some+in_ok-unless_worse w ↦ rw w.in-Some.is (keeps_start c.args.start.items w.deref-in-Some-2.result.now w.in-Some.after.items w.deref-in-Some.result.now c.args.end w.deref-in-Some-2.ensures.value w.deref-in-Some.ensures.value w.in_ok-unless_worse.ensures)
+    let keeps : IfSome (held c.in_ok-after.field-0) (λ after. unless_worse c.args.start.holds.items after c.args.end (goes (Some after) None) ≡ goes (Some after) None) =
+    elim c.match-branch-4.branch as (λ _. IfSome (held c.in_ok-after.field-0) (λ after. unless_worse c.args.start.holds.items after c.args.end (goes (Some after) None) ≡ goes (Some after) None)) [
+      | repetition::turn-in-Some+in_ok-unless_worse w ↦ rw w.in-Some.is (keeps_start c.args.start.holds.items w.holds-in-Some-2.result.now w.in-Some.after.holds.items w.holds-in-Some.result.now c.args.end w.holds-in-Some-2.ensures w.holds-in-Some.ensures w.in_ok-unless_worse.ensures)
       | repetition::turn-in_default w ↦ rw w.in_default.is tt
     ] in
     turned_in c.args.leaves true (noted c.args.raised.now) (noted c.compute_condition.new.raised) (noted c.statements.new.raised) (condition_form c.args.condition.now) c.args.end
-    (map variable_form c.args.variables.now) (variables_in c.in_loop-around.result) (around_of c.in_loop-around.result) (stmts_form c.args.body.now) (stmts_form c.args.body.now)
-    c.args.start.items c.deref.result.now c.deref-2.result.now c.in_ok-to_vec.field-0.items (held c.in_ok-after.field-0)
-    c.if-leaves.true c.deref.ensures.value c.deref-2.ensures.value (copy ∙ c.deref-3.ensures.value) refl c.in_loop-around.ensures.variables c.in_loop-around.ensures.place
+    (map variable_form c.args.variables.now) (variables_in c.in_loop-around.result) (around_of c.in_loop-around.result) (stmts_form c.args.body.now)
+    c.args.start.holds.items c.holds.result.now c.in_ok-copy.field-0.holds.items (held c.in_ok-after.field-0)
+    c.if-leaves.true c.holds.ensures c.in_ok-copy.ensures c.in_loop-around.ensures.variables c.in_loop-around.ensures.place
     c.in_ok-compute_condition.ensures c.in_ok-after.ensures keeps
 
 pub repetition::turn-returns-else-leaves : goal.repetition::turn-returns-else-leaves
 repetition::turn-returns-else-leaves t c =
-    let copy : c.in_ok-to_vec.field-0.items ≡ c.deref-3.result.now = c.in_ok-to_vec.ensures.items_if_clones_equal (λ x y h. h) in
-    let keeps : IfSome (held c.in_ok-after.field-0) (λ after. unless_worse c.args.start.items after c.args.end (goes (Some after) None) ≡ goes (Some after) None) =
-    elim c.match-branch-4.branch as (λ _. IfSome (held c.in_ok-after.field-0) (λ after. unless_worse c.args.start.items after c.args.end (goes (Some after) None) ≡ goes (Some after) None)) [
-      | repetition::turn-in-Some+in_ok-unless_worse w ↦ rw w.in-Some.is (keeps_start c.args.start.items w.deref-in-Some-2.result.now w.in-Some.after.items w.deref-in-Some.result.now c.args.end w.deref-in-Some-2.ensures.value w.deref-in-Some.ensures.value w.in_ok-unless_worse.ensures)
+    let keeps : IfSome (held c.in_ok-after.field-0) (λ after. unless_worse c.args.start.holds.items after c.args.end (goes (Some after) None) ≡ goes (Some after) None) =
+    elim c.match-branch-4.branch as (λ _. IfSome (held c.in_ok-after.field-0) (λ after. unless_worse c.args.start.holds.items after c.args.end (goes (Some after) None) ≡ goes (Some after) None)) [
+      | repetition::turn-in-Some+in_ok-unless_worse w ↦ rw w.in-Some.is (keeps_start c.args.start.holds.items w.holds-in-Some-2.result.now w.in-Some.after.holds.items w.holds-in-Some.result.now c.args.end w.holds-in-Some-2.ensures w.holds-in-Some.ensures w.in_ok-unless_worse.ensures)
       | repetition::turn-in_default w ↦ rw w.in_default.is tt
     ] in
     turned_in c.args.leaves false (noted c.args.raised.now) (noted c.compute_condition.new.raised) (noted c.statements.new.raised) (condition_form c.args.condition.now) c.args.end
-    (map variable_form c.args.variables.now) (variables_in c.in_loop-around.result) (around_of c.in_loop-around.result) (stmts_form c.args.body.now) (stmts_form c.args.body.now)
-    c.args.start.items c.deref.result.now c.deref-2.result.now c.in_ok-to_vec.field-0.items (held c.in_ok-after.field-0)
-    c.if-leaves.false c.deref.ensures.value c.deref-2.ensures.value (copy ∙ c.deref-3.ensures.value) refl c.in_loop-around.ensures.variables c.in_loop-around.ensures.place
+    (map variable_form c.args.variables.now) (variables_in c.in_loop-around.result) (around_of c.in_loop-around.result) (stmts_form c.args.body.now)
+    c.args.start.holds.items c.holds.result.now c.in_ok-copy.field-0.holds.items (held c.in_ok-after.field-0)
+    c.if-leaves.false c.holds.ensures c.in_ok-copy.ensures c.in_loop-around.ensures.variables c.in_loop-around.ensures.place
     c.in_ok-compute_condition.ensures c.in_ok-after.ensures keeps
 
 -- how the declarations of a block end
-declared : (n own : Noted) (variables : List VariableForm) (ds ds' : List DeclarationForm) (holds first : Holds) (end : End) → own ≡ emptied n → ds' ≡ ds → first ≡ holds →
-    ending own (declarations_flow variables ds' first) ≡ end → ending (emptied n) (declarations_flow variables ds holds) ≡ end
-declared n own variables ds ds' holds first end own_is ds_is first_is ends =
+declared : (n own : Noted) (variables : List VariableForm) (ds ds' : List DeclarationForm) (holds : Holds) (end : End) → own ≡ emptied n → ds' ≡ ds →
+    ending own (declarations_flow variables ds' holds) ≡ end → ending (emptied n) (declarations_flow variables ds holds) ≡ end
+declared n own variables ds ds' holds end own_is ds_is ends =
     subst (λ (o : Noted). ending o (declarations_flow variables ds holds) ≡ end) own_is
-    (subst (λ (xs : List DeclarationForm). ending own (declarations_flow variables xs holds) ≡ end) ds_is
-    (subst (λ (hs : Holds). ending own (declarations_flow variables ds' hs) ≡ end) first_is ends))
+    (subst (λ (xs : List DeclarationForm). ending own (declarations_flow variables xs holds) ≡ end) ds_is ends)
 
 -- and its statements
-inner_ends : (m inner : Noted) (variables : List VariableForm) (around within : Around) (types : List ℕ) (fs fs' : StmtsForm) (hs hs' : HandlersForm) (after at : Holds) (end : End) →
-    within ≡ in_block types around → inner ≡ noted_for m hs' → hs' ≡ hs → fs' ≡ fs → at ≡ after →
-    ending inner (stmts_flow variables within fs' at) ≡ end → ending (noted_for m hs) (stmts_flow variables (in_block types around) fs after) ≡ end
-inner_ends m inner variables around within types fs fs' hs hs' after at end within_is inner_is hs_is fs_is at_is ends =
-    subst (λ (o : Noted). ending o (stmts_flow variables (in_block types around) fs after) ≡ end) (inner_is ∙ ap (noted_for m) hs_is)
-    (subst (λ (p : Around). ending inner (stmts_flow variables p fs after) ≡ end) within_is
-    (subst (λ (f : StmtsForm). ending inner (stmts_flow variables within f after) ≡ end) fs_is
-    (subst (λ (h : Holds). ending inner (stmts_flow variables within fs' h) ≡ end) at_is ends)))
+inner_ends : (m inner : Noted) (variables : List VariableForm) (around within : Around) (types : List ℕ) (fs fs' : StmtsForm) (hs hs' : HandlersForm) (at : Holds) (end : End) →
+    within ≡ in_block types around → inner ≡ noted_for m hs' → hs' ≡ hs → fs' ≡ fs →
+    ending inner (stmts_flow variables within fs' at) ≡ end → ending (noted_for m hs) (stmts_flow variables (in_block types around) fs at) ≡ end
+inner_ends m inner variables around within types fs fs' hs hs' at end within_is inner_is hs_is fs_is ends =
+    subst (λ (o : Noted). ending o (stmts_flow variables (in_block types around) fs at) ≡ end) (inner_is ∙ ap (noted_for m) hs_is)
+    (subst (λ (p : Around). ending inner (stmts_flow variables p fs at) ≡ end) within_is
+    (subst (λ (f : StmtsForm). ending inner (stmts_flow variables within f at) ≡ end) fs_is ends))
 
 -- where a block's statements stand
 abbrev stands : Option Holds → List ℕ → Around
@@ -131,39 +121,39 @@ stands_in : (types inside : List ℕ) (around : Around) → inside ≡ types ++ 
 stands_in types inside around e = ap (stands around.start) e
 
 -- its declarations break a rule
-declares_badly : (fault : FlowFault) (n own : Noted) (variables : List VariableForm) (cleared : Bool) (around : Around) (f : StmtForm) (ds ds' : List DeclarationForm) (fs : StmtsForm) (hs : HandlersForm) (holds first : Holds) →
-    f ≡ encloses ds fs hs → own ≡ emptied n → ds' ≡ ds → first ≡ holds →
-    IfSome (breach_of fault) (λ breach. ending own (declarations_flow variables ds' first) ≡ Err breach) →
+declares_badly : (fault : FlowFault) (n own : Noted) (variables : List VariableForm) (cleared : Bool) (around : Around) (f : StmtForm) (ds ds' : List DeclarationForm) (fs : StmtsForm) (hs : HandlersForm) (holds : Holds) →
+    f ≡ encloses ds fs hs → own ≡ emptied n → ds' ≡ ds →
+    IfSome (breach_of fault) (λ breach. ending own (declarations_flow variables ds' holds) ≡ Err breach) →
     IfSome (breach_of fault) (λ breach. ending n (stmt_flow variables around cleared f holds) ≡ Err breach)
-declares_badly NoMemory n own variables cleared around f ds ds' fs hs holds first form own_is ds_is first_is breaks = tt
-declares_badly (Broken spot rule) n own variables cleared around f ds ds' fs hs holds first form own_is ds_is first_is breaks =
+declares_badly NoMemory n own variables cleared around f ds ds' fs hs holds form own_is ds_is breaks = tt
+declares_badly (Broken spot rule) n own variables cleared around f ds ds' fs hs holds form own_is ds_is breaks =
     subst (λ (g : StmtForm). ending n (stmt_flow variables around cleared g holds) ≡ Err (spot, rule)) (sym form)
-    (block_declares_badly n variables around cleared ds fs hs holds (spot, rule) (declared n own variables ds ds' holds first (Err (spot, rule)) own_is ds_is first_is breaks))
+    (block_declares_badly n variables around cleared ds fs hs holds (spot, rule) (declared n own variables ds ds' holds (Err (spot, rule)) own_is ds_is breaks))
 
 -- its statements do
-inner_breaks : (fault : FlowFault) (n own m inner : Noted) (variables : List VariableForm) (cleared : Bool) (around within : Around) (types : List ℕ) (f : StmtForm) (ds ds' : List DeclarationForm) (fs fs' : StmtsForm) (hs hs' : HandlersForm) (holds first after at : Holds) →
-    f ≡ encloses ds fs hs → types ≡ collected ds → own ≡ emptied n → ds' ≡ ds → first ≡ holds →
-    ending own (declarations_flow variables ds' first) ≡ Ok (Some after, m) →
-    within ≡ in_block types around → inner ≡ noted_for m hs' → hs' ≡ hs → fs' ≡ fs → at ≡ after →
+inner_breaks : (fault : FlowFault) (n own m inner : Noted) (variables : List VariableForm) (cleared : Bool) (around within : Around) (types : List ℕ) (f : StmtForm) (ds ds' : List DeclarationForm) (fs fs' : StmtsForm) (hs hs' : HandlersForm) (holds at : Holds) →
+    f ≡ encloses ds fs hs → types ≡ collected ds → own ≡ emptied n → ds' ≡ ds →
+    ending own (declarations_flow variables ds' holds) ≡ Ok (Some at, m) →
+    within ≡ in_block types around → inner ≡ noted_for m hs' → hs' ≡ hs → fs' ≡ fs →
     IfSome (breach_of fault) (λ breach. ending inner (stmts_flow variables within fs' at) ≡ Err breach) →
     IfSome (breach_of fault) (λ breach. ending n (stmt_flow variables around cleared f holds) ≡ Err breach)
-inner_breaks NoMemory n own m inner variables cleared around within types f ds ds' fs fs' hs hs' holds first after at form types_is own_is ds_is first_is declares within_is inner_is hs_is fs_is at_is breaks = tt
-inner_breaks (Broken spot rule) n own m inner variables cleared around within types f ds ds' fs fs' hs hs' holds first after at form types_is own_is ds_is first_is declares within_is inner_is hs_is fs_is at_is breaks =
+inner_breaks NoMemory n own m inner variables cleared around within types f ds ds' fs fs' hs hs' holds at form types_is own_is ds_is declares within_is inner_is hs_is fs_is breaks = tt
+inner_breaks (Broken spot rule) n own m inner variables cleared around within types f ds ds' fs fs' hs hs' holds at form types_is own_is ds_is declares within_is inner_is hs_is fs_is breaks =
     subst (λ (g : StmtForm). ending n (stmt_flow variables around cleared g holds) ≡ Err (spot, rule)) (sym form)
-    (block_breaks n m variables around cleared types ds fs hs holds after (spot, rule) types_is
-    (declared n own variables ds ds' holds first (Ok (Some after, m)) own_is ds_is first_is declares)
-    (inner_ends m inner variables around within types fs fs' hs hs' after at (Err (spot, rule)) within_is inner_is hs_is fs_is at_is breaks))
+    (block_breaks n m variables around cleared types ds fs hs holds at (spot, rule) types_is
+    (declared n own variables ds ds' holds (Ok (Some at, m)) own_is ds_is declares)
+    (inner_ends m inner variables around within types fs fs' hs hs' at (Err (spot, rule)) within_is inner_is hs_is fs_is breaks))
 
 -- and where nothing does
-block_is_left : (n own m inner k l raised : Noted) (variables : List VariableForm) (cleared : Bool) (around within : Around) (types behind left : List ℕ) (f : StmtForm) (ds ds' : List DeclarationForm) (fs fs' fs'' : StmtsForm) (hs hs' hs'' : HandlersForm) (holds first after at : Holds) (normal end leaves : Option Holds) →
-    f ≡ encloses ds fs hs → types ≡ collected ds → own ≡ emptied n → ds' ≡ ds → first ≡ holds →
-    ending own (declarations_flow variables ds' first) ≡ Ok (Some after, m) →
-    within ≡ in_block types around → inner ≡ noted_for m hs' → hs' ≡ hs → fs' ≡ fs → at ≡ after →
+block_is_left : (n own m inner k l raised : Noted) (variables : List VariableForm) (cleared : Bool) (around within : Around) (types behind left : List ℕ) (f : StmtForm) (ds ds' : List DeclarationForm) (fs fs' fs'' : StmtsForm) (hs hs' hs'' : HandlersForm) (holds at : Holds) (normal end leaves : Option Holds) →
+    f ≡ encloses ds fs hs → types ≡ collected ds → own ≡ emptied n → ds' ≡ ds →
+    ending own (declarations_flow variables ds' holds) ≡ Ok (Some at, m) →
+    within ≡ in_block types around → inner ≡ noted_for m hs' → hs' ≡ hs → fs' ≡ fs →
     ending inner (stmts_flow variables within fs' at) ≡ Ok (normal, k) →
     fs'' ≡ fs → hs'' ≡ hs → end_handled m (passes fs'' hs'') (handlers_flow variables within hs'') normal k ≡ Ok (end, l) →
     behind ≡ types → raised ≡ noted_behind n variables behind l → left ≡ types → leaves ≡ left_option variables left end →
     ending n (stmt_flow variables around cleared f holds) ≡ Ok (leaves, raised)
-block_is_left n own m inner k l raised variables cleared around within types behind left f ds ds' fs fs' fs'' hs hs' hs'' holds first after at normal end leaves form types_is own_is ds_is first_is declares within_is inner_is hs_is fs_is at_is ends fs_is' hs_is' handles behind_is raised_is left_is leaves_is =
+block_is_left n own m inner k l raised variables cleared around within types behind left f ds ds' fs fs' fs'' hs hs' hs'' holds at normal end leaves form types_is own_is ds_is declares within_is inner_is hs_is fs_is ends fs_is' hs_is' handles behind_is raised_is left_is leaves_is =
     let handlers_end : end_handled m (passes fs hs) (handlers_flow variables (in_block types around) hs) normal k ≡ Ok (end, l) =
     subst (λ (p : Around). end_handled m (passes fs hs) (handlers_flow variables p hs) normal k ≡ Ok (end, l)) within_is
     (subst (λ (h : HandlersForm). end_handled m (passes fs h) (handlers_flow variables within h) normal k ≡ Ok (end, l)) hs_is'
@@ -173,9 +163,9 @@ block_is_left n own m inner k l raised variables cleared around within types beh
     subst (λ (x : Option Holds). ending n (stmt_flow variables around cleared f holds) ≡ Ok (x, raised)) (sym leaves_so)
     (subst (λ (x : Noted). ending n (stmt_flow variables around cleared f holds) ≡ Ok (left_option variables types end, x)) (sym raised_so)
     (subst (λ (g : StmtForm). ending n (stmt_flow variables around cleared g holds) ≡ Ok (left_option variables types end, noted_behind n variables types l)) (sym form)
-    (block_handles n m k variables around cleared types ds fs hs holds after normal (Ok (end, l)) types_is
-    (declared n own variables ds ds' holds first (Ok (Some after, m)) own_is ds_is first_is declares)
-    (inner_ends m inner variables around within types fs fs' hs hs' after at (Ok (normal, k)) within_is inner_is hs_is fs_is at_is ends)
+    (block_handles n m k variables around cleared types ds fs hs holds at normal (Ok (end, l)) types_is
+    (declared n own variables ds ds' holds (Ok (Some at, m)) own_is ds_is declares)
+    (inner_ends m inner variables around within types fs fs' hs hs' at (Ok (normal, k)) within_is inner_is hs_is fs_is ends)
     handlers_end)))
 
 pub statements::statement-returns-in_err-declare-in-Block :
@@ -186,7 +176,7 @@ statements::statement-returns-in_err-declare-in-Block t c =
     let p = err_from_is_err_and c.from_residual-in_err-declare-in-Block.result c.from_residual-in_err-declare-in-Block.ensures.1 in
     rw (p.1, p.2) (declares_badly c.in_err-declare-in-Block.field-0.0 (noted c.args.raised.now) (noted c.emptied-own.result) (variables_in c.args.around.now) c.args.cleared (around_of c.args.around.now) (stmt_form c.args.statement.now)
     (map declaration_form c.in-Block.declarations.items) (map declaration_form c.deref-in-Block-4.result.now) (stmts_form c.in-Block.statements.items) (handlers_form c.in-Block.handlers.items)
-    c.args.holds.items c.deref_mut-in-Block.result.now form c.emptied-own.ensures (ap (map declaration_form) c.deref-in-Block-4.ensures.value) c.deref_mut-in-Block.ensures.value (c.in_err-declare-in-Block.ensures c.args.around.now.variables.now))
+    c.args.known.holds.items form c.emptied-own.ensures (ap (map declaration_form) c.deref-in-Block-4.ensures.value) c.in_err-declare-in-Block.ensures)
 
 pub statements::statement-returns-in_err-end-in-Block :
     goal.statements::statement-returns-in_err-end-in-Block
@@ -197,15 +187,14 @@ statements::statement-returns-in_err-end-in-Block t c =
     c.in_ok-types-in-Block.ensures ∙ ap collected (ap (map declaration_form) c.deref-in-Block.ensures.value) in
     let inside_is : map type_number c.deref-in-Block-3.result.now ≡ map type_number c.in_ok-types-in-Block.types.items ++ map type_number c.args.around.now.inside.now =
     ap (map type_number) c.deref-in-Block-3.ensures.value ∙ c.in_ok-inside-in-Block.ensures ∙ ap (λ (ts : List ℕ). ts ++ map type_number c.args.around.now.inside.now) (ap (map type_number) c.deref-in-Block-2.ensures.value) in
-    let long : length c.declare.new.holds ≡ c.args.holds.len = first_of (cc, omega arith, search rules, grind (arith, common_steps)) in
     let p = err_from_is_err_and c.from_residual-in_err-end-in-Block.result c.from_residual-in_err-end-in-Block.ensures.1 in
     rw (p.1, p.2) (inner_breaks c.in_err-end-in-Block.field-0.0 (noted c.args.raised.now) (noted c.emptied-own.result) (noted c.declare.new.raised) (noted c.with_handlers-inner.result) (variables_in c.args.around.now) c.args.cleared (around_of c.args.around.now)
     (stands (start_in c.args.around.now) (map type_number c.deref-in-Block-3.result.now)) (map type_number c.in_ok-types-in-Block.types.items) (stmt_form c.args.statement.now)
     (map declaration_form c.in-Block.declarations.items) (map declaration_form c.deref-in-Block-4.result.now) (stmts_form c.in-Block.statements.items) (stmts_form c.deref-in-Block-6.result.now)
-    (handlers_form c.in-Block.handlers.items) (handlers_form c.deref-in-Block-5.result.now) c.args.holds.items c.deref_mut-in-Block.result.now c.declare.new.holds (take c.args.holds.len (c.declare.new.holds ++ drop (length c.declare.new.holds) c.args.holds.items))
-    form types_is c.emptied-own.ensures (ap (map declaration_form) c.deref-in-Block-4.ensures.value) c.deref_mut-in-Block.ensures.value (c.in_ok-declare-in-Block.ensures c.args.around.now.variables.now)
+    (handlers_form c.in-Block.handlers.items) (handlers_form c.deref-in-Block-5.result.now) c.args.known.holds.items c.declare.new.known.holds.items
+    form types_is c.emptied-own.ensures (ap (map declaration_form) c.deref-in-Block-4.ensures.value) c.in_ok-declare-in-Block.ensures
     (stands_in (map type_number c.in_ok-types-in-Block.types.items) (map type_number c.deref-in-Block-3.result.now) (around_of c.args.around.now) inside_is)
-    c.with_handlers-inner.ensures (ap handlers_form c.deref-in-Block-5.ensures.value) (ap stmts_form c.deref-in-Block-6.ensures.value) (written_back c.args.holds.len c.declare.new.holds c.args.holds.items long) c.in_err-end-in-Block.ensures)
+    c.with_handlers-inner.ensures (ap handlers_form c.deref-in-Block-5.ensures.value) (ap stmts_form c.deref-in-Block-6.ensures.value) c.in_err-end-in-Block.ensures)
 
 pub statements::statement-returns-in-Block : goal.statements::statement-returns-in-Block
 statements::statement-returns-in-Block t c =
@@ -215,7 +204,6 @@ statements::statement-returns-in-Block t c =
     c.in_ok-types-in-Block.ensures ∙ ap collected (ap (map declaration_form) c.deref-in-Block.ensures.value) in
     let inside_is : map type_number c.deref-in-Block-3.result.now ≡ map type_number c.in_ok-types-in-Block.types.items ++ map type_number c.args.around.now.inside.now =
     ap (map type_number) c.deref-in-Block-3.ensures.value ∙ c.in_ok-inside-in-Block.ensures ∙ ap (λ (ts : List ℕ). ts ++ map type_number c.args.around.now.inside.now) (ap (map type_number) c.deref-in-Block-2.ensures.value) in
-    let long : length c.declare.new.holds ≡ c.args.holds.len = first_of (cc, omega arith, search rules, grind (arith, common_steps)) in
     block_is_left (noted c.args.raised.now) (noted c.emptied-own.result) (noted c.declare.new.raised) (noted c.with_handlers-inner.result) (noted c.statements-in-Block.new.raised) (noted c.handled.new.raised) (noted c.add_behind.new.self)
     (variables_in c.args.around.now) c.args.cleared (around_of c.args.around.now)
     (stands (start_in c.args.around.now) (map type_number c.deref-in-Block-3.result.now)) (map type_number c.in_ok-types-in-Block.types.items)
@@ -223,10 +211,10 @@ statements::statement-returns-in-Block t c =
     (map declaration_form c.in-Block.declarations.items) (map declaration_form c.deref-in-Block-4.result.now)
     (stmts_form c.in-Block.statements.items) (stmts_form c.deref-in-Block-6.result.now) (stmts_form c.deref-in-Block-8.result.now)
     (handlers_form c.in-Block.handlers.items) (handlers_form c.deref-in-Block-5.result.now) (handlers_form c.deref-in-Block-7.result.now)
-    c.args.holds.items c.deref_mut-in-Block.result.now c.declare.new.holds (take c.args.holds.len (c.declare.new.holds ++ drop (length c.declare.new.holds) c.args.holds.items))
+    c.args.known.holds.items c.declare.new.known.holds.items
     (held c.in_ok-end-in-Block.end) (held c.in_ok-end-in-Block-2.end) (held c.in_ok-leave_end-in-Block.field-0)
-    form types_is c.emptied-own.ensures (ap (map declaration_form) c.deref-in-Block-4.ensures.value) c.deref_mut-in-Block.ensures.value (c.in_ok-declare-in-Block.ensures c.args.around.now.variables.now)
+    form types_is c.emptied-own.ensures (ap (map declaration_form) c.deref-in-Block-4.ensures.value) c.in_ok-declare-in-Block.ensures
     (stands_in (map type_number c.in_ok-types-in-Block.types.items) (map type_number c.deref-in-Block-3.result.now) (around_of c.args.around.now) inside_is)
-    c.with_handlers-inner.ensures (ap handlers_form c.deref-in-Block-5.ensures.value) (ap stmts_form c.deref-in-Block-6.ensures.value) (written_back c.args.holds.len c.declare.new.holds c.args.holds.items long) c.in_ok-end-in-Block.ensures
+    c.with_handlers-inner.ensures (ap handlers_form c.deref-in-Block-5.ensures.value) (ap stmts_form c.deref-in-Block-6.ensures.value) c.in_ok-end-in-Block.ensures
     (ap stmts_form c.deref-in-Block-8.ensures.value) (ap handlers_form c.deref-in-Block-7.ensures.value) c.in_ok-end-in-Block-2.ensures
     (ap (map type_number) c.deref-in-Block-9.ensures.value) c.in_ok-add_behind-in-Block.ensures (ap (map type_number) c.deref-in-Block-10.ensures.value) c.in_ok-leave_end-in-Block.ensures

@@ -7,17 +7,17 @@ use Rattle.ada_flow.proofs.+flowing.Given as goal
 -- what is left, from what the variables hold now, ends as all end
 abbrev pub invariant-statements::statements-loop-number : goal.invariant-statements::statements-loop-number
 invariant-statements::statements-loop-number l =
-    ending (noted l.raised) (stmts_flow (variables_in l.around) (around_of l.around) (stmts_form (drop l.number l.statements)) l.holds.items)
-    ≡ ending (noted l.fn.raised) (stmts_flow (variables_in l.around) (around_of l.around) (stmts_form l.statements) l.fn.holds.items)
+    ending (noted l.raised) (stmts_flow (variables_in l.around) (around_of l.around) (stmts_form (drop l.number l.statements)) l.known.holds.items)
+    ≡ ending (noted l.fn.raised) (stmts_flow (variables_in l.around) (around_of l.around) (stmts_form l.statements) l.fn.known.holds.items)
 
 -- what is joined so far, with the ends of what is left, is what all end with
 abbrev pub invariant-statements::branches-branches : goal.invariant-statements::branches-branches
 invariant-statements::branches-branches l = (others : StmtsForm) →
-    joined_end (held l.joined) (ending (noted l.raised) (branches_flow (variables_in l.around) (around_of l.around) (branches_form (drop l.branch-index l.branches) others) l.holds))
-    ≡ ending (noted l.fn.raised) (branches_flow (variables_in l.around) (around_of l.around) (branches_form l.branches others) l.holds)
+    joined_end (held l.joined) (ending (noted l.raised) (branches_flow (variables_in l.around) (around_of l.around) (branches_form (drop l.branch-index l.branches) others) l.known.holds.items))
+    ≡ ending (noted l.fn.raised) (branches_flow (variables_in l.around) (around_of l.around) (branches_form l.branches others) l.known.holds.items)
 
 -- what is joined so far, with the ends of what is left, is what all end with
 abbrev pub invariant-blocks::handlers-handlers : goal.invariant-blocks::handlers-handlers
 invariant-blocks::handlers-handlers l =
-    joined_end (held l.joined) (ending (noted l.raised) (handlers_flow (variables_in l.around) (around_of l.around) (handlers_form (drop l.handler-index l.handlers)) l.raising))
-    ≡ ending (noted l.fn.raised) (handlers_flow (variables_in l.around) (around_of l.around) (handlers_form l.handlers) l.raising)
+    joined_end (held l.joined) (ending (noted l.raised) (handlers_flow (variables_in l.around) (around_of l.around) (handlers_form (drop l.handler-index l.handlers)) l.raising.holds.items))
+    ≡ ending (noted l.fn.raised) (handlers_flow (variables_in l.around) (around_of l.around) (handlers_form l.handlers) l.raising.holds.items)

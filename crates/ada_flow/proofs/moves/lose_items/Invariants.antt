@@ -6,4 +6,4 @@ use Rattle.ada_flow.proofs.moves.lose_items.Given as goal
 -- what is left loses the rest
 abbrev pub invariant-items : goal.invariant-items
 invariant-items l =
-    without_values (moved_by_items (map item_form (drop l.item-index l.items))) l.holds ≡ without_values (moved_by_items (map item_form l.items)) l.fn.holds
+    without_values (moved_by_items (map item_form (drop l.item-index l.items))) l.known.holds.items ≡ without_values (moved_by_items (map item_form l.items)) l.fn.known.holds.items

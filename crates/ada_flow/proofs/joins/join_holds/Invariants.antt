@@ -1,6 +1,6 @@
 use Rattle.std.proofs.Common.{◌≡◌, ◌≤◌, ◌++◌, take, drop, length}
 use Rattle.ada_flow.specs.Flow.{join}
-use Rattle.ada_flow.proofs.joins.join_into.Given as goal
+use Rattle.ada_flow.proofs.joins.join_holds.Given as goal
 
 -- what is joined so far, and what is left to join, are all
 abbrev pub invariant-loop-number : goal.invariant-loop-number
