@@ -1,6 +1,6 @@
 -- A program whose blocks nest, and runs of it.
 
-use Rattle.std.proofs.Common.{◌≡◌, ◌≤◌, ℕ, true, List, [], ◌∷◌, ◌++◌, length, map, refl, arith}
+use Rattle.std.proofs.Common.{◌≡◌, ◌≤◌, ℕ, true, false, List, [], ◌∷◌, ◌++◌, length, map, refl, arith}
 use Rattle.std.proofs.Math.ListN.{replicate}
 use Rattle.std.specs.Prelude.{None, pos, String}
 use Rattle.std.specs.List.{filter}
@@ -54,7 +54,7 @@ types = definition.Record no_name (vec (record { name = no_name; kind = componen
 
 -- X : A; Y : B; Z : C;
 abbrev of_type : ℕ → Variable
-of_type access = record { name = no_name; kind = variable.Access (record { 0 = access }) }
+of_type access = record { name = no_name; kind = variable.Access (record { 0 = access }); borrows = false }
 
 abbrev path : ℕ → Path
 path x = record { root = record { 0 = x }; selectors = vec [] (omega arith); spot = spot }

@@ -22,7 +22,7 @@ pub record IsUnnamed (objects : List Object) (activations : List (Activation Val
   pub unowned : (q : Place) → Owns (hold q) → value_at objects activations q ≡ Names o → ⊥
   pub unborrowed : (q : Place) → Borrows (hold q) → value_at objects activations q ≡ Names o → ⊥
 
-kind_is : (access : Id → Option ℕ) (h : Hold) (k : Option ℕ) (o : Id) (t : ℕ) → Borrows h → access o ≡ Some t → Says access h k o → k ≡ Some t
+pub kind_is : (access : Id → Option ℕ) (h : Hold) (k : Option ℕ) (o : Id) (t : ℕ) → Borrows h → access o ≡ Some t → Says access h k o → k ≡ Some t
 kind_is access held.Null k o t b is s = absurd b
 kind_is access (held.Own r) k o t b is s = absurd b
 kind_is access (held.Alias r) None o t b is s = absurd s

@@ -9,7 +9,8 @@ use Rattle.ada_meaning.specs.declared.state.Id.{Id}
 use Rattle.ada_meaning.specs.declared.state.Value.TheVariants.{Names}
 use Rattle.ada_meaning.specs.Named.{Object, object_at, create, parted, finished, returned}
 use Rattle.ada_owners.specs.Places.{Place, component, value_at, access_at, is_lent}
-use Rattle.ada_owners.specs.Reliance.{IsOf, Says, Borrows, hold_of, with_hold, with_lent, component_hold, forget, callee_reliance, caller_reliance}
+use Rattle.ada_flow.specs.Flow.{without_aliases}
+use Rattle.ada_owners.specs.Reliance.{IsOf, Says, Borrows, hold_of, with_hold, with_lent, component_hold, callee_reliance, caller_reliance}
 use Rattle.ada_owners.specs.Keeping.{FirstStatesFit, IsThere, OwnedAreThere, BorrowedAreThere, OwnersAreAlone, MovesKeep, BorrowsKeep, StoresKeep, TakesKeep, ClearsKeep, TakePairsKeep, ComponentPairsKeep, AllocationsKeep, PutsKeep, InsertionsKeep, EndsKeep, FreesKeep, ComponentFreesKeep, SparesKeep, MembersEnd, ClosesKeep, CallsKeep, ReturnsKeep, ActualsKeep, CopiesBackKeep, WalksAreRight, with_freed, without, ended, given_back}
 use Rattle.ada_owners.proofs.Kernel as kernel
 use Rattle.ada_owners.proofs.Objects.{listed_at, next_id, at_older, not_past}
@@ -115,9 +116,9 @@ component_frees_keep kinds objects activations r f variables o k c u t same oute
     let i = lent_hand r o c owned f in
     let freed = hand_forget (with_lent o c r) variables t (rw (at_o, typed, is) at i) in
     let differs : o ≢ k = λ e. other (cc (at_o, freed.hand.right k refl, e)) in
-    let gone = ends_keep kinds objects activations (with_lent o c (record r { holds = forget variables t r.holds })) (forget_fits (with_lent o c r) variables t (lend_fits r o c f)) k t freed (none_borrows kinds (access_at objects) (with_lent o c r) variables t same outer) in
+    let gone = ends_keep kinds objects activations (with_lent o c (record r { holds = without_aliases variables t r.holds })) (forget_fits (with_lent o c r) variables t (lend_fits r o c f)) k t freed (none_borrows kinds (access_at objects) (with_lent o c r) variables t same outer) in
     let there = others_stay returned (ended objects (Names k)) k o differs ∙ others_stay finished (without objects (Names k)) k o differs ∙ others_stay parted objects k o differs ∙ at_o in
-    clears_keep kinds (given_back objects (Names k)) activations (record r { holds = forget variables t r.holds }) o c u there gone.2
+    clears_keep kinds (given_back objects (Names k)) activations (record r { holds = without_aliases variables t r.holds }) o c u there gone.2
 
 pub members_end : MembersEnd
 members_end kinds objects activations r types o t f is among =

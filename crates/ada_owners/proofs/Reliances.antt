@@ -8,14 +8,14 @@ use Rattle.ada_program.specs.WellFormed.{access_of, is_this}
 use Rattle.ada_flow.specs.declared.rule.Hold.{Hold}
 use Rattle.ada_flow.specs.declared.rule.Hold.TheVariants as held
 use Rattle.ada_flow.specs.declared.rule.Region.TheVariants.{Whole}
-use Rattle.ada_flow.specs.Flow.{Holds, hold_at, variable_access, if_own, is_as_good, is_among, left}
+use Rattle.ada_flow.specs.Flow.{Holds, hold_at, variable_access, if_own, is_as_good, is_among, left, without_alias, without_aliases}
 use Rattle.ada_meaning.specs.declared.state.Id.{Id}
 use Rattle.ada_meaning.specs.declared.state.Value.{Value}
 use Rattle.ada_meaning.specs.declared.state.Value.TheVariants.{Names}
 use Rattle.ada_meaning.specs.State.{Activation}
 use Rattle.ada_meaning.specs.Named.{Object, object_at, store}
 use Rattle.ada_owners.specs.Places.{Place, variable, component, elsewhere, value_at, access_at, put_in, is_component, is_lent}
-use Rattle.ada_owners.specs.Reliance.{Owns, Borrows, Kinds, component_kind, kind_of, Reliance, component_hold, hold_of, with_hold, with_lent, Fits, IsInHand, forgotten, forget}
+use Rattle.ada_owners.specs.Reliance.{Owns, Borrows, Kinds, component_kind, kind_of, Reliance, component_hold, hold_of, with_hold, with_lent, Fits, IsInHand}
 use Rattle.ada_owners.proofs.Kernel.{same_place, says_right, lost_owns}
 use Rattle.ada_owners.proofs.Objects.{read_same, read_other}
 use Rattle.ada_owners.proofs.Changes.{weaken, hand_worse, taken, nulls, held_anew, put_hand, put_copy, put_blank, store_hand}
@@ -164,46 +164,46 @@ module _ {kinds : Kinds} {objects : List Object} {activations : List (Activation
   store_owned x {v} found i f = store_hand objects o x found c v (hold_of r) (λ q ne. refl) f (some_component (is_lent r.lent o c)) i
 
 -- The aliases of an access type are forgotten.
-forgotten_good : (b : Bool) (h : Hold) → is_as_good h (forgotten b h) ≡ true
-forgotten_good false h = good_same h
-forgotten_good true held.Null = refl
-forgotten_good true (held.Own Whole) = refl
-forgotten_good true (held.Alias Whole) = refl
-forgotten_good true held.Lost = refl
+forget_one_good : (b : Bool) (h : Hold) → is_as_good h (without_alias b h) ≡ true
+forget_one_good false h = good_same h
+forget_one_good true held.Null = refl
+forget_one_good true (held.Own Whole) = refl
+forget_one_good true (held.Alias Whole) = refl
+forget_one_good true held.Lost = refl
 
-forgotten_borrows : (b : Bool) (h : Hold) → Borrows (forgotten b h) → b ≡ false
-forgotten_borrows false h a = refl
-forgotten_borrows true held.Null a = absurd a
-forgotten_borrows true (held.Own r) a = absurd a
-forgotten_borrows true (held.Alias r) a = absurd a
-forgotten_borrows true held.Lost a = absurd a
+forget_one_borrows : (b : Bool) (h : Hold) → Borrows (without_alias b h) → b ≡ false
+forget_one_borrows false h a = refl
+forget_one_borrows true held.Null a = absurd a
+forget_one_borrows true (held.Own r) a = absurd a
+forget_one_borrows true (held.Alias r) a = absurd a
+forget_one_borrows true held.Lost a = absurd a
 
-forgotten_owns : (b : Bool) (h : Hold) → Owns (forgotten b h) → Owns h
-forgotten_owns false h a = a
-forgotten_owns true held.Null a = a
-forgotten_owns true (held.Own r) a = a
-forgotten_owns true (held.Alias r) a = a
-forgotten_owns true held.Lost a = a
+forget_one_owns : (b : Bool) (h : Hold) → Owns (without_alias b h) → Owns h
+forget_one_owns false h a = a
+forget_one_owns true held.Null a = a
+forget_one_owns true (held.Own r) a = a
+forget_one_owns true (held.Alias r) a = a
+forget_one_owns true held.Lost a = a
 
-pub forget_good : (vs : List VariableForm) (t : ℕ) (holds : Holds) (x : ℕ) → is_as_good (hold_at holds x) (hold_at (forget vs t holds) x) ≡ true
+pub forget_good : (vs : List VariableForm) (t : ℕ) (holds : Holds) (x : ℕ) → is_as_good (hold_at holds x) (hold_at (without_aliases vs t holds) x) ≡ true
 forget_good [] t holds x = good_lost (hold_at holds x)
 forget_good (v ∷ vs) t [] x = refl
-forget_good (v ∷ vs) t (h ∷ hs) zero = forgotten_good (is_this t (access_of (Some v.kind))) h
+forget_good (v ∷ vs) t (h ∷ hs) zero = forget_one_good (is_this t (access_of (Some v.kind))) h
 forget_good (v ∷ vs) t (h ∷ hs) (suc x) = forget_good vs t hs x
 
 is_this_type : (t : ℕ) (access : Option ℕ) → access ≡ Some t → is_this t access ≡ true
 is_this_type t access e = rw e (eq-eqb t t refl)
 
-pub forget_borrows : (vs : List VariableForm) (t : ℕ) (holds : Holds) (x : ℕ) → Borrows (hold_at (forget vs t holds) x) → variable_access vs x ≢ Some t
+pub forget_borrows : (vs : List VariableForm) (t : ℕ) (holds : Holds) (x : ℕ) → Borrows (hold_at (without_aliases vs t holds) x) → variable_access vs x ≢ Some t
 forget_borrows [] t holds x a e = absurd a
 forget_borrows (v ∷ vs) t [] x a e = absurd a
-forget_borrows (v ∷ vs) t (h ∷ hs) zero a e = let b = forgotten_borrows (is_this t (access_of (Some v.kind))) h a in let i = is_this_type t (access_of (Some v.kind)) e in cc (b, i)
+forget_borrows (v ∷ vs) t (h ∷ hs) zero a e = let b = forget_one_borrows (is_this t (access_of (Some v.kind))) h a in let i = is_this_type t (access_of (Some v.kind)) e in cc (b, i)
 forget_borrows (v ∷ vs) t (h ∷ hs) (suc x) a e = forget_borrows vs t hs x a e
 
-forget_owner : (vs : List VariableForm) (t : ℕ) (holds : Holds) (x : ℕ) → Owns (hold_at (forget vs t holds) x) → Owns (hold_at holds x)
+pub forget_owner : (vs : List VariableForm) (t : ℕ) (holds : Holds) (x : ℕ) → Owns (hold_at (without_aliases vs t holds) x) → Owns (hold_at holds x)
 forget_owner [] t holds x a = absurd a
 forget_owner (v ∷ vs) t [] x a = absurd a
-forget_owner (v ∷ vs) t (h ∷ hs) zero a = forgotten_owns (is_this t (access_of (Some v.kind))) h a
+forget_owner (v ∷ vs) t (h ∷ hs) zero a = forget_one_owns (is_this t (access_of (Some v.kind))) h a
 forget_owner (v ∷ vs) t (h ∷ hs) (suc x) a = forget_owner vs t hs x a
 
 -- The holds of the running activation's variables become worse, and all else stays.
@@ -216,23 +216,23 @@ module _ {kinds : Kinds} {objects : List Object} {activations : List (Activation
   pub holds_fits : (holds : Holds) → ((x : ℕ) → is_as_good (hold_at r.holds x) (hold_at holds x) ≡ true) → Fits kinds objects activations (hold_of r) → Fits kinds objects activations (hold_of (record r { holds = holds }))
   holds_fits holds worse f = weaken (hold_of (record r { holds = holds })) (worse_holds r holds worse) f
 
-  pub forget_fits : (t : ℕ) → Fits kinds objects activations (hold_of r) → Fits kinds objects activations (hold_of (record r { holds = forget vs t r.holds }))
-  forget_fits t f = holds_fits (forget vs t r.holds) (forget_good vs t r.holds) f
+  pub forget_fits : (t : ℕ) → Fits kinds objects activations (hold_of r) → Fits kinds objects activations (hold_of (record r { holds = without_aliases vs t r.holds }))
+  forget_fits t f = holds_fits (without_aliases vs t r.holds) (forget_good vs t r.holds) f
 
-forget_owns : (r : Reliance) (vs : List VariableForm) (t : ℕ) (p : Place) → Owns (hold_of (record r { holds = forget vs t r.holds }) p) → Owns (hold_of r p)
+forget_owns : (r : Reliance) (vs : List VariableForm) (t : ℕ) (p : Place) → Owns (hold_of (record r { holds = without_aliases vs t r.holds }) p) → Owns (hold_of r p)
 forget_owns r vs t (variable x) a = forget_owner vs t r.holds x a
 forget_owns r vs t (component o c) a = a
 forget_owns r vs t (elsewhere d x) a = a
 
-pub hand_forget : {objects : List Object} {activations : List (Activation Value)} {kind : Option ℕ} {v : Value} (r : Reliance) (vs : List VariableForm) (t : ℕ) → IsInHand objects activations (hold_of r) kind v → IsInHand objects activations (hold_of (record r { holds = forget vs t r.holds })) kind v
-hand_forget r vs t i = hand_worse (hold_of (record r { holds = forget vs t r.holds })) (forget_owns r vs t) i
+pub hand_forget : {objects : List Object} {activations : List (Activation Value)} {kind : Option ℕ} {v : Value} (r : Reliance) (vs : List VariableForm) (t : ℕ) → IsInHand objects activations (hold_of r) kind v → IsInHand objects activations (hold_of (record r { holds = without_aliases vs t r.holds })) kind v
+hand_forget r vs t i = hand_worse (hold_of (record r { holds = without_aliases vs t r.holds })) (forget_owns r vs t) i
 
 component_borrows : (b : Bool) → Borrows (component_hold b) → ⊥
 component_borrows true a = a
 component_borrows false a = a
 
 -- Then no place of that type borrows, if none does in a suspended activation.
-pub none_borrows : (kinds : Kinds) (access : Id → Option ℕ) (r : Reliance) (vs : List VariableForm) (t : ℕ) → ((x : ℕ) → kinds.variables x ≡ variable_access vs x) → ((d x : ℕ) → Borrows (hold_at (r.outer d) x) → kinds.outer d x ≢ Some t) → (q : Place) → Borrows (hold_of (record r { holds = forget vs t r.holds }) q) → kind_of kinds access q ≢ Some t
+pub none_borrows : (kinds : Kinds) (access : Id → Option ℕ) (r : Reliance) (vs : List VariableForm) (t : ℕ) → ((x : ℕ) → kinds.variables x ≡ variable_access vs x) → ((d x : ℕ) → Borrows (hold_at (r.outer d) x) → kinds.outer d x ≢ Some t) → (q : Place) → Borrows (hold_of (record r { holds = without_aliases vs t r.holds }) q) → kind_of kinds access q ≢ Some t
 none_borrows kinds access r vs t same outer (variable x) a e = forget_borrows vs t r.holds x a (sym (same x) ∙ e)
 none_borrows kinds access r vs t same outer (component o c) a e = component_borrows (is_lent r.lent o c) a
 none_borrows kinds access r vs t same outer (elsewhere d x) a e = outer d x a e

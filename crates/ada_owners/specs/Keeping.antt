@@ -6,7 +6,7 @@ use Rattle.ada_program.specs.ProgramForm.{VariableForm}
 use Rattle.ada_flow.specs.declared.rule.Hold.{Hold}
 use Rattle.ada_flow.specs.declared.rule.Hold.TheVariants as held
 use Rattle.ada_flow.specs.declared.rule.Region.TheVariants.{Whole}
-use Rattle.ada_flow.specs.Flow.{Holds, hold_at, variable_access, is_among}
+use Rattle.ada_flow.specs.Flow.{Holds, hold_at, variable_access, is_among, without_aliases}
 use Rattle.ada_meaning.specs.declared.state.Id.{Id}
 use Rattle.ada_meaning.specs.declared.state.Value.{Value}
 use Rattle.ada_meaning.specs.declared.state.Value.TheVariants.{Null, Names}
@@ -14,7 +14,7 @@ use Rattle.ada_meaning.specs.Heap.{Cell}
 use Rattle.ada_meaning.specs.State.{Activation}
 use Rattle.ada_meaning.specs.Named.{Object, object_at, on_object, create, created, parted, finished, returned, store}
 use Rattle.ada_owners.specs.Places.{Place, variable, component, value_at, access_at, put_in, is_lent}
-use Rattle.ada_owners.specs.Reliance.{Owns, Borrows, Kinds, kind_of, Reliance, hold_of, with_hold, with_lent, callee_kinds, callee_reliance, caller_kinds, caller_reliance, spared, Fits, IsInHand, AreInHand, NameNothing, forget}
+use Rattle.ada_owners.specs.Reliance.{Owns, Borrows, Kinds, kind_of, Reliance, hold_of, with_hold, with_lent, callee_kinds, callee_reliance, caller_kinds, caller_reliance, spared, Fits, IsInHand, AreInHand, NameNothing}
 use Rattle.ada_owners.specs.Walks.{walk, kind_behind, ListedExist, IsRight}
 
 -- Of every state whose places are as they are relied on to be.
@@ -142,7 +142,7 @@ EndsKeep = InEveryFit (λ kinds objects activations r.
 
 -- What is relied on once a variable and the aliases of an access type are lost.
 abbrev pub with_freed : List VariableForm → (access x : ℕ) → Reliance → Reliance
-with_freed variables t x r = record r { holds = forget variables t (with_hold x held.Lost r).holds }
+with_freed variables t x r = record r { holds = without_aliases variables t (with_hold x held.Lost r).holds }
 
 -- Free (X), where X owns, and no suspended activation borrows an object of its access type: X is null then, and the aliases of that type are lost.
 abbrev pub FreesKeep : Type 0
@@ -163,7 +163,7 @@ ComponentFreesKeep = InEveryFit (λ kinds objects activations r.
     → access_at objects o ≡ Some u → u ≢ t → kinds.components u c ≡ Some t → is_lent r.lent o c ≡ false
     → value_at objects activations (component o c) ≡ Names k
     → Fits kinds (store (given_back objects (Names k)) (Names o) c Null) activations
-    (hold_of (record r { holds = forget variables t r.holds })))
+    (hold_of (record r { holds = without_aliases variables t r.holds })))
 
 -- A collection begins to go: nothing relies on places of its access type any more.
 abbrev pub SparesKeep : Type 0

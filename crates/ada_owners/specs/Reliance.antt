@@ -2,8 +2,6 @@
 
 use Rattle.std.specs.Prelude.{◌≡◌, ℕ, zero, suc, Bool, true, false, not, List, [], ◌∷◌, Option, Some, None}
 use Rattle.std.specs.List.{slice_index_or, slice_set}
-use Rattle.ada_program.specs.ProgramForm.{VariableForm}
-use Rattle.ada_program.specs.WellFormed.{access_of, is_this}
 use Rattle.ada_flow.specs.declared.rule.Hold.{Hold}
 use Rattle.ada_flow.specs.declared.rule.Hold.TheVariants as held
 use Rattle.ada_flow.specs.declared.rule.Region.TheVariants.{Whole}
@@ -142,17 +140,3 @@ abbrev pub AreInHand : List Object → List (Activation Value) → (Place → Ho
 AreInHand objects activations hold kind c [] = Unit {0}
 AreInHand objects activations hold kind c (v ∷ vs) =
     IsInHand objects activations hold (kind c) v × IsNotAmong v vs × AreInHand objects activations hold kind (suc c) vs
-
--- What is left of a hold once aliases of its access type may name an object that is gone.
-abbrev pub forgotten : Bool → Hold → Hold
-forgotten false h = h
-forgotten true held.Null = held.Null
-forgotten true (held.Own r) = held.Own r
-forgotten true (held.Alias r) = held.Lost
-forgotten true held.Lost = held.Lost
-
--- What variables hold once the aliases of an access type are lost.
-abbrev pub forget : List VariableForm → (access : ℕ) → Holds → Holds
-forget [] t holds = []
-forget (v ∷ vs) t [] = []
-forget (v ∷ vs) t (h ∷ hs) = forgotten (is_this t (access_of (Some v.kind))) h ∷ forget vs t hs

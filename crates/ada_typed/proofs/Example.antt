@@ -64,9 +64,9 @@ types = definition.Record no_name (vec (record { name = no_name; kind = kind.Int
 -- X : Link := new Cell'(Value => 7); N : Integer := X.Value; and the parameter I
 abbrev variables : List Variable
 variables =
-    record { name = no_name; kind = variable.Access (record { 0 = 1 }) }
-    ∷ record { name = no_name; kind = variable.Integer }
-    ∷ record { name = no_name; kind = variable.Integer }
+    record { name = no_name; kind = variable.Access (record { 0 = 1 }); borrows = false }
+    ∷ record { name = no_name; kind = variable.Integer; borrows = false }
+    ∷ record { name = no_name; kind = variable.Integer; borrows = false }
     ∷ []
 
 abbrev declarations : List Declaration

@@ -2,7 +2,7 @@
 
 use Rattle.ada_typed.specs.Holding.{Cells, HasKind, cells_of}
 use Rattle.ada_typed.specs.Stuck.{EndsByTheLanguage}
-use Rattle.std.proofs.Common.{◌≡◌, ℕ, zero, suc, ◌+◌, ◌<◌, ◌≤◌, ◌==◌, ◌&&◌, if◌then◌else◌, Bool, true, false, ℤ, ◌+ℤ◌, pos, int_le, List, [], ◌∷◌, length, map, Option, Some, None, arith, refl, sym, ap, ◌∙◌, subst}
+use Rattle.std.proofs.Common.{◌≡◌, ℕ, zero, suc, ◌+◌, ◌<◌, ◌≤◌, ◌==◌, ◌&&◌, not, if◌then◌else◌, Bool, true, false, ℤ, ◌+ℤ◌, pos, int_le, List, [], ◌∷◌, length, map, Option, Some, None, arith, refl, sym, ap, ◌∙◌, subst}
 use Rattle.std.proofs.lemmas.Bool.{eqb-true}
 use Rattle.std.specs.List.{slice_get, slice_index_or, list_all}
 use Rattle.ada_program.specs.declared.program.ScalarType.TheVariants.{Integer, Boolean}
@@ -14,7 +14,7 @@ use Rattle.ada_program.specs.Form.{ExpressionForm, RightForm, StmtForm, skips, a
 use Rattle.ada_program.specs.Handling.{some_takes, handler_of}
 use Rattle.ada_program.specs.ProgramForm.{VariableForm, ProgramForm}
 use Rattle.ada_program.specs.Typed.{words_of}
-use Rattle.ada_program.specs.WellFormed.{selectors_kind, variable_kind, path_access, access_of, scalar_of, names_variable, is_type, type_of, kind_takes, right_fits, is_freed_by, collections_first, collection_fits, initial_fits, declarations_fit, has_type, condition_fits, has_statement, choice_fits, statement_fits, stmts_fit, branches_fit, handlers_fit, names_before}
+use Rattle.ada_program.specs.WellFormed.{selectors_kind, variable_kind, path_access, access_of, scalar_of, names_variable, is_type, type_of, kind_takes, right_fits, names_borrower, lends_to, is_borrower, path_kind, is_freed_by, collections_first, collection_fits, initial_fits, declarations_fit, has_type, condition_fits, has_statement, choice_fits, statement_fits, stmts_fit, branches_fit, handlers_fit, names_before}
 use Rattle.ada_values.specs.declared.value.Value.TheVariants as scalar
 use Rattle.ada_meaning.specs.declared.state.Id.{Id}
 use Rattle.ada_meaning.specs.declared.state.Value.{Value}
@@ -238,11 +238,14 @@ module _ (p : ProgramForm) where
   stmt_fine : (f : StmtForm) (inside : Bool) (s : State) → Ready p [] s → statement_fits p.types p.variables p.texts p.exceptions inside f ≡ true → WhereInside inside (Lands p (cells_of s.heap) s.control) → Fits p (cells_of s.heap) [] s.control → Fine p (stmt_next named f s)
   stmt_fine skips inside s ready is lands fits = running [] ready fits
   stmt_fine (assigns target right) inside s ready is lands fits =
-      assign_fine target.selectors target.root right s [] ready is fits
+      let fitting = right_fits p.types p.variables (path_kind p.types p.variables target) right in
+      let lending = lends_to p.variables (names_borrower p.variables target) right in
+      assign_fine target.selectors target.root right s [] ready (and_left fitting lending is) fits
   stmt_fine (frees access path) inside s ready is lands fits =
-      frees_fine path.selectors access path.root s [] ready
-      (and_left (names_variable path) (is_freed_by p.types access (path_access p.types p.variables path)) is)
-      (and_right (names_variable path) (is_freed_by p.types access (path_access p.types p.variables path)) is) fits
+      let whole = names_variable path in
+      let freed = is_freed_by p.types access (path_access p.types p.variables path) in
+      let former = and_left (whole && freed) (not (names_borrower p.variables path)) is in
+      frees_fine path.selectors access path.root s [] ready (and_left whole freed former) (and_right whole freed former) fits
   stmt_fine (gets target) inside s ready is lands fits =
       gets_fine target.selectors target.root s.input s ready is fits
   stmt_fine (writes e) inside s ready is lands fits =
@@ -310,10 +313,12 @@ module _ (p : ProgramForm) where
   declarations_fine (declares x right ∷ ds) fs hs s ready deep fits =
       let early = names_before x right in
       let fitting = right_fits p.types p.variables (variable_kind p.variables x) right in
+      let lending = lends_to p.variables (is_borrower p.variables x) right in
       let later = list_all (initial_fits p.types p.variables) ds in
-      let own = right_kind (variable_kind p.variables x) p.variables right (and_right early fitting (and_left (early && fitting) later fits.2)) in
+      let former = and_left (early && fitting) lending (and_left (early && fitting && lending) later fits.2) in
+      let own = right_kind (variable_kind p.variables x) p.variables right (and_right early fitting former) in
       running [] (ready_at p [] s (frame.Evaluates right ∷ frame.Declares x ∷ frame.Elaborates ds fs hs ∷ s.control) ready deep)
-      (own.0, own.2, ([], own.0, refl, own.1, (refl, fits.1, and_right (early && fitting) later fits.2, fits.3, fits.4, fits.5, fits.6)))
+      (own.0, own.2, ([], own.0, refl, own.1, (refl, fits.1, and_right (early && fitting && lending) later fits.2, fits.3, fits.4, fits.5, fits.6)))
 
   -- The leaving of a master (7.6.1).
   ready_shorter : (kinds : List VariableKind) (s : State) → Ready p kinds s → Ready p kinds (record s { masters = shorter s.masters })
