@@ -28,7 +28,7 @@ use Rattle.ada_typed.proofs.Values.{AreFilled, filled_at, active_held}
 use Rattle.ada_typed.proofs.Evaluations.{cell_at}
 use Rattle.ada_typed.proofs.Control as typed
 use Rattle.ada_owners.specs.Places.{Place, variable, component, elsewhere, value_at, access_at}
-use Rattle.ada_owners.specs.Reliance.{IsOf, Owns}
+use Rattle.ada_owners.specs.Reliance.{IsOf, Says, Owns}
 use Rattle.ada_owners.specs.Walks.{walk}
 use Rattle.ada_owners.specs.Keeping.{IsThere}
 use Rattle.ada_owners.proofs.Kernel.{same_place, of_same}
@@ -39,7 +39,7 @@ use Rattle.ada_sound.specs.Agreement as agreement
 use Rattle.ada_sound.proofs.Items as items
 use Rattle.ada_sound.proofs.Stored.{Stored, exists_out}
 use Rattle.ada_sound.proofs.Back.{stored_before}
-use Rattle.ada_sound.proofs.Fits.{Fit, none_spared, hold_in, bare, component_value, access_is}
+use Rattle.ada_sound.proofs.Fits.{Fit, IsRelied, none_spared, hold_in, bare, component_value, access_is}
 use Rattle.ada_sound.proofs.Scalars.{scalars_lost}
 use Rattle.ada_sound.proofs.Invariant.{Control, RunsOn, Working, Half, Resumes, front, final}
 use Rattle.ada_sound.proofs.Starts.{reached, Sound}
@@ -108,22 +108,29 @@ module _ (program : Program) (s : State) (holds : Holds) (types : typed.Typed (p
   exists_here : (access : Option ℕ) (o : Id) → IsOf (access_at heap) access o → Exists s.heap s.masters access o
   exists_here access o of = exists_by access o stored (of_same (access_at heap) (access_at s.heap) access o (sym (same o)) of)
 
-  -- An owner holds no Integer or Boolean.
-  no_scalar : (x : ℕ) (r : Region) (kind : Option VariableKind) → variable_kind (variables_of program) x ≡ kind → hold_at holds x ≡ hold.Own r → (n : _) → value_in s x ≡ Scalar n → ⊥
-  no_scalar x r None is own n v = let none = lost x (ap access_of is) in cc (none, own)
-  no_scalar x r (Some variable.Integer) is own n v = let none = lost x (ap access_of is) in cc (none, own)
-  no_scalar x r (Some variable.Boolean) is own n v = let none = lost x (ap access_of is) in cc (none, own)
-  no_scalar x r (Some (variable.Access access)) is own n v = rw v at (typed_held (program_form program) s x (variable.Access access) types is)
+  -- What is not lost holds no Integer or Boolean.
+  no_scalar : (x : ℕ) (kind : Option VariableKind) → variable_kind (variables_of program) x ≡ kind → hold_at holds x ≢ hold.Lost → (n : _) → value_in s x ≡ Scalar n → ⊥
+  no_scalar x None is kept n v = kept (lost x (ap access_of is))
+  no_scalar x (Some variable.Integer) is kept n v = kept (lost x (ap access_of is))
+  no_scalar x (Some variable.Boolean) is kept n v = kept (lost x (ap access_of is))
+  no_scalar x (Some (variable.Access access)) is kept n v = rw v at (typed_held (program_form program) s x (variable.Access access) types is)
 
-  owner_is : (x : ℕ) (r : Region) (v : Value) → hold_at holds x ≡ hold.Own r → value_in s x ≡ v → IsValid s.heap s.masters (variable_access (variables_of program) x) v
-  owner_is x r Null own v = tt
-  owner_is x r (Names o) own v = exists_here (variable_access (variables_of program) x) o (rw own at (fit.owners.fit.relied (variable x) o v))
-  owner_is x r (Scalar n) own v = no_scalar x r (variable_kind (variables_of program) x) refl own n v
+  -- What an owner or a borrower names exists.
+  relied_exists : (access : Option ℕ) (h : Hold) (o : Id) → IsRelied h → Says (access_at heap) h access o → Exists s.heap s.masters access o
+  relied_exists access hold.Null o is says = absurd is
+  relied_exists access (hold.Own r) o is says = exists_here access o says
+  relied_exists access (hold.Alias r) o is says = exists_here access o says
+  relied_exists access hold.Lost o is says = absurd is
+
+  valid_by : (x : ℕ) (v : Value) → IsRelied (hold_at holds x) → hold_at holds x ≢ hold.Lost → value_in s x ≡ v → IsValid s.heap s.masters (variable_access (variables_of program) x) v
+  valid_by x Null is kept v = tt
+  valid_by x (Names o) is kept v = relied_exists (variable_access (variables_of program) x) (hold_at holds x) o is (fit.owners.fit.relied (variable x) o v)
+  valid_by x (Scalar n) is kept v = no_scalar x (variable_kind (variables_of program) x) refl kept n v
 
   each_is : (x : ℕ) (h : Hold) → hold_at holds x ≡ h → IsAs s.heap s.masters (variable_access (variables_of program) x) h (value_in s x)
   each_is x hold.Null e = rw e at (fit.nulls x)
-  each_is x (hold.Own r) e = owner_is x r (value_in s x) e refl
-  each_is x (hold.Alias r) e = let null : value_in s x ≡ Null = rw e at (fit.nulls x) in rw null tt
+  each_is x (hold.Own r) e = valid_by x (value_in s x) (rw e tt) (λ lost'. cc (e, lost')) refl
+  each_is x (hold.Alias r) e = valid_by x (value_in s x) (rw e tt) (λ lost'. cc (e, lost')) refl
   each_is x hold.Lost e = tt
 
   named_is : (o : Id) (object : Object) (c : ℕ) (k : Id) → object_at s.heap o ≡ Some object → object.listed ≡ true → slice_get object.cell.values c ≡ Some (Names k) → Exists s.heap s.masters (component_access (program_form program).types object c) k

@@ -23,7 +23,7 @@ use Rattle.ada_sound.proofs.Items.{newest_is}
 use Rattle.ada_sound.proofs.Stored.{Stored, IsTaken, stored_part, stored_finish, stored_back, stored_shorter, stored_older, exists_out, none_is_left, taken_is}
 use Rattle.ada_sound.proofs.Fits.{Fit, none_spared, going, weaker_fit, part_fit, finish_fit, back_fit, going_set, going_shorter, going_left}
 use Rattle.ada_sound.proofs.Alters.{alters_set}
-use Rattle.ada_sound.proofs.Invariant.{Known, Control, Rooms, Roomed, OwnedAmong, OwnsNone, RunsOn, Working, Parting, Freed, ClearsTo, LeavesTo, Behind, ThenBack, Ending, EndingBy, Backing, BackingBy, ReadyIn, Stepped, Fine, innermost}
+use Rattle.ada_sound.proofs.Invariant.{Known, Control, Rooms, Roomed, OwnedAmong, NamesNone, RunsOn, Working, Parting, Freed, ClearsTo, LeavesTo, Behind, ThenBack, Ending, EndingBy, Backing, BackingBy, ReadyIn, Stepped, Fine, innermost}
 use Rattle.ada_sound.proofs.Ready.{running, stays, goes_ready}
 use Rattle.ada_sound.proofs.Leavings.{HeldIn, taken_unnamed}
 
@@ -152,7 +152,7 @@ module _ (known : Known) where
     Left_with items = Parting known s.heap a.places (record { number = number; items = items } ∷ ms) (RunsOn known (Leaves mode ∷ k))
 
     -- An object in the newest collection is of a type that may go with the master, and of those no variable owns one.
-    none_owned : (item : Item) (items : List Item) (access : ℕ) (rooms : Rooms) (holds : Holds) → item.owned ≡ collection access → Roomed (record { number = number; items = item ∷ items } ∷ ms) rooms → RunsOn known (Leaves mode ∷ k) rooms holds → (types : List ℕ) × OwnsNone known.program.variables types holds × (is_among types (Some access) ≡ true)
+    none_owned : (item : Item) (items : List Item) (access : ℕ) (rooms : Rooms) (holds : Holds) → item.owned ≡ collection access → Roomed (record { number = number; items = item ∷ items } ∷ ms) rooms → RunsOn known (Leaves mode ∷ k) rooms holds → (types : List ℕ) × NamesNone known.program.variables types holds × (is_among types (Some access) ≡ true)
     none_owned item items access [] holds owns roomed r = absurd r
     none_owned item items access (types ∷ rooms) holds owns roomed r =
         let among : OwnedAmong (collection access) types = rw owns at roomed.0.0 in

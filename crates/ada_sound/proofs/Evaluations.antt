@@ -9,12 +9,12 @@ use Rattle.ada_program.specs.declared.program.VariableKind.{VariableKind}
 use Rattle.ada_program.specs.Form.{PathForm, ExpressionForm, ItemForm, RightForm, nothing, value_of, allocates, computes, assigns, StmtsForm, no_stmts, a_stmt}
 use Rattle.ada_text.specs.declared.spot.Spot.{Spot}
 use Rattle.ada_program.specs.Handling.{is_same}
-use Rattle.ada_program.specs.WellFormed.{access_of, selected_kind, selectors_kind, variable_kind, kind_takes}
+use Rattle.ada_program.specs.WellFormed.{access_of, selected_kind, selectors_kind, variable_kind, kind_takes, is_borrower}
 use Rattle.ada_effects.specs.Effects.{expression_raises, right_raises}
 use Rattle.ada_flow.specs.declared.rule.Hold.{Hold}
 use Rattle.ada_flow.specs.declared.rule.Hold.TheVariants as hold
 use Rattle.ada_flow.specs.declared.rule.Region.TheVariants.{Whole}
-use Rattle.ada_flow.specs.Flow.{Holds, hold_at, variable_access, uses_in, uses_in_item, uses_in_items, moved_by_item, reads_it, gives_component, lost_by, without_values, moved_by_items, value_hold, ends_with, gives, same_selectors, same_path, clears}
+use Rattle.ada_flow.specs.Flow.{Holds, hold_at, variable_access, uses_in, uses_in_item, uses_in_items, moved_by_item, reads_it, gives_component, lost_by, without_values, moved_by_items, value_hold, borrowed_hold, ends_with, gives, same_selectors, same_path, clears}
 use Rattle.ada_meaning.specs.declared.state.Id.{Id}
 use Rattle.ada_meaning.specs.declared.state.Value.{Value}
 use Rattle.ada_meaning.specs.declared.state.Value.TheVariants.{Null, Names, Scalar}
@@ -35,7 +35,7 @@ use Rattle.ada_typed.proofs.Values.{AreComputed}
 use Rattle.ada_typed.proofs.Control as typed
 use Rattle.ada_sound.proofs.Values.{read_other}
 use Rattle.ada_sound.proofs.Stored.{Stored, exists_out, stored_owning}
-use Rattle.ada_sound.proofs.Fits.{Fit, MayFollow, component_value, component_access, none_spared, bare, place_at, put_null, root_follows, component_follows, take_variable, take_component}
+use Rattle.ada_sound.proofs.Fits.{Fit, MayFollow, component_value, component_access, none_spared, bare, place_at, put_null, put_alias, component_is, root_follows, component_follows, take_variable, take_component}
 use Rattle.ada_sound.proofs.Invariant.{Known, Control, Rooms, Roomed, Accepts, Allocating, ItemsKeep, Clearing, component_among, StoringIn, Pairs, IsAlone, IsOne, Half, HalfBy, IsCleared, front, final, WalksOn, Goes, Raised, RunsOn, NoneBroken, MayRaise, FillsIn, IsHolder, Takes, Computing, Working, Resumes, EvaluatesTo, Awaits, FindsFor, MovesOn, FollowsFor, HalfFollows, ReadyIn, Stepped, Fine, ways}
 use Rattle.ada_sound.proofs.Ready.{running, at_work, stays, ready_on, runs_on, resumes_on, jumps_less}
 use Rattle.ada_sound.proofs.Walks.{finds_fine, half_fine}
@@ -44,7 +44,7 @@ use Rattle.ada_sound.proofs.Outcomes.{using_goes, ends_goes}
 use Rattle.ada_sound.proofs.Followings.{first_kept, kept_apart}
 use Rattle.ada_sound.proofs.Expressions.{reads_fine}
 use Rattle.ada_sound.proofs.Assigned.{Allocated, value_goes, computed_goes, allocated_goes, kind_names, selected_of}
-use Rattle.ada_sound.proofs.Taken.{variable_goes, declared_goes, component_goes, at_path, value_gives, value_fills, cleared_is, stored_after, there_after, selectors_are, walk_on, kept_root, root_access, path_goes, null_place, move_by, store_by}
+use Rattle.ada_sound.proofs.Taken.{variable_goes, declared_goes, component_goes, at_path, value_gives, value_fills, cleared_is, stored_after, there_after, selectors_are, walk_on, kept_root, root_access, path_goes, null_place, move_by, borrow_by, borrow_gives, store_by}
 
 module _ (known : Known) (k : Control) (a : Activation Value) (rest : List (Activation Value)) (s : State) where
   -- A variable's value is there for what awaits it.
@@ -77,17 +77,30 @@ module _ (known : Known) (k : Control) (a : Activation Value) (rest : List (Acti
           )
       into (Scalar n) c k' kind takes fits' w' = absurd (w'.rest.0)
 
-      to : (cleared : Bool) (x : ℕ) (k' : Control) → variable_access known.program.variables x ≡ variable_access known.program.variables root → (rooms : Rooms) (holds : Holds) → Stored None s.heap s.masters → Roomed s.masters rooms → Fit known.program.types known.program.variables none_spared s.heap a.places holds → Goes (gives cleared x (value_of (at_path root [] spot)) holds) (RunsOn known k' rooms) (Raised (λ e. right_raises (is_same e) (value_of (at_path root [] spot))) (ways known k' rooms)) → Working known s.heap (slice_set a.places x (place_at a.places root)) s.masters (RunsOn known k')
-      to cleared x k' same rooms holds stored roomed fit g =
-          let h = value_gives cleared x root [] spot holds (RunsOn known k' rooms) (Raised (λ e. right_raises (is_same e) (value_of (at_path root [] spot))) (ways known k' rooms)) g in
-          record {
-            rooms = rooms;
-            holds = slice_set (without_values (root ∷ []) holds) x (hold_at holds root);
-            stored = stored;
-            roomed = roomed;
-            fit = move_by fit root spot x (hold_at holds root) refl same h.0;
-            rest = h.1;
-          }
+      to : (cleared : Bool) (x : ℕ) (k' : Control) → variable_access known.program.variables x ≡ variable_access known.program.variables root → (rooms : Rooms) (holds : Holds) → Stored None s.heap s.masters → Roomed s.masters rooms → Fit known.program.types known.program.variables none_spared s.heap a.places holds → Goes (gives known.program.variables cleared x (value_of (at_path root [] spot)) holds) (RunsOn known k' rooms) (Raised (λ e. right_raises (is_same e) (value_of (at_path root [] spot))) (ways known k' rooms)) → Working known s.heap (slice_set a.places x (place_at a.places root)) s.masters (RunsOn known k')
+      to cleared x k' same rooms holds stored roomed fit g = by (is_borrower known.program.variables x) refl
+        where
+          by : (b : Bool) → is_borrower known.program.variables x ≡ b → Working known s.heap (slice_set a.places x (place_at a.places root)) s.masters (RunsOn known k')
+          by true is =
+              let h = borrow_gives known.program.variables cleared x root [] spot holds (RunsOn known k' rooms) (Raised (λ e. right_raises (is_same e) (value_of (at_path root [] spot))) (ways known k' rooms)) is g in
+              record {
+                rooms = rooms;
+                holds = slice_set holds x (borrowed_hold (hold_at holds root));
+                stored = stored;
+                roomed = roomed;
+                fit = borrow_by fit root spot x (hold_at holds root) refl same h.0;
+                rest = h.1;
+              }
+          by false is =
+              let h = value_gives known.program.variables cleared x root [] spot holds (RunsOn known k' rooms) (Raised (λ e. right_raises (is_same e) (value_of (at_path root [] spot))) (ways known k' rooms)) is g in
+              record {
+                rooms = rooms;
+                holds = slice_set (without_values (root ∷ []) holds) x (hold_at holds root);
+                stored = stored;
+                roomed = roomed;
+                fit = move_by fit root spot x (hold_at holds root) refl same h.0;
+                rest = h.1;
+              }
 
       go : (k' : Control) → typed.Fits known.program (cells_of s.heap) kinds (Evaluates (value_of (at_path root [] spot)) ∷ k') → Working known s.heap a.places s.masters (Takes known s.heap (value_of (at_path root [] spot)) k') → ReadyIn known Running k' s.heap a.places (place_at a.places root ∷ a.operands) s.masters
       go [] fits' w' = absurd (w'.rest)
@@ -134,12 +147,25 @@ module _ (known : Known) (k : Control) (a : Activation Value) (rest : List (Acti
         go : MayFollow s.heap v → IsThere s.heap p
         go follows = rw is at follows
 
+    -- Nothing is behind null.
+    no_walk : (u : Value) (e : ℕ) (es : List ℕ) → u ≡ Null → walk s.heap u (front (e ∷ es)) ≡ finds (Names o) → ⊥
+    no_walk u e [] null walks' = cc (null, walks')
+    no_walk u e (g ∷ es) null walks' = let none = rw null at walks' in cc none
+
+    -- The value of a component is lent to a borrower.
+    borrow_component_by : {holds : Holds} (x d : ℕ) (ds : List ℕ) (h : Hold) → hold_at holds root ≡ h → lost_by h spot ≡ None → (f : Fit known.program.types known.program.variables none_spared s.heap a.places holds) → WalksOn s.heap a.places (at_path root (d ∷ ds) spot) (Names o) (c ∷ []) → variable_access known.program.variables x ≡ component_access known.program.types object c → Fit known.program.types known.program.variables none_spared s.heap (slice_set a.places x v) (slice_set holds x (borrowed_hold h))
+    borrow_component_by x d ds hold.Null is kept f walks same = absurd (no_walk (place_at a.places root) d ds (null_place f root spot is) walks.0)
+    borrow_component_by x d ds (hold.Own r) is kept f walks same = put_alias x v r (rw same (λ p e. component_is o object c v p refl found listed at e f)) f
+    borrow_component_by x d ds (hold.Alias r) is kept f walks same = put_alias x v r (rw same (λ p e. component_is o object c v p refl found listed at e f)) f
+    borrow_component_by x d ds hold.Lost is kept f walks same = absurd (cc kept)
+
+    borrow_to : (cleared : Bool) (x d : ℕ) (ds : List ℕ) (k' : Control) (rooms : Rooms) (holds : Holds) → is_borrower known.program.variables x ≡ true → Stored None s.heap s.masters → Roomed s.masters rooms → Fit known.program.types known.program.variables none_spared s.heap a.places holds → WalksOn s.heap a.places (at_path root (d ∷ ds) spot) (Names o) (c ∷ []) → variable_access known.program.variables x ≡ component_access known.program.types object c → Goes (gives known.program.variables cleared x (value_of (at_path root (d ∷ ds) spot)) holds) (RunsOn known k' rooms) (Raised (λ e. right_raises (is_same e) (value_of (at_path root (d ∷ ds) spot))) (ways known k' rooms)) → Working known s.heap (slice_set a.places x v) s.masters (RunsOn known k')
+    borrow_to cleared x d ds k' rooms holds is stored roomed f walks same g =
+        let h = borrow_gives known.program.variables cleared x root (d ∷ ds) spot holds (RunsOn known k' rooms) (Raised (λ e. right_raises (is_same e) (value_of (at_path root (d ∷ ds) spot))) (ways known k' rooms)) is g in
+        record { rooms = rooms; holds = slice_set holds x (borrowed_hold (hold_at holds root)); stored = stored; roomed = roomed; fit = borrow_component_by x d ds (hold_at holds root) refl h.0 f walks same; rest = h.1 }
+
     take_variable_by : (x d : ℕ) (ds : List ℕ) (k' : Control) (rooms : Rooms) (holds : Holds) (h : Hold) → hold_at holds root ≡ h → lost_by h spot ≡ None → Stored None s.heap s.masters → Roomed s.masters rooms → (f : Fit known.program.types known.program.variables none_spared s.heap a.places holds) → x ≢ root → IsCleared (at_path root (d ∷ ds) spot) k' → WalksOn s.heap a.places (at_path root (d ∷ ds) spot) (Names o) (c ∷ []) → variable_access known.program.variables x ≡ component_access known.program.types object c → RunsOn known k' rooms (slice_set holds x (value_hold (d ∷ ds) h)) → HalfBy known k' s.heap (slice_set a.places x v) s.masters
     take_variable_by x d ds k' rooms holds hold.Null is kept stored roomed f ne cleared walks same more = absurd (no_walk (place_at a.places root) d ds (null_place f root spot is) walks.0)
-      where
-        no_walk : (u : Value) (e : ℕ) (es : List ℕ) → u ≡ Null → walk s.heap u (front (e ∷ es)) ≡ finds (Names o) → ⊥
-        no_walk u e [] null walks' = cc (null, walks')
-        no_walk u e (g ∷ es) null walks' = let none = rw null at walks' in cc none
     take_variable_by x d ds k' rooms holds hold.Lost is kept stored roomed f ne cleared walks same more = absurd (cc kept)
     take_variable_by x d ds k' rooms holds (hold.Own r) is kept stored roomed f ne cleared walks same more =
         half_behind s.heap (slice_set a.places x v) root (d ∷ ds) spot k' o c cleared walks.1
@@ -152,21 +178,36 @@ module _ (known : Known) (k : Control) (a : Activation Value) (rest : List (Acti
         (λ p e. named_there f p (sym (component_value s.heap [] o object c v found listed at) ∙ e))
         (record { rooms = rooms; holds = slice_set holds x (hold.Own r); stored = stored_after s.heap o c Null stored; roomed = roomed; fit = take_variable x r o object c v found listed at same f; rest = more })
 
-    take_to : (cleared : Bool) (x d : ℕ) (ds : List ℕ) (k' : Control) (rooms : Rooms) (holds : Holds) → Stored None s.heap s.masters → Roomed s.masters rooms → Fit known.program.types known.program.variables none_spared s.heap a.places holds → WalksOn s.heap a.places (at_path root (d ∷ ds) spot) (Names o) (c ∷ []) → variable_access known.program.variables x ≡ component_access known.program.types object c → Goes (gives cleared x (value_of (at_path root (d ∷ ds) spot)) holds) (RunsOn known k' rooms) (Raised (λ e. right_raises (is_same e) (value_of (at_path root (d ∷ ds) spot))) (ways known k' rooms)) → Pairs cleared (value_of (at_path root (d ∷ ds) spot)) (λ path. x ≢ path.root) k' → HalfBy known k' s.heap (slice_set a.places x v) s.masters
-    take_to false x d ds k' rooms holds stored roomed f walks same g pairs =
-        let h = value_gives false x root (d ∷ ds) spot holds (RunsOn known k' rooms) (Raised (λ e. right_raises (is_same e) (value_of (at_path root (d ∷ ds) spot))) (ways known k' rooms)) g in
-        let no = cleared_is false (hold_at holds root) spot h.0 in
-        absurd (cc (no.0))
-    take_to true x d ds k' rooms holds stored roomed f walks same g pairs =
-        let h = value_gives true x root (d ∷ ds) spot holds (RunsOn known k' rooms) (Raised (λ e. right_raises (is_same e) (value_of (at_path root (d ∷ ds) spot))) (ways known k' rooms)) g in
+    take_to : (cleared : Bool) (x d : ℕ) (ds : List ℕ) (k' : Control) (rooms : Rooms) (holds : Holds) → is_borrower known.program.variables x ≡ false → Stored None s.heap s.masters → Roomed s.masters rooms → Fit known.program.types known.program.variables none_spared s.heap a.places holds → WalksOn s.heap a.places (at_path root (d ∷ ds) spot) (Names o) (c ∷ []) → variable_access known.program.variables x ≡ component_access known.program.types object c → Goes (gives known.program.variables cleared x (value_of (at_path root (d ∷ ds) spot)) holds) (RunsOn known k' rooms) (Raised (λ e. right_raises (is_same e) (value_of (at_path root (d ∷ ds) spot))) (ways known k' rooms)) → Pairs cleared (value_of (at_path root (d ∷ ds) spot)) (λ path. x ≢ path.root) k' → HalfBy known k' s.heap (slice_set a.places x v) s.masters
+    take_to false x d ds k' rooms holds owned stored roomed f walks same g pairs =
+        let h = value_gives known.program.variables false x root (d ∷ ds) spot holds (RunsOn known k' rooms) (Raised (λ e. right_raises (is_same e) (value_of (at_path root (d ∷ ds) spot))) (ways known k' rooms)) owned g in
+        let none = cleared_is false (hold_at holds root) spot h.0 in
+        absurd (cc (none.0))
+    take_to true x d ds k' rooms holds owned stored roomed f walks same g pairs =
+        let h = value_gives known.program.variables true x root (d ∷ ds) spot holds (RunsOn known k' rooms) (Raised (λ e. right_raises (is_same e) (value_of (at_path root (d ∷ ds) spot))) (ways known k' rooms)) owned g in
         take_variable_by x d ds k' rooms holds (hold_at holds root) refl h.0 stored roomed f pairs.0 pairs.1 walks same h.1
 
-    declares_none : (cleared : Bool) (x d : ℕ) (ds : List ℕ) (k' : Control) (rooms : Rooms) (holds : Holds) → Goes (gives cleared x (value_of (at_path root (d ∷ ds) spot)) holds) (RunsOn known k' rooms) (Raised (λ e. right_raises (is_same e) (value_of (at_path root (d ∷ ds) spot))) (ways known k' rooms)) → IsAlone cleared → ⊥
-    declares_none true x d ds k' rooms holds g alone = alone
-    declares_none false x d ds k' rooms holds g alone =
-        let h = value_gives false x root (d ∷ ds) spot holds (RunsOn known k' rooms) (Raised (λ e. right_raises (is_same e) (value_of (at_path root (d ∷ ds) spot))) (ways known k' rooms)) g in
-        let no = cleared_is false (hold_at holds root) spot h.0 in
-        cc (no.0)
+    declares_none : (cleared : Bool) (x d : ℕ) (ds : List ℕ) (k' : Control) (rooms : Rooms) (holds : Holds) → is_borrower known.program.variables x ≡ false → Goes (gives known.program.variables cleared x (value_of (at_path root (d ∷ ds) spot)) holds) (RunsOn known k' rooms) (Raised (λ e. right_raises (is_same e) (value_of (at_path root (d ∷ ds) spot))) (ways known k' rooms)) → IsAlone cleared → ⊥
+    declares_none true x d ds k' rooms holds owned g alone = alone
+    declares_none false x d ds k' rooms holds owned g alone =
+        let h = value_gives known.program.variables false x root (d ∷ ds) spot holds (RunsOn known k' rooms) (Raised (λ e. right_raises (is_same e) (value_of (at_path root (d ∷ ds) spot))) (ways known k' rooms)) owned g in
+        let none = cleared_is false (hold_at holds root) spot h.0 in
+        cc (none.0)
+
+    -- A variable gets the value: a borrower as it is, any other with the first half of a take pair; a declaration is none.
+    stores_to : (cleared : Bool) (x d : ℕ) (ds : List ℕ) (k' : Control) (rooms : Rooms) (holds : Holds) → Stored None s.heap s.masters → Roomed s.masters rooms → Fit known.program.types known.program.variables none_spared s.heap a.places holds → WalksOn s.heap a.places (at_path root (d ∷ ds) spot) (Names o) (c ∷ []) → variable_access known.program.variables x ≡ component_access known.program.types object c → Goes (gives known.program.variables cleared x (value_of (at_path root (d ∷ ds) spot)) holds) (RunsOn known k' rooms) (Raised (λ e. right_raises (is_same e) (value_of (at_path root (d ∷ ds) spot))) (ways known k' rooms)) → Pairs cleared (value_of (at_path root (d ∷ ds) spot)) (λ path. x ≢ path.root) k' → Resumes known s.heap (slice_set a.places x v) s.masters k'
+    stores_to cleared x d ds k' rooms holds stored roomed f walks same g pairs = by (is_borrower known.program.variables x) refl
+      where
+        by : (b : Bool) → is_borrower known.program.variables x ≡ b → Resumes known s.heap (slice_set a.places x v) s.masters k'
+        by true is = inl (borrow_to cleared x d ds k' rooms holds is stored roomed f walks same g)
+        by false is = inr (take_to cleared x d ds k' rooms holds is stored roomed f walks same g pairs)
+
+    declares_to : (cleared : Bool) (x d : ℕ) (ds : List ℕ) (k' : Control) (rooms : Rooms) (holds : Holds) → Stored None s.heap s.masters → Roomed s.masters rooms → Fit known.program.types known.program.variables none_spared s.heap a.places holds → WalksOn s.heap a.places (at_path root (d ∷ ds) spot) (Names o) (c ∷ []) → variable_access known.program.variables x ≡ component_access known.program.types object c → Goes (gives known.program.variables cleared x (value_of (at_path root (d ∷ ds) spot)) holds) (RunsOn known k' rooms) (Raised (λ e. right_raises (is_same e) (value_of (at_path root (d ∷ ds) spot))) (ways known k' rooms)) → IsAlone cleared → Working known s.heap (slice_set a.places x v) s.masters (RunsOn known k')
+    declares_to cleared x d ds k' rooms holds stored roomed f walks same g alone = by (is_borrower known.program.variables x) refl
+      where
+        by : (b : Bool) → is_borrower known.program.variables x ≡ b → Working known s.heap (slice_set a.places x v) s.masters (RunsOn known k')
+        by true is = borrow_to cleared x d ds k' rooms holds is stored roomed f walks same g
+        by false is = absurd (declares_none cleared x d ds k' rooms holds is g alone)
 
     -- The same into a component: then the path has one selector.
     take_into : (cleared : Bool) (target : PathForm) (q : Id) (holder : Object) (e d : ℕ) (ds : List ℕ) (k' : Control) (rooms : Rooms) (holds : Holds) → object_at s.heap q ≡ Some holder → holder.listed ≡ true → Stored None s.heap s.masters → Roomed s.masters rooms → Fit known.program.types known.program.variables none_spared s.heap a.places holds → WalksOn s.heap a.places (at_path root (d ∷ ds) spot) (Names o) (c ∷ []) → component_access known.program.types holder e ≡ component_access known.program.types object c → Goes (gives_component cleared target (value_of (at_path root (d ∷ ds) spot)) holds) (RunsOn known k' rooms) (Raised (component_among (value_of (at_path root (d ∷ ds) spot))) (ways known k' rooms)) → Pairs cleared (value_of (at_path root (d ∷ ds) spot)) (λ taken. IsOne taken.selectors) k' → HalfBy known k' (store s.heap (Names q) e v) a.places s.masters
@@ -201,8 +242,8 @@ module _ (known : Known) (k : Control) (a : Activation Value) (rest : List (Acti
 
         go : (k' : Control) → typed.Fits known.program (cells_of s.heap) (to ∷ kinds) k' → Working known s.heap a.places s.masters (Takes known s.heap (value_of (at_path root (d ∷ ds) spot)) k') → ReadyIn known Running k' s.heap a.places (v ∷ below) s.masters
         go [] fits' w' = absurd (w'.rest)
-        go (Stores x ∷ k') fits' w' = inr (take_to w'.rest.0 x d ds k' w'.rooms w'.holds w'.stored w'.roomed w'.fit walks (variable_goes known.program s.heap to kinds x k' fits' ∙ sym is) w'.rest.1 w'.rest.2)
-        go (Declares x ∷ k') fits' w' = absurd (declares_none w'.rest.0 x d ds k' w'.rooms w'.holds w'.rest.1 w'.rest.2)
+        go (Stores x ∷ k') fits' w' = stores_to w'.rest.0 x d ds k' w'.rooms w'.holds w'.stored w'.roomed w'.fit walks (variable_goes known.program s.heap to kinds x k' fits' ∙ sym is) w'.rest.1 w'.rest.2
+        go (Declares x ∷ k') fits' w' = declares_to w'.rest.0 x d ds k' w'.rooms w'.holds w'.stored w'.roomed w'.fit walks (declared_goes known.program s.heap to kinds x k' fits' ∙ sym is) w'.rest.1 w'.rest.2
         go (StoresIn q e ∷ k') fits' w' = into q e k' fits' w'
         go (f ∷ k') fits' w' = absurd (w'.rest)
 
@@ -254,7 +295,7 @@ module _ (known : Known) (k : Control) (a : Activation Value) (rest : List (Acti
       al : Allocated known.program.types known.program.variables kind access items
       al = allocated_goes known.program.types known.program.variables kind access items takes
 
-      to : (x : ℕ) (k' : Control) → variable_access known.program.variables x ≡ access_of (Some kind) → (cleared : Bool) → Goes (gives cleared x (allocates access items) holds) (RunsOn known k' rooms) (Raised (λ e. right_raises (is_same e) (allocates access items)) (ways known k' rooms)) → NoneBroken holds (uses_in_items [] items) × (((variable_access known.program.variables x ≡ Some access) × RunsOn known k' rooms (slice_set (without_values (moved_by_items items) holds) x (hold.Own Whole))) × Raised (λ e. right_raises (is_same e) (allocates access items)) (ways known k' rooms) holds)
+      to : (x : ℕ) (k' : Control) → variable_access known.program.variables x ≡ access_of (Some kind) → (cleared : Bool) → Goes (gives known.program.variables cleared x (allocates access items) holds) (RunsOn known k' rooms) (Raised (λ e. right_raises (is_same e) (allocates access items)) (ways known k' rooms)) → NoneBroken holds (uses_in_items [] items) × (((variable_access known.program.variables x ≡ Some access) × RunsOn known k' rooms (slice_set (without_values (moved_by_items items) holds) x (hold.Own Whole))) × Raised (λ e. right_raises (is_same e) (allocates access items)) (ways known k' rooms) holds)
       to x k' is cleared g =
           let u = using_goes (uses_in_items [] items) holds (ends_with true holds (slice_set (without_values (moved_by_items items) holds) x (hold.Own Whole))) (RunsOn known k' rooms) (Raised (λ e. right_raises (is_same e) (allocates access items)) (ways known k' rooms)) g in
           (u.0, ((is ∙ al.goes, u.1.0), u.1.1))
@@ -289,7 +330,7 @@ module _ (known : Known) (k : Control) (a : Activation Value) (rest : List (Acti
   computing : (e : ExpressionForm) (kind : VariableKind) (kinds : List VariableKind) → kind_takes known.program.types known.program.variables kind (computes e) ≡ true → typed.Fits known.program (cells_of s.heap) (kind ∷ kinds) k → (rooms : Rooms) (holds : Holds) → Takes known s.heap (computes e) k rooms holds → Computing known s.heap a.places a.operands e k rooms holds
   computing e kind kinds takes fits rooms holds = go k fits
     where
-      to : (x : ℕ) (k' : Control) (cleared : Bool) → Goes (gives cleared x (computes e) holds) (RunsOn known k' rooms) (Raised (λ y. right_raises (is_same y) (computes e)) (ways known k' rooms)) → NoneBroken holds (uses_in e) × (RunsOn known k' rooms (slice_set holds x hold.Lost) × (expression_raises e ≡ true → Raised (λ y. right_raises (is_same y) (computes e)) (ways known k' rooms) holds))
+      to : (x : ℕ) (k' : Control) (cleared : Bool) → Goes (gives known.program.variables cleared x (computes e) holds) (RunsOn known k' rooms) (Raised (λ y. right_raises (is_same y) (computes e)) (ways known k' rooms)) → NoneBroken holds (uses_in e) × (RunsOn known k' rooms (slice_set holds x hold.Lost) × (expression_raises e ≡ true → Raised (λ y. right_raises (is_same y) (computes e)) (ways known k' rooms) holds))
       to x k' cleared g =
           let raised' = Raised (λ y. right_raises (is_same y) (computes e)) (ways known k' rooms) in
           let u = using_goes (uses_in e) holds (ends_with (expression_raises e) holds (slice_set holds x hold.Lost)) (RunsOn known k' rooms) raised' g in
@@ -314,7 +355,7 @@ module _ (known : Known) (k : Control) (a : Activation Value) (rest : List (Acti
   nothing_ready : EvaluatesTo known nothing k s.heap a.places s.masters → ReadyIn known Running k s.heap a.places (Null ∷ a.operands) s.masters
   nothing_ready e = go k e
     where
-      to : (cleared : Bool) (x : ℕ) (k' : Control) (rooms : Rooms) (holds : Holds) → Stored None s.heap s.masters → Roomed s.masters rooms → Fit known.program.types known.program.variables none_spared s.heap a.places holds → Goes (gives cleared x nothing holds) (RunsOn known k' rooms) (Raised (λ y. right_raises (is_same y) nothing) (ways known k' rooms)) → Working known s.heap (slice_set a.places x Null) s.masters (RunsOn known k')
+      to : (cleared : Bool) (x : ℕ) (k' : Control) (rooms : Rooms) (holds : Holds) → Stored None s.heap s.masters → Roomed s.masters rooms → Fit known.program.types known.program.variables none_spared s.heap a.places holds → Goes (gives known.program.variables cleared x nothing holds) (RunsOn known k' rooms) (Raised (λ y. right_raises (is_same y) nothing) (ways known k' rooms)) → Working known s.heap (slice_set a.places x Null) s.masters (RunsOn known k')
       to cleared x k' rooms holds stored roomed fit g = record { rooms = rooms; holds = slice_set holds x hold.Null; stored = stored; roomed = roomed; fit = put_null x fit; rest = g.0 }
 
       clears_in : (o : Value) (c : ℕ) (k' : Control) → Clearing known o c k' s.heap a.places s.masters → StoringIn known o c Null k' s.heap a.places s.masters

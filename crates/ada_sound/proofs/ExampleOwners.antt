@@ -64,31 +64,31 @@ program_with types few statements le = record {
 abbrev path : ℕ → (selectors : List ComponentNo) → length selectors ≤ 8 → Path
 path x selectors le = record { root = record { 0 = x }; selectors = vec selectors le; spot = spot }
 
-abbrev whole : ℕ → Path
+abbrev pub whole : ℕ → Path
 whole x = path x [] (omega arith)
 
-abbrev part : ℕ → ℕ → Path
+abbrev pub part : ℕ → ℕ → Path
 part x c = path x (record { 0 = c } ∷ []) (omega arith)
 
 -- P := null; P := Q; X := new T'(..); Free (X);
-abbrev clears : Path → Stmt
+abbrev pub clears : Path → Stmt
 clears p = stmt.Assign p right.Null
 
-abbrev moves : Path → Path → Stmt
+abbrev pub moves : Path → Path → Stmt
 moves p q = stmt.Assign p (right.Path q)
 
 abbrev news : (x access : ℕ) → (items : List Item) → length items ≤ 8 → Stmt
 news x access items le = stmt.Assign (whole x) (right.Allocator (record { 0 = access }) (vec items le))
 
-abbrev frees : ℕ → Stmt
+abbrev pub frees : ℕ → Stmt
 frees x = stmt.Free (record { 0 = 1 }) (whole x)
 
 -- type Node is record Value : Integer; Next : Link; end record; type Link is access Node; Head, Rest : Link;
-abbrev node_types : List TypeDefinition
+abbrev pub node_types : List TypeDefinition
 node_types = record_of (an_integer ∷ an_access 1 ∷ []) (omega arith) ∷ access_to 0 ∷ []
 
 -- Head := new Node'(n, Head);
-abbrev pushing : ℕ → Stmt
+abbrev pub pushing : ℕ → Stmt
 pushing n = news 0 1 (item.Value (Integer (pos n)) ∷ item.Path (whole 0) ∷ []) (omega arith)
 
 -- while Head /= null loop
@@ -174,7 +174,7 @@ abbrev outlasting_types : List TypeDefinition
 outlasting_types = record_of (an_integer ∷ []) (omega arith) ∷ record_of (an_access 3 ∷ []) (omega arith) ∷ access_to 1 ∷ access_to 0 ∷ []
 
 abbrev of_access : ℕ → Variable
-of_access access = record { name = no_name; kind = variable.Access (record { 0 = access }) }
+of_access access = record { name = no_name; kind = variable.Access (record { 0 = access }); borrows = false }
 
 abbrev created : (access x : ℕ) → List Declaration
 created access x = declaration.Collection (record { 0 = access }) ∷ declaration.Variable (record { 0 = x }) None ∷ []

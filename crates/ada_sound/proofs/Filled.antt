@@ -24,7 +24,7 @@ use Rattle.ada_owners.proofs.Kernel as kernel
 use Rattle.ada_owners.proofs.Kernel.{same_or_not}
 use Rattle.ada_owners.proofs.Objects.{read_other}
 use Rattle.ada_typed.specs.Holding.{Cells, HasKind, HaveKinds}
-use Rattle.ada_sound.proofs.Fits.{Fit, IsBlank, IsOwn, bare, relied, none_spared, hold_in, place_at}
+use Rattle.ada_sound.proofs.Fits.{Fit, IsBlank, IsOwn, bare, none_spared, hold_in, place_at}
 use Rattle.ada_sound.proofs.Invariant.{NoneBroken, back_onto, moved_of, ItemsKeep, DoneKeep, FilledPath, FilledBy, Filled}
 use Rattle.ada_sound.proofs.Followings.{first_kept}
 
@@ -149,7 +149,7 @@ moves_one : (moved : List ℕ) (x y : ℕ) → moved ≡ x ∷ [] → x ≡ y �
 moves_one moved x y is same once = let one = first_one y [] in cc one
 
 -- An owner is relied on to own.
-owns_by : (h : Hold) → IsOwn h → Owns (relied h)
+owns_by : (h : Hold) → IsOwn h → Owns h
 owns_by (hold.Own r) own = tt
 owns_by h own = absurd own
 
@@ -214,7 +214,7 @@ module _ (types : List TypeForm) (variables : List VariableForm) (heap : List Ob
 
   -- Once these are lost, the value of an item that moves one of them is in hand.
   module _ (xs : List ℕ) where
-    left_owns : (b : Bool) (h : Hold) → Owns (relied (hold_left b h)) → (b ≡ false) × Owns (relied h)
+    left_owns : (b : Bool) (h : Hold) → Owns (hold_left b h) → (b ≡ false) × Owns h
     left_owns false h own = (refl, own)
     left_owns true hold.Null own = absurd own
     left_owns true (hold.Own r) own = absurd own

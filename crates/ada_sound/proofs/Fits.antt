@@ -1,6 +1,6 @@
 -- What is relied on in a run: variables of the running activation by their holds, and components, which own what they hold.
 
-use Rattle.std.proofs.Common.{◌≡◌, ◌≢◌, ℕ, zero, suc, Bool, true, false, List, [], ◌∷◌, map, refl, sym, ap, ◌∙◌, ◌⊎◌, inl, inr}
+use Rattle.std.proofs.Common.{◌≡◌, ◌≢◌, ℕ, zero, suc, Bool, true, false, List, [], ◌∷◌, refl, sym, ap, ◌∙◌, ◌⊎◌, inl, inr}
 use Rattle.std.specs.Prelude.{Option, Some, None, ◌==◌, ◌||◌, if◌then◌else◌}
 use Rattle.std.specs.List.{slice_get, slice_set, slice_index_or}
 use Rattle.std.proofs.lemmas.Bool.{eqb-true}
@@ -11,7 +11,7 @@ use Rattle.ada_flow.specs.declared.rule.Hold.{Hold}
 use Rattle.ada_flow.specs.declared.rule.Hold.TheVariants as hold
 use Rattle.ada_flow.specs.declared.rule.Region.{Region}
 use Rattle.ada_flow.specs.declared.rule.Region.TheVariants.{Whole}
-use Rattle.ada_flow.specs.Flow.{Holds, hold_at, variable_access, lost_by, is_as_good, left_by_move, without_value, without_values}
+use Rattle.ada_flow.specs.Flow.{Holds, hold_at, variable_access, lost_by, is_as_good, left_by_move, without_value, without_values, without_aliases, behind_end, freed}
 use Rattle.ada_meaning.specs.declared.state.Id.{Id}
 use Rattle.ada_meaning.specs.declared.state.Value.{Value}
 use Rattle.ada_meaning.specs.declared.state.Value.TheVariants.{Null, Names, Scalar}
@@ -28,8 +28,8 @@ use Rattle.ada_owners.proofs.Objects.{read_same, read_other, at_other, listed_at
 use Rattle.ada_owners.proofs.Changes as changes
 use Rattle.ada_owners.proofs.Changes.{weaken, taken, nulls, put_fits, put_hand, put_blank, put_reads, put_value, at_here, changed_is, store_hand}
 use Rattle.ada_owners.proofs.Creations.{create_fits, created_hand}
-use Rattle.ada_owners.proofs.Ends.{IsUnnamed, part_fits, finish_parted, back_fits}
-use Rattle.ada_owners.proofs.Reliances.{good_same, good_lost}
+use Rattle.ada_owners.proofs.Ends.{IsUnnamed, kind_is, part_fits, finish_parted, back_fits}
+use Rattle.ada_owners.proofs.Reliances.{good_same, good_lost, forget_good, forget_borrows, forget_owner}
 use Rattle.ada_owners.proofs.Keeping.{take_pairs_keep, component_pairs_keep}
 
 -- The access types of components and of variables; no activation is suspended.
@@ -44,13 +44,6 @@ kinds_of types variables = record {
 abbrev pub bare : List Value → List (Activation Value)
 bare places = record { places = places; operands = [] } ∷ []
 
--- No form gives an alias yet: what is called one is null.
-abbrev pub relied : Hold → Hold
-relied hold.Null = hold.Null
-relied (hold.Own r) = hold.Own r
-relied (hold.Alias r) = hold.Null
-relied hold.Lost = hold.Lost
-
 -- Nothing relies on the components of some objects: of none; or of those whose home is one of these items.
 abbrev pub none_spared : Id → Bool
 none_spared o = false
@@ -64,15 +57,15 @@ going heap items o = lies_among (object_at heap o) items
 
 -- What a place is relied on for.
 abbrev pub hold_in : (spared : Id → Bool) → Holds → Place → Hold
-hold_in spared holds (variable x) = relied (hold_at holds x)
+hold_in spared holds (variable x) = hold_at holds x
 hold_in spared holds (component o c) = component_hold (spared o)
 hold_in spared holds (elsewhere d x) = hold.Lost
 
--- A variable that is called null, or an alias, is null.
+-- A variable that is called null is null.
 abbrev pub IsBlank : Hold → Value → Type 0
 IsBlank hold.Null v = v ≡ Null
 IsBlank (hold.Own r) v = Unit {0}
-IsBlank (hold.Alias r) v = v ≡ Null
+IsBlank (hold.Alias r) v = Unit {0}
 IsBlank hold.Lost v = Unit {0}
 
 abbrev pub place_at : List Value → ℕ → Value
@@ -94,6 +87,17 @@ IsOwn (hold.Own r) = Unit {0}
 IsOwn (hold.Alias r) = ⊥
 IsOwn hold.Lost = ⊥
 
+-- It is relied on to name what is there.
+abbrev pub IsRelied : Hold → Type 0
+IsRelied hold.Null = ⊥
+IsRelied (hold.Own r) = Unit {0}
+IsRelied (hold.Alias r) = Unit {0}
+IsRelied hold.Lost = ⊥
+
+-- What a value names, if it names anything, is there, and of this access type.
+abbrev pub MayName : List Object → (kind : Option ℕ) → Value → Type 0
+MayName heap kind v = (o : Id) → v ≡ Names o → IsOf (access_at heap) kind o
+
 -- A value that may be followed: null raises, and what is named is there; another value is no access value.
 abbrev pub MayFollow : List Object → Value → Type 0
 MayFollow heap Null = Unit {0}
@@ -104,26 +108,17 @@ MayFollow heap (Scalar v) = Unit {0}
 abbrev pub component_access : List TypeForm → Object → (c : ℕ) → Option ℕ
 component_access types x c = access_of (kind_among (reached_components types x.cell.access) c)
 
--- What is as good stays so where an alias counts as null.
-relied_good : (g h : Hold) → is_as_good g h ≡ true → is_as_good (relied g) (relied h) ≡ true
-relied_good hold.Null h e = refl
-relied_good (hold.Alias r) h e = refl
-relied_good g hold.Lost e = good_lost (relied g)
-relied_good (hold.Own Whole) (hold.Own Whole) e = refl
-relied_good g h e = absurd (cc e)
-
--- What is called null, or an alias, by less was called so before.
+-- What is called null by less was called so before.
 blank_good : (g h : Hold) (v : Value) → is_as_good g h ≡ true → IsBlank g v → IsBlank h v
 blank_good g (hold.Own r) v e is = tt
+blank_good g (hold.Alias r) v e is = tt
 blank_good g hold.Lost v e is = tt
 blank_good hold.Null hold.Null v e is = is
-blank_good hold.Null (hold.Alias r) v e is = is
-blank_good (hold.Alias Whole) (hold.Alias r) v e is = is
 blank_good g h v e is = absurd (cc e)
 
 -- What is relied on is as good everywhere, if it is so for variables.
 weaker_holds : (spared : Id → Bool) (holds less : Holds) → ((x : ℕ) → is_as_good (hold_at holds x) (hold_at less x) ≡ true) → (p : Place) → is_as_good (hold_in spared holds p) (hold_in spared less p) ≡ true
-weaker_holds spared holds less good (variable x) = relied_good (hold_at holds x) (hold_at less x) (good x)
+weaker_holds spared holds less good (variable x) = good x
 weaker_holds spared holds less good (component o c) = good_same (component_hold (spared o))
 weaker_holds spared holds less good (elsewhere d x) = refl
 
@@ -140,7 +135,7 @@ spared_good true = refl
 spared_good false = refl
 
 spared_holds : (spared : Id → Bool) (holds : Holds) (p : Place) → is_as_good (hold_in none_spared holds p) (hold_in spared holds p) ≡ true
-spared_holds spared holds (variable x) = good_same (relied (hold_at holds x))
+spared_holds spared holds (variable x) = good_same (hold_at holds x)
 spared_holds spared holds (component o c) = spared_good (spared o)
 spared_holds spared holds (elsewhere d x) = refl
 
@@ -176,11 +171,11 @@ lose_all {holds = holds} (y ∷ ys) f =
     lose_all ys (weaker_fit (without_value y holds) (set_good holds y (left_by_move (hold_at holds y)) (moved_good (hold_at holds y))) f)
 
 -- A variable has another hold: it is relied on for that, or lost, and other places are relied on as before.
-set_here : (spared : Id → Bool) (holds : Holds) (x : ℕ) (h : Hold) → (hold_in spared (slice_set holds x h) (variable x) ≡ relied h) ⊎ (hold_in spared (slice_set holds x h) (variable x) ≡ hold.Lost)
-set_here spared holds x h = elim (read_same holds x h hold.Lost) [ inl e ↦ inl (ap relied e) | inr e ↦ inr (ap relied e) ]
+set_here : (spared : Id → Bool) (holds : Holds) (x : ℕ) (h : Hold) → (hold_in spared (slice_set holds x h) (variable x) ≡ h) ⊎ (hold_in spared (slice_set holds x h) (variable x) ≡ hold.Lost)
+set_here spared holds x h = read_same holds x h hold.Lost
 
 set_others : (spared : Id → Bool) (holds : Holds) (x : ℕ) (h : Hold) (q : Place) → q ≢ variable x → hold_in spared (slice_set holds x h) q ≡ hold_in spared holds q
-set_others spared holds x h (variable y) ne = ap relied (read_other holds x y h hold.Lost (λ e. ne (ap variable e)))
+set_others spared holds x h (variable y) ne = read_other holds x y h hold.Lost (λ e. ne (ap variable e))
 set_others spared holds x h (component o c) ne = refl
 set_others spared holds x h (elsewhere d y) ne = refl
 
@@ -231,6 +226,23 @@ put_owner {spared = spared} {places = places} {holds = holds} x v r hand f = rec
   nulls = put_nulls holds places x v (hold.Own r) tt f.nulls;
 }
 
+-- A variable borrows what another place owns, or gets null.
+says_alias : (heap : List Object) (g : Hold) (r : Region) (kind : Option ℕ) (o : Id) → (g ≡ hold.Alias r) ⊎ (g ≡ hold.Lost) → IsOf (access_at heap) kind o → Says (access_at heap) g kind o
+says_alias heap g r kind o (inl e) of = rw e of
+says_alias heap g r kind o (inr e) of = rw e tt
+
+alias_owns : (g : Hold) (r : Region) → (g ≡ hold.Alias r) ⊎ (g ≡ hold.Lost) → Owns g → ⊥
+alias_owns g r (inl e) own = rw e at own
+alias_owns g r (inr e) own = rw e at own
+
+pub put_alias : {types : List TypeForm} {variables : List VariableForm} {spared : Id → Bool} {heap : List Object} {places : List Value} {holds : Holds} (x : ℕ) (v : Value) (r : Region) → MayName heap (variable_access variables x) v → Fit types variables spared heap places holds → Fit types variables spared heap (slice_set places x v) (slice_set holds x (hold.Alias r))
+put_alias {variables = variables} {spared = spared} {heap = heap} {places = places} {holds = holds} x v r may f = record {
+  owners = put_fits x v (hold_in spared (slice_set holds x (hold.Alias r))) (set_others spared holds x (hold.Alias r)) f.owners
+      (λ o e. says_alias heap (hold_in spared (slice_set holds x (hold.Alias r)) (variable x)) r (variable_access variables x) o (set_here spared holds x (hold.Alias r)) (may o e))
+      (λ o own. absurd (alias_owns (hold_in spared (slice_set holds x (hold.Alias r)) (variable x)) r (set_here spared holds x (hold.Alias r)) own));
+  nulls = put_nulls holds places x v (hold.Alias r) tt f.nulls;
+}
+
 -- A variable that is null may be called so.
 pub null_fit : {types : List TypeForm} {variables : List VariableForm} {spared : Id → Bool} {heap : List Object} {places : List Value} {holds : Holds} (y : ℕ) → place_at places y ≡ Null → Fit types variables spared heap places holds → Fit types variables spared heap places (slice_set holds y hold.Null)
 null_fit {spared = spared} {places = places} {holds = holds} y is f = record {
@@ -239,7 +251,7 @@ null_fit {spared = spared} {places = places} {holds = holds} y is f = record {
 }
 
 -- What owns is relied on to own.
-own_owns : (h : Hold) → IsOwn h → Owns (relied h)
+own_owns : (h : Hold) → IsOwn h → Owns h
 own_owns (hold.Own r) own = tt
 own_owns h own = absurd own
 
@@ -258,10 +270,10 @@ there_by : (heap : List Object) (kind : Option ℕ) (o : Id) → IsOf (access_at
 there_by heap None o s = absurd s
 there_by heap (Some t) o s = let h = listed_at heap o t s in (h.object, h.found, h.listed)
 
-says_there : (heap : List Object) (h : Hold) (spot : Spot) (kind : Option ℕ) (o : Id) → lost_by h spot ≡ None → Says (access_at heap) (relied h) kind o → IsThere heap o
+says_there : (heap : List Object) (h : Hold) (spot : Spot) (kind : Option ℕ) (o : Id) → lost_by h spot ≡ None → Says (access_at heap) h kind o → IsThere heap o
 says_there heap hold.Null spot kind o kept s = absurd s
 says_there heap (hold.Own r) spot kind o kept s = there_by heap kind o s
-says_there heap (hold.Alias r) spot kind o kept s = absurd s
+says_there heap (hold.Alias r) spot kind o kept s = there_by heap kind o s
 says_there heap hold.Lost spot kind o kept s = absurd (cc kept)
 
 follows_by : (heap : List Object) (v : Value) → ((o : Id) → v ≡ Names o → IsThere heap o) → MayFollow heap v
@@ -310,22 +322,23 @@ store_owner {heap = heap} {holds = holds} o object c v found listed hand f = rec
   nulls = f.nulls;
 }
 
+-- What a variable that is not lost names is of its access type; so is what a component of an object in its collection names.
+says_kind : (heap : List Object) (h : Hold) (spot : Spot) (kind : Option ℕ) (o : Id) → lost_by h spot ≡ None → Says (access_at heap) h kind o → IsOf (access_at heap) kind o
+says_kind heap hold.Null spot kind o kept s = absurd s
+says_kind heap (hold.Own r) spot kind o kept s = s
+says_kind heap (hold.Alias r) spot kind o kept s = s
+says_kind heap hold.Lost spot kind o kept s = absurd (cc kept)
+
+pub root_names : {types : List TypeForm} {variables : List VariableForm} {spared : Id → Bool} {heap : List Object} {places : List Value} {holds : Holds} (x : ℕ) (spot : Spot) → lost_by (hold_at holds x) spot ≡ None → Fit types variables spared heap places holds → MayName heap (variable_access variables x) (place_at places x)
+root_names {variables = variables} {heap = heap} {holds = holds} x spot kept f o e =
+    says_kind heap (hold_at holds x) spot (variable_access variables x) o kept (f.owners.fit.relied (variable x) o e)
+
 -- What is relied on, in the form that the laws of owners take: no component is lent.
 abbrev as_reliance : Holds → Reliance
-as_reliance holds = record { holds = map relied holds; outer = λ d. []; lent = [] }
-
-read_relied : (holds : Holds) (x : ℕ) → hold_at (map relied holds) x ≡ relied (hold_at holds x)
-read_relied [] x = refl
-read_relied (h ∷ hs) zero = refl
-read_relied (h ∷ hs) (suc x) = read_relied hs x
-
-set_relied : (holds : Holds) (x : ℕ) (h : Hold) → slice_set (map relied holds) x (relied h) ≡ map relied (slice_set holds x h)
-set_relied [] x h = refl
-set_relied (g ∷ gs) zero h = refl
-set_relied (g ∷ gs) (suc x) h = ap (λ l. relied g ∷ l) (set_relied gs x h)
+as_reliance holds = record { holds = holds; outer = λ d. []; lent = [] }
 
 same_reliance : (holds : Holds) (p : Place) → hold_of (as_reliance holds) p ≡ hold_in none_spared holds p
-same_reliance holds (variable x) = read_relied holds x
+same_reliance holds (variable x) = refl
 same_reliance holds (component o c) = refl
 same_reliance holds (elsewhere d x) = refl
 
@@ -336,7 +349,7 @@ from_reliance : {kinds : Kinds} {heap : List Object} {activations : List (Activa
 from_reliance holds f = record { fit = kernel.held_same f.fit (hold_in none_spared holds) (λ p o e. sym (same_reliance holds p)) }
 
 from_reliance_with : {kinds : Kinds} {heap : List Object} {activations : List (Activation Value)} (holds : Holds) (x : ℕ) (r : Region) → Fits kinds heap activations (hold_of (with_hold x (hold.Own Whole) (as_reliance holds))) → Fits kinds heap activations (hold_in none_spared (slice_set holds x (hold.Own r)))
-from_reliance_with holds x Whole f = from_reliance (slice_set holds x (hold.Own Whole)) (rw (← set_relied holds x (hold.Own Whole)) f)
+from_reliance_with holds x Whole f = from_reliance (slice_set holds x (hold.Own Whole)) f
 
 -- A take pair, T := O.C; O.C := null;, with another variable for T, or with a component.
 pub take_variable : {types : List TypeForm} {variables : List VariableForm} {heap : List Object} {places : List Value} {holds : Holds} (x : ℕ) (r : Region) (o : Id) (object : Object) (c : ℕ) (v : Value) → object_at heap o ≡ Some object → object.listed ≡ true → slice_get object.cell.values c ≡ Some v → variable_access variables x ≡ component_access types object c → Fit types variables none_spared heap places holds → Fit types variables none_spared (store heap (Names o) c Null) (slice_set places x v) (slice_set holds x (hold.Own r))
@@ -363,25 +376,11 @@ pub create_fit : {types : List TypeForm} {variables : List VariableForm} {heap :
 create_fit {heap = heap} words cell items f =
     (record { owners = create_fits heap words cell (λ c e. cc e) f.owners items; nulls = f.nulls }, created_hand heap words cell f.owners items)
 
--- No place borrows yet.
-relied_borrows : (h : Hold) → Borrows (relied h) → ⊥
-relied_borrows hold.Null b = b
-relied_borrows h b = b
-
-component_borrows : (b : Bool) → Borrows (component_hold b) → ⊥
-component_borrows true b = b
-component_borrows false b = b
-
-none_borrows : (spared : Id → Bool) (holds : Holds) (q : Place) → Borrows (hold_in spared holds q) → ⊥
-none_borrows spared holds (variable x) b = relied_borrows (hold_at holds x) b
-none_borrows spared holds (component o c) b = component_borrows (spared o) b
-none_borrows spared holds (elsewhere d x) b = b
-
--- Of what is in hand, no place is an owner; and none borrows yet.
-pub hand_is_unnamed : (types : List TypeForm) (variables : List VariableForm) (spared : Id → Bool) (heap : List Object) (places : List Value) (holds : Holds) (kind : Option ℕ) (o : Id) → Hand types variables spared heap places holds kind (Names o) → IsUnnamed heap (bare places) (hold_in spared holds) o
-hand_is_unnamed types variables spared heap places holds kind o hand = record {
+-- Of what is in hand no place is an owner.
+pub hand_is_unnamed : (types : List TypeForm) (variables : List VariableForm) (spared : Id → Bool) (heap : List Object) (places : List Value) (holds : Holds) (kind : Option ℕ) (o : Id) → Hand types variables spared heap places holds kind (Names o) → ((q : Place) → Borrows (hold_in spared holds q) → value_at heap (bare places) q ≡ Names o → ⊥) → IsUnnamed heap (bare places) (hold_in spared holds) o
+hand_is_unnamed types variables spared heap places holds kind o hand none = record {
   unowned = λ q a b. hand.hand.free o refl q a b;
-  unborrowed = λ q a b. none_borrows spared holds q a;
+  unborrowed = none;
 }
 
 -- An object that no owner names leaves its collection; then it ceases to exist, and its words go back.
@@ -403,21 +402,62 @@ back_fit {heap = heap} o x found f = record {
   nulls = f.nulls;
 }
 
--- Free (X), where X owns: X is null then, and its object has no owner.
-pub freed_unnamed : {types : List TypeForm} {variables : List VariableForm} {spared : Id → Bool} {heap : List Object} {places : List Value} {holds : Holds} (x : ℕ) (o : Id) → IsOwn (hold_at holds x) → place_at places x ≡ Names o → Fit types variables spared heap places holds → Fit types variables spared heap (slice_set places x Null) (slice_set holds x hold.Null) × IsUnnamed heap (bare (slice_set places x Null)) (hold_in spared (slice_set holds x hold.Null)) o × IsThere heap o
+-- Behind the end of an object less is known of its access type's aliases, and as much of all else.
+behind_good : (variables : List VariableForm) (kind : Option ℕ) (holds : Holds) (x : ℕ) → is_as_good (hold_at holds x) (hold_at (behind_end variables kind holds) x) ≡ true
+behind_good variables None holds x = good_same (hold_at holds x)
+behind_good variables (Some t) holds x = forget_good variables t holds x
+
+pub behind_fit : {types : List TypeForm} {variables : List VariableForm} {spared : Id → Bool} {heap : List Object} {places : List Value} {holds : Holds} (kind : Option ℕ) → Fit types variables spared heap places holds → Fit types variables spared heap places (behind_end variables kind holds)
+behind_fit {variables = variables} {holds = holds} kind f = weaker_fit (behind_end variables kind holds) (behind_good variables kind holds) f
+
+behind_owner : (variables : List VariableForm) (kind : Option ℕ) (holds : Holds) (x : ℕ) → Owns (hold_at (behind_end variables kind holds) x) → Owns (hold_at holds x)
+behind_owner variables None holds x a = a
+behind_owner variables (Some t) holds x a = forget_owner variables t holds x a
+
+behind_owns : (variables : List VariableForm) (spared : Id → Bool) (kind : Option ℕ) (holds : Holds) (q : Place) → Owns (hold_in spared (behind_end variables kind holds) q) → Owns (hold_in spared holds q)
+behind_owns variables spared kind holds (variable x) a = behind_owner variables kind holds x a
+behind_owns variables spared kind holds (component o c) a = a
+behind_owns variables spared kind holds (elsewhere d x) a = a
+
+component_borrows : (b : Bool) → Borrows (component_hold b) → ⊥
+component_borrows true b = b
+component_borrows false b = b
+
+-- Where an object of an access type ends that is there, no alias names it behind its end.
+behind_borrows : {types : List TypeForm} {variables : List VariableForm} {spared : Id → Bool} {heap : List Object} {places : List Value} {holds : Holds} (kind : Option ℕ) (o : Id) → IsOf (access_at heap) kind o → Fit types variables spared heap places holds → (q : Place) → Borrows (hold_in spared (behind_end variables kind holds) q) → value_at heap (bare places) q ≡ Names o → ⊥
+behind_borrows None o of f q b names = of
+behind_borrows {spared = spared} (Some t) o of f (component k c) b names = component_borrows (spared k) b
+behind_borrows (Some t) o of f (elsewhere d x) b names = b
+behind_borrows {variables = variables} {heap = heap} {holds = holds} (Some t) o of f (variable x) b names =
+    let after = behind_fit (Some t) f in
+    let same = kind_is (access_at heap) (hold_at (without_aliases variables t holds) x) (variable_access variables x) o t b of (after.owners.fit.relied (variable x) o names) in
+    forget_borrows variables t holds x b same
+
+-- Free (X), where X owns: X is null then, its object has no owner, and no alias names it.
+pub freed_unnamed : {types : List TypeForm} {variables : List VariableForm} {spared : Id → Bool} {heap : List Object} {places : List Value} {holds : Holds} (x : ℕ) (o : Id) → IsOwn (hold_at holds x) → place_at places x ≡ Names o → Fit types variables spared heap places holds → Fit types variables spared heap (slice_set places x Null) (freed variables x holds) × IsUnnamed heap (bare (slice_set places x Null)) (hold_in spared (freed variables x holds)) o × IsThere heap o
 freed_unnamed {variables = variables} {spared = spared} {heap = heap} {places = places} {holds = holds} x o own is f =
     let owns = own_owns (hold_at holds x) own in
-    let none : IsUnnamed heap (bare (slice_set places x Null)) (hold_in spared (slice_set holds x hold.Null)) o = record {
-      unowned = λ q a b. go owns q (same_place q (variable x)) a b;
-      unborrowed = λ q a b. none_borrows spared (slice_set holds x hold.Null) q a;
+    let of = kernel.owned_at f.owners.fit (variable x) owns o is in
+    let none : IsUnnamed heap (bare (slice_set places x Null)) (hold_in spared (freed variables x holds)) o = record {
+      unowned = λ q a b. unowned owns q (same_place q (variable x)) a b;
+      unborrowed = λ q a b. unborrowed of q (same_place q (variable x)) a b;
     } in
-    (put_null x f, none, there_by heap (variable_access variables x) o (kernel.owned_at f.owners.fit (variable x) owns o is))
+    (put_null x (behind_fit (variable_access variables x) f), none, there_by heap (variable_access variables x) o of)
   where
-    go : Owns (relied (hold_at holds x)) → (q : Place) → (q ≡ variable x) ⊎ (q ≢ variable x) → Owns (hold_in spared (slice_set holds x hold.Null) q) → value_at heap (bare (slice_set places x Null)) q ≡ Names o → ⊥
-    go owns q (inl e) a b = let null : Null ≡ Names o = put_value heap (bare places) x Null o (rw e at b) in cc null
-    go owns q (inr ne) a b =
+    behind : Holds
+    behind = behind_end variables (variable_access variables x) holds
+
+    unowned : Owns (hold_at holds x) → (q : Place) → (q ≡ variable x) ⊎ (q ≢ variable x) → Owns (hold_in spared (slice_set behind x hold.Null) q) → value_at heap (bare (slice_set places x Null)) q ≡ Names o → ⊥
+    unowned owns q (inl e) a b = let null : Null ≡ Names o = put_value heap (bare places) x Null o (rw e at b) in cc null
+    unowned owns q (inr ne) a b =
         let before = sym (put_reads heap (bare places) x Null q ne) ∙ b in
-        ne (f.owners.fit.apart q (variable x) o (rw (set_others spared holds x hold.Null q ne) at a) owns before is)
+        ne (f.owners.fit.apart q (variable x) o (behind_owns variables spared (variable_access variables x) holds q (rw (set_others spared behind x hold.Null q ne) at a)) owns before is)
+
+    unborrowed : IsOf (access_at heap) (variable_access variables x) o → (q : Place) → (q ≡ variable x) ⊎ (q ≢ variable x) → Borrows (hold_in spared (slice_set behind x hold.Null) q) → value_at heap (bare (slice_set places x Null)) q ≡ Names o → ⊥
+    unborrowed of q (inl e) a b = let null : Null ≡ Names o = put_value heap (bare places) x Null o (rw e at b) in cc null
+    unborrowed of q (inr ne) a b =
+        behind_borrows (variable_access variables x) o of f q (rw (set_others spared behind x hold.Null q ne) at a)
+        (sym (put_reads heap (bare places) x Null q ne) ∙ b)
 
 -- Components of other objects are spared, none of which names anything.
 respare : {types : List TypeForm} {variables : List VariableForm} {heap : List Object} {places : List Value} {holds : Holds} (spared to : Id → Bool) → ((o : Id) (c : ℕ) (k : Id) → component_in (object_at heap o) c ≡ Names k → to o ≡ spared o) → Fit types variables spared heap places holds → Fit types variables to heap places holds
@@ -483,6 +523,6 @@ first_fit types variables places holds lost = record {
     relied_first (elsewhere d x) o e = tt
 
     none_owns : (p : Place) (o : Id) → Owns (hold_in none_spared holds p) → value_at [] (bare places) p ≡ Names o → ⊥
-    none_owns (variable x) o own e = lost_owns (relied (hold_at holds x)) (ap relied (lost x)) own
+    none_owns (variable x) o own e = lost_owns (hold_at holds x) (lost x) own
     none_owns (component k c) o own e = cc e
     none_owns (elsewhere d x) o own e = own

@@ -1,12 +1,11 @@
 -- Free (X).
 
 use Rattle.std.proofs.Common.{◌≡◌, ℕ, List, ◌∷◌, refl, inl}
-use Rattle.std.specs.List.{slice_set}
 use Rattle.ada_text.specs.declared.spot.Spot.{Spot}
 use Rattle.ada_program.specs.Form.{StmtsForm}
 use Rattle.ada_flow.specs.declared.rule.Hold.{Hold}
 use Rattle.ada_flow.specs.declared.rule.Hold.TheVariants as hold
-use Rattle.ada_flow.specs.Flow.{Holds, hold_at, released}
+use Rattle.ada_flow.specs.Flow.{Holds, hold_at, variable_access, freed, released}
 use Rattle.ada_meaning.specs.declared.state.Value.{Value}
 use Rattle.ada_meaning.specs.declared.state.Value.TheVariants.{Null, Names, Scalar}
 use Rattle.ada_meaning.specs.Frame.{Does}
@@ -14,24 +13,24 @@ use Rattle.ada_meaning.specs.Event.{Quiet}
 use Rattle.ada_meaning.specs.State.{Activation}
 use Rattle.ada_meaning.specs.Step.{free_next}
 use Rattle.ada_meaning.specs.Named.{State, look, named, parted}
-use Rattle.ada_sound.proofs.Fits.{IsOwn, IsBlank, place_at, null_fit, freed_unnamed, part_fit}
+use Rattle.ada_sound.proofs.Fits.{IsOwn, IsBlank, place_at, null_fit, behind_fit, freed_unnamed, part_fit}
 use Rattle.ada_sound.proofs.Objects.{set_here}
 use Rattle.ada_sound.proofs.Stored.{stored_part}
 use Rattle.ada_sound.proofs.Alters.{alters_set}
 use Rattle.ada_sound.proofs.Invariant.{Known, Control, Rooms, Goes, RunsOn, Working, Stepped, Fine}
 use Rattle.ada_sound.proofs.Ready.{running, runs_on}
 
-module _ (known : Known) (a : Activation Value) (rest : List (Activation Value)) (s : State) (access x : ℕ) (spot : Spot) (fs : StmtsForm) (k : Control) (raised : Rooms → Holds → Type 0) (w : Working known s.heap a.places s.masters (λ rooms holds. Goes (released x spot holds (hold_at holds x)) (RunsOn known (Does fs ∷ k) rooms) (raised rooms))) where
+module _ (known : Known) (a : Activation Value) (rest : List (Activation Value)) (s : State) (access x : ℕ) (spot : Spot) (fs : StmtsForm) (k : Control) (raised : Rooms → Holds → Type 0) (w : Working known s.heap a.places s.masters (λ rooms holds. Goes (released known.program.variables x spot holds (hold_at holds x)) (RunsOn known (Does fs ∷ k) rooms) (raised rooms))) where
   -- X is null: nothing happens.
-  free_null : place_at a.places x ≡ Null → RunsOn known (Does fs ∷ k) w.rooms (slice_set w.holds x hold.Null) → Stepped known s.heap Quiet (running (Does fs ∷ k) a rest s)
-  free_null is more = runs_on known (Does fs ∷ k) a rest s (record { rooms = w.rooms; holds = slice_set w.holds x hold.Null; stored = w.stored; roomed = w.roomed; fit = null_fit x is w.fit; rest = more }) Quiet tt
+  free_null : place_at a.places x ≡ Null → RunsOn known (Does fs ∷ k) w.rooms (freed known.program.variables x w.holds) → Stepped known s.heap Quiet (running (Does fs ∷ k) a rest s)
+  free_null is more = runs_on known (Does fs ∷ k) a rest s (record { rooms = w.rooms; holds = freed known.program.variables x w.holds; stored = w.stored; roomed = w.roomed; fit = null_fit x is (behind_fit (variable_access known.program.variables x) w.fit); rest = more }) Quiet tt
 
   -- X owns an object: that leaves its collection, and nothing relies on it then.
-  free_value : (v : Value) → place_at a.places x ≡ v → IsOwn (hold_at w.holds x) → RunsOn known (Does fs ∷ k) w.rooms (slice_set w.holds x hold.Null) → Fine known s.heap s.masters (free_next named access x v (look s.heap v) (running (Does fs ∷ k) a rest s))
+  free_value : (v : Value) → place_at a.places x ≡ v → IsOwn (hold_at w.holds x) → RunsOn known (Does fs ∷ k) w.rooms (freed known.program.variables x w.holds) → Fine known s.heap s.masters (free_next named access x v (look s.heap v) (running (Does fs ∷ k) a rest s))
   free_value Null is own more = free_null is more
   free_value (Names o) is own more =
-      let freed = freed_unnamed x o own is w.fit in
-      let there = freed.2 in
+      let after = freed_unnamed x o own is w.fit in
+      let there = after.2 in
       let found = there.1 in
       let exists = (w.stored.sane o there.0 found).listed_exists there.2 in
       rw (found, exists) (rw found (record {
@@ -48,9 +47,9 @@ module _ (known : Known) (a : Activation Value) (rest : List (Activation Value))
               refl,
               record {
                 rooms = w.rooms;
-                holds = slice_set w.holds x hold.Null;
+                holds = freed known.program.variables x w.holds;
                 roomed = w.roomed;
-                fit = part_fit o there.0 found freed.1 freed.0;
+                fit = part_fit o there.0 found after.1 after.0;
                 rest = more;
               },
             );
@@ -61,7 +60,7 @@ module _ (known : Known) (a : Activation Value) (rest : List (Activation Value))
       }))
   free_value (Scalar n) is own more = tt
 
-  free_hold : (h : Hold) → hold_at w.holds x ≡ h → Goes (released x spot w.holds h) (RunsOn known (Does fs ∷ k) w.rooms) (raised w.rooms) → IsBlank h (place_at a.places x) → Fine known s.heap s.masters (free_next named access x (place_at a.places x) (look s.heap (place_at a.places x)) (running (Does fs ∷ k) a rest s))
+  free_hold : (h : Hold) → hold_at w.holds x ≡ h → Goes (released known.program.variables x spot w.holds h) (RunsOn known (Does fs ∷ k) w.rooms) (raised w.rooms) → IsBlank h (place_at a.places x) → Fine known s.heap s.masters (free_next named access x (place_at a.places x) (look s.heap (place_at a.places x)) (running (Does fs ∷ k) a rest s))
   free_hold hold.Null own more blank = rw blank (free_null blank more.0)
   free_hold (hold.Own r) own more blank = free_value (place_at a.places x) refl (rw own tt) more.0
   free_hold (hold.Alias r) own more blank = absurd more

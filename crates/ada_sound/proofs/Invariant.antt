@@ -37,7 +37,7 @@ use Rattle.ada_sound.proofs.Stored.{Stored}
 use Rattle.ada_owners.specs.Keeping.{IsThere}
 use Rattle.ada_owners.specs.Places.{component_in}
 use Rattle.ada_owners.specs.Walks.{walk}
-use Rattle.ada_sound.proofs.Fits.{Fit, IsOwn, MayFollow, component_access, none_spared, going, place_at}
+use Rattle.ada_sound.proofs.Fits.{Fit, IsRelied, MayFollow, component_access, none_spared, going, place_at}
 use Rattle.ada_sound.proofs.Orderings.{AsGood}
 use Rattle.ada_sound.proofs.Alters.{BackIn, Alters}
 
@@ -198,9 +198,9 @@ By (Raising e) w holds = w.raised e holds
 By Exiting w holds = w.exited holds
 By Returning w holds = w.returned holds
 
--- No variable owns an object of one of these access types.
-abbrev pub OwnsNone : List VariableForm → List ℕ → Holds → Type 0
-OwnsNone variables types holds = (x : ℕ) → IsOwn (hold_at holds x) → is_among types (variable_access variables x) ≡ false
+-- No variable is relied on to name an object of one of these access types.
+abbrev pub NamesNone : List VariableForm → List ℕ → Holds → Type 0
+NamesNone variables types holds = (x : ℕ) → IsRelied (hold_at holds x) → is_among types (variable_access variables x) ≡ false
 
 abbrev pub nowhere : Ways
 nowhere = record { normal = λ holds. ⊥; raised = λ e holds. ⊥; exited = λ holds. ⊥; returned = λ holds. ⊥ }
@@ -230,7 +230,7 @@ ways known (Handles hs ∷ k) rooms = Handled known hs k (ways known k rooms)
 ways known (Closes ∷ k) [] = nowhere
 ways known (Closes ∷ k) (types ∷ rooms) = Outside known.program.variables types (ways known k rooms)
 ways known (Leaves mode ∷ k) [] = nowhere
-ways known (Leaves mode ∷ k) (types ∷ rooms) = record nowhere { normal = λ holds. OwnsNone known.program.variables types holds × To (By mode (ways known k rooms)) holds }
+ways known (Leaves mode ∷ k) (types ∷ rooms) = record nowhere { normal = λ holds. NamesNone known.program.variables types holds × To (By mode (ways known k rooms)) holds }
 ways known (f ∷ k) rooms = record (ways known k rooms) { normal = λ holds. ⊥ }
 
 -- What runs on is known in these rooms.
@@ -289,7 +289,7 @@ IsOne (c ∷ d ∷ cs) = ⊥
 abbrev pub GivesTo : Known → RightForm → Rooms → Holds → ℕ → Control → Type 0
 GivesTo known right rooms holds x k =
     (cleared : Bool)
-    × Goes (gives cleared x right holds) (RunsOn known k rooms) (Raised (λ e. right_raises (is_same e) right) (ways known k rooms))
+    × Goes (gives known.program.variables cleared x right holds) (RunsOn known k rooms) (Raised (λ e. right_raises (is_same e) right) (ways known k rooms))
     × Pairs cleared right (λ path. x ≢ path.root) k
 
 -- A declaration is no half of a take pair.
@@ -301,7 +301,7 @@ IsAlone true = ⊥
 abbrev pub DeclaresTo : Known → RightForm → Rooms → Holds → ℕ → Control → Type 0
 DeclaresTo known right rooms holds x k =
     (cleared : Bool)
-    × Goes (gives cleared x right holds) (RunsOn known k rooms) (Raised (λ e. right_raises (is_same e) right) (ways known k rooms))
+    × Goes (gives known.program.variables cleared x right holds) (RunsOn known k rooms) (Raised (λ e. right_raises (is_same e) right) (ways known k rooms))
     × IsAlone cleared
 
 -- Which exceptions an assignment to a component may raise.

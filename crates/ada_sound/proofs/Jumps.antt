@@ -16,7 +16,7 @@ use Rattle.ada_meaning.specs.Step.{pass_next}
 use Rattle.ada_meaning.specs.Named.{State, named}
 use Rattle.ada_sound.proofs.Invariant.{Known, Control, Rooms, To, By, TakenBy, Outside, RunsOn, GoesOn, Working, Stepped, Fine, ways}
 use Rattle.ada_sound.proofs.Ready.{running, in_mode, at_work, at_less, runs_on, goes_in_mode}
-use Rattle.ada_sound.proofs.Leavings.{left_good, owns_none}
+use Rattle.ada_sound.proofs.Leavings.{left_good, names_none}
 
 module _ (known : Known) (k : Control) where
   -- What comes to the end of a master leaves it.
@@ -34,7 +34,7 @@ module _ (known : Known) (k : Control) where
 
   pub leaves_from : (mode : Mode) (rooms : Rooms) (holds : Holds) → GoesOn known mode (Closes ∷ k) rooms holds → To (RunsOn known (Leaves mode ∷ k) rooms) holds
   leaves_from mode [] holds r = absurd (none_closes mode holds r)
-  leaves_from mode (types ∷ rooms) holds r = (left known.program.variables types holds, left_good known.program.variables types holds, (owns_none known.program.variables types holds, closes_by mode types rooms holds r))
+  leaves_from mode (types ∷ rooms) holds r = (left known.program.variables types holds, left_good known.program.variables types holds, (names_none known.program.variables types holds, closes_by mode types rooms holds r))
 
   -- An exception in declarations, and what never is one, leaves the master as well.
   module _ (ds : List DeclarationForm) (fs : StmtsForm) (hs : HandlersForm) where

@@ -16,12 +16,11 @@ use Rattle.ada_meaning.specs.State.{Item, Master}
 use Rattle.ada_meaning.specs.Named.{Object, object_at}
 use Rattle.ada_scopes.specs.Scopes.{is_innermost, Holds as HoldsName}
 use Rattle.ada_owners.specs.Places.{Place, variable, component, elsewhere, component_in, value_at, access_at}
-use Rattle.ada_owners.specs.Reliance.{IsOf, Owns, component_hold}
+use Rattle.ada_owners.specs.Reliance.{IsOf, Says, Owns, Borrows, component_hold}
 use Rattle.ada_owners.proofs.Ends.{IsUnnamed}
-use Rattle.ada_owners.proofs.Kernel as kernel
-use Rattle.ada_sound.proofs.Fits.{Fit, IsOwn, relied, hold_in, bare, going, lies_among, hand_is_unnamed}
+use Rattle.ada_sound.proofs.Fits.{Fit, IsRelied, hold_in, bare, place_at, going, lies_among, hand_is_unnamed}
 use Rattle.ada_sound.proofs.Orderings.{AsGood, good_here, good_lost}
-use Rattle.ada_sound.proofs.Invariant.{AllAmong, OwnsNone}
+use Rattle.ada_sound.proofs.Invariant.{AllAmong, NamesNone}
 
 -- What a variable holds behind a block: what it did, if it is of another access type; else it is lost.
 abbrev LeftBy : Bool → (before after : Hold) → Type 0
@@ -44,12 +43,12 @@ good_left_by b before after (inr e) = rw e (good_lost before)
 pub left_good : (variables : List VariableForm) (types : List ℕ) (holds : Holds) → AsGood holds (left variables types holds)
 left_good variables types holds x = good_left_by (is_among types (variable_access variables x)) (hold_at holds x) (hold_at (left variables types holds) x) (left_at variables types holds x)
 
-none_left_by : (b : Bool) (before after : Hold) → LeftBy b before after → IsOwn after → b ≡ false
+none_left_by : (b : Bool) (before after : Hold) → LeftBy b before after → IsRelied after → b ≡ false
 none_left_by b before after (inl e) own = e.1
 none_left_by b before after (inr e) own = absurd (rw e at own)
 
-pub owns_none : (variables : List VariableForm) (types : List ℕ) (holds : Holds) → OwnsNone variables types (left variables types holds)
-owns_none variables types holds x own = none_left_by (is_among types (variable_access variables x)) (hold_at holds x) (hold_at (left variables types holds) x) (left_at variables types holds x) own
+pub names_none : (variables : List VariableForm) (types : List ℕ) (holds : Holds) → NamesNone variables types (left variables types holds)
+names_none variables types holds x own = none_left_by (is_among types (variable_access variables x)) (hold_at holds x) (hold_at (left variables types holds) x) (left_at variables types holds x) own
 
 -- Two blocks are left one after another.
 among_append : (ts us : List ℕ) (access : Option ℕ) → is_among (ts ++ us) access ≡ (is_among ts access || is_among us access)
@@ -106,19 +105,36 @@ listed_names : (b : Bool) (v : Value) (o : Id) → (if b then v else Null) ≡ N
 listed_names true v o e = (refl, e)
 listed_names false v o e = absurd (cc e)
 
-relied_owns : (h : Hold) → Owns (relied h) → IsOwn h
-relied_owns hold.Null own = own
-relied_owns (hold.Own r) own = own
-relied_owns (hold.Alias r) own = own
-relied_owns hold.Lost own = own
+-- What owns, and what borrows, is relied on.
+owns_relied : (h : Hold) → Owns h → IsRelied h
+owns_relied hold.Null a = a
+owns_relied (hold.Own r) a = a
+owns_relied (hold.Alias r) a = tt
+owns_relied hold.Lost a = a
 
--- A member of the newest collection of the innermost master, of a type of which no variable owns an object, is in hand where nothing relies on the
+borrows_relied : (h : Hold) → Borrows h → IsRelied h
+borrows_relied hold.Null a = a
+borrows_relied (hold.Own r) a = tt
+borrows_relied (hold.Alias r) a = a
+borrows_relied hold.Lost a = a
+
+says_of : (heap : List Object) (h : Hold) (kind : Option ℕ) (o : Id) → IsRelied h → Says (access_at heap) h kind o → IsOf (access_at heap) kind o
+says_of heap hold.Null kind o a s = absurd a
+says_of heap (hold.Own r) kind o a s = s
+says_of heap (hold.Alias r) kind o a s = s
+says_of heap hold.Lost kind o a s = absurd a
+
+component_borrows : (b : Bool) → Borrows (component_hold b) → ⊥
+component_borrows true b = b
+component_borrows false b = b
+
+-- A member of the newest collection of the innermost master, of a type of which no variable is relied on to name an object, is in hand where nothing relies on the
 -- components of that master's objects.
-module _ (types : List TypeForm) (variables : List VariableForm) (heap : List Object) (places : List Value) (holds : Holds) (number : ℕ) (item : Item) (items : List Item) (ms : List Master) (gone : List ℕ) (fit : Fit types variables (going heap (item ∷ items)) heap places holds) (none : OwnsNone variables gone holds) (held : HeldIn heap (record { number = number; items = item ∷ items } ∷ ms)) (o : Id) (x : Object) (found : object_at heap o ≡ Some x) (listed : x.listed ≡ true) (home : x.cell.home.item ≡ item.number) (among : is_among gone (Some x.cell.access) ≡ true) where
+module _ (types : List TypeForm) (variables : List VariableForm) (heap : List Object) (places : List Value) (holds : Holds) (number : ℕ) (item : Item) (items : List Item) (ms : List Master) (gone : List ℕ) (fit : Fit types variables (going heap (item ∷ items)) heap places holds) (none : NamesNone variables gone holds) (held : HeldIn heap (record { number = number; items = item ∷ items } ∷ ms)) (o : Id) (x : Object) (found : object_at heap o ≡ Some x) (listed : x.listed ≡ true) (home : x.cell.home.item ≡ item.number) (among : is_among gone (Some x.cell.access) ≡ true) where
   access_here : access_at heap o ≡ Some x.cell.access
   access_here = rw (found, listed) refl
 
-  no_variable : (y : ℕ) (kind : Option ℕ) → variable_access variables y ≡ kind → IsOwn (hold_at holds y) → IsOf (access_at heap) kind o → ⊥
+  no_variable : (y : ℕ) (kind : Option ℕ) → variable_access variables y ≡ kind → IsRelied (hold_at holds y) → IsOf (access_at heap) kind o → ⊥
   no_variable y None is own of = of
   no_variable y (Some t) is own of =
       let apart = none y own in
@@ -133,8 +149,18 @@ module _ (types : List TypeForm) (variables : List VariableForm) (heap : List Ob
       let inside = held holder x (p, o, c, (at, it.0), (found, listed), get_named holder.cell.values c o it.1) (rw (eq-eqb item.number x.cell.home.item (sym home)) refl) in
       rw inside at own
 
+  no_name : (y : ℕ) → IsRelied (hold_at holds y) → place_at places y ≡ Names o → ⊥
+  no_name y is names =
+      no_variable y (variable_access variables y) refl is
+      (says_of heap (hold_at holds y) (variable_access variables y) o is (fit.owners.fit.relied (variable y) o names))
+
+  no_borrower : (q : Place) → Borrows (hold_in (going heap (item ∷ items)) holds q) → value_at heap (bare places) q ≡ Names o → ⊥
+  no_borrower (variable y) b names = no_name y (borrows_relied (hold_at holds y) b) names
+  no_borrower (component p c) b names = component_borrows (lies_among (object_at heap p) (item ∷ items)) b
+  no_borrower (elsewhere d y) b names = b
+
   no_owner : (q : Place) → Owns (hold_in (going heap (item ∷ items)) holds q) → value_at heap (bare places) q ≡ Names o → ⊥
-  no_owner (variable y) own names = no_variable y (variable_access variables y) refl (relied_owns (hold_at holds y) own) (kernel.owned_at fit.owners.fit (variable y) own o names)
+  no_owner (variable y) own names = no_name y (owns_relied (hold_at holds y) own) names
   no_owner (component p c) own names = no_component p c (object_at heap p) refl own names
   no_owner (elsewhere d y) own names = own
 
@@ -144,7 +170,7 @@ module _ (types : List TypeForm) (variables : List VariableForm) (heap : List Ob
       right = λ p e. let same : o ≡ p = name_is o p e in rw (← same) access_here;
       free = λ p e q own names. let same : o ≡ p = name_is o p e in no_owner q own (rw (← same) at names);
     };
-  })
+  }) no_borrower
     where
       name_is : (p q : Id) → Names p ≡ Names q → p ≡ q
       name_is p q e = cc e

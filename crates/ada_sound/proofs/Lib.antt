@@ -78,6 +78,8 @@ pub mod ExampleBlocks
 pub mod ExampleTargets
 -- the same with components that own
 pub mod ExampleOwners
+-- the same with borrowers
+pub mod ExampleBorrowers
 -- where a statement begins
 pub mod Agreeing
 -- the laws

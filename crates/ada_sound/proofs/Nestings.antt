@@ -101,11 +101,11 @@ module _ (known : Known) where
   pub repeats_from : (around : Around) (condition : Option ExpressionForm) (body : StmtsForm) (end_spot : Spot) (fs : StmtsForm) (k : Control) (w : Ways) (holds : Holds) → Starting around (repeats condition body end_spot) fs k w holds → Repeating known condition body (Does fs ∷ k) (Then fs k w) holds
   repeats_from around condition body end_spot fs k w holds (from, g, out, returns') =
       let v = known.program.variables in
-      let first = opened_by_all body holds in
+      let first = opened_by_all v body holds in
       let among : Exception → Bool = λ x. stmt_raises (is_same x) (repeats condition body end_spot) in
       let left = left_goes (is_left condition body) first (then_flow (condition_flow condition first) (λ hs. ends_turn first end_spot (stmts_flow v (in_loop (Some first)) body hs))) (Doing known fs k w) (Raised among w) g in (
         first,
-        all_good body holds,
+        all_good v body holds,
         goes_with (condition_flow condition first) (λ h. Goes (ends_turn first end_spot (stmts_flow v (in_loop (Some first)) body h)) (λ after. Unit {0}) (Raised among w)) (Raised among w) (TurnsTo known body (Repeats condition body ∷ Does fs ∷ k) (Then fs k w) first) (Raised (condition_among condition) w)
             (λ mid raising is m. (
               (λ way place at c. from (into ∷ way) place at (in_body mid is c)),
@@ -142,16 +142,16 @@ module _ (known : Known) where
   counts_from around x low high body end_spot fs k w holds (from, g, out, returns') =
       let v = known.program.variables in
       let among : Exception → Bool = λ y. stmt_raises (is_same y) (counts x low high body end_spot) in
-      let stmt_loop : Holds → Outcome = λ hs. loop_flow None true end_spot (λ start h. stmts_flow v (in_loop start) body h) (counting_start x body hs) in
+      let stmt_loop : Holds → Outcome = λ hs. loop_flow None true end_spot (λ start h. stmts_flow v (in_loop start) body h) (counting_start v x body hs) in
       let turn : Holds → Holds → Outcome = λ first h. ends_turn first end_spot (stmts_flow v (in_loop (Some first)) body h) in
       goes_with (bounds_flow low high holds) (λ hs. Goes (stmt_loop hs) (Doing known fs k w) (Raised among w)) (Raised among w) (Counting known x body (Does fs ∷ k) (Then fs k w)) (Raised (λ e. is_same e ConstraintError && (expression_raises low || expression_raises high)) w)
       (λ hs raising is m.
-      let first = counting_start x body hs in
+      let first = counting_start v x body hs in
       let left = left_goes true first (then_flow (condition_flow None first) (turn first)) (Doing known fs k w) (Raised among w) m in
       let turns = then_goes (condition_flow None first) (turn first) (λ after. Unit {0}) (Raised among w) (raised_before among w) left.0 in (
         first,
-        good_to_lost x hs (opened_by_all body hs) (all_good body hs),
-        lost_here (opened_by_all body hs) x,
+        good_to_lost x hs (opened_by_all v body hs) (all_good v body hs),
+        lost_here (opened_by_all v body hs) x,
         (λ next last. (
           (λ way place at c. from (counting next last ∷ way) place at (in_count hs is c)),
           goes_map (stmts_flow v (in_loop (Some first)) body first) (λ after. AsGood after first) (Raised among w) (λ after. AsGood after first) (Raised (λ y. stmts_raise (is_same y) body) w) (λ h n. n)

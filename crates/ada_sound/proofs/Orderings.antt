@@ -3,6 +3,8 @@
 use Rattle.std.proofs.Common.{◌≡◌, ◌≢◌, ℕ, zero, suc, Bool, true, false, ◌&&◌, List, [], ◌∷◌, refl, ◌⊎◌, inl, inr}
 use Rattle.std.specs.List.{slice_set}
 use Rattle.ada_program.specs.Form.{StmtForm, skips, assigns, frees, gets, writes, writes_text, chooses, repeats, counts, exits, returns, raises, encloses, StmtsForm, no_stmts, a_stmt, BranchesForm, otherwise, a_branch, HandlersForm, no_handlers, a_handler}
+use Rattle.ada_program.specs.ProgramForm.{VariableForm}
+use Rattle.ada_program.specs.WellFormed.{is_borrower}
 use Rattle.ada_flow.specs.declared.rule.Hold.{Hold}
 use Rattle.ada_flow.specs.declared.rule.Hold.TheVariants.{Null, Own, Alias, Lost}
 use Rattle.ada_flow.specs.declared.rule.Region.TheVariants.{Whole}
@@ -102,55 +104,55 @@ join_right (g ∷ gs) (h ∷ hs) zero = good_right g h
 join_right (g ∷ gs) (h ∷ hs) (suc x) = join_right gs hs x
 
 -- What a loop's start holds is no better than what was held before the loop.
-good_opened : (h : Hold) → is_as_good h (opened_hold h) ≡ true
-good_opened Null = refl
-good_opened (Own Whole) = refl
-good_opened (Alias Whole) = refl
-good_opened Lost = refl
+good_opened : (borrows : Bool) (h : Hold) → is_as_good h (opened_hold borrows h) ≡ true
+good_opened borrows Null = refl
+good_opened borrows (Own Whole) = refl
+good_opened borrows (Alias Whole) = refl
+good_opened borrows Lost = refl
 
-opened_at : (x : ℕ) (holds : Holds) → is_as_good (hold_at holds x) (hold_at (slice_set holds x (opened_hold (hold_at holds x))) x) ≡ true
-opened_at x [] = refl
-opened_at zero (h ∷ hs) = good_opened h
-opened_at (suc x) (h ∷ hs) = opened_at x hs
+opened_at : (borrows : Bool) (x : ℕ) (holds : Holds) → is_as_good (hold_at holds x) (hold_at (slice_set holds x (opened_hold borrows (hold_at holds x))) x) ≡ true
+opened_at borrows x [] = refl
+opened_at borrows zero (h ∷ hs) = good_opened borrows h
+opened_at borrows (suc x) (h ∷ hs) = opened_at borrows x hs
 
-opened_good : (x : ℕ) (holds : Holds) → AsGood holds (opened x holds)
-opened_good x holds y = go (same_or_not y x)
+opened_good : (variables : List VariableForm) (x : ℕ) (holds : Holds) → AsGood holds (opened variables x holds)
+opened_good variables x holds y = go (same_or_not y x)
   where
-    go : (y ≡ x) ⊎ (y ≢ x) → is_as_good (hold_at holds y) (hold_at (opened x holds) y) ≡ true
-    go (inl e) = rw e (opened_at x holds)
-    go (inr ne) = rw (read_other holds x y (opened_hold (hold_at holds x)) Lost ne) (good_here (hold_at holds y))
+    go : (y ≡ x) ⊎ (y ≢ x) → is_as_good (hold_at holds y) (hold_at (opened variables x holds) y) ≡ true
+    go (inl e) = rw e (opened_at (is_borrower variables x) x holds)
+    go (inr ne) = rw (read_other holds x y (opened_hold (is_borrower variables x) (hold_at holds x)) Lost ne) (good_here (hold_at holds y))
 
-target_good : (cs : List ℕ) (x : ℕ) (holds : Holds) → AsGood holds (opened_target cs x holds)
-target_good [] x holds = opened_good x holds
-target_good (c ∷ cs) x holds = as_good holds
+target_good : (variables : List VariableForm) (cs : List ℕ) (x : ℕ) (holds : Holds) → AsGood holds (opened_target variables cs x holds)
+target_good variables [] x holds = opened_good variables x holds
+target_good variables (c ∷ cs) x holds = as_good holds
 
 mutual
-  by_good : (f : StmtForm) (holds : Holds) → AsGood holds (opened_by f holds)
-  by_good skips holds = as_good holds
-  by_good (assigns target right) holds = target_good target.selectors target.root holds
-  by_good (frees access variable) holds = as_good holds
-  by_good (gets target) holds = as_good holds
-  by_good (writes e) holds = as_good holds
-  by_good (writes_text text) holds = as_good holds
-  by_good (chooses branches) holds = branches_good branches holds
-  by_good (repeats condition fs end_spot) holds = all_good fs holds
-  by_good (counts x low high fs end_spot) holds = all_good fs holds
-  by_good (exits condition spot) holds = as_good holds
-  by_good (returns spot) holds = as_good holds
-  by_good (raises e) holds = as_good holds
-  by_good (encloses ds fs hs) holds = as_good_then holds (opened_by_all fs holds) (opened_by_handlers hs (opened_by_all fs holds)) (all_good fs holds) (handlers_good hs (opened_by_all fs holds))
+  by_good : (variables : List VariableForm) (f : StmtForm) (holds : Holds) → AsGood holds (opened_by variables f holds)
+  by_good variables skips holds = as_good holds
+  by_good variables (assigns target right) holds = target_good variables target.selectors target.root holds
+  by_good variables (frees access variable) holds = as_good holds
+  by_good variables (gets target) holds = as_good holds
+  by_good variables (writes e) holds = as_good holds
+  by_good variables (writes_text text) holds = as_good holds
+  by_good variables (chooses branches) holds = branches_good variables branches holds
+  by_good variables (repeats condition fs end_spot) holds = all_good variables fs holds
+  by_good variables (counts x low high fs end_spot) holds = all_good variables fs holds
+  by_good variables (exits condition spot) holds = as_good holds
+  by_good variables (returns spot) holds = as_good holds
+  by_good variables (raises e) holds = as_good holds
+  by_good variables (encloses ds fs hs) holds = as_good_then holds (opened_by_all variables fs holds) (opened_by_handlers variables hs (opened_by_all variables fs holds)) (all_good variables fs holds) (handlers_good variables hs (opened_by_all variables fs holds))
 
-  pub all_good : (fs : StmtsForm) (holds : Holds) → AsGood holds (opened_by_all fs holds)
-  all_good no_stmts holds = as_good holds
-  all_good (a_stmt f fs) holds = as_good_then holds (opened_by f holds) (opened_by_all fs (opened_by f holds)) (by_good f holds) (all_good fs (opened_by f holds))
+  pub all_good : (variables : List VariableForm) (fs : StmtsForm) (holds : Holds) → AsGood holds (opened_by_all variables fs holds)
+  all_good variables no_stmts holds = as_good holds
+  all_good variables (a_stmt f fs) holds = as_good_then holds (opened_by variables f holds) (opened_by_all variables fs (opened_by variables f holds)) (by_good variables f holds) (all_good variables fs (opened_by variables f holds))
 
-  branches_good : (branches : BranchesForm) (holds : Holds) → AsGood holds (opened_by_branches branches holds)
-  branches_good (otherwise fs) holds = all_good fs holds
-  branches_good (a_branch e fs branches) holds = as_good_then holds (opened_by_all fs holds) (opened_by_branches branches (opened_by_all fs holds)) (all_good fs holds) (branches_good branches (opened_by_all fs holds))
+  branches_good : (variables : List VariableForm) (branches : BranchesForm) (holds : Holds) → AsGood holds (opened_by_branches variables branches holds)
+  branches_good variables (otherwise fs) holds = all_good variables fs holds
+  branches_good variables (a_branch e fs branches) holds = as_good_then holds (opened_by_all variables fs holds) (opened_by_branches variables branches (opened_by_all variables fs holds)) (all_good variables fs holds) (branches_good variables branches (opened_by_all variables fs holds))
 
-  handlers_good : (hs : HandlersForm) (holds : Holds) → AsGood holds (opened_by_handlers hs holds)
-  handlers_good no_handlers holds = as_good holds
-  handlers_good (a_handler choices fs hs) holds = as_good_then holds (opened_by_all fs holds) (opened_by_handlers hs (opened_by_all fs holds)) (all_good fs holds) (handlers_good hs (opened_by_all fs holds))
+  handlers_good : (variables : List VariableForm) (hs : HandlersForm) (holds : Holds) → AsGood holds (opened_by_handlers variables hs holds)
+  handlers_good variables no_handlers holds = as_good holds
+  handlers_good variables (a_handler choices fs hs) holds = as_good_then holds (opened_by_all variables fs holds) (opened_by_handlers variables hs (opened_by_all variables fs holds)) (all_good variables fs holds) (handlers_good variables hs (opened_by_all variables fs holds))
 
 -- What is lost is no better than anything.
 pub good_losing : (x : ℕ) (holds other : Holds) → hold_at other x ≡ Lost → AsGood holds other → AsGood (slice_set holds x Lost) other

@@ -11,12 +11,12 @@ use Rattle.ada_program.specs.declared.program.VariableKind.{VariableKind}
 use Rattle.ada_program.specs.declared.program.VariableKind.TheVariants as variable
 use Rattle.ada_program.specs.Form.{PathForm, ExpressionForm, RightForm, computes, DeclarationForm, collects, declares, StmtForm, skips, assigns, frees, gets, writes, writes_text, chooses, repeats, counts, exits, returns, raises, encloses, StmtsForm, no_stmts, a_stmt, BranchesForm, otherwise, a_branch, HandlersForm, no_handlers, a_handler}
 use Rattle.ada_program.specs.ProgramForm.{TypeForm, VariableForm, program_form}
-use Rattle.ada_program.specs.WellFormed.{access_of, variable_kind, selectors_kind, right_fits, initial_fits, is_freed_by, statement_fits, stmts_fit, branches_fit, handlers_fit, IsWellFormed}
+use Rattle.ada_program.specs.WellFormed.{access_of, variable_kind, is_borrower, selectors_kind, right_fits, initial_fits, is_freed_by, statement_fits, stmts_fit, branches_fit, handlers_fit, IsWellFormed}
 use Rattle.ada_effects.specs.Effects.{expression_raises, passes}
 use Rattle.ada_flow.specs.declared.rule.Hold.{Hold}
 use Rattle.ada_flow.specs.declared.rule.Hold.TheVariants.{Null, Own, Alias, Lost}
 use Rattle.ada_flow.specs.declared.rule.Rule.TheVariants.{LoopState}
-use Rattle.ada_flow.specs.Flow.{Holds, hold_at, variable_access, join, join_option, Outcome, faults, goes, also_raises, then_flow, raising_if, ends_with, Use, uses_in, uses_in_right, uses_in_target, Breach, broken_among, unless_broken, using_paths, computed, left_by_move, without_value, without_values, moved_by_right, right_hold, evaluation_raises, gives, gives_path, released, frees_path, gets_path, either_of, are_as_good, opened_hold, opened, opened_target, opened_by, opened_by_all, opened_by_branches, opened_by_handlers, ends_turn, left_with, is_left, condition_flow, loop_flow, collected, if_own, left, left_option, leaves_block, handled, Around, in_loop, in_block, exit_of, exit_flow, declaration_flow, declarations_flow, bounds_flow, counting_start, begins_pair, stmt_flow, stmts_flow, branches_flow, handlers_flow, variables_of}
+use Rattle.ada_flow.specs.Flow.{Holds, hold_at, variable_access, join, join_option, Outcome, faults, goes, also_raises, then_flow, raising_if, ends_with, Use, uses_in, uses_in_right, uses_in_target, Breach, broken_among, unless_broken, using_paths, computed, left_by_move, without_value, without_values, moved_by_right, right_hold, evaluation_raises, gives, gives_path, without_alias, without_aliases, behind_end, freed, released, frees_path, gets_path, either_of, are_as_good, opened_hold, opened, opened_target, opened_by, opened_by_all, opened_by_branches, opened_by_handlers, ends_turn, left_with, is_left, condition_flow, loop_flow, collected, if_own, left, left_option, leaves_block, handled, Around, in_loop, in_block, exit_of, exit_flow, declaration_flow, declarations_flow, bounds_flow, counting_start, begins_pair, stmt_flow, stmts_flow, branches_flow, handlers_flow, variables_of}
 use Rattle.ada_sound.specs.Agreement.{Place, Turning, Comes, here, behind, in_branches, in_body, in_count, in_enclosed, ComesBy, in_others, in_this, in_next, ComesTo, to_this, to_next, ComesInside, in_statements, in_handlers, IsFlowAt}
 use Rattle.ada_sound.proofs.Values.{read_same, read_other, same_or_not}
 
@@ -38,6 +38,17 @@ left_lost (v ∷ vs) types [] x e = refl
 left_lost (v ∷ vs) types (h ∷ hs) zero e = rw e (own_lost _)
 left_lost (v ∷ vs) types (h ∷ hs) (suc x) e = left_lost vs types hs x e
 
+-- It does so behind the end of an object.
+alias_lost : (b : Bool) → without_alias b Lost ≡ Lost
+alias_lost true = refl
+alias_lost false = refl
+
+aliases_lost : (variables : List VariableForm) (t : ℕ) (holds : Holds) (x : ℕ) → hold_at holds x ≡ Lost → hold_at (without_aliases variables t holds) x ≡ Lost
+aliases_lost [] t holds x e = refl
+aliases_lost (v ∷ vs) t [] x e = refl
+aliases_lost (v ∷ vs) t (h ∷ hs) zero e = rw e (alias_lost _)
+aliases_lost (v ∷ vs) t (h ∷ hs) (suc x) e = aliases_lost vs t hs x e
+
 -- At first each variable is.
 first_lost : (n x : ℕ) → hold_at (replicate n Lost) x ≡ Lost
 first_lost zero x = refl
@@ -45,12 +56,12 @@ first_lost (suc n) zero = refl
 first_lost (suc n) (suc x) = first_lost n x
 
 -- What is assigned to an Integer or a Boolean is one.
-right_lost : (types : List TypeForm) (variables : List VariableForm) (kind : Option VariableKind) (right : RightForm) (holds : Holds) → right_fits types variables kind right ≡ true → access_of kind ≡ None → right_hold right holds ≡ Lost
-right_lost types variables kind (computes e) holds fits none = refl
-right_lost types variables None right holds fits none = absurd (cc fits)
-right_lost types variables (Some variable.Integer) right holds fits none = absurd (cc fits)
-right_lost types variables (Some variable.Boolean) right holds fits none = absurd (cc fits)
-right_lost types variables (Some (variable.Access access)) right holds fits none = absurd (cc none)
+right_lost : (borrows : Bool) (types : List TypeForm) (variables : List VariableForm) (kind : Option VariableKind) (right : RightForm) (holds : Holds) → right_fits types variables kind right ≡ true → access_of kind ≡ None → right_hold borrows right holds ≡ Lost
+right_lost borrows types variables kind (computes e) holds fits none = refl
+right_lost borrows types variables None right holds fits none = absurd (cc fits)
+right_lost borrows types variables (Some variable.Integer) right holds fits none = absurd (cc fits)
+right_lost borrows types variables (Some variable.Boolean) right holds fits none = absurd (cc fits)
+right_lost borrows types variables (Some (variable.Access access)) right holds fits none = absurd (cc none)
 
 module _ (types : List TypeForm) (variables : List VariableForm) (texts exceptions : List (List ℕ)) where
   -- All variables without an access type are lost.
@@ -123,27 +134,37 @@ module _ (types : List TypeForm) (variables : List VariableForm) (texts exceptio
   condition_keeps (Some e) holds s = computed_keeps e holds s
 
   -- What is assigned.
-  gives_keeps : (cleared : Bool) (x : ℕ) (right : RightForm) (holds : Holds) → right_fits types variables (variable_kind variables x) right ≡ true → Scalars holds → Keeps (gives cleared x right holds)
+  gives_keeps : (cleared : Bool) (x : ℕ) (right : RightForm) (holds : Holds) → right_fits types variables (variable_kind variables x) right ≡ true → Scalars holds → Keeps (gives variables cleared x right holds)
   gives_keeps cleared x right holds fits s =
-      let after = slice_set (without_values (moved_by_right right) holds) x (right_hold right holds) in
-      using_keeps (uses_in_right cleared right) holds (ends_with (evaluation_raises right) holds after)
+      let borrows = is_borrower variables x in
+      let after = slice_set (without_values (moved_by_right borrows right) holds) x (right_hold borrows right holds) in
+      using_keeps (uses_in_right borrows cleared right) holds (ends_with (evaluation_raises right) holds after)
       (ends_keep (evaluation_raises right) holds after s
-      (set_keeps (without_values (moved_by_right right) holds) x (right_hold right holds)
-      (right_lost types variables (variable_kind variables x) right holds fits) (without_keeps (moved_by_right right) holds s)))
+      (set_keeps (without_values (moved_by_right borrows right) holds) x (right_hold borrows right holds)
+      (right_lost borrows types variables (variable_kind variables x) right holds fits) (without_keeps (moved_by_right borrows right) holds s)))
 
-  path_keeps : (cleared : Bool) (cs : List ℕ) (path : PathForm) (right : RightForm) (holds : Holds) → right_fits types variables (selectors_kind types (variable_kind variables path.root) cs) right ≡ true → Scalars holds → Keeps (gives_path cleared cs path right holds)
+  path_keeps : (cleared : Bool) (cs : List ℕ) (path : PathForm) (right : RightForm) (holds : Holds) → right_fits types variables (selectors_kind types (variable_kind variables path.root) cs) right ≡ true → Scalars holds → Keeps (gives_path variables cleared cs path right holds)
   path_keeps cleared [] path right holds fits s = gives_keeps cleared path.root right holds fits s
   path_keeps cleared (c ∷ cs) path right holds fits s =
-      using_keeps (uses_in_target path ++ uses_in_right cleared right) holds (ends_with true holds (without_values (moved_by_right right) holds))
-      (ends_keep true holds (without_values (moved_by_right right) holds) s (without_keeps (moved_by_right right) holds s))
+      using_keeps (uses_in_target path ++ uses_in_right false cleared right) holds (ends_with true holds (without_values (moved_by_right false right) holds))
+      (ends_keep true holds (without_values (moved_by_right false right) holds) s (without_keeps (moved_by_right false right) holds s))
 
-  released_keeps : (x : ℕ) (spot : Spot) (holds : Holds) (h : Hold) → (variable_access variables x ≡ None → ⊥) → Scalars holds → Keeps (released x spot holds h)
-  released_keeps x spot holds Null some s = (set_keeps holds x Null (λ n. absurd (some n)) s, tt)
-  released_keeps x spot holds (Own r) some s = (set_keeps holds x Null (λ n. absurd (some n)) s, tt)
+  behind_end_keeps : (access : Option ℕ) (holds : Holds) → Scalars holds → Scalars (behind_end variables access holds)
+  behind_end_keeps None holds s = s
+  behind_end_keeps (Some t) holds s = λ x none. aliases_lost variables t holds x (s x none)
+
+  freed_keeps : (x : ℕ) (holds : Holds) → (variable_access variables x ≡ None → ⊥) → Scalars holds → Scalars (freed variables x holds)
+  freed_keeps x holds some s =
+      set_keeps (behind_end variables (variable_access variables x) holds) x Null (λ n. absurd (some n))
+      (behind_end_keeps (variable_access variables x) holds s)
+
+  released_keeps : (x : ℕ) (spot : Spot) (holds : Holds) (h : Hold) → (variable_access variables x ≡ None → ⊥) → Scalars holds → Keeps (released variables x spot holds h)
+  released_keeps x spot holds Null some s = (freed_keeps x holds some s, tt)
+  released_keeps x spot holds (Own r) some s = (freed_keeps x holds some s, tt)
   released_keeps x spot holds (Alias r) some s = tt
   released_keeps x spot holds Lost some s = tt
 
-  frees_keeps : (cs : List ℕ) (access : ℕ) (path : PathForm) (holds : Holds) → is_freed_by types access (access_of (selectors_kind types (variable_kind variables path.root) cs)) ≡ true → Scalars holds → Keeps (frees_path cs path holds)
+  frees_keeps : (cs : List ℕ) (access : ℕ) (path : PathForm) (holds : Holds) → is_freed_by types access (access_of (selectors_kind types (variable_kind variables path.root) cs)) ≡ true → Scalars holds → Keeps (frees_path variables cs path holds)
   frees_keeps [] access path holds fits s =
       released_keeps path.root path.spot holds (hold_at holds path.root) (λ n. let freed : is_freed_by types access None ≡ true = rw n at fits in cc freed) s
   frees_keeps (c ∷ cs) access path holds fits s = tt
@@ -153,15 +174,15 @@ module _ (types : List TypeForm) (variables : List VariableForm) (texts exceptio
   gets_keeps (c ∷ cs) path holds s = using_keeps (uses_in_target path) holds (ends_with true holds holds) (ends_keep true holds holds s s)
 
   -- Loops and blocks.
-  opened_keeps : (y : ℕ) (holds : Holds) → Scalars holds → Scalars (opened y holds)
-  opened_keeps y holds s = set_keeps holds y (opened_hold (hold_at holds y)) (λ n. rw (s y n) refl) s
+  opened_keeps : (y : ℕ) (holds : Holds) → Scalars holds → Scalars (opened variables y holds)
+  opened_keeps y holds s = set_keeps holds y (opened_hold (is_borrower variables y) (hold_at holds y)) (λ n. rw (s y n) refl) s
 
-  target_keeps : (cs : List ℕ) (y : ℕ) (holds : Holds) → Scalars holds → Scalars (opened_target cs y holds)
+  target_keeps : (cs : List ℕ) (y : ℕ) (holds : Holds) → Scalars holds → Scalars (opened_target variables cs y holds)
   target_keeps [] y holds s = opened_keeps y holds s
   target_keeps (c ∷ cs) y holds s = s
 
   mutual
-    opens : (f : StmtForm) (holds : Holds) → Scalars holds → Scalars (opened_by f holds)
+    opens : (f : StmtForm) (holds : Holds) → Scalars holds → Scalars (opened_by variables f holds)
     opens skips holds s = s
     opens (assigns target right) holds s = target_keeps target.selectors target.root holds s
     opens (frees access path) holds s = s
@@ -174,22 +195,22 @@ module _ (types : List TypeForm) (variables : List VariableForm) (texts exceptio
     opens (exits condition spot) holds s = s
     opens (returns spot) holds s = s
     opens (raises e) holds s = s
-    opens (encloses ds fs hs) holds s = opens_handlers hs (opened_by_all fs holds) (opens_all fs holds s)
+    opens (encloses ds fs hs) holds s = opens_handlers hs (opened_by_all variables fs holds) (opens_all fs holds s)
 
-    opens_all : (fs : StmtsForm) (holds : Holds) → Scalars holds → Scalars (opened_by_all fs holds)
+    opens_all : (fs : StmtsForm) (holds : Holds) → Scalars holds → Scalars (opened_by_all variables fs holds)
     opens_all no_stmts holds s = s
-    opens_all (a_stmt f fs) holds s = opens_all fs (opened_by f holds) (opens f holds s)
+    opens_all (a_stmt f fs) holds s = opens_all fs (opened_by variables f holds) (opens f holds s)
 
-    opens_branches : (branches : BranchesForm) (holds : Holds) → Scalars holds → Scalars (opened_by_branches branches holds)
+    opens_branches : (branches : BranchesForm) (holds : Holds) → Scalars holds → Scalars (opened_by_branches variables branches holds)
     opens_branches (otherwise fs) holds s = opens_all fs holds s
-    opens_branches (a_branch e fs branches) holds s = opens_branches branches (opened_by_all fs holds) (opens_all fs holds s)
+    opens_branches (a_branch e fs branches) holds s = opens_branches branches (opened_by_all variables fs holds) (opens_all fs holds s)
 
-    opens_handlers : (hs : HandlersForm) (holds : Holds) → Scalars holds → Scalars (opened_by_handlers hs holds)
+    opens_handlers : (hs : HandlersForm) (holds : Holds) → Scalars holds → Scalars (opened_by_handlers variables hs holds)
     opens_handlers no_handlers holds s = s
-    opens_handlers (a_handler choices fs hs) holds s = opens_handlers hs (opened_by_all fs holds) (opens_all fs holds s)
+    opens_handlers (a_handler choices fs hs) holds s = opens_handlers hs (opened_by_all variables fs holds) (opens_all fs holds s)
 
-  counting_keeps : (x : ℕ) (fs : StmtsForm) (holds : Holds) → Scalars holds → Scalars (counting_start x fs holds)
-  counting_keeps x fs holds s = set_keeps (opened_by_all fs holds) x Lost (λ n. refl) (opens_all fs holds s)
+  counting_keeps : (x : ℕ) (fs : StmtsForm) (holds : Holds) → Scalars holds → Scalars (counting_start variables x fs holds)
+  counting_keeps x fs holds s = set_keeps (opened_by_all variables fs holds) x Lost (λ n. refl) (opens_all fs holds s)
 
   worse_keeps : (b : Bool) (spot : Spot) (more : Outcome) → Keeps more → Keeps (if b then more else faults spot LoopState)
   worse_keeps true spot more k = k
@@ -246,7 +267,7 @@ module _ (types : List TypeForm) (variables : List VariableForm) (texts exceptio
     where
       one : (d : DeclarationForm) → initial_fits types variables d ≡ true → Keeps (declaration_flow variables d holds)
       one (collects access) e = (s, tt)
-      one (declares x right) e = gives_keeps false x right holds (and_parts _ _ e).1 s
+      one (declares x right) e = gives_keeps false x right holds (and_parts _ _ (and_parts _ _ e).0).1 s
 
   bounds_keep : (low high : ExpressionForm) (holds : Holds) → Scalars holds → Keeps (bounds_flow low high holds)
   bounds_keep low high holds s = then_keeps (computed low holds) (computed high) (computed_keeps low holds s) (λ hs k. computed_keeps high hs k)
@@ -255,20 +276,20 @@ module _ (types : List TypeForm) (variables : List VariableForm) (texts exceptio
   mutual
     stmt_keeps : (around : Around) (inside cleared : Bool) (f : StmtForm) (holds : Holds) → statement_fits types variables texts exceptions inside f ≡ true → Scalars holds → Keeps (stmt_flow variables around cleared f holds)
     stmt_keeps around inside cleared skips holds fits s = (s, tt)
-    stmt_keeps around inside cleared (assigns target right) holds fits s = path_keeps cleared target.selectors target right holds fits s
-    stmt_keeps around inside cleared (frees access path) holds fits s = frees_keeps path.selectors access path holds (and_parts _ _ fits).1 s
+    stmt_keeps around inside cleared (assigns target right) holds fits s = path_keeps cleared target.selectors target right holds (and_parts _ _ fits).0 s
+    stmt_keeps around inside cleared (frees access path) holds fits s = frees_keeps path.selectors access path holds (and_parts _ _ (and_parts _ _ fits).0).1 s
     stmt_keeps around inside cleared (gets target) holds fits s = gets_keeps target.selectors target holds s
     stmt_keeps around inside cleared (writes e) holds fits s = computed_keeps e holds s
     stmt_keeps around inside cleared (writes_text text) holds fits s = (s, tt)
     stmt_keeps around inside cleared (chooses branches) holds fits s = branches_keep around inside branches holds fits s
     stmt_keeps around inside cleared (repeats condition fs end_spot) holds fits s =
-        loop_keeps condition (is_left condition fs) end_spot (λ start hs. stmts_flow variables (in_loop start) fs hs) (opened_by_all fs holds) (opens_all fs holds s)
-        (λ hs k. stmts_keep (in_loop (Some (opened_by_all fs holds))) true fs hs (and_parts _ _ fits).1 k)
+        loop_keeps condition (is_left condition fs) end_spot (λ start hs. stmts_flow variables (in_loop start) fs hs) (opened_by_all variables fs holds) (opens_all fs holds s)
+        (λ hs k. stmts_keep (in_loop (Some (opened_by_all variables fs holds))) true fs hs (and_parts _ _ fits).1 k)
     stmt_keeps around inside cleared (counts x low high fs end_spot) holds fits s =
         then_keeps (bounds_flow low high holds) _ (bounds_keep low high holds s)
         (λ hs k.
-        loop_keeps None true end_spot (λ start gs. stmts_flow variables (in_loop start) fs gs) (counting_start x fs hs) (counting_keeps x fs hs k)
-        (λ gs m. stmts_keep (in_loop (Some (counting_start x fs hs))) true fs gs (and_parts _ _ fits).1 m))
+        loop_keeps None true end_spot (λ start gs. stmts_flow variables (in_loop start) fs gs) (counting_start variables x fs hs) (counting_keeps x fs hs k)
+        (λ gs m. stmts_keep (in_loop (Some (counting_start variables x fs hs))) true fs gs (and_parts _ _ fits).1 m))
     stmt_keeps around inside cleared (exits condition spot) holds fits s = exit_keeps around.start around.inside condition spot holds s
     stmt_keeps around inside cleared (returns spot) holds fits s = (tt, tt)
     stmt_keeps around inside cleared (raises e) holds fits s = (tt, s)
@@ -322,7 +343,7 @@ module _ (types : List TypeForm) (variables : List VariableForm) (texts exceptio
     comes_keep inside fits s (in_branches more) = branches_comes inside (and_parts _ _ fits).0 s more
     comes_keep inside fits s (in_body {raising = raising} {condition = condition} {body = body} {holds = holds} mid is more) =
         let parts = and_parts _ _ (and_parts _ _ fits).0 in
-        comes_keep true parts.1 (normal_of _ mid raising is (condition_keeps condition (opened_by_all body holds) (opens_all body holds s))) more
+        comes_keep true parts.1 (normal_of _ mid raising is (condition_keeps condition (opened_by_all variables body holds) (opens_all body holds s))) more
     comes_keep inside fits s (in_count {raising = raising} {x = x} {low = low} {high = high} {body = body} {holds = holds} mid is more) =
         let parts = and_parts _ _ (and_parts _ _ fits).0 in
         comes_keep true parts.1 (counting_keeps x body mid (normal_of _ mid raising is (bounds_keep low high holds s))) more

@@ -92,7 +92,7 @@ module _ (known : Known) where
   declares_more heap x right ds fs hs k holds (types ∷ rooms) e =
       let o = Outside known.program.variables types (ways known k rooms) in (
         false,
-        goes_map (gives false x right holds) (Elaborating known ds (Doing known fs (Handles hs ∷ Closes ∷ k) (Handled known hs (Closes ∷ k) (Outside known.program.variables types (ways known k rooms)))) (Outside known.program.variables types (ways known k rooms)))
+        goes_map (gives known.program.variables false x right holds) (Elaborating known ds (Doing known fs (Handles hs ∷ Closes ∷ k) (Handled known hs (Closes ∷ k) (Outside known.program.variables types (ways known k rooms)))) (Outside known.program.variables types (ways known k rooms)))
             (Raised (λ e'. right_raises (is_same e') right) o) (RunsOn known (Elaborates ds fs hs ∷ k) (types ∷ rooms)) (Raised (λ e'. right_raises (is_same e') right) (ways known (Elaborates ds fs hs ∷ k) (types ∷ rooms)))
             (λ h g. (e.0, g)) (λ h r. r) e.1,
         tt,
@@ -140,14 +140,14 @@ module _ (known : Known) where
       declarations_fine (d ∷ ds) w = declaration_fine d ds w
 
     -- Paths that are targets, or are freed.
-    assign_fine : (cs : List ℕ) (target : PathForm) (right : RightForm) (fs : StmtsForm) (k : Control) → target.selectors ≡ cs → Working known s.heap a.places s.masters (λ rooms holds. Goes (gives_path (begins_pair (assigns target right) fs) cs target right holds) (RunsOn known (Does fs ∷ k) rooms) (Raised (assign_among cs right) (ways known k rooms))) → Fine known s.heap s.masters (assign_next named cs target.root right (running (Does fs ∷ k) a rest s))
+    assign_fine : (cs : List ℕ) (target : PathForm) (right : RightForm) (fs : StmtsForm) (k : Control) → target.selectors ≡ cs → Working known s.heap a.places s.masters (λ rooms holds. Goes (gives_path known.program.variables (begins_pair (assigns target right) fs) cs target right holds) (RunsOn known (Does fs ∷ k) rooms) (Raised (assign_among cs right) (ways known k rooms))) → Fine known s.heap s.masters (assign_next named cs target.root right (running (Does fs ∷ k) a rest s))
     assign_fine [] target right fs k is w =
         let out = ways known k w.rooms in
         let cleared = begins_pair (assigns target right) fs in
         ready_on known (Evaluates right ∷ Stores target.root ∷ Does fs ∷ k) a rest s a.operands
         (stores_ready right target.root (Does fs ∷ k) (at_work w (
           cleared,
-          goes_map (gives cleared target.root right w.holds) (RunsOn known (Does fs ∷ k) w.rooms) (Raised (assign_among [] right) out) (RunsOn known (Does fs ∷ k) w.rooms) (Raised (λ e. right_raises (is_same e) right) out)
+          goes_map (gives known.program.variables cleared target.root right w.holds) (RunsOn known (Does fs ∷ k) w.rooms) (Raised (assign_among [] right) out) (RunsOn known (Does fs ∷ k) w.rooms) (Raised (λ e. right_raises (is_same e) right) out)
               (λ h m. m) (λ h r. raised_less (assign_among [] right) (λ e. right_raises (is_same e) right) out (λ e may. or_right (is_same e ConstraintError && false) (right_raises (is_same e) right) may) h r) w.rest,
           pairs_variable target right fs k is,
         )))
@@ -161,7 +161,7 @@ module _ (known : Known) where
           pairs_component c cs target right fs k is,
         ))
 
-    frees_fine : (cs : List ℕ) (access : ℕ) (variable : PathForm) (fs : StmtsForm) (k : Control) (raised : Rooms → Holds → Type 0) → Working known s.heap a.places s.masters (λ rooms holds. Goes (frees_path cs variable holds) (RunsOn known (Does fs ∷ k) rooms) (raised rooms)) → Fine known s.heap s.masters (frees_next named cs access variable.root (running (Does fs ∷ k) a rest s))
+    frees_fine : (cs : List ℕ) (access : ℕ) (variable : PathForm) (fs : StmtsForm) (k : Control) (raised : Rooms → Holds → Type 0) → Working known s.heap a.places s.masters (λ rooms holds. Goes (frees_path known.program.variables cs variable holds) (RunsOn known (Does fs ∷ k) rooms) (raised rooms)) → Fine known s.heap s.masters (frees_next named cs access variable.root (running (Does fs ∷ k) a rest s))
     frees_fine [] access variable fs k raised w = free_fine known a rest s access variable.root variable.spot fs k raised w
     frees_fine (c ∷ cs) access variable fs k raised w = tt
 

@@ -11,11 +11,11 @@ use Rattle.ada_program.specs.Form.{PathForm, value_of}
 use Rattle.ada_program.specs.ProgramForm.{TypeForm, VariableForm, ProgramForm}
 use Rattle.ada_text.specs.declared.spot.Spot.{Spot}
 use Rattle.ada_program.specs.Handling.{is_same}
-use Rattle.ada_program.specs.WellFormed.{access_of, selectors_kind, variable_kind, path_access, kind_takes}
+use Rattle.ada_program.specs.WellFormed.{access_of, selectors_kind, variable_kind, path_access, kind_takes, is_borrower}
 use Rattle.ada_effects.specs.Effects.{path_raises, right_raises}
 use Rattle.ada_flow.specs.declared.rule.Hold.{Hold}
 use Rattle.ada_flow.specs.declared.rule.Hold.TheVariants as hold
-use Rattle.ada_flow.specs.Flow.{Holds, hold_at, variable_access, reads_it, moves_it, left_by_move, gives_component, moved_behind, moved_by, taken_by, lost_by, without_values, variable_of, value_hold, ends_with, gives, same_selectors}
+use Rattle.ada_flow.specs.Flow.{Holds, hold_at, variable_access, reads_it, moves_it, left_by_move, gives_component, moved_behind, moved_by, taken_by, lost_by, without_values, variable_of, value_hold, borrows_it, borrowed_hold, ends_with, gives, same_selectors}
 use Rattle.ada_meaning.specs.declared.state.Id.{Id}
 use Rattle.ada_meaning.specs.declared.state.Value.{Value}
 use Rattle.ada_meaning.specs.declared.state.Value.TheVariants.{Null, Names}
@@ -25,9 +25,7 @@ use Rattle.ada_meaning.specs.State.{Master}
 use Rattle.ada_meaning.specs.Named.{Object, object_at, named, store, changed, filled}
 use Rattle.ada_owners.specs.Reliance.{IsOf}
 use Rattle.ada_owners.specs.Keeping.{IsThere}
-use Rattle.ada_owners.specs.Places.{variable, access_at}
-use Rattle.ada_owners.proofs.Kernel as kernel
-use Rattle.ada_owners.proofs.Kernel.{same_place}
+use Rattle.ada_owners.specs.Places.{access_at}
 use Rattle.ada_owners.proofs.Objects.{listed_at}
 use Rattle.ada_owners.specs.Walks.{walk}
 use Rattle.ada_typed.specs.Holding.{cells_of}
@@ -35,7 +33,7 @@ use Rattle.ada_typed.proofs.Control as typed
 use Rattle.ada_sound.proofs.Objects.{set_here, set_other}
 use Rattle.ada_sound.proofs.Values.{same_or_not}
 use Rattle.ada_sound.proofs.Stored.{Stored, stored_filled}
-use Rattle.ada_sound.proofs.Fits.{Fit, component_access, none_spared, place_at, null_fit, lose, put_null, hand_of, move_fit, store_blank, store_owner}
+use Rattle.ada_sound.proofs.Fits.{Fit, component_access, none_spared, place_at, null_fit, lose, put_null, put_alias, root_names, hand_of, move_fit, store_blank, store_owner}
 use Rattle.ada_sound.proofs.Invariant.{Known, Control, To, component_among, Goes, Raised, RunsOn, Takes, Working, ways}
 use Rattle.ada_sound.proofs.Outcomes.{using_goes, ends_goes}
 use Rattle.ada_sound.proofs.Followings.{first_kept}
@@ -74,13 +72,28 @@ module _ {types : List TypeForm} {variables : List VariableForm} {heap : List Ob
   store_by o object c (hold.Alias r) is found listed same kept = absurd (cc kept)
   store_by o object c hold.Lost is found listed same kept = absurd (cc kept)
 
+  -- What a variable names that is not lost may be lent to a borrower; so may what a component of an object in its collection names.
+  pub borrow_by : (x : ℕ) (h : Hold) → hold_at holds y ≡ h → variable_access variables x ≡ variable_access variables y → lost_by h spot ≡ None → Fit types variables none_spared heap (slice_set places x (place_at places y)) (slice_set holds x (borrowed_hold h))
+  borrow_by x hold.Null is same kept = let null = null_place is in rw null (put_null x f)
+  borrow_by x (hold.Own r) is same kept = put_alias x (place_at places y) r (rw same (root_names y spot (rw is kept) f)) f
+  borrow_by x (hold.Alias r) is same kept = put_alias x (place_at places y) r (rw same (root_names y spot (rw is kept) f)) f
+  borrow_by x hold.Lost is same kept = absurd (cc kept)
+
 -- What flow says where a path is moved to a variable, or into a component.
-pub value_gives : (cleared : Bool) (x root : ℕ) (cs : List ℕ) (spot : Spot) (holds : Holds) (more raised : Holds → Type 0) → Goes (gives cleared x (value_of (at_path root cs spot)) holds) more raised → (moved_behind cleared cs (hold_at holds root) spot ≡ None) × more (slice_set (without_values (variable_of cs root) holds) x (value_hold cs (hold_at holds root))) × (path_raises cs ≡ true → raised holds)
-value_gives cleared x root cs spot holds more raised g =
+pub value_gives : (variables : List VariableForm) (cleared : Bool) (x root : ℕ) (cs : List ℕ) (spot : Spot) (holds : Holds) (more raised : Holds → Type 0) → is_borrower variables x ≡ false → Goes (gives variables cleared x (value_of (at_path root cs spot)) holds) more raised → (moved_behind cleared cs (hold_at holds root) spot ≡ None) × more (slice_set (without_values (variable_of cs root) holds) x (value_hold cs (hold_at holds root))) × (path_raises cs ≡ true → raised holds)
+value_gives variables cleared x root cs spot holds more raised owned g =
     let after = slice_set (without_values (variable_of cs root) holds) x (value_hold cs (hold_at holds root)) in
-    let u = using_goes (moves_it cleared (at_path root cs spot) ∷ []) holds (ends_with (path_raises cs) holds after) more raised g in
+    let u = using_goes (moves_it cleared (at_path root cs spot) ∷ []) holds (ends_with (path_raises cs) holds after) more raised (rw owned at g) in
     let e = ends_goes (path_raises cs) holds after more raised u.1 in
     ((first_kept holds (moves_it cleared (at_path root cs spot)) [] u.0).0, e.0, e.1)
+
+-- What flow says where a path's value is lent to a borrower.
+pub borrow_gives : (variables : List VariableForm) (cleared : Bool) (x root : ℕ) (cs : List ℕ) (spot : Spot) (holds : Holds) (more raised : Holds → Type 0) → is_borrower variables x ≡ true → Goes (gives variables cleared x (value_of (at_path root cs spot)) holds) more raised → (lost_by (hold_at holds root) spot ≡ None) × more (slice_set holds x (borrowed_hold (hold_at holds root))) × (path_raises cs ≡ true → raised holds)
+borrow_gives variables cleared x root cs spot holds more raised lent g =
+    let after = slice_set holds x (borrowed_hold (hold_at holds root)) in
+    let u = using_goes (borrows_it (at_path root cs spot) ∷ []) holds (ends_with (path_raises cs) holds after) more raised (rw lent at g) in
+    let e = ends_goes (path_raises cs) holds after more raised u.1 in
+    ((first_kept holds (borrows_it (at_path root cs spot)) [] u.0).0, e.0, e.1)
 
 pub value_fills : (cleared : Bool) (target : PathForm) (root : ℕ) (cs : List ℕ) (spot : Spot) (holds : Holds) (more raised : Holds → Type 0) → Goes (gives_component cleared target (value_of (at_path root cs spot)) holds) more raised → (moved_behind cleared cs (hold_at holds root) spot ≡ None) × more (without_values (variable_of cs root) holds) × raised holds
 value_fills cleared target root cs spot holds more raised g =
@@ -135,19 +148,23 @@ selectors_are (c ∷ cs) (d ∷ ds) e =
 pub walk_on : (heap : List Object) (o : Id) (object : Object) (c : ℕ) (cs : List ℕ) (v : Value) → object_at heap o ≡ Some object → object.stage ≡ Existing → slice_get object.cell.values c ≡ Some v → walk heap (Names o) (c ∷ cs) ≡ walk heap v cs
 walk_on heap o object c cs v found exists at = rw (found, exists, at) refl
 
--- Where a component is moved, its path begins at a value that is not lost.
-pub kept_by : (cleared : Bool) (x root c : ℕ) (cs : List ℕ) (spot : Spot) (holds : Holds) (more raised : Holds → Type 0) → Goes (gives cleared x (value_of (at_path root (c ∷ cs) spot)) holds) more raised → (lost_by (hold_at holds root) spot ≡ None) × raised holds
-kept_by cleared x root c cs spot holds more raised g =
-    let h = value_gives cleared x root (c ∷ cs) spot holds more raised g in
-    ((cleared_is cleared (hold_at holds root) spot h.0).1, h.2 refl)
+-- Where a component is moved, or lent, its path begins at a value that is not lost.
+pub kept_by : (variables : List VariableForm) (cleared : Bool) (x root c : ℕ) (cs : List ℕ) (spot : Spot) (holds : Holds) (more raised : Holds → Type 0) → Goes (gives variables cleared x (value_of (at_path root (c ∷ cs) spot)) holds) more raised → (lost_by (hold_at holds root) spot ≡ None) × raised holds
+kept_by variables cleared x root c cs spot holds more raised g = go (is_borrower variables x) refl
+  where
+    go : (b : Bool) → is_borrower variables x ≡ b → (lost_by (hold_at holds root) spot ≡ None) × raised holds
+    go true is = let h = borrow_gives variables cleared x root (c ∷ cs) spot holds more raised is g in (h.0, h.2 refl)
+    go false is =
+        let h = value_gives variables cleared x root (c ∷ cs) spot holds more raised is g in
+        ((cleared_is cleared (hold_at holds root) spot h.0).1, h.2 refl)
 
 pub kept_root : (known : Known) (k : Control) (heap : List Object) (places : List Value) (ms : List Master) (root c : ℕ) (cs : List ℕ) (spot : Spot) → (w : Working known heap places ms (Takes known heap (value_of (at_path root (c ∷ cs) spot)) k)) → (lost_by (hold_at w.holds root) spot ≡ None) × To ((ways known k w.rooms).raised ConstraintError) w.holds
 kept_root known [] heap places ms root c cs spot w = absurd (w.rest)
 kept_root known (Stores x ∷ k) heap places ms root c cs spot w =
-    let h = kept_by w.rest.0 x root c cs spot w.holds (RunsOn known k w.rooms) (Raised (λ e. right_raises (is_same e) (value_of (at_path root (c ∷ cs) spot))) (ways known k w.rooms)) w.rest.1 in
+    let h = kept_by known.program.variables w.rest.0 x root c cs spot w.holds (RunsOn known k w.rooms) (Raised (λ e. right_raises (is_same e) (value_of (at_path root (c ∷ cs) spot))) (ways known k w.rooms)) w.rest.1 in
     (h.0, h.1 ConstraintError refl)
 kept_root known (Declares x ∷ k) heap places ms root c cs spot w =
-    let h = kept_by w.rest.0 x root c cs spot w.holds (RunsOn known k w.rooms) (Raised (λ e. right_raises (is_same e) (value_of (at_path root (c ∷ cs) spot))) (ways known k w.rooms)) w.rest.1 in
+    let h = kept_by known.program.variables w.rest.0 x root c cs spot w.holds (RunsOn known k w.rooms) (Raised (λ e. right_raises (is_same e) (value_of (at_path root (c ∷ cs) spot))) (ways known k w.rooms)) w.rest.1 in
     (h.0, h.1 ConstraintError refl)
 kept_root known (StoresIn o d ∷ k) heap places ms root c cs spot w =
     let g = w.rest.1 in
@@ -157,17 +174,11 @@ kept_root known (f ∷ k) heap places ms root c cs spot w = absurd (w.rest)
 
 -- The object that a variable names which is not lost is of the variable's access type.
 pub root_access : {types : List TypeForm} {variables : List VariableForm} {heap : List Object} {places : List Value} {holds : Holds} → Fit types variables none_spared heap places holds → (x : ℕ) (spot : Spot) (o : Id) (object : Object) → lost_by (hold_at holds x) spot ≡ None → place_at places x ≡ Names o → object_at heap o ≡ Some object → variable_access variables x ≡ Some object.cell.access
-root_access {types} {variables} {heap} {places} {holds} f x spot o object kept is found = go (hold_at holds x) refl kept
+root_access {types} {variables} {heap} {places} {holds} f x spot o object kept is found = by_kind (variable_access variables x) (root_names x spot kept f o is)
   where
     by_kind : (kind : Option ℕ) → IsOf (access_at heap) kind o → kind ≡ Some object.cell.access
     by_kind None of = absurd of
     by_kind (Some t) of = let h = listed_at heap o t of in let one : h.object ≡ object = cc (h.found, found) in ap Some (sym h.access ∙ ap (λ (y : Object). y.cell.access) one)
-
-    go : (h : Hold) → hold_at holds x ≡ h → lost_by h spot ≡ None → variable_access variables x ≡ Some object.cell.access
-    go hold.Null at kept' = let null = null_place f x spot at in absurd (cc (null, is))
-    go (hold.Own r) at kept' = by_kind (variable_access variables x) (kernel.owned_at f.owners.fit (variable x) (rw at tt) o is)
-    go (hold.Alias r) at kept' = let null : place_at places x ≡ Null = rw at at (f.nulls x) in absurd (cc (null, is))
-    go hold.Lost at kept' = absurd (cc kept')
 
 -- What a moved path leads to is of the kind that it goes to.
 pub one_kind : (p : ProgramForm) (kind to : VariableKind) (path : PathForm) → kind_takes p.types p.variables kind (value_of path) ≡ true → access_of (Some kind) ≡ access_of (Some to) → kind ≡ to

@@ -7,6 +7,7 @@ use Rattle.ada_program.specs.declared.program.Exception.TheVariants.{ConstraintE
 use Rattle.ada_program.specs.declared.program.VariableKind.{VariableKind}
 use Rattle.ada_program.specs.declared.program.VariableKind.TheVariants as variable
 use Rattle.ada_program.specs.Form.{PathForm, RightForm, nothing, value_of, allocates, computes, StmtsForm, a_stmt, assigns}
+use Rattle.ada_program.specs.ProgramForm.{VariableForm}
 use Rattle.ada_program.specs.Handling.{is_same}
 use Rattle.ada_effects.specs.Effects.{stmt_raises}
 use Rattle.ada_flow.specs.Flow.{Holds, reads_it, gives_component, gives_path, uses_in_target, uses_in_right, ends_with, without_values, moved_by_right}
@@ -56,17 +57,17 @@ blank_works {heap = heap} o object c v found none w = record {
 
 -- What flow says of a component that is a target: its path uses nothing that is lost, variables that are moved are lost where it comes to its end, and
 -- it may raise an exception.
-target_goes : (cleared : Bool) (path : PathForm) (right : RightForm) (holds : Holds) (more raised : Holds → Type 0) → Goes (gives_component cleared path right holds) more raised → (NoneBroken holds (uses_in_target path)) × more (without_values (moved_by_right right) holds) × raised holds
+target_goes : (cleared : Bool) (path : PathForm) (right : RightForm) (holds : Holds) (more raised : Holds → Type 0) → Goes (gives_component cleared path right holds) more raised → (NoneBroken holds (uses_in_target path)) × more (without_values (moved_by_right false right) holds) × raised holds
 target_goes cleared path right holds more raised g =
-    let after = without_values (moved_by_right right) holds in
-    let u = using_goes (uses_in_target path ++ uses_in_right cleared right) holds (ends_with true holds after) more raised g in
+    let after = without_values (moved_by_right false right) holds in
+    let u = using_goes (uses_in_target path ++ uses_in_right false cleared right) holds (ends_with true holds after) more raised g in
     let n = ends_goes true holds after more raised u.1 in
-    ((kept_apart holds (uses_in_target path) (uses_in_right cleared right) u.0).0, n.0, n.1 refl)
+    ((kept_apart holds (uses_in_target path) (uses_in_right false cleared right) u.0).0, n.0, n.1 refl)
 
 -- Null leaves all that is known as it is.
-cleared_goes : (cs : List ℕ) (d : ℕ) (ds : List ℕ) (path : PathForm) (holds : Holds) (more raised : Holds → Type 0) → cs ≡ d ∷ ds → Goes (gives_path false cs path nothing holds) more raised → more holds
-cleared_goes [] d ds path holds more raised is g = absurd (cc is)
-cleared_goes (c ∷ cs) d ds path holds more raised is g = (target_goes false path nothing holds more raised g).1
+cleared_goes : (variables : List VariableForm) (cs : List ℕ) (d : ℕ) (ds : List ℕ) (path : PathForm) (holds : Holds) (more raised : Holds → Type 0) → cs ≡ d ∷ ds → Goes (gives_path variables false cs path nothing holds) more raised → more holds
+cleared_goes variables [] d ds path holds more raised is g = absurd (cc is)
+cleared_goes variables (c ∷ cs) d ds path holds more raised is g = (target_goes false path nothing holds more raised g).1
 
 module _ (known : Known) (a : Activation Value) (rest : List (Activation Value)) (s : State) where
   -- The path of a target may be followed.
@@ -91,7 +92,7 @@ module _ (known : Known) (a : Activation Value) (rest : List (Activation Value))
   cleared_runs o c d ds path later k is w =
       let runs = ways known k w.rooms in
       let first = starts known (assigns path nothing) later k runs w.holds w.rest in
-      at_work w (cleared_goes path.selectors d ds path w.holds (Doing known later k runs) (Raised (λ e. stmt_raises (is_same e) (assigns path nothing)) runs) is first.1)
+      at_work w (cleared_goes known.program.variables path.selectors d ds path w.holds (Doing known later k runs) (Raised (λ e. stmt_raises (is_same e) (assigns path nothing)) runs) is first.1)
 
   -- Its object is found first, which is known to be there.
   pair_ends : (path : PathForm) (cs : List ℕ) (later : StmtsForm) (k : Control) (o : Id) (c : ℕ) → path.selectors ≡ cs → final path.selectors ≡ Some c → walk s.heap (place_at a.places path.root) (front path.selectors) ≡ finds (Names o) → IsThere s.heap o → Working known (store s.heap (Names o) c Null) a.places s.masters (RunsOn known (Does (a_stmt (assigns path nothing) later) ∷ k)) → Fine known s.heap s.masters (assign_next named cs path.root nothing (running (Does later ∷ k) a rest s))

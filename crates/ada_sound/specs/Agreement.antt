@@ -82,14 +82,14 @@ mutual
         → Comes variables around outer (a_stmt (chooses branches) fs) holds (into ∷ way) place at
     in_body : {around : Around} {raising : Option Holds} {outer place : Place}
         {condition : Option ExpressionForm} {body fs : StmtsForm} {end_spot : Spot} {holds at : Holds} {way : List Turning}
-        (mid : Holds) → condition_flow condition (opened_by_all body holds) ≡ goes (Some mid) raising
-        → Comes variables (in_loop (Some (opened_by_all body holds))) (frame.Repeats condition body ∷ frame.Does fs ∷ outer) body mid way place at
+        (mid : Holds) → condition_flow condition (opened_by_all variables body holds) ≡ goes (Some mid) raising
+        → Comes variables (in_loop (Some (opened_by_all variables body holds))) (frame.Repeats condition body ∷ frame.Does fs ∷ outer) body mid way place at
         → Comes variables around outer (a_stmt (repeats condition body end_spot) fs) holds (into ∷ way) place at
     in_count : {around : Around} {raising : Option Holds} {outer place : Place}
         {x : ℕ} {low high : ExpressionForm} {body fs : StmtsForm} {end_spot : Spot} {holds at : Holds} {next last : ℤ} {way : List Turning}
         (mid : Holds) → bounds_flow low high holds ≡ goes (Some mid) raising
-        → Comes variables (in_loop (Some (counting_start x body mid))) (frame.Counts x next last body ∷ frame.Does fs ∷ outer)
-        body (counting_start x body mid) way place at
+        → Comes variables (in_loop (Some (counting_start variables x body mid))) (frame.Counts x next last body ∷ frame.Does fs ∷ outer)
+        body (counting_start variables x body mid) way place at
         → Comes variables around outer (a_stmt (counts x low high body end_spot) fs) holds (counting next last ∷ way) place at
     in_enclosed : {around : Around} {outer place : Place}
         {ds : List DeclarationForm} {body fs : StmtsForm} {hs : HandlersForm} {holds at : Holds} {way : List Turning}

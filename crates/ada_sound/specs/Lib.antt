@@ -8,5 +8,7 @@ pub mod Always
 pub mod Examples
 -- the same where components own
 pub mod OwnerExamples
+-- the same where others borrow
+pub mod BorrowerExamples
 -- what the rules let through
 pub mod Owners

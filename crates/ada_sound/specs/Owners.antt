@@ -1,37 +1,36 @@
--- What the rules let through: only owners are freed and moved, and they own nothing after; a component is moved by a take pair alone.
+-- What the rules let through: only owners are freed and moved, and they own nothing after; a component is moved by a take pair alone; and borrowers
+-- take part in none of that.
 
-use Rattle.std.specs.Prelude.{◌≡◌, ◌≢◌, ◌⊎◌, ℕ, Bool, true, List, [], ◌∷◌, Option, Some}
+use Rattle.std.specs.Prelude.{◌≡◌, ◌≢◌, ◌⊎◌, ℕ, Bool, true, false, List, [], ◌∷◌, Option, Some}
 use Rattle.std.specs.List.{slice_get}
-use Rattle.ada_program.specs.Form.{PathForm, ItemForm, item_of_path, nothing, value_of, allocates, StmtForm, assigns, frees, StmtsForm, a_stmt}
-use Rattle.ada_flow.specs.declared.rule.Hold.TheVariants.{Own}
+use Rattle.ada_program.specs.Form.{PathForm, ItemForm, item_of_path, RightForm, nothing, value_of, allocates, StmtForm, assigns, frees, StmtsForm, a_stmt}
+use Rattle.ada_flow.specs.declared.rule.Hold.TheVariants.{Own, Alias, Lost}
 use Rattle.ada_flow.specs.declared.rule.Region.{Region}
+use Rattle.ada_flow.specs.declared.rule.Rule.TheVariants.{LostValue}
 use Rattle.ada_program.specs.ProgramForm.{VariableForm}
-use Rattle.ada_flow.specs.Flow.{Holds, goes, hold_at, Around, begins_pair, stmt_flow, stmts_flow}
+use Rattle.ada_program.specs.WellFormed.{names_borrower, lends_to}
+use Rattle.ada_flow.specs.Flow.{Holds, faults, goes, hold_at, variable_access, Around, begins_pair, stmt_flow, stmts_flow}
 use Rattle.ada_sound.specs.Agreement.{IsOwner}
 
 -- A statement, the first of a take pair or not, breaks no rule from these holds.
-abbrev pub IsLetThrough : StmtForm → Holds → Type 0
-IsLetThrough f holds =
-    (variables : List VariableForm) × (around : Around) × (cleared : Bool) × (normal raising : Option Holds)
-    × (stmt_flow variables around cleared f holds ≡ goes normal raising)
+abbrev pub IsLetThrough : List VariableForm → StmtForm → Holds → Type 0
+IsLetThrough variables f holds =
+    (around : Around) × (cleared : Bool) × (normal raising : Option Holds) × (stmt_flow variables around cleared f holds ≡ goes normal raising)
 
 -- It comes to its end with these.
-abbrev pub EndsWith : StmtForm → (holds after : Holds) → Type 0
-EndsWith f holds after =
-    (variables : List VariableForm) × (around : Around) × (cleared : Bool) × (raising : Option Holds)
-    × (stmt_flow variables around cleared f holds ≡ goes (Some after) raising)
+abbrev pub EndsWith : List VariableForm → StmtForm → (holds after : Holds) → Type 0
+EndsWith variables f holds after =
+    (around : Around) × (cleared : Bool) × (raising : Option Holds) × (stmt_flow variables around cleared f holds ≡ goes (Some after) raising)
 
 -- It raises an exception with these.
-abbrev pub RaisesWith : StmtForm → (holds raised : Holds) → Type 0
-RaisesWith f holds raised =
-    (variables : List VariableForm) × (around : Around) × (cleared : Bool) × (normal : Option Holds)
-    × (stmt_flow variables around cleared f holds ≡ goes normal (Some raised))
+abbrev pub RaisesWith : List VariableForm → StmtForm → (holds raised : Holds) → Type 0
+RaisesWith variables f holds raised =
+    (around : Around) × (cleared : Bool) × (normal : Option Holds) × (stmt_flow variables around cleared f holds ≡ goes normal (Some raised))
 
 -- Statements break no rule from these holds.
-abbrev pub AreLetThrough : StmtsForm → Holds → Type 0
-AreLetThrough fs holds =
-    (variables : List VariableForm) × (around : Around) × (normal raising : Option Holds)
-    × (stmts_flow variables around fs holds ≡ goes normal raising)
+abbrev pub AreLetThrough : List VariableForm → StmtsForm → Holds → Type 0
+AreLetThrough variables fs holds =
+    (around : Around) × (normal raising : Option Holds) × (stmts_flow variables around fs holds ≡ goes normal raising)
 
 -- A variable owns nothing.
 abbrev pub OwnsNothing : Holds → ℕ → Type 0
@@ -48,49 +47,60 @@ IsElsewhere target x = IsVariable target → x ≢ target.root
 -- Free (X) (13.11.2).
 abbrev pub OnlyOwnersAreFreed : Type 0
 OnlyOwnersAreFreed =
-    (access : ℕ) (variable : PathForm) (holds : Holds) → IsLetThrough (frees access variable) holds → IsOwner (hold_at holds variable.root)
+    (variables : List VariableForm) (access : ℕ) (variable : PathForm) (holds : Holds)
+    → IsLetThrough variables (frees access variable) holds → IsOwner (hold_at holds variable.root)
 
 -- A variable that was freed owns nothing.
 abbrev pub FreedOwnsNothing : Type 0
 FreedOwnsNothing =
-    (access : ℕ) (variable : PathForm) (holds after : Holds) → EndsWith (frees access variable) holds after → OwnsNothing after variable.root
+    (variables : List VariableForm) (access : ℕ) (variable : PathForm) (holds after : Holds)
+    → EndsWith variables (frees access variable) holds after → OwnsNothing after variable.root
 
--- P := Y (5.2).
+-- Behind Free (X) no variable of X's own access type holds an alias: the object that it named may be gone.
+abbrev pub FreeLeavesNoAlias : Type 0
+FreeLeavesNoAlias =
+    (variables : List VariableForm) (access t : ℕ) (variable : PathForm) (holds after : Holds)
+    → EndsWith variables (frees access variable) holds after → variable_access variables variable.root ≡ Some t
+    → (x : ℕ) → variable_access variables x ≡ Some t → (r : Region) → hold_at after x ≢ Alias r
+
+-- P := Y (5.2), where P is no borrower.
 abbrev pub OnlyOwnersAreMoved : Type 0
 OnlyOwnersAreMoved =
-    (target path : PathForm) (holds : Holds) → IsVariable path
-    → IsLetThrough (assigns target (value_of path)) holds → IsOwner (hold_at holds path.root)
+    (variables : List VariableForm) (target path : PathForm) (holds : Holds) → names_borrower variables target ≡ false → IsVariable path
+    → IsLetThrough variables (assigns target (value_of path)) holds → IsOwner (hold_at holds path.root)
 
 -- A variable whose value was moved owns nothing.
 abbrev pub MovedOwnsNothing : Type 0
 MovedOwnsNothing =
-    (target path : PathForm) (holds after : Holds) → IsVariable path → IsElsewhere target path.root
-    → EndsWith (assigns target (value_of path)) holds after → OwnsNothing after path.root
+    (variables : List VariableForm) (target path : PathForm) (holds after : Holds) → names_borrower variables target ≡ false
+    → IsVariable path → IsElsewhere target path.root → EndsWith variables (assigns target (value_of path)) holds after → OwnsNothing after path.root
 
 -- P := new T'(.., Y, ..) (4.8): what an item moves is a variable, and an owner.
 abbrev pub OnlyOwnersAreItems : Type 0
 OnlyOwnersAreItems =
-    (target path : PathForm) (access i : ℕ) (items : List ItemForm) (holds : Holds) → slice_get items i ≡ Some (item_of_path path)
-    → IsLetThrough (assigns target (allocates access items)) holds → IsVariable path × IsOwner (hold_at holds path.root)
+    (variables : List VariableForm) (target path : PathForm) (access i : ℕ) (items : List ItemForm) (holds : Holds)
+    → slice_get items i ≡ Some (item_of_path path)
+    → IsLetThrough variables (assigns target (allocates access items)) holds → IsVariable path × IsOwner (hold_at holds path.root)
 
 -- Two items move two variables.
 abbrev pub ItemsMoveApart : Type 0
 ItemsMoveApart =
-    (target path other : PathForm) (access i k : ℕ) (items : List ItemForm) (holds : Holds) → i ≢ k
+    (variables : List VariableForm) (target path other : PathForm) (access i k : ℕ) (items : List ItemForm) (holds : Holds) → i ≢ k
     → slice_get items i ≡ Some (item_of_path path) → slice_get items k ≡ Some (item_of_path other)
-    → IsLetThrough (assigns target (allocates access items)) holds → path.root ≢ other.root
+    → IsLetThrough variables (assigns target (allocates access items)) holds → path.root ≢ other.root
 
 -- A variable that an item moved owns nothing where the allocator comes to its end.
 abbrev pub ItemsOwnNothing : Type 0
 ItemsOwnNothing =
-    (target path : PathForm) (access i : ℕ) (items : List ItemForm) (holds after : Holds) → slice_get items i ≡ Some (item_of_path path)
-    → IsElsewhere target path.root → EndsWith (assigns target (allocates access items)) holds after → OwnsNothing after path.root
+    (variables : List VariableForm) (target path : PathForm) (access i : ℕ) (items : List ItemForm) (holds after : Holds)
+    → slice_get items i ≡ Some (item_of_path path)
+    → IsElsewhere target path.root → EndsWith variables (assigns target (allocates access items)) holds after → OwnsNothing after path.root
 
 -- Where the allocator raises an exception, each variable is what it was.
 abbrev pub ItemsStayWhereRaised : Type 0
 ItemsStayWhereRaised =
-    (target : PathForm) (access : ℕ) (items : List ItemForm) (holds raised : Holds)
-    → RaisesWith (assigns target (allocates access items)) holds raised → raised ≡ holds
+    (variables : List VariableForm) (target : PathForm) (access : ℕ) (items : List ItemForm) (holds raised : Holds)
+    → RaisesWith variables (assigns target (allocates access items)) holds raised → raised ≡ holds
 
 -- The statement behind `T := P.C;` is `P.C := null;`; T is another variable than the one that P begins with, or a component, and then P is
 -- that variable alone. So the statement changes nothing on the way to P.C.
@@ -102,14 +112,35 @@ pub record IsTakePair (target path : PathForm) (behind : StmtsForm) : Type 0 whe
   pub selectors : cleared.selectors ≡ path.selectors
   pub leaves_way : (IsVariable target × (target.root ≢ path.root)) ⊎ ((target.selectors ≢ []) × (c : ℕ) × (path.selectors ≡ c ∷ []))
 
--- What is moved out of a component is moved by the first statement of a take pair.
+-- What is moved out of a component, to what is no borrower, is moved by the first statement of a take pair.
 abbrev pub OnlyPairsTake : Type 0
 OnlyPairsTake =
-    (target path : PathForm) (behind : StmtsForm) (holds : Holds) → path.selectors ≢ []
-    → AreLetThrough (a_stmt (assigns target (value_of path)) behind) holds
+    (variables : List VariableForm) (target path : PathForm) (behind : StmtsForm) (holds : Holds) → names_borrower variables target ≡ false
+    → path.selectors ≢ []
+    → AreLetThrough variables (a_stmt (assigns target (value_of path)) behind) holds
     → begins_pair (assigns target (value_of path)) behind ≡ true
 
 -- The first statement of a take pair is one.
 abbrev pub PairsAreTakePairs : Type 0
 PairsAreTakePairs =
     (target path : PathForm) (behind : StmtsForm) → begins_pair (assigns target (value_of path)) behind ≡ true → IsTakePair target path behind
+
+-- B := null, or B := P (3.10, 5.2), where B is a borrower: a statement that suits it moves nothing, so each other variable holds what it did.
+abbrev pub BorrowersMoveNothing : Type 0
+BorrowersMoveNothing =
+    (variables : List VariableForm) (target : PathForm) (right : RightForm) (holds after : Holds) → names_borrower variables target ≡ true
+    → lends_to variables true right ≡ true → EndsWith variables (assigns target right) holds after
+    → (x : ℕ) → x ≢ target.root → hold_at after x ≡ hold_at holds x
+
+-- Behind it the borrower owns nothing.
+abbrev pub BorrowersOwnNothing : Type 0
+BorrowersOwnNothing =
+    (variables : List VariableForm) (target : PathForm) (right : RightForm) (holds after : Holds) → names_borrower variables target ≡ true
+    → lends_to variables true right ≡ true → EndsWith variables (assigns target right) holds after → OwnsNothing after target.root
+
+-- What is lost is not borrowed, nor what is found behind it (4.1): that is a fault at the path.
+abbrev pub LostIsNotBorrowed : Type 0
+LostIsNotBorrowed =
+    (variables : List VariableForm) (around : Around) (cleared : Bool) (target path : PathForm) (holds : Holds)
+    → names_borrower variables target ≡ true → hold_at holds path.root ≡ Lost
+    → stmt_flow variables around cleared (assigns target (value_of path)) holds ≡ faults path.spot LostValue

@@ -14,6 +14,7 @@ ghost use Rattle.ada_sound.specs.Agreement.{OneFlow};
 ghost use Rattle.ada_sound.specs.Always as always;
 ghost use Rattle.ada_sound.specs.Always.{IsChecked, NeverErroneous, AgreesWithFlow, EndsClean, ReachesStatement, FinishesAfter, HaltsSomewhere};
 ghost use Rattle.ada_sound.specs.Examples as examples;
+ghost use Rattle.ada_sound.specs.BorrowerExamples as borrower_examples;
 ghost use Rattle.ada_sound.specs.OwnerExamples as owner_examples;
 ghost use Rattle.ada_sound.specs.Owners as owners;
 
@@ -108,7 +109,14 @@ pub fn only_owners_are_freed()
     ensures nothing_after { owners.FreedOwnsNothing }
 {}
 
-/// The rules let an assignment move only what its right side owns, or null (5.2); the right side owns nothing after.
+/// Behind a Free that the rules let through no variable of the same access type relies on the value of another (13.11.2):
+/// whoever borrowed the object that is gone follows it no more.
+pub fn free_leaves_no_alias()
+    ensures { owners.FreeLeavesNoAlias }
+{}
+
+/// The rules let an assignment move only what its right side owns, or null (5.2); the right side owns nothing after. An
+/// assignment to a borrower moves nothing.
 pub fn only_owners_are_moved()
     ensures owner { owners.OnlyOwnersAreMoved }
     ensures nothing_after { owners.MovedOwnsNothing }
@@ -130,6 +138,14 @@ pub fn only_pairs_take()
     ensures is_one { owners.PairsAreTakePairs }
 {}
 
+/// A borrower takes part in no ownership (3.10). An assignment to it leaves what each other variable holds as it was; it
+/// owns nothing of what it gets; and the rules let it borrow nothing that is lost, or is found behind what is lost.
+pub fn borrowers_only_borrow()
+    ensures moves_nothing { owners.BorrowersMoveNothing }
+    ensures owns_nothing { owners.BorrowersOwnNothing }
+    ensures lost_is_refused { owners.LostIsNotBorrowed }
+{}
+
 /// The laws are not empty: a program is accepted and comes to a statement; it finishes after it has followed an access
 /// value, written a line, freed an object, and left its main procedure, with which another object went. And one is
 /// accepted whose main procedure is left by an exception. And one whose loop goes two turns: in the first one an object
@@ -141,7 +157,8 @@ pub fn only_pairs_take()
 /// end. And one where an exception leaves a block before the handler behind it begins, which returns. And one with a
 /// `for` loop that reads numbers until there is none. And one that reads a number into a component of an object, adds to
 /// it in a loop, and writes what the component then holds. And one that makes a list, each new node of which owns the one
-/// before it, takes its tail by take pairs, and frees it node by node.
+/// before it, takes its tail by take pairs, and frees it node by node. And one whose borrower walks such a list, which
+/// keeps its owners.
 pub fn premises_are_met()
     ensures begins { (program : Program) × IsChecked program × ReachesStatement program }
     ensures finishes { (program : Program) × IsChecked program × FinishesAfter examples.example_events program }
@@ -167,6 +184,9 @@ pub fn premises_are_met()
         × IsChecked program × FinishesAfter examples.filling_events program }
     ensures owns { (program : Program) × (stmt_forms program ≡ owner_examples.owning_stmts)
         × IsChecked program × FinishesAfter owner_examples.owning_events program }
+    ensures walks { (program : Program) × (stmt_forms program ≡ borrower_examples.walking_stmts)
+        × borrower_examples.HasBorrower program
+        × IsChecked program × FinishesAfter borrower_examples.walking_events program }
 {}
 
 /// The rules are needed. Of programs that are well formed and whose collections nest, one that breaks the rules follows
@@ -179,7 +199,9 @@ pub fn premises_are_met()
 /// object of one of them, that object is followed there. To assign to a component follows the value before it (4.1, 5.2):
 /// a lost one would reach into an object that is gone. A value is moved out of a component by a take pair: else both name
 /// an object that only one of them frees. And two items of an allocator move two variables: else two components name one
-/// object, which ends twice.
+/// object, which ends twice. Behind Free a borrower of the same access type is lost: else it follows the object that is
+/// gone. And the target of a take pair is not on the way to what is taken: else the statement that is to clear the
+/// component clears another one, and a borrower that still names the object takes the value out of it once more.
 ///
 /// So are the other premises. A variable relies on values of its own access type alone: of a program that is not well
 /// formed, one of another type names what goes with a block. And components name what lasts as long as their objects: of
@@ -210,6 +232,14 @@ pub fn rules_are_needed()
         × always.Breaks TakePair program × always.HaltsAfter owner_examples.pairing_events (Erroneous FollowsGone) program }
     ensures items { (program : Program) × (stmt_forms program ≡ owner_examples.items_stmts)
         × always.Breaks LostValue program × always.HaltsAfter owner_examples.items_events (Erroneous EndsTwice) program }
+    ensures dangles { (program : Program) × (stmt_forms program ≡ borrower_examples.dangling_stmts)
+        × borrower_examples.HasBorrower program
+        × always.Breaks LostValue program
+        × always.HaltsAfter borrower_examples.dangling_events (Erroneous FollowsGone) program }
+    ensures overtakes { (program : Program) × (stmt_forms program ≡ borrower_examples.overtaking_stmts)
+        × borrower_examples.HasBorrower program
+        × always.Breaks TakePair program
+        × always.HaltsAfter borrower_examples.overtaking_events (Erroneous FollowsGone) program }
     ensures nests { (program : Program) × (stmt_forms program ≡ owner_examples.outlasting_stmts)
         × always.IsIllNested program × always.HaltsAfter owner_examples.outlasting_events (Erroneous FollowsGone) program }
 {}

@@ -1,8 +1,9 @@
--- By twelve programs and their runs.
+-- By thirteen programs and their runs.
 use Rattle.ada_sound.proofs.Example as example
 use Rattle.ada_sound.proofs.ExampleBlocks as blocks
 use Rattle.ada_sound.proofs.ExampleTargets as targets
 use Rattle.ada_sound.proofs.ExampleOwners as owners
+use Rattle.ada_sound.proofs.ExampleBorrowers as borrowers
 use Rattle.ada_sound.proofs.laws.premises_are_met.Goals as goal
 
 pub returns-clause-begins : goal.returns-clause-begins
@@ -40,3 +41,6 @@ returns-clause-fills c = (targets.filling, targets.filling_form, targets.filling
 
 pub returns-clause-owns : goal.returns-clause-owns
 returns-clause-owns c = (owners.owning, owners.owning_form, owners.owning_accepted, owners.owns)
+
+pub returns-clause-walks : goal.returns-clause-walks
+returns-clause-walks c = (borrowers.walking, borrowers.walking_form, borrowers.walking_borrows, borrowers.walking_accepted, borrowers.walks)

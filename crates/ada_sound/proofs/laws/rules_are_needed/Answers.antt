@@ -1,8 +1,9 @@
--- By thirteen programs and their runs.
+-- By fifteen programs and their runs.
 use Rattle.ada_sound.proofs.Example as example
 use Rattle.ada_sound.proofs.ExampleBlocks as blocks
 use Rattle.ada_sound.proofs.ExampleTargets as targets
 use Rattle.ada_sound.proofs.ExampleOwners as owners
+use Rattle.ada_sound.proofs.ExampleBorrowers as borrowers
 use Rattle.ada_sound.proofs.laws.rules_are_needed.Goals as goal
 
 pub returns-clause-follows : goal.returns-clause-follows
@@ -47,6 +48,18 @@ returns-clause-pairs c = (owners.pairing, owners.pairing_form, owners.pairing_br
 
 pub returns-clause-items : goal.returns-clause-items
 returns-clause-items c = (owners.sharing, owners.sharing_form, owners.sharing_breaks, owners.shares)
+
+pub returns-clause-dangles : goal.returns-clause-dangles
+returns-clause-dangles c = (borrowers.dangling, borrowers.dangling_form, borrowers.dangling_borrows, borrowers.dangling_breaks, borrowers.dangles)
+
+pub returns-clause-overtakes : goal.returns-clause-overtakes
+returns-clause-overtakes c = (
+  borrowers.overtaking,
+  borrowers.overtaking_form,
+  borrowers.overtaking_borrows,
+  borrowers.overtaking_breaks,
+  borrowers.overtakes,
+)
 
 pub returns-clause-nests : goal.returns-clause-nests
 returns-clause-nests c = (owners.outlasting, owners.outlasting_form, owners.outlasting_ill_nested, owners.outlasts)
