@@ -1,16 +1,19 @@
 -- An operator between operands is no path.
 
-use Rattle.std.proofs.Common.{◌≡◌, List, [], ◌∷◌, length, None, false, ◌==◌, refl}
+use Rattle.std.proofs.Common.{◌≡◌, List, [], ◌∷◌, length, Option, Some, None, false, ◌==◌, refl}
 use Rattle.ada_values.specs.declared.operator.BinaryOperator.{BinaryOperator}
 use Rattle.ada_tree.specs.declared.expressions.Link.{Link}
-use Rattle.ada_tree.specs.Expressions.{ExpressionTree, binary_expression, expression_argument}
+use Rattle.ada_tree.specs.Expressions.{ExpressionTree, binary_expression, expression_argument, expression_right}
+use Rattle.ada_tree.specs.Names.{Ident}
+use Rattle.ada_program.specs.declared.program.TypeNo.{TypeNo}
 use Rattle.ada_tree.specs.ExpressionView.{expression_of, linked}
 use Rattle.ada_resolve.specs.declared.calls.Callee.{Callee}
-use Rattle.ada_resolve.specs.declared.fault.NameRule.TheVariants.{WrongType}
+use Rattle.ada_resolve.specs.declared.fault.NameRule.TheVariants.{WrongType, NoInitialValue}
+use Rattle.ada_resolve.specs.Borrowers.{lender_found, lender_remark}
 use Rattle.ada_resolve.specs.Calls.{actual_found, actual_remark}
 use Rattle.ada_resolve.specs.Expressions.{expression_remark}
 use Rattle.ada_resolve.specs.Known.{Known}
-use Rattle.ada_resolve.specs.Remark.{wrong, both}
+use Rattle.ada_resolve.specs.Remark.{fine, wrong, both}
 use Rattle.ada_resolve.specs.Spots.{expression_spot}
 
 binary_found : (known : Known) (taker : Callee) (operator : BinaryOperator) (left right : ExpressionTree) (links : List Link) → actual_found known taker (expression_argument (linked (binary_expression operator left right) links)) ≡ None
@@ -32,3 +35,23 @@ linked_found known taker left (link ∷ links) e = binary_found known taker link
 pub linked_remark : (known : Known) (taker : Callee) (left : ExpressionTree) (links : List Link) → (length links == 0) ≡ false → actual_remark known taker (expression_argument (linked left links)) ≡ both (wrong (expression_spot (linked left links)) WrongType) (expression_remark known (linked left links))
 linked_remark known taker left [] e = absurd cc
 linked_remark known taker left (link ∷ links) e = binary_remark known taker link.operator left (expression_of link.operand) links
+
+binary_lender_found : (known : Known) (operator : BinaryOperator) (left right : ExpressionTree) (links : List Link) → lender_found known (Some (expression_right (linked (binary_expression operator left right) links))) ≡ None
+binary_lender_found known operator left right [] = refl
+binary_lender_found known operator left right (link ∷ links) =
+    binary_lender_found known link.operator (binary_expression operator left right) (expression_of link.operand) links
+
+binary_lender_remark : (known : Known) (name : Ident) (designated : Option TypeNo) (operator : BinaryOperator) (left right : ExpressionTree) (links : List Link) → lender_remark known name designated (Some (expression_right (linked (binary_expression operator left right) links))) ≡ both (both (expression_remark known (linked (binary_expression operator left right) links)) (both fine fine)) (wrong name.spot NoInitialValue)
+binary_lender_remark known name designated operator left right [] = refl
+binary_lender_remark known name designated operator left right (link ∷ links) =
+    binary_lender_remark known name designated link.operator (binary_expression operator left right) (expression_of link.operand) links
+
+-- nothing is borrowed from a chain of operators
+pub linked_lender_found : (known : Known) (left : ExpressionTree) (links : List Link) → (length links == 0) ≡ false → lender_found known (Some (expression_right (linked left links))) ≡ None
+linked_lender_found known left [] e = absurd cc
+linked_lender_found known left (link ∷ links) e = binary_lender_found known link.operator left (expression_of link.operand) links
+
+-- it is no initial value of a borrower
+pub linked_lender_remark : (known : Known) (name : Ident) (designated : Option TypeNo) (left : ExpressionTree) (links : List Link) → (length links == 0) ≡ false → lender_remark known name designated (Some (expression_right (linked left links))) ≡ both (both (expression_remark known (linked left links)) (both fine fine)) (wrong name.spot NoInitialValue)
+linked_lender_remark known name designated left [] e = absurd cc
+linked_lender_remark known name designated left (link ∷ links) e = binary_lender_remark known name designated link.operator left (expression_of link.operand) links

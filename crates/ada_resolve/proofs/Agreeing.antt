@@ -247,7 +247,7 @@ agrees_parameter k place name w = record {
   outer = stands_among k place w;
   first_type = w.types;
   types = w.types;
-  variables = ap (λ (n : ℕ). n + 1) w.variables ∙ sym (length-append k.variables (record { name = name.text; kind = variable.Integer } ∷ []));
+  variables = ap (λ (n : ℕ). n + 1) w.variables ∙ sym (length-append k.variables (record { name = name.text; kind = variable.Integer; borrows = false } ∷ []));
   exceptions = w.exceptions;
   texts = w.texts;
 }

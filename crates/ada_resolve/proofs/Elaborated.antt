@@ -10,14 +10,16 @@ use Rattle.ada_tree.specs.Names.{Ident, NameTree}
 use Rattle.ada_tree.specs.Records.{RecordTree}
 use Rattle.ada_tree.specs.Declarations.{AspectTree}
 use Rattle.ada_tree.specs.Expressions.{RightTree}
-use Rattle.ada_tree.specs.Statements.{DeclarationTree, exception_declaration, constant_declaration, incomplete_type, access_type, record_type, instance, object_declaration, DeclarationsTree, no_declarations, a_declaration}
+use Rattle.ada_tree.specs.Statements.{DeclarationTree, exception_declaration, constant_declaration, incomplete_type, access_type, record_type, instance, object_declaration, borrower_declaration, DeclarationsTree, no_declarations, a_declaration}
 use Rattle.ada_program.specs.declared.program.Exception.TheVariants as exception
 use Rattle.ada_program.specs.declared.program.TypeNo.{TypeNo}
 use Rattle.ada_program.specs.declared.program.VariableKind.{VariableKind}
-use Rattle.ada_program.specs.Form.{RightForm, DeclarationForm, collects, declares}
+use Rattle.ada_program.specs.declared.program.VariableKind.TheVariants as variable
+use Rattle.ada_program.specs.Form.{RightForm, value_of, DeclarationForm, collects, declares}
 use Rattle.ada_program.specs.ProgramForm.{TypeForm, record_of, access_to, VariableForm}
 use Rattle.ada_program.specs.WellFormed as well
 use Rattle.ada_resolve.specs.declared.fault.NameRule.TheVariants.{Layout}
+use Rattle.ada_resolve.specs.Borrowers.{borrower_remark, borrower_known}
 use Rattle.ada_resolve.specs.declared.scope.Entity.{Entity}
 use Rattle.ada_resolve.specs.declared.scope.Entity.TheVariants as entity
 use Rattle.ada_resolve.specs.Known.{Known, Named, named, declared, new_name_remark, type_begins, no_variable_yet}
@@ -26,17 +28,19 @@ use Rattle.ada_resolve.specs.Exceptions.{next_exception}
 use Rattle.ada_resolve.specs.Statics.{static_value}
 use Rattle.ada_resolve.specs.Records.{component_meant, components_written, record_type_remark, record_type_known}
 use Rattle.ada_resolve.specs.Instances.{freed_found, generic_remark, is_collected, instance_of, with_elaborated}
-use Rattle.ada_resolve.specs.Objects.{missing_collections, ends_types, after_types, next_variable, object_remark, object_created, object_known, kind_of, object_type_found, initial_found, initial_source}
+use Rattle.ada_resolve.specs.Objects.{missing_collections, ends_types, after_types, next_variable, object_remark, variable_created, object_created, object_known, kind_of, object_type_found, initial_found, initial_source}
 use Rattle.ada_resolve.specs.Resolution.{gives, At, known_at, declaration_remark, declaration_known, declarations_told}
 use Rattle.ada_resolve.specs.Naming.{Context, Place, Meaning, an_incomplete_type, a_type, a_number, an_exception, an_instance, a_variable, meaning_among, IsTypeRead, IsInstanceRead, IsKindNamed}
 use Rattle.ada_resolve.specs.Reading.{read_at, IsNew, with_binding, with_incomplete_type, with_new_type, with_new_exception, with_new_variable, IsInitialRead, AreObjectsRead, is_one_of, AreCompleted, declared_type, IsPartRead, part_incomplete_type, part_completion, part_new_type, part_number, part_exception, part_instance, part_objects}
 use Rattle.ada_resolve.proofs.WellFormed.Remarks.{Quiet, quiet_unless}
+use Rattle.ada_resolve.proofs.WellFormed.Borrowers.{lent_of, borrower_is}
 use Rattle.ada_resolve.proofs.WellFormed.Names.{named_entered, same_text}
 use Rattle.ada_resolve.proofs.WellFormed.Tables.{get_last}
 use Rattle.ada_resolve.proofs.Standing.{Sound, Complete, Grows, Keeps, complete_grows, longer, declaration_sound, declaration_keeps, ended_sound, declarations_done, declarations_keep, IsSlot, new_slot, slot_of, old_name, defined_there}
 use Rattle.ada_resolve.proofs.Agreeing.{bound_to, Stands, Agrees, Ahead, Readable, stands_entered, agrees_same, not_predefined}
 use Rattle.ada_resolve.proofs.Keeping.{Lasts, lasts_ahead, lasts_on}
 use Rattle.ada_resolve.proofs.Written.{Legible, static_read, components_read, all_apart, FoundRecord, record_read, designated_read, FoundAccess, access_read, generic_read, object_read, object_kind}
+use Rattle.ada_resolve.proofs.Lent.{borrower_read}
 use Rattle.ada_resolve.proofs.Others.{others_of}
 
 -- tables that are ahead of longer ones
@@ -164,28 +168,74 @@ full_on k m s f off =
 no_types : (k : Known) (spot : Spot) → no_variable_yet k ≡ false → Quiet (type_begins k spot) → ⊥
 no_types k spot e q = both_ways (no_variable_yet k) e (quiet_unless (no_variable_yet k) spot Layout q.1)
 
--- an object
-record Made (name : Ident) (type_name : NameTree) (initial : Option RightTree) (k m : Known) : Type 0 where
+-- a declaration that makes a variable, an object or a borrower, and how it is read with the objects behind it
+record Made (d : DeclarationTree) (name : Ident) (k m : Known) : Type 0 where
+  borrows : Bool
   of : VariableKind
-  kind_is : kind_of (object_type_found k type_name) ≡ Some of
-  is : m ≡ object_created k name (Some of) (initial_found k (Some of) initial)
+  source : RightForm
+  is : m ≡ variable_created k name borrows of source
+  new : Quiet (new_name_remark k name name.spot)
+  read : (p : Context) (ds : DeclarationsTree) (forms : List DeclarationForm) (end : Place) → Readable k p →
+      slice_get p.variables (length k.variables) ≡ Some (record { name = name.text; kind = of; borrows = borrows }) →
+      length k.variables ≡ p.place.variables → IsNew p.place name → AreObjectsRead (read_at (with_new_variable name p.place) p) ds forms end →
+      AreObjectsRead p (a_declaration d ds) (declares (length k.variables) source ∷ forms) end
 
-made_of : (name : Ident) (type_name : NameTree) (initial : Option RightTree) (k m : Known) → Quiet (object_remark k name type_name initial) → m ≡ object_known k name type_name initial → Made name type_name initial k m
-made_of name type_name initial k m q is =
+-- `X : T := ..;`
+object_says : (k : Known) (p : Context) (name : Ident) (type_name : NameTree) (initial : Option RightTree) (of : VariableKind) → Readable k p → Quiet (object_remark k name type_name initial) → kind_of (object_type_found k type_name) ≡ Some of → IsKindNamed p type_name of × IsInitialRead p of initial (initial_source (initial_found k (Some of) initial))
+object_says k p name type_name initial of w q is =
+    let r = object_read k p name type_name initial w q.1.1.0 q.1.1.1.0 q.1.1.1.1 in
+    let kinds : Some r.of ≡ Some of = sym r.is ∙ is in
+    let same : r.of ≡ of = cc kinds in
+    let starts = subst (λ (o : Option VariableKind). IsInitialRead p r.of initial (initial_source (initial_found k o initial))) is r.starts in
+    (subst (λ (v : VariableKind). IsKindNamed p type_name v) same r.kind_named, subst (λ (v : VariableKind). IsInitialRead p v initial (initial_source (initial_found k (Some of) initial))) same starts)
+
+object_made : (name : Ident) (type_name : NameTree) (initial : Option RightTree) (k m : Known) → Quiet (object_remark k name type_name initial) → m ≡ object_known k name type_name initial → Made (object_declaration name type_name initial) name k m
+object_made name type_name initial k m q is =
     let kind = object_kind k name type_name initial q.1.1.0 q.1.1.1.1 in
-    record { of = kind.0; kind_is = kind.1; is = is ∙ ap (λ (o : Option VariableKind). object_created k name o (initial_found k o initial)) kind.1 }
+    record {
+      borrows = false;
+      of = kind.0;
+      source = initial_source (initial_found k (Some kind.0) initial);
+      is = is ∙ ap (λ (o : Option VariableKind). object_created k name o (initial_found k o initial)) kind.1;
+      new = q.1.0;
+      read = λ p ds forms end w there place new rest.
+          let said = object_says k p name type_name initial kind.0 w q kind.1 in
+          (place, new, record { kind = kind.0; there = there; kind_named = said.0; starts = said.1 }, rest);
+    }
 
-made_full : (name : Ident) (type_name : NameTree) (initial : Option RightTree) (k m : Known) → k.here.first_variable ≤ length k.variables → Made name type_name initial k m → no_variable_yet m ≡ false
-made_full name type_name initial k m le r =
-    let v : VariableForm = record { name = name.text; kind = r.of } in
+-- `B : access T := P;`
+borrower_made : (name designated : Ident) (initial : Option RightTree) (k m : Known) → Sound k → Quiet (borrower_remark k name designated initial) → m ≡ borrower_known k name initial → Made (borrower_declaration name designated initial) name k m
+borrower_made name designated initial k m s q is =
+    let r = lent_of k name designated initial s.names q in
+    record {
+      borrows = true;
+      of = variable.Access r.access;
+      source = value_of r.path;
+      is = is ∙ borrower_is k name designated initial r;
+      new = q.1.0;
+      read = λ p ds forms end w there place new rest. (place, new, borrower_read k p name designated initial (length k.variables) w q.1.1.0 r there, rest);
+    }
+
+made_full : (d : DeclarationTree) (name : Ident) (k m : Known) → k.here.first_variable ≤ length k.variables → Made d name k m → no_variable_yet m ≡ false
+made_full d name k m le r =
+    let v : VariableForm = record { name = name.text; kind = r.of; borrows = r.borrows } in
     let more = length-append k.variables (v ∷ []) in
     let off : (length (k.variables ++ v ∷ []) == k.here.first_variable) ≡ false = ne_eqb (length (k.variables ++ v ∷ [])) k.here.first_variable (omega (arith, more, le)) in
     ap (λ (z : Known). no_variable_yet z) r.is ∙ off
 
-made_open : (name : Ident) (type_name : NameTree) (initial : Option RightTree) (k m : Known) → named name.text k.here.names ≡ None → Made name type_name initial k m → Complete m → Complete k
-made_open name type_name initial k m none r c text u is =
+made_open : (d : DeclarationTree) (name : Ident) (k m : Known) → Made d name k m → Complete m → Complete k
+made_open d name k m r c text u is =
+    let none = new_slot k name name.spot r.new in
     let there = old_name k.here.names name.text text (entity.Variable (next_variable k) r.of) (entity.Incomplete u) none is in
     c text u (ap (λ (z : Known). named text z.here.names) r.is ∙ there)
+
+made_agrees : (k : Known) (place : Place) (d : DeclarationTree) (name : Ident) (m : Known) → Agrees k place → Made d name k m → Agrees m (with_new_variable name place)
+made_agrees k place d name m w r =
+    let v : VariableForm = record { name = name.text; kind = r.of; borrows = r.borrows } in
+    subst (λ u. Agrees u (with_new_variable name place)) (sym r.is)
+    (agrees_declared k place name (entity.Variable (next_variable k) r.of) (a_variable place.variables) k.types (k.variables ++ v ∷ []) k.exceptions
+    (k.here.elaborated ++ declares (length k.variables) r.source ∷ [])
+    place.types (place.variables + 1) place.exceptions (ap (λ (n : ℕ). Some (a_variable n)) (sym w.variables)) w.types (one_longer k.variables v place.variables w.variables) w.exceptions w)
 
 complete_before : (k : Known) → Complete (after_types k) → Complete k
 complete_before k c text u is = c text u (ap (λ (ns : List Named). named text ns) (after_names k) ∙ is)
@@ -218,15 +268,21 @@ gives_same : {X : Type 0} (x y : X) → gives x ≡ gives y → x ≡ y
 gives_same x y e = cc e
 
 -- where no type is incomplete behind the objects, none is before them
-object_back : (name : Ident) (type_name : NameTree) (initial : Option RightTree) (k m : Known) → Quiet (object_remark (after_types k) name type_name initial) → m ≡ object_known (after_types k) name type_name initial → Complete m → Complete k
-object_back name type_name initial k m q is c =
-    complete_before k (made_open name type_name initial (after_types k) m (new_slot (after_types k) name name.spot q.1.0) (made_of name type_name initial (after_types k) m q is) c)
+made_back : (d : DeclarationTree) (name : Ident) (k m : Known) → Made d name (after_types k) m → Complete m → Complete k
+made_back d name k m r c = complete_before k (made_open d name (after_types k) m r c)
 
 complete_back : (ds : DeclarationsTree) (at after : At) → Sound at.0 → no_variable_yet at.0 ≡ false → declarations_told ds at ≡ gives after → Complete after.0 → Complete at.0
 complete_back no_declarations at after s full e c = subst (λ (v : At). Complete v.0) (sym (gives_same at after e)) c
 complete_back (a_declaration (object_declaration name type_name initial) ds) at after s full e c =
-    let next = next_of (object_declaration name type_name initial) ds at after s e in
-    object_back name type_name initial at.0 next.then.0 next.quiet next.is (complete_back ds next.then after next.sound (full_on at.0 next.then.0 s next.keeps full) next.rest c)
+    let d = object_declaration name type_name initial in
+    let next = next_of d ds at after s e in
+    made_back d name at.0 next.then.0 (object_made name type_name initial (after_types at.0) next.then.0 next.quiet next.is)
+    (complete_back ds next.then after next.sound (full_on at.0 next.then.0 s next.keeps full) next.rest c)
+complete_back (a_declaration (borrower_declaration name designated initial) ds) at after s full e c =
+    let d = borrower_declaration name designated initial in
+    let next = next_of d ds at after s e in
+    made_back d name at.0 next.then.0 (borrower_made name designated initial (after_types at.0) next.then.0 (ended_sound at.0 s) next.quiet next.is)
+    (complete_back ds next.then after next.sound (full_on at.0 next.then.0 s next.keeps full) next.rest c)
 complete_back (a_declaration (incomplete_type spot name) ds) at after s full e c = absurd (no_types at.0 spot full (next_of (incomplete_type spot name) ds at after s e).quiet.0)
 complete_back (a_declaration (access_type spot name designated aspect) ds) at after s full e c = absurd (no_types at.0 spot full (next_of (access_type spot name designated aspect) ds at after s e).quiet.0)
 complete_back (a_declaration (record_type spot name definition) ds) at after s full e c = absurd (no_types at.0 spot full (next_of (record_type spot name definition) ds at after s e).quiet.0)
@@ -244,49 +300,26 @@ record ObjectsRead (p : Context) (ds : DeclarationsTree) (k z : Known) : Type 0 
   read : AreObjectsRead p ds forms end
   agrees : Agrees z end
 
--- an object is read
-object_says : (k : Known) (p : Context) (name : Ident) (type_name : NameTree) (initial : Option RightTree) (of : VariableKind) → Readable k p → Quiet (object_remark k name type_name initial) → kind_of (object_type_found k type_name) ≡ Some of → IsKindNamed p type_name of × IsInitialRead p of initial (initial_source (initial_found k (Some of) initial))
-object_says k p name type_name initial of w q is =
-    let r = object_read k p name type_name initial w q.1.1.0 q.1.1.1.0 q.1.1.1.1 in
-    let kinds : Some r.of ≡ Some of = sym r.is ∙ is in
-    let same : r.of ≡ of = cc kinds in
-    let starts = subst (λ (o : Option VariableKind). IsInitialRead p r.of initial (initial_source (initial_found k o initial))) is r.starts in
-    (subst (λ (v : VariableKind). IsKindNamed p type_name v) same r.kind_named, subst (λ (v : VariableKind). IsInitialRead p v initial (initial_source (initial_found k (Some of) initial))) same starts)
-
 behind_one : {X : Type 0} (xs zs forms : List X) (x : X) → zs ≡ (xs ++ x ∷ []) ++ forms → zs ≡ xs ++ (x ∷ forms)
 behind_one xs zs forms x all = all ∙ append_assoc xs (x ∷ []) forms
 
--- an object, and those behind it
-object_first : (k : Known) (p : Context) (name : Ident) (type_name : NameTree) (initial : Option RightTree) (ds : DeclarationsTree) (m z : Known) → Readable k p → Quiet (object_remark k name type_name initial) → (r : Made name type_name initial k m) → Ahead m p → ObjectsRead (read_at (with_new_variable name p.place) p) ds m z → ObjectsRead p (a_declaration (object_declaration name type_name initial) ds) k z
-object_first k p name type_name initial ds m z w q r ahead on = record {
-  forms = declares (length k.variables) source ∷ on.forms;
+-- a variable, and those behind it
+variable_first : (k : Known) (p : Context) (d : DeclarationTree) (name : Ident) (ds : DeclarationsTree) (m z : Known) → Readable k p → (r : Made d name k m) → Ahead m p → ObjectsRead (read_at (with_new_variable name p.place) p) ds m z → ObjectsRead p (a_declaration d ds) k z
+variable_first k p d name ds m z w r ahead on = record {
+  forms = declares (length k.variables) r.source ∷ on.forms;
   end = on.end;
-  elaborated = behind_one k.here.elaborated z.here.elaborated on.forms (declares (length k.variables) source)
+  elaborated = behind_one k.here.elaborated z.here.elaborated on.forms (declares (length k.variables) r.source)
       (on.elaborated ∙ ap (λ (u : Known). u.here.elaborated ++ on.forms) r.is);
   full = on.full;
-  read = (sym w.agrees.variables, new_there k p.place name name.spot w.agrees q.1.0, record { kind = r.of; there = there; kind_named = said.0; starts = said.1 }, on.read);
+  read = r.read p ds on.forms on.end w there (sym w.agrees.variables) (new_there k p.place name name.spot w.agrees r.new) on.read;
   agrees = on.agrees;
 }
   where
-    source : RightForm
-    source = initial_source (initial_found k (Some r.of) initial)
-
-    said : IsKindNamed p type_name r.of × IsInitialRead p r.of initial source
-    said = object_says k p name type_name initial r.of w q r.kind_is
-
     v : VariableForm
-    v = record { name = name.text; kind = r.of }
+    v = record { name = name.text; kind = r.of; borrows = r.borrows }
 
     there : slice_get p.variables (length k.variables) ≡ Some v
     there = ahead.variables (length k.variables) v (ap (λ (u : Known). slice_get u.variables (length k.variables)) r.is ∙ get_last k.variables v)
-
-made_agrees : (k : Known) (place : Place) (name : Ident) (type_name : NameTree) (initial : Option RightTree) (m : Known) → Agrees k place → Made name type_name initial k m → Agrees m (with_new_variable name place)
-made_agrees k place name type_name initial m w r =
-    let v : VariableForm = record { name = name.text; kind = r.of } in
-    subst (λ u. Agrees u (with_new_variable name place)) (sym r.is)
-    (agrees_declared k place name (entity.Variable (next_variable k) r.of) (a_variable place.variables) k.types (k.variables ++ v ∷ []) k.exceptions
-    (k.here.elaborated ++ declares (length k.variables) (initial_source (initial_found k (Some r.of) initial)) ∷ [])
-    place.types (place.variables + 1) place.exceptions (ap (λ (n : ℕ). Some (a_variable n)) (sym w.variables)) w.types (one_longer k.variables v place.variables w.variables) w.exceptions w)
 
 -- at an object no type is incomplete, if none is at the end
 readable_at : (k : Known) (p : Context) (z : Known) → Sound k → Agrees k p.place → Complete k → Keeps k z → Ahead z p → Readable (after_types k) p
@@ -295,6 +328,24 @@ readable_at k p z s w c f ahead = record {
   agrees = after_agrees k p.place w;
   ahead = after_ahead k p (ahead_on k z p (complete_grows k z c f) ahead);
 }
+
+-- a variable is read, if the objects behind it are
+record VariableRead (p : Context) (d : DeclarationTree) (ds : DeclarationsTree) (k z : Known) : Type 0 where
+  open_so : Complete k
+  objects : ObjectsRead p (a_declaration d ds) (after_types k) z
+
+variable_read : (p : Context) (d : DeclarationTree) (name : Ident) (ds : DeclarationsTree) (at after : At) → Sound at.0 → Agrees at.0 p.place → Complete after.0 → Ahead after.0 p → (e : declarations_told (a_declaration d ds) at ≡ gives after) → (next : Next d ds at after) → Made d name (after_types at.0) next.then.0 → (Agrees next.then.0 (with_new_variable name p.place) → no_variable_yet next.then.0 ≡ false → ObjectsRead (read_at (with_new_variable name p.place) p) ds next.then.0 after.0) → VariableRead p d ds at.0 after.0
+variable_read p d name ds at after s w c ahead e next r rest =
+    let k = after_types at.0 in
+    let filled = made_full d name k next.then.0 (ended_sound at.0 s).bounds.first_variable r in
+    let inner = complete_back ds next.then after next.sound filled next.rest c in
+    let open_so = made_back d name at.0 next.then.0 r inner in
+    let readable = readable_at at.0 p after.0 s w open_so (declarations_keep (a_declaration d ds) at after s e) ahead in
+    let last = ahead_on next.then.0 after.0 p (complete_grows next.then.0 after.0 inner next.to_end) ahead in
+    record {
+      open_so = open_so;
+      objects = variable_first k p d name ds next.then.0 after.0 readable r last (rest (made_agrees k p.place d name next.then.0 readable.agrees r) filled);
+    }
 
 objects_read : (p : Context) (ds : DeclarationsTree) (at after : At) → Sound at.0 → Agrees at.0 p.place → no_variable_yet at.0 ≡ false → Complete after.0 → Ahead after.0 p → declarations_told ds at ≡ gives after → ObjectsRead p ds at.0 after.0
 objects_read p no_declarations at after s w full c ahead e =
@@ -307,17 +358,19 @@ objects_read p no_declarations at after s w full c ahead e =
       agrees = w;
     })
 objects_read p (a_declaration (object_declaration name type_name initial) ds) at after s w full c ahead e =
-    let next = next_of (object_declaration name type_name initial) ds at after s e in
-    let filled = full_on at.0 next.then.0 s next.keeps full in
-    let inner = complete_back ds next.then after next.sound filled next.rest c in
-    let open_so = object_back name type_name initial at.0 next.then.0 next.quiet next.is inner in
-    let k = after_types at.0 in
-    let r = made_of name type_name initial k next.then.0 next.quiet next.is in
-    let readable = readable_at at.0 p after.0 s w open_so (declarations_keep (a_declaration (object_declaration name type_name initial) ds) at after s e) ahead in
-    let q = read_at (with_new_variable name p.place) p in
-    let on = objects_read q ds next.then after next.sound (made_agrees k p.place name type_name initial next.then.0 readable.agrees r) filled c (ahead_at after.0 p (with_new_variable name p.place) ahead) next.rest in
-    subst (λ u. ObjectsRead p (a_declaration (object_declaration name type_name initial) ds) u after.0) (after_full at.0 full)
-    (object_first k p name type_name initial ds next.then.0 after.0 readable next.quiet r (ahead_on next.then.0 after.0 p (complete_grows next.then.0 after.0 inner next.to_end) ahead) on)
+    let d = object_declaration name type_name initial in
+    let next = next_of d ds at after s e in
+    let place = with_new_variable name p.place in
+    let on = variable_read p d name ds at after s w c ahead e next (object_made name type_name initial (after_types at.0) next.then.0 next.quiet next.is)
+    (λ agrees filled. objects_read (read_at place p) ds next.then after next.sound agrees filled c (ahead_at after.0 p place ahead) next.rest) in
+    subst (λ u. ObjectsRead p (a_declaration d ds) u after.0) (after_full at.0 full) on.objects
+objects_read p (a_declaration (borrower_declaration name designated initial) ds) at after s w full c ahead e =
+    let d = borrower_declaration name designated initial in
+    let next = next_of d ds at after s e in
+    let place = with_new_variable name p.place in
+    let on = variable_read p d name ds at after s w c ahead e next (borrower_made name designated initial (after_types at.0) next.then.0 (ended_sound at.0 s) next.quiet next.is)
+    (λ agrees filled. objects_read (read_at place p) ds next.then after next.sound agrees filled c (ahead_at after.0 p place ahead) next.rest) in
+    subst (λ u. ObjectsRead p (a_declaration d ds) u after.0) (after_full at.0 full) on.objects
 objects_read p (a_declaration (incomplete_type spot name) ds) at after s w full c ahead e = absurd (no_types at.0 spot full (next_of (incomplete_type spot name) ds at after s e).quiet.0)
 objects_read p (a_declaration (access_type spot name designated aspect) ds) at after s w full c ahead e = absurd (no_types at.0 spot full (next_of (access_type spot name designated aspect) ds at after s e).quiet.0)
 objects_read p (a_declaration (record_type spot name definition) ds) at after s w full c ahead e = absurd (no_types at.0 spot full (next_of (record_type spot name definition) ds at after s e).quiet.0)
@@ -358,6 +411,11 @@ objects_left k z p ds w none c ahead on = record {
   read = ends_read k p ds on.forms on.end w c ahead on.read;
   agrees = on.agrees;
 }
+
+variables_left : (p : Context) (d : DeclarationTree) (ds : DeclarationsTree) (at after : At) → Sound at.0 → Agrees at.0 p.place → no_variable_yet at.0 ≡ true → Ahead after.0 p → declarations_told (a_declaration d ds) at ≡ gives after → VariableRead p d ds at.0 after.0 → PartRead p (a_declaration d ds) at.0 after.0
+variables_left p d ds at after s w none ahead e on =
+    let grows = complete_grows at.0 after.0 on.open_so (declarations_keep (a_declaration d ds) at after s e) in
+    objects_left at.0 after.0 p (a_declaration d ds) w none on.open_so (ahead_on at.0 after.0 p grows ahead) on.objects
 
 -- a declaration that elaborates nothing
 plain_first : (k m z : Known) (p q : Context) (d : DeclarationTree) (ds : DeclarationsTree) → m.here.elaborated ≡ k.here.elaborated → (on : PartRead q ds m z) → ((made : List ℕ) → IsPartRead q made ds on.forms on.end → IsPartRead p made (a_declaration d ds) on.forms on.end) → PartRead p (a_declaration d ds) k z
@@ -549,15 +607,17 @@ part_read p (a_declaration (instance spot name generic object access) ds) at aft
     let legible = legible_at k after.0 p s w (declarations_keep (a_declaration d ds) at after s e) ahead in
     instance_first k next.then.0 after.0 p spot name generic object access ds r (new_there k p.place name spot w q.1.0) (instance_read k p generic object access r.t legible fit q.1.1.0 r.found) on
 part_read p (a_declaration (object_declaration name type_name initial) ds) at after s w none c ahead fit e =
-    let next = next_of (object_declaration name type_name initial) ds at after s e in
-    let k = after_types at.0 in
-    let r = made_of name type_name initial k next.then.0 next.quiet next.is in
-    let filled = made_full name type_name initial k next.then.0 (ended_sound at.0 s).bounds.first_variable r in
-    let inner = complete_back ds next.then after next.sound filled next.rest c in
-    let open_so = object_back name type_name initial at.0 next.then.0 next.quiet next.is inner in
-    let keeps = declarations_keep (a_declaration (object_declaration name type_name initial) ds) at after s e in
-    let readable = readable_at at.0 p after.0 s w open_so keeps ahead in
-    let on = objects_read (read_at (with_new_variable name p.place) p) ds next.then after next.sound (made_agrees k p.place name type_name initial next.then.0 readable.agrees r) filled c (ahead_at after.0 p (with_new_variable name p.place) ahead) next.rest in
-    objects_left at.0 after.0 p (a_declaration (object_declaration name type_name initial) ds) w none open_so (ahead_on at.0 after.0 p (complete_grows at.0 after.0 open_so keeps) ahead)
-    (object_first k p name type_name initial ds next.then.0 after.0 readable next.quiet r (ahead_on next.then.0 after.0 p (complete_grows next.then.0 after.0 inner next.to_end) ahead) on)
+    let d = object_declaration name type_name initial in
+    let next = next_of d ds at after s e in
+    let place = with_new_variable name p.place in
+    let on = variable_read p d name ds at after s w c ahead e next (object_made name type_name initial (after_types at.0) next.then.0 next.quiet next.is)
+    (λ agrees filled. objects_read (read_at place p) ds next.then after next.sound agrees filled c (ahead_at after.0 p place ahead) next.rest) in
+    variables_left p d ds at after s w none ahead e on
+part_read p (a_declaration (borrower_declaration name designated initial) ds) at after s w none c ahead fit e =
+    let d = borrower_declaration name designated initial in
+    let next = next_of d ds at after s e in
+    let place = with_new_variable name p.place in
+    let on = variable_read p d name ds at after s w c ahead e next (borrower_made name designated initial (after_types at.0) next.then.0 (ended_sound at.0 s) next.quiet next.is)
+    (λ agrees filled. objects_read (read_at place p) ds next.then after next.sound agrees filled c (ahead_at after.0 p place ahead) next.rest) in
+    variables_left p d ds at after s w none ahead e on
 part_read p (a_declaration d ds) at after s w none c ahead fit e = absurd (next_of d ds at after s e).quiet

@@ -9,7 +9,7 @@ use Rattle.ada_tree.specs.Names.{Ident}
 use Rattle.ada_tree.specs.Expressions.{ExpressionTree, ItemsTree, no_more_items, an_item}
 use Rattle.ada_program.specs.declared.program.ComponentKind.{ComponentKind}
 use Rattle.ada_program.specs.Form.{ItemForm}
-use Rattle.ada_program.specs.ProgramForm.{ComponentForm}
+use Rattle.ada_program.specs.ProgramForm.{ComponentForm, VariableForm}
 use Rattle.ada_resolve.specs.declared.fault.NameRule.TheVariants.{WrongType}
 use Rattle.ada_resolve.specs.Expressions.{expression_meant}
 use Rattle.ada_resolve.specs.Items.{Filling, component_for, is_filled, item_meant, item_spot, for_remark, is_alike, item_remark, filled_for, after_item, items_remark, after_items, first_filling, names_component, item_or_null, filling_of}
@@ -54,13 +54,13 @@ record Counted (cs : List ComponentForm) (filling : Filling) : Type 0 where
   long : length filling.slots ≡ length cs
   filled : filled_count filling.slots ≡ filling.count
 
-filled_counted : (cs : List ComponentForm) (filling : Filling) (label : Option Ident) (value : ExpressionTree) (m : Meant) (alike : Bool) (o : Option (ℕ × ComponentKind)) → IsComponentOf cs 0 o → Quiet (for_remark o filling label value m) → Counted cs filling → Counted cs (filled_for o filling alike (item_meant m)) × ((filled_for o filling alike (item_meant m)).count ≡ filling.count + 1)
-filled_counted cs filling label value m alike None is q w = absurd (none_for label q)
+filled_counted : (variables : List VariableForm) (cs : List ComponentForm) (filling : Filling) (label : Option Ident) (value : ExpressionTree) (m : Meant) (alike : Bool) (o : Option (ℕ × ComponentKind)) → IsComponentOf cs 0 o → Quiet (for_remark variables o filling label value m) → Counted cs filling → Counted cs (filled_for o filling alike (item_meant m)) × ((filled_for o filling alike (item_meant m)).count ≡ filling.count + 1)
+filled_counted variables cs filling label value m alike None is q w = absurd (none_for label q)
   where
-    none_for : (l : Option Ident) → Quiet (for_remark None filling l value m) → ⊥
+    none_for : (l : Option Ident) → Quiet (for_remark variables None filling l value m) → ⊥
     none_for (Some l) q = q
     none_for None q = q
-filled_counted cs filling label value m alike (Some found) is q w =
+filled_counted variables cs filling label value m alike (Some found) is q w =
     let fresh = quiet_if (is_filled found.0 filling.slots) (item_spot label value) WrongType q.0 in
     let within = get_within cs is.0 is.1 is.3 in
     let at = is.2 in
@@ -74,7 +74,7 @@ items_counted : (k : Known) (cs : List ComponentForm) (is_named : Bool) (filling
 unfolding item_remark after_item
 items_counted k cs is_named filling no_more_items q w = (w, omega arith)
 items_counted k cs is_named filling (an_item label e rest) q w =
-    let one = filled_counted cs filling label e (expression_meant k e) (is_alike is_named label) (component_for cs label filling.count) (for_is cs label filling.count) q.0.1.1 w in
+    let one = filled_counted k.variables cs filling label e (expression_meant k e) (is_alike is_named label) (component_for cs label filling.count) (for_is cs label filling.count) q.0.1.1 w in
     let others = items_counted k cs is_named (after_item k (Some cs) is_named filling label e) rest q.1 one.0 in
     (others.0, others.1 ∙ (ap (λ (n : ℕ). n + how_many rest) one.1 ∙ omega arith))
 

@@ -22,6 +22,8 @@ mod ItemCounts
 mod Reading
 mod Keeping
 mod Written
+-- borrowers, as they are written
+mod Lent
 mod Others
 mod Elaborated
 pub mod Whole

@@ -47,7 +47,7 @@ use Rattle.ada_resolve.specs.Naming.{Context, IsExceptionNamed, IsInstanceNamed,
 use Rattle.ada_resolve.specs.Reading.{IsPutLine, IsGet, IsImage, IsComponentNamed, AreSelectorsRead, IsPathRead, IsTargetRead, IsValueRead, read_path, read_number, read_truth, AsksEqual, null_on_right, null_on_left, IsExpressionRead, IsNull, IsMoveRead, IsConditionRead, IsItemRead, IsItemFor, at_place, by_name, further, AreItemsRead, IsRightRead, IsSimpleRead, IsChoiceRead, AreChoicesRead}
 use Rattle.ada_resolve.specs.Allocators.{allocated_wanted, allocated_remark, complete_in, allocated_found, filled_components, aggregate_remark, allocation, aggregate_found, is_in_use, has_items, allocator_remark, allocator_found}
 use Rattle.ada_resolve.specs.Rights.{assigned_wanted, assigned, right_remark, right_found}
-use Rattle.ada_resolve.specs.Assignments.{variable_target, component_target, target_found, variable_wanted, target_wanted, target_remark, kind_of_target, assignment_remark, assignment_of, assignment_found}
+use Rattle.ada_resolve.specs.Assignments.{variable_target, component_target, target_found, variable_wanted, target_wanted, target_remark, kind_of_target, target_borrows, assignment_remark, assignment_of, assignment_found}
 use Rattle.ada_resolve.specs.Statements.{condition_remark, condition_meant, optional_condition_remark, optional_condition_meant, statement_remark, statement_found, statement_meant, form_or_null, text_in, simple_texts, bound_remark, bound_meant}
 use Rattle.ada_resolve.specs.Types.{designates}
 use Rattle.ada_resolve.specs.Remark.{Remark, wrong, ◌also◌, wrong_if}
@@ -82,7 +82,7 @@ path_known : (k : Known) (tree : PathTree) → PartsFit k.types k.variables (par
 path_known k tree w q = meant_is k.types k.variables (path_meant k tree) (path_fits k tree w q)
 
 -- what an expression means is what it says
-abbrev MeantRead : Context → ExpressionTree → Meant → Type 0
+abbrev pub MeantRead : Context → ExpressionTree → Meant → Type 0
 MeantRead p e unknown = Unit {0}
 MeantRead p e null_value = IsNull e
 MeantRead p e (access_value path t) = IsMoveRead p e path
@@ -161,9 +161,9 @@ place_read k p x name of ss w b v q = by_reached (selectors_reached k (reached.V
 -- what a name stands for
 entity_read : (k : Known) (p : Context) (e : Entity) (name : Ident) (ss : List SelectorTree) → Ahead k p → EntityFits k.types k.variables name.text e → EntityRead p name.text e → Quiet (value_wanted k (Some e) name ss) → MeantRead p (path_expression (record { root = name; selectors = ss })) (entity_meant k (Some e) name.spot ss)
 entity_read k p (entity.Variable x of) name ss w f t q =
-    place_read k p x name of ss w (inl t) (kind_there p.variables x.0 name.text of (w.variables x.0 (record { name = name.text; kind = of }) f.0)) q
+    place_read k p x name of ss w (inl t) (kind_there p.variables x.0 name.text of (f.0.0, w.variables x.0 (record { name = name.text; kind = of; borrows = f.0.0 }) f.0.1)) q
 entity_read k p (entity.Parameter x) name ss w f t q =
-    place_read k p x name variable.Integer ss w (inr t) (kind_there p.variables x.0 name.text variable.Integer (w.variables x.0 (record { name = name.text; kind = variable.Integer }) f)) q
+    place_read k p x name variable.Integer ss w (inr t) (kind_there p.variables x.0 name.text variable.Integer (false, w.variables x.0 (record { name = name.text; kind = variable.Integer; borrows = false }) f)) q
 entity_read k p (entity.Number n) name [] w f t q = read_number refl t
 entity_read k p (entity.Number n) name (s ∷ ss) w f t q = tt
 entity_read k p (entity.Truth b) name [] w f t q = read_truth refl t
@@ -174,7 +174,7 @@ named_read : (k : Known) (p : Context) (o : Option Entity) (name : Ident) (ss : 
 named_read k p None name ss w v t q = tt
 named_read k p (Some e) name ss w v t q = entity_read k p e name ss w (v e refl) (t e refl) q
 
-path_read : (k : Known) (p : Context) (tree : PathTree) → Readable k p → Quiet (path_remark k tree) → MeantRead p (path_expression tree) (path_meant k tree)
+pub path_read : (k : Known) (p : Context) (tree : PathTree) → Readable k p → Quiet (path_remark k tree) → MeantRead p (path_expression tree) (path_meant k tree)
 unfolding path_meant path_remark
 path_read k p tree w q = by_root (is_library_root tree.root.text) _ q
   where
@@ -242,12 +242,12 @@ expression_read k p (binary_expression o left right) w q =
     (expression_known k left w.fits q.1.0) (expression_known k right w.fits q.1.1.0) (expression_read k p left w q.1.0) (expression_read k p right w q.1.1.0) q.1.1.1
 
 -- what an item gives its component
-item_read : (p : Context) (e : ExpressionTree) (k : ComponentKind) (m : Meant) (spot : Spot) → IsMeant m → MeantRead p e m → Quiet (fits_remark k m spot) → IsItemRead p e (item_meant m)
-item_read p e k (integer_value form) spot f r q = r
-item_read p e k (boolean_value form) spot f r q = r
-item_read p e k (access_value path t) spot f r q = r
-item_read p e k null_value spot f r q = r
-item_read p e k unknown spot f r q = absurd f
+item_read : (p : Context) (variables : List VariableForm) (e : ExpressionTree) (k : ComponentKind) (m : Meant) (spot : Spot) → IsMeant m → MeantRead p e m → Quiet (fits_remark variables k m spot) → IsItemRead p e (item_meant m)
+item_read p variables e k (integer_value form) spot f r q = r
+item_read p variables e k (boolean_value form) spot f r q = r
+item_read p variables e k (access_value path t) spot f r q = r
+item_read p variables e k null_value spot f r q = r
+item_read p variables e k unknown spot f r q = absurd f
 
 -- the component that an item is for
 component_there : (items : ItemsTree) (label : Option Ident) (e : ExpressionTree) (rest : ItemsTree) (cs : List ComponentForm) (at : ℕ) (found : ℕ × ComponentKind) → component_for cs label at ≡ Some found → (d : ComponentForm) × (slice_get cs found.0 ≡ Some d) × IsItemFor (an_item label e rest) at found.0 d.name e
@@ -301,18 +301,18 @@ one_read p cs items slots n d e form old there here own c other is = by_number (
         (d, e, subst (λ (m : ℕ). slice_get cs m ≡ Some d) place there, subst (λ (m : ℕ). IsItemFor items 0 m d.name e) place here, subst (λ (f : ItemForm). IsItemRead p e f) form_is own)
     by_number false apart = old c other (sym (get_other slots n c (Some form) (λ place. off_on (eqb n c) apart (eq-eqb n c place))) ∙ is)
 
-filled_read : (p : Context) (cs : List ComponentForm) (items : ItemsTree) (label : Option Ident) (e : ExpressionTree) (rest : ItemsTree) (m : Meant) (filling : Filling) (alike : Bool) (o : Option (ℕ × ComponentKind)) → component_for cs label filling.count ≡ o → Ends items (an_item label e rest) filling.count → SlotsRead p cs items filling.slots → IsMeant m → MeantRead p e m → Quiet (for_remark o filling label e m) → SlotsRead p cs items (filled_for o filling alike (item_meant m)).slots × ((filled_for o filling alike (item_meant m)).count ≡ filling.count + 1)
-filled_read p cs items label e rest m filling alike None is ends old f r q = (old, refl)
-filled_read p cs items label e rest m filling alike (Some found) is ends old f r q =
+filled_read : (p : Context) (variables : List VariableForm) (cs : List ComponentForm) (items : ItemsTree) (label : Option Ident) (e : ExpressionTree) (rest : ItemsTree) (m : Meant) (filling : Filling) (alike : Bool) (o : Option (ℕ × ComponentKind)) → component_for cs label filling.count ≡ o → Ends items (an_item label e rest) filling.count → SlotsRead p cs items filling.slots → IsMeant m → MeantRead p e m → Quiet (for_remark variables o filling label e m) → SlotsRead p cs items (filled_for o filling alike (item_meant m)).slots × ((filled_for o filling alike (item_meant m)).count ≡ filling.count + 1)
+filled_read p variables cs items label e rest m filling alike None is ends old f r q = (old, refl)
+filled_read p variables cs items label e rest m filling alike (Some found) is ends old f r q =
     let there = component_there items label e rest cs filling.count found is in
-    (one_read p cs items filling.slots found.0 there.0 e (item_meant m) old there.1 (ends found.0 there.0.name e there.2) (item_read p e found.1 m (expression_spot e) f r q.1), refl)
+    (one_read p cs items filling.slots found.0 there.0 e (item_meant m) old there.1 (ends found.0 there.0.name e there.2) (item_read p variables e found.1 m (expression_spot e) f r q.1), refl)
 
 items_read : (k : Known) (p : Context) (cs : List ComponentForm) (is_named : Bool) (items : ItemsTree) (filling : Filling) (rest : ItemsTree) → Readable k p → Ends items rest filling.count → SlotsRead p cs items filling.slots → Quiet (items_remark k (Some cs) is_named filling rest) → SlotsRead p cs items (after_items k (Some cs) is_named filling rest).slots
 unfolding item_remark after_item
 items_read k p cs is_named items filling no_more_items w ends old q = old
 items_read k p cs is_named items filling (an_item label e rest) w ends old q =
     let next = after_item k (Some cs) is_named filling label e in
-    let done = filled_read p cs items label e rest (expression_meant k e) filling (is_alike is_named label) (component_for cs label filling.count) refl ends old
+    let done = filled_read p k.variables cs items label e rest (expression_meant k e) filling (is_alike is_named label) (component_for cs label filling.count) refl ends old
     (expression_known k e w.fits q.0.1.0) (expression_read k p e w q.0.1.0) q.0.1.1 in
     items_read k p cs is_named items next rest w (λ c name f h. ends c name f (further (subst (λ (n : ℕ). IsItemFor rest n c name f) done.1 h))) done.0 q.1
 
@@ -349,7 +349,7 @@ assigned_read p e of (integer_value form) spot f r q = r
 assigned_read p e of (boolean_value form) spot f r q = r
 assigned_read p e of unknown spot f r q = absurd f
 
-type_designated : (k : Known) (p : Context) (t d : ℕ) → Ahead k p → fits.designated_type k.types t ≡ Some d → fits.designated_type p.types t ≡ Some d
+pub type_designated : (k : Known) (p : Context) (t d : ℕ) → Ahead k p → fits.designated_type k.types t ≡ Some d → fits.designated_type p.types t ≡ Some d
 type_designated k p t d w e = sym (designated_same p.types t) ∙ designated_more k.types p.types t d w.types (designated_same k.types t ∙ e)
 
 allocation_one : (k : Known) (p : Context) (e : Entity) (access : TypeNo) (at spot end_spot : Spot) (name : Ident) (items : ItemsTree) → Readable k p → EntityFits k.types k.variables name.text e → EntityRead p name.text e → Quiet (allocated_wanted (Some e) k.types (Some access) spot name) → Quiet (items_remark k (filled_components k (complete_in (Some e))) (names_component items) (first_filling (filled_components k (complete_in (Some e)))) items) → Quiet (count_remark (names_component items) (filling_of k (filled_components k (complete_in (Some e))) items) end_spot) → FoundRight p (allocator_right at None name items) (allocation k (Some access) (complete_in (Some e)) items)
@@ -382,13 +382,13 @@ allocator_read k p access at None name items w q = by_use (has_items items) q
     by_use true q = aggregate_read k p access at name items w q
     by_use false q = absurd q
 
-pub right_read : (k : Known) (p : Context) (of : VariableKind) (right : RightTree) → Readable k p → Quiet (right_remark k (Some of) right) → FoundRight p right (right_found k (Some of) right)
-right_read k p of (expression_right e) w q =
-    assigned_read p e of (expression_meant k e) (expression_spot e) (expression_known k e w.fits q.0) (expression_read k p e w q.0) q.1
-right_read k p (variable.Access access) (allocator_right at handle name items) w q = allocator_read k p access at handle name items w q.1
-right_read k p variable.Integer (allocator_right at handle name items) w q = absurd q.0
-right_read k p variable.Boolean (allocator_right at handle name items) w q = absurd q.0
-right_read k p of (creation_right function argument) w q = absurd q
+pub right_read : (k : Known) (p : Context) (of : VariableKind) (borrows : Bool) (right : RightTree) → Readable k p → Quiet (right_remark k (Some of) borrows right) → FoundRight p right (right_found k (Some of) right)
+right_read k p of borrows (expression_right e) w q =
+    assigned_read p e of (expression_meant k e) (expression_spot e) (expression_known k e w.fits q.0) (expression_read k p e w q.0) q.1.0
+right_read k p (variable.Access access) borrows (allocator_right at handle name items) w q = allocator_read k p access at handle name items w q.1.1
+right_read k p variable.Integer borrows (allocator_right at handle name items) w q = absurd q.0
+right_read k p variable.Boolean borrows (allocator_right at handle name items) w q = absurd q.0
+right_read k p of borrows (creation_right function argument) w q = absurd q
 
 -- a statement
 abbrev FoundStatement : Context → StatementTree → Option StmtForm → Type 0
@@ -451,9 +451,9 @@ value_read : (p : Context) (target : PathTree) (right : RightTree) (found : Path
 value_read p target right found None t f = absurd f
 value_read p target right found (Some form) t f = (t, f)
 
-assigned_there : (k : Known) (p : Context) (target : PathTree) (right : RightTree) (o : Option (PathForm × VariableKind)) → Readable k p → FoundTarget p target o → Quiet (right_remark k (kind_of_target o) right) → FoundStatement p (assignment target right) (assignment_of o (right_found k (kind_of_target o) right))
+assigned_there : (k : Known) (p : Context) (target : PathTree) (right : RightTree) (o : Option (PathForm × VariableKind)) → Readable k p → FoundTarget p target o → Quiet (right_remark k (kind_of_target o) (target_borrows k.variables o) right) → FoundStatement p (assignment target right) (assignment_of o (right_found k (kind_of_target o) right))
 assigned_there k p target right None w t q = absurd t
-assigned_there k p target right (Some found) w t q = value_read p target right found (right_found k (Some found.1) right) t (right_read k p found.1 right w q)
+assigned_there k p target right (Some found) w t q = value_read p target right found (right_found k (Some found.1) right) t (right_read k p found.1 (fits.names_borrower k.variables found.0) right w q)
 
 assignment_read : (k : Known) (p : Context) (root : Ident) (ss : List SelectorTree) (right : RightTree) → Readable k p → Quiet (assignment_remark k (record { root = root; selectors = ss }) right) → FoundStatement p (assignment (record { root = root; selectors = ss }) right) (assignment_found k (record { root = root; selectors = ss }) right)
 unfolding assignment_remark assignment_found
@@ -476,10 +476,10 @@ target_read k p tree path w q r = by_object r.root
         let n = parameter_visible k p w tree.root.text path.root b in absurd (no_parameter (visible k tree.root.text) tree.root.spot n.0 n.1 q)
 
 -- `Free (X);`
-freed_read : (p : Context) (procedure tree : PathTree) (access : TypeNo) (m : Meant) (spot : Spot) → procedure.selectors ≡ [] → IsInstanceNamed p procedure.root.text access.0 → IsMeant m → MeantRead p (path_expression tree) m → ((path : PathForm) → IsPathRead p tree path → IsTargetRead p tree path) → Quiet (freed_wanted access m spot) → FoundStatement p (call procedure (expression_argument (path_expression tree) ∷ [])) (freeing access m)
-freed_read p procedure tree access (access_value path t) spot alone called f r target q = (alone, called, target path r)
-freed_read p procedure tree access unknown spot alone called f r target q = absurd f
-freed_read p procedure tree access m spot alone called f r target q = absurd q
+freed_read : (p : Context) (variables : List VariableForm) (procedure tree : PathTree) (access : TypeNo) (m : Meant) (spot : Spot) → procedure.selectors ≡ [] → IsInstanceNamed p procedure.root.text access.0 → IsMeant m → MeantRead p (path_expression tree) m → ((path : PathForm) → IsPathRead p tree path → IsTargetRead p tree path) → Quiet (freed_wanted variables access m spot) → FoundStatement p (call procedure (expression_argument (path_expression tree) ∷ [])) (freeing access m)
+freed_read p variables procedure tree access (access_value path t) spot alone called f r target q = (alone, called, target path r)
+freed_read p variables procedure tree access unknown spot alone called f r target q = absurd f
+freed_read p variables procedure tree access m spot alone called f r target q = absurd q
 
 -- `Run_Input.Get (X);`
 got_read : (p : Context) (procedure tree : PathTree) (m : Meant) (spot : Spot) → IsGet procedure → IsMeant m → MeantRead p (path_expression tree) m → ((path : PathForm) → IsPathRead p tree path → IsTargetRead p tree path) → Quiet (got_wanted m spot) → FoundStatement p (call procedure (expression_argument (path_expression tree) ∷ [])) (getting m)
@@ -492,14 +492,14 @@ abbrev IsTaker : Context → PathTree → Callee → Type 0
 IsTaker p procedure (callee.Free access) = (procedure.selectors ≡ []) × IsInstanceNamed p procedure.root.text access.0
 IsTaker p procedure callee.Get = IsGet procedure
 
-taken_read : (p : Context) (procedure tree : PathTree) (taker : Callee) (m : Meant) (spot : Spot) → IsTaker p procedure taker → IsMeant m → MeantRead p (path_expression tree) m → ((path : PathForm) → IsPathRead p tree path → IsTargetRead p tree path) → Quiet (actual_wanted taker m spot) → FoundStatement p (call procedure (expression_argument (path_expression tree) ∷ [])) (taking taker m)
-taken_read p procedure tree (callee.Free access) m spot is f r target q = freed_read p procedure tree access m spot is.0 is.1 f r target q
-taken_read p procedure tree callee.Get m spot is f r target q = got_read p procedure tree m spot is f r target q
+taken_read : (p : Context) (variables : List VariableForm) (procedure tree : PathTree) (taker : Callee) (m : Meant) (spot : Spot) → IsTaker p procedure taker → IsMeant m → MeantRead p (path_expression tree) m → ((path : PathForm) → IsPathRead p tree path → IsTargetRead p tree path) → Quiet (actual_wanted variables taker m spot) → FoundStatement p (call procedure (expression_argument (path_expression tree) ∷ [])) (taking taker m)
+taken_read p variables procedure tree (callee.Free access) m spot is f r target q = freed_read p variables procedure tree access m spot is.0 is.1 f r target q
+taken_read p variables procedure tree callee.Get m spot is f r target q = got_read p procedure tree m spot is f r target q
 
 actual_read : (k : Known) (p : Context) (procedure : PathTree) (taker : Callee) (argument : ArgumentTree) → IsTaker p procedure taker → Readable k p → Quiet (actual_remark k taker argument) → FoundStatement p (call procedure (argument ∷ [])) (actual_found k taker argument)
 unfolding expression_remark
 actual_read k p procedure taker (expression_argument (path_expression tree)) is w q =
-    taken_read p procedure tree taker (path_meant k tree) tree.root.spot is (path_known k tree w.fits q.0.1) (path_read k p tree w q.0.1)
+    taken_read p k.variables procedure tree taker (path_meant k tree) tree.root.spot is (path_known k tree w.fits q.0.1) (path_read k p tree w q.0.1)
     (λ path r. target_read k p tree path w.agrees q.1.1 r) q.1.0
 actual_read k p procedure taker argument is w q = absurd q.0
 

@@ -22,6 +22,8 @@ pub mod Meanings
 pub mod Items
 -- what is assigned
 pub mod Values
+-- what a borrower borrows at first
+pub mod Borrowers
 -- statements with no others in them
 pub mod Statements
 -- what is created from one place to another

@@ -283,7 +283,7 @@ range_read p inside_loop spot name low high ss last at done w ahead stays d read
     begun_ahead = ahead_on d.head.1.0 d.own.1.0 p (statements_stay true ss d.head.1 d.own begun.sound begun.complete d.told).grows own_ahead
 
     v : VariableForm
-    v = record { name = name.text; kind = variable.Integer }
+    v = record { name = name.text; kind = variable.Integer; borrows = false }
 
     there : slice_get p.variables x ≡ Some v
     there = begun_ahead.variables x v (ap (λ (u : Known). slice_get u.variables x) is.2 ∙ get_last k.variables v)

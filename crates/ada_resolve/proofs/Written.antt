@@ -234,20 +234,20 @@ object_at k p name type_name (Some right) entity.Integer w alone f t q g = recor
   of = variable.Integer;
   is = refl;
   kind_named = (alone, t);
-  starts = starts_read k p variable.Integer right (initial_found k (Some variable.Integer) (Some right)) (right_read k p variable.Integer right w q);
+  starts = starts_read k p variable.Integer right (initial_found k (Some variable.Integer) (Some right)) (right_read k p variable.Integer false right w q);
 }
 object_at k p name type_name (Some right) entity.Boolean w alone f t q g = record {
   of = variable.Boolean;
   is = refl;
   kind_named = (alone, t);
-  starts = starts_read k p variable.Boolean right (initial_found k (Some variable.Boolean) (Some right)) (right_read k p variable.Boolean right w q);
+  starts = starts_read k p variable.Boolean right (initial_found k (Some variable.Boolean) (Some right)) (right_read k p variable.Boolean false right w q);
 }
 object_at k p name type_name None (entity.Access a) w alone f t q g = record { of = variable.Access a; is = refl; kind_named = (alone, (t, f.0, w.ahead.types a.0 (access_to type_name.first.text f.0) f.1)); starts = tt }
 object_at k p name type_name (Some right) (entity.Access a) w alone f t q g = record {
   of = variable.Access a;
   is = refl;
   kind_named = (alone, (t, f.0, w.ahead.types a.0 (access_to type_name.first.text f.0) f.1));
-  starts = starts_read k p (variable.Access a) right (initial_found k (Some (variable.Access a)) (Some right)) (right_read k p (variable.Access a) right w q);
+  starts = starts_read k p (variable.Access a) right (initial_found k (Some (variable.Access a)) (Some right)) (right_read k p (variable.Access a) false right w q);
 }
 object_at k p name type_name initial e w alone f t q g = absurd g
 

@@ -1,10 +1,12 @@
 -- Assignments: what is wrong with each, and what it does (5.2).
 
-use Rattle.std.specs.Prelude.{if◌then◌else◌, Option, Some, None}
+use Rattle.std.specs.Prelude.{Bool, false, if◌then◌else◌, List, Option, Some, None}
 use Rattle.ada_text.specs.declared.spot.Spot.{Spot}
 use Rattle.ada_tree.specs.Names.{Ident, PathTree}
 use Rattle.ada_tree.specs.Expressions.{RightTree}
 use Rattle.ada_program.specs.Form.{ExpressionForm, PathForm, RightForm, StmtForm, assigns, reads}
+use Rattle.ada_program.specs.ProgramForm.{VariableForm}
+use Rattle.ada_program.specs.WellFormed.{names_borrower}
 use Rattle.ada_program.specs.declared.program.VariableKind.{VariableKind}
 use Rattle.ada_program.specs.declared.program.VariableKind.TheVariants as variable
 use Rattle.ada_resolve.specs.declared.fault.NameRule.TheVariants.{WrongType}
@@ -71,11 +73,16 @@ abbrev pub kind_of_target : Option (PathForm × VariableKind) → Option Variabl
 kind_of_target (Some found) = Some found.1
 kind_of_target None = None
 
+-- Whether the target is a borrower (3.10), where it is known.
+abbrev pub target_borrows : List VariableForm → Option (PathForm × VariableKind) → Bool
+target_borrows variables (Some found) = names_borrower variables found.0
+target_borrows variables None = false
+
 -- What is wrong with `X := ..;` or `A.C := ..;` (5.2): a node of the source, a target, and a value of its type.
 unfoldable pub assignment_remark : Known → PathTree → RightTree → Remark
 assignment_remark known target value =
     node target.root.spot also target_remark known target also
-    right_remark known (kind_of_target (target_found known target)) value
+    right_remark known (kind_of_target (target_found known target)) (target_borrows known.variables (target_found known target)) value
 
 -- The assignment of a value to a target, or `None` where either is not known.
 abbrev pub assignment_of : Option (PathForm × VariableKind) → Option RightForm → Option StmtForm

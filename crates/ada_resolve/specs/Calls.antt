@@ -5,6 +5,7 @@ use Rattle.ada_text.specs.declared.spot.Spot.{Spot}
 use Rattle.ada_tree.specs.Names.{Ident, PathTree}
 use Rattle.ada_tree.specs.Expressions.{ExpressionTree, path_expression, ArgumentTree, expression_argument}
 use Rattle.ada_program.specs.Form.{StmtForm, frees, gets, reads}
+use Rattle.ada_program.specs.ProgramForm.{VariableForm}
 use Rattle.ada_program.specs.declared.program.TypeNo.{TypeNo}
 use Rattle.ada_resolve.specs.declared.calls.Callee.{Callee}
 use Rattle.ada_resolve.specs.declared.calls.Callee.TheVariants as callee
@@ -20,15 +21,16 @@ use Rattle.ada_resolve.specs.Spots.{argument_spot, expression_spot}
 use Rattle.ada_resolve.specs.Arguments.{argument_remark, arguments_remark, none_wanted}
 use Rattle.ada_resolve.specs.Expressions.{expression_remark}
 use Rattle.ada_resolve.specs.Lines.{put_line_found, put_line_remark}
-use Rattle.ada_resolve.specs.Operators.{no_component_wanted}
+use Rattle.ada_resolve.specs.Operators.{no_component_wanted, owner_wanted}
 use Rattle.ada_resolve.specs.Paths.{Meant, access_value, integer_value, path_meant, unknown}
 
--- `Free (X);` (13.11.2): the actual is a variable of the instance's access type.
-abbrev pub freed_wanted : TypeNo → Meant → Spot → Remark
-freed_wanted access unknown spot = fine
-freed_wanted access (access_value path t) spot =
-    wrong_if (not (t.0 == access.0)) spot WrongType also no_component_wanted (access_value path t) spot
-freed_wanted access other spot = wrong spot WrongType
+-- `Free (X);` (13.11.2): the actual is a variable of the instance's access type, and no borrower.
+abbrev pub freed_wanted : List VariableForm → TypeNo → Meant → Spot → Remark
+freed_wanted variables access unknown spot = fine
+freed_wanted variables access (access_value path t) spot =
+    wrong_if (not (t.0 == access.0)) spot WrongType also no_component_wanted (access_value path t) spot also
+    owner_wanted variables (access_value path t) spot
+freed_wanted variables access other spot = wrong spot WrongType
 
 -- `Run_Input.Get (X);`: the actual is an Integer, a variable or a component.
 abbrev pub got_wanted : Meant → Spot → Remark
@@ -37,9 +39,9 @@ got_wanted (integer_value (reads path)) spot = fine
 got_wanted other spot = wrong spot WrongType
 
 -- What a procedure wants of its one actual, which stands at the spot (6.4.1).
-abbrev pub actual_wanted : Callee → Meant → Spot → Remark
-actual_wanted (callee.Free access) meant spot = freed_wanted access meant spot
-actual_wanted callee.Get meant spot = got_wanted meant spot
+abbrev pub actual_wanted : List VariableForm → Callee → Meant → Spot → Remark
+actual_wanted variables (callee.Free access) meant spot = freed_wanted variables access meant spot
+actual_wanted variables callee.Get meant spot = got_wanted meant spot
 
 -- A loop parameter is a constant (3.3, 5.5): nothing is written to it.
 abbrev pub written_wanted : Option Entity → Spot → Remark
@@ -54,7 +56,8 @@ no_path_remark known value = wrong (expression_spot value) WrongType also expres
 -- What is wrong with the actual of a procedure that takes a variable: it is a path, and no constant.
 abbrev pub actual_remark : Known → Callee → ArgumentTree → Remark
 actual_remark known taker (expression_argument (path_expression path)) =
-    expression_remark known (path_expression path) also actual_wanted taker (path_meant known path) path.root.spot also
+    expression_remark known (path_expression path) also
+    actual_wanted known.variables taker (path_meant known path) path.root.spot also
     written_wanted (visible known path.root.text) path.root.spot
 actual_remark known taker other = wrong (argument_spot other) WrongType also argument_remark known other
 

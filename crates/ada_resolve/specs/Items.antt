@@ -7,7 +7,7 @@ use Rattle.ada_text.specs.declared.spot.Spot.{Spot}
 use Rattle.ada_program.specs.Form.{ItemForm, null_item, item_of_path, item_of_value}
 use Rattle.ada_tree.specs.Names.{Ident}
 use Rattle.ada_tree.specs.Expressions.{ExpressionTree, ItemsTree, no_more_items, an_item}
-use Rattle.ada_program.specs.ProgramForm.{ComponentForm}
+use Rattle.ada_program.specs.ProgramForm.{ComponentForm, VariableForm}
 use Rattle.ada_program.specs.declared.program.ComponentKind.{ComponentKind}
 use Rattle.ada_program.specs.declared.program.ComponentKind.TheVariants as kind
 use Rattle.ada_resolve.specs.declared.fault.NameRule.TheVariants.{WrongType, NotInProfile}
@@ -16,7 +16,7 @@ use Rattle.ada_resolve.specs.Library.{no_component_rule}
 use Rattle.ada_resolve.specs.Remark.{Remark, fine, wrong, ◌also◌, wrong_if}
 use Rattle.ada_resolve.specs.Spots.{expression_spot}
 use Rattle.ada_resolve.specs.Expressions.{expression_meant, expression_remark}
-use Rattle.ada_resolve.specs.Operators.{access_wanted, boolean_wanted, integer_wanted, no_component_wanted}
+use Rattle.ada_resolve.specs.Operators.{access_wanted, boolean_wanted, integer_wanted, no_component_wanted, owner_wanted}
 use Rattle.ada_resolve.specs.Paths.{Meant, access_value, boolean_value, component_at, component_named, integer_value}
 
 -- What is known before an item: how many items come before it, which components have their items, and whether each item so far names a
@@ -43,11 +43,12 @@ item_meant (boolean_value e) = item_of_value e
 item_meant (access_value path t) = item_of_path path
 item_meant other = null_item
 
--- A value is of its component's type: an access component is given null, or what a variable of that very type holds.
-abbrev pub fits_remark : ComponentKind → Meant → Spot → Remark
-fits_remark (kind.Integer initial) value spot = integer_wanted value spot
-fits_remark (kind.Boolean initial) value spot = boolean_wanted value spot
-fits_remark (kind.Access t) value spot = access_wanted t value spot also no_component_wanted value spot
+-- A value is of its component's type: an access component is given null, or what a variable of that very type holds, which is no borrower.
+abbrev pub fits_remark : List VariableForm → ComponentKind → Meant → Spot → Remark
+fits_remark variables (kind.Integer initial) value spot = integer_wanted value spot
+fits_remark variables (kind.Boolean initial) value spot = boolean_wanted value spot
+fits_remark variables (kind.Access t) value spot =
+    access_wanted t value spot also no_component_wanted value spot also owner_wanted variables value spot
 
 -- No component has that name (4.1.3), or there are too many items.
 abbrev pub no_component : Option Ident → ExpressionTree → Remark
@@ -59,15 +60,17 @@ abbrev pub is_filled : ℕ → List (Option ItemForm) → Bool
 is_filled c slots = is_some (slice_index_or slots c None)
 
 -- What is wrong with the component of an item, and with its value for it: a component has one item.
-abbrev pub for_remark : Option (ℕ × ComponentKind) → Filling → Option Ident → ExpressionTree → Meant → Remark
-for_remark (Some found) filling label value meant =
-    wrong_if (is_filled found.0 filling.slots) (item_spot label value) WrongType also fits_remark found.1 meant (expression_spot value)
-for_remark None filling label value meant = no_component label value
+abbrev pub for_remark : List VariableForm → Option (ℕ × ComponentKind) → Filling → Option Ident → ExpressionTree → Meant → Remark
+for_remark variables (Some found) filling label value meant =
+    wrong_if (is_filled found.0 filling.slots) (item_spot label value) WrongType also
+    fits_remark variables found.1 meant (expression_spot value)
+for_remark variables None filling label value meant = no_component label value
 
 -- What is wrong with an item for its component, which only a known record type has.
-abbrev pub component_item_remark : Option (List ComponentForm) → Filling → Option Ident → ExpressionTree → Meant → Remark
-component_item_remark (Some components) filling label value meant = for_remark (component_for components label filling.count) filling label value meant
-component_item_remark None filling label value meant = fine
+abbrev pub component_item_remark : List VariableForm → Option (List ComponentForm) → Filling → Option Ident → ExpressionTree → Meant → Remark
+component_item_remark variables (Some components) filling label value meant =
+    for_remark variables (component_for components label filling.count) filling label value meant
+component_item_remark variables None filling label value meant = fine
 
 -- Whether an item names its component where the first item does, and doesn't where that does not.
 abbrev pub is_alike : Bool → Option Ident → Bool
@@ -79,7 +82,7 @@ unfoldable pub item_remark : Known → Option (List ComponentForm) → Bool → 
 item_remark known components is_named filling label value =
     wrong_if (not (is_alike is_named label)) (item_spot label value) WrongType also
     expression_remark known value also
-    component_item_remark components filling label value (expression_meant known value)
+    component_item_remark known.variables components filling label value (expression_meant known value)
 
 -- What is known once the component of this number has this item.
 abbrev pub with_item : ℕ → ItemForm → Filling → Filling

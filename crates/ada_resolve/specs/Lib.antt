@@ -34,6 +34,8 @@ pub mod Rights
 pub mod Assignments
 -- object declarations (3.3.1)
 pub mod Objects
+-- declarations of borrowers (3.10)
+pub mod Borrowers
 -- the arguments of a call (6.4)
 pub mod Arguments
 -- Put_Line (A.10.7)

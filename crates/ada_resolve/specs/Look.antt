@@ -1,12 +1,12 @@
 -- What a look at each part of a tree gives, by its parts as the code has them. The methods of the resolver that change nothing look so.
 
-use Rattle.std.specs.Prelude.{◌≡◌, ℕ, Bool, List, ◌∷◌, map, Option, Result, Ok, Err}
+use Rattle.std.specs.Prelude.{◌≡◌, ℕ, Bool, List, ◌∷◌, map, Option, Some, Result, Ok, Err}
 use denote.MutBor.{MutBor}
 use denote.Triple.Both.{Both}
 use Rattle.ada_text.specs.declared.spot.Spot.{Spot}
 use Rattle.ada_values.specs.declared.operator.UnaryOperator.{UnaryOperator}
 use Rattle.ada_tree.specs.ExpressionView.{argument_of, expression_of, items_of, optional_right_of, right_of}
-use Rattle.ada_tree.specs.Expressions.{expression_argument, unary_expression}
+use Rattle.ada_tree.specs.Expressions.{expression_argument, expression_right, unary_expression}
 use Rattle.ada_tree.specs.Names.{ident_of, path_of, selector_of}
 use Rattle.ada_tree.specs.Records.{component_of, record_of}
 use Rattle.ada_tree.specs.Declarations.{choice_of}
@@ -38,6 +38,7 @@ use Rattle.ada_resolve.specs.declared.selectors.Reached.{Reached}
 use Rattle.ada_resolve.specs.Allocators.{aggregate_found, aggregate_remark, filled_components}
 use Rattle.ada_resolve.specs.Arguments.{image_value_remark}
 use Rattle.ada_resolve.specs.Assignments.{assignment_found, assignment_remark, target_found, target_remark}
+use Rattle.ada_resolve.specs.Borrowers.{lender_found, lender_remark}
 use Rattle.ada_resolve.specs.Calls.{actual_found, actual_remark, call_found, call_remark, library_call_found, library_call_remark, named_call_found, named_call_remark, taker_found, taker_remark}
 use Rattle.ada_resolve.specs.Chains.{links_meant, links_remark}
 use Rattle.ada_resolve.specs.Exceptions.{choices_meant, choices_remark}
@@ -146,9 +147,9 @@ aggregate_look seen access spot type_name items = record {
 }
 
 -- What is assigned (5.2).
-abbrev pub right_look : Seen → Option VariableKind → Right → Look (Option RightForm)
-right_look seen kind right = record {
-  remark = right_remark (known seen) kind (right_of right);
+abbrev pub right_look : Seen → Option VariableKind → (borrows : Bool) → Right → Look (Option RightForm)
+right_look seen kind borrows right = record {
+  remark = right_remark (known seen) kind borrows (right_of right);
   meaning = right_found (known seen) kind (right_of right);
 }
 
@@ -157,6 +158,20 @@ abbrev pub initial_look : Seen → Option VariableKind → Option Right → Look
 initial_look seen kind initial = record {
   remark = initial_remark (known seen) kind (optional_right_of initial);
   meaning = initial_found (known seen) kind (optional_right_of initial);
+}
+
+-- The initial value of a borrower (3.10).
+abbrev pub lender_look : Seen → Identifier → Option TypeNo → Option Right → Look (Option (PathForm × TypeNo))
+lender_look seen name designated initial = record {
+  remark = lender_remark (known seen) (ident_of name) designated (optional_right_of initial);
+  meaning = lender_found (known seen) (optional_right_of initial);
+}
+
+-- The initial value of a borrower, where it is an expression.
+abbrev pub lending_look : Seen → Identifier → Option TypeNo → Expression → Look (Option (PathForm × TypeNo))
+lending_look seen name designated value = record {
+  remark = lender_remark (known seen) (ident_of name) designated (Some (expression_right (expression_of value)));
+  meaning = lender_found (known seen) (Some (expression_right (expression_of value)));
 }
 
 -- A call (6.4). A text that it writes gets this number.

@@ -1,6 +1,6 @@
 -- What the methods of the resolver promise, in a word each: what they answer, what is noted, and what is known after them.
 
-use Rattle.std.specs.Prelude.{◌≡◌, ◌++◌, ◌∷◌, ℕ, Bool, List, [], map, Option, Some, Result, IfOk, OnOk}
+use Rattle.std.specs.Prelude.{◌≡◌, ◌++◌, ◌∷◌, ℕ, Bool, List, [], map, Option, Result, IfOk, OnOk}
 use Rattle.std.specs.Global.{Vec}
 use denote.MutBor.{MutBor}
 use denote.Ref.{Bor}
@@ -11,7 +11,7 @@ use Rattle.ada_tree.specs.ExpressionView.{argument_of, expression_of, optional_r
 use Rattle.ada_tree.specs.Expressions.{ExpressionTree}
 use Rattle.ada_tree.specs.Names.{Ident, ident_of, name_of, optional_ident_of}
 use Rattle.ada_tree.specs.Records.{ComponentTree, component_of, record_of, static_of}
-use Rattle.ada_tree.specs.Statements.{DeclarationTree, access_type, constant_declaration, instance, object_declaration, record_type, HandlersTree, branches_from, handlers_from}
+use Rattle.ada_tree.specs.Statements.{DeclarationTree, access_type, borrower_declaration, constant_declaration, instance, object_declaration, record_type, HandlersTree, branches_from, handlers_from}
 use Rattle.ada_tree.specs.StatementView.{branch_of, handler_of, unit_of}
 use Rattle.ada_tree.specs.declared.declarations.Aspect.{Aspect}
 use Rattle.ada_tree.specs.declared.expressions.Argument.{Argument}
@@ -26,6 +26,7 @@ use Rattle.ada_tree.specs.declared.statements.Branch.{Branch}
 use Rattle.ada_tree.specs.declared.statements.Handler.{Handler}
 use Rattle.ada_tree.specs.declared.unit.Unit.{Unit as UnitOf}
 use Rattle.ada_program.specs.Form.{BranchesForm, DeclarationForm, component_number, declaration_form, declares}
+use Rattle.ada_program.specs.Kept.{variables_in}
 use Rattle.ada_program.specs.ProgramForm.{ComponentForm, ProgramForm, VariableForm}
 use Rattle.ada_program.specs.declared.program.Branch.{Branch as BranchOf}
 use Rattle.ada_program.specs.declared.program.ComponentKind.{ComponentKind}
@@ -34,6 +35,7 @@ use Rattle.ada_program.specs.declared.program.Declaration.{Declaration}
 use Rattle.ada_program.specs.declared.program.Right.{Right as RightOf}
 use Rattle.ada_program.specs.declared.program.Stmt.{Stmt}
 use Rattle.ada_program.specs.declared.program.TypeNo.{TypeNo}
+use Rattle.ada_program.specs.declared.program.Variable.{Variable}
 use Rattle.ada_program.specs.declared.program.VariableKind.{VariableKind}
 use Rattle.ada_program.specs.declared.program.VariableNo.{VariableNo}
 use Rattle.ada_resolve.specs.declared.components.Components.{Components}
@@ -53,7 +55,7 @@ use Rattle.ada_resolve.specs.Instances.{with_elaborated}
 use Rattle.ada_resolve.specs.Items.{Filling, after_item, first_filling, for_remark, item_remark}
 use Rattle.ada_resolve.specs.Kept.{forms_of, known_type_form, with_component, with_components}
 use Rattle.ada_resolve.specs.Known.{Known, entered, new_name_remark, visible}
-use Rattle.ada_resolve.specs.Objects.{initial_source, object_created}
+use Rattle.ada_resolve.specs.Objects.{initial_source, variable_created}
 use Rattle.ada_resolve.specs.Records.{component_meant, further_component_remark}
 use Rattle.ada_resolve.specs.Remark.{Remark, noted}
 use Rattle.ada_resolve.specs.Resolution.{At, Others, Told, branches_told, end_told, procedure_from, program_of, told_of, with_parameter}
@@ -149,6 +151,10 @@ constant_tree name value = constant_declaration (ident_of name) (static_of value
 abbrev pub object_tree : Identifier → Name → Option Right → DeclarationTree
 object_tree name type_name initial = object_declaration (ident_of name) (name_of type_name) (optional_right_of initial)
 
+-- `B : access T := P;` (3.10)
+abbrev pub borrower_tree : Identifier → Identifier → Option Right → DeclarationTree
+borrower_tree name designated initial = borrower_declaration (ident_of name) (ident_of designated) (optional_right_of initial)
+
 -- An instance (12.3).
 abbrev pub instance_tree : Instance → DeclarationTree
 instance_tree written =
@@ -181,8 +187,9 @@ item_filling seen found is_named item filling =
     after_item (known seen) (filled_components (known seen) found) is_named filling (label_of item) (written_value item)
 
 -- What is wrong with an item for this component, where its value means this.
-abbrev pub written_for_remark : Option (ℕ × ComponentKind) → FillingOf → WrittenItem → MeantOf → Remark
-written_for_remark component filling item meant = for_remark component (filling_in filling) (label_of item) (written_value item) (meant_of meant)
+abbrev pub written_for_remark : List Variable → Option (ℕ × ComponentKind) → FillingOf → WrittenItem → MeantOf → Remark
+written_for_remark variables component filling item meant =
+    for_remark (variables_in variables) component (filling_in filling) (label_of item) (written_value item) (meant_of meant)
 
 -- What is wrong with one more component of a record type.
 abbrev pub next_component_remark : Seen → Both (MutBor Components) (MutBor Components) → ℕ → ComponentDefinition → Remark
@@ -216,13 +223,13 @@ type_name_remark seen completes name spot = new_unless completes (new_name_remar
 abbrev pub with_type : Option TypeNo → KnownType → Known → Known
 with_type completes definition = with_definition completes (known_type_form definition)
 
--- What is known once an object is declared (3.3.1): it is named, is a variable, and is created with its initial value.
-abbrev pub with_object : Identifier → VariableKind → Option RightOf → Known → Known
-with_object name kind value known = object_created known (ident_of name) (Some kind) (right_in value)
+-- What is known once an object or a borrower is declared (3.3.1): it is named, is a variable, and is created with its initial value.
+abbrev pub with_object : Identifier → (borrows : Bool) → VariableKind → Option RightOf → Known → Known
+with_object name borrows kind value known = variable_created known (ident_of name) borrows kind (initial_source (right_in value))
 
 -- A variable of this name.
-abbrev pub new_variable : Identifier → VariableKind → VariableForm
-new_variable name kind = record { name = name.text.now; kind = kind }
+abbrev pub new_variable : Identifier → (borrows : Bool) → VariableKind → VariableForm
+new_variable name borrows kind = record { name = name.text.now; kind = kind; borrows = borrows }
 
 -- What is known once a variable is created with its initial value.
 abbrev pub with_created : VariableNo → Option RightOf → Known → Known

@@ -20,7 +20,7 @@ use Rattle.ada_resolve.specs.Rights.{right_found, right_remark}
 
 -- What is wrong with an initial value, where one is written.
 abbrev pub initial_remark : Known → Option VariableKind → Option RightTree → Remark
-initial_remark known kind (Some right) = right_remark known kind right
+initial_remark known kind (Some right) = right_remark known kind false right
 initial_remark known kind None = fine
 
 -- The initial value, or `None` where no value is written or something is wrong.
@@ -125,13 +125,17 @@ next_variable known = record { 0 = length known.variables }
 abbrev pub with_variable : VariableForm → Known → Known
 with_variable variable known = record known { variables = known.variables ++ variable ∷ [] }
 
+-- What is known once a variable, a borrower or not, is declared, and is created with this value.
+abbrev pub variable_created : Known → Ident → (borrows : Bool) → VariableKind → RightForm → Known
+variable_created known name borrows kind value =
+    declared
+    (with_elaborated (declares (length known.variables) value ∷ [])
+    (with_variable (record { name = name.text; kind = kind; borrows = borrows }) known))
+    name.text (entity.Variable (next_variable known) kind)
+
 -- After it the object is known, and is created with its initial value.
 abbrev pub object_created : Known → Ident → Option VariableKind → Option RightForm → Known
-object_created known name (Some kind) value =
-    declared
-    (with_elaborated (declares (length known.variables) (initial_source value) ∷ [])
-    (with_variable (record { name = name.text; kind = kind }) known))
-    name.text (entity.Variable (next_variable known) kind)
+object_created known name (Some kind) value = variable_created known name false kind (initial_source value)
 object_created known name None value = known
 
 -- What is known after the declaration of an object.

@@ -1,13 +1,14 @@
 -- Operators: what each means with its operands, and what is wrong with these.
 
-use Rattle.std.specs.Prelude.{Bool, true, false, ◌==◌, not, pos}
+use Rattle.std.specs.Prelude.{Bool, true, false, ◌==◌, not, List, pos}
 use Rattle.ada_text.specs.declared.spot.Spot.{Spot}
 use Rattle.ada_values.specs.declared.operator.UnaryOperator.{UnaryOperator}
 use Rattle.ada_values.specs.declared.operator.UnaryOperator.TheVariants as unary
 use Rattle.ada_values.specs.declared.operator.BinaryOperator.{BinaryOperator}
 use Rattle.ada_values.specs.declared.operator.BinaryOperator.TheVariants as binary
 use Rattle.ada_program.specs.Form.{ExpressionForm, integer, boolean, is_null, applied_to, chained, LinksForm, no_more_links, a_link}
-use Rattle.ada_program.specs.WellFormed.{names_variable}
+use Rattle.ada_program.specs.ProgramForm.{VariableForm}
+use Rattle.ada_program.specs.WellFormed.{names_borrower, names_variable}
 use Rattle.ada_program.specs.declared.program.TypeNo.{TypeNo}
 use Rattle.ada_resolve.specs.declared.fault.NameRule.TheVariants.{WrongType, NotInProfile}
 use Rattle.ada_resolve.specs.Remark.{Remark, fine, wrong, ◌also◌, wrong_if}
@@ -121,6 +122,11 @@ access_wanted access other spot = wrong spot WrongType
 abbrev pub no_component_wanted : Meant → Spot → Remark
 no_component_wanted (access_value path t) spot = wrong_if (not (names_variable path)) spot NotInProfile
 no_component_wanted other spot = fine
+
+-- What a borrower holds goes to borrowers alone, and is freed by its owner (3.10.2, 13.11.2): elsewhere no borrower is wanted.
+abbrev pub owner_wanted : List VariableForm → Meant → Spot → Remark
+owner_wanted variables (access_value path t) spot = wrong_if (names_borrower variables path) spot WrongType
+owner_wanted variables other spot = fine
 
 -- What can be compared for equality (4.5.2): an Integer, a Boolean, a value of an access type, or null, which is of all access types.
 pub data Comparable : Type 0 where

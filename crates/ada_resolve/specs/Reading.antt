@@ -9,9 +9,10 @@ use Rattle.ada_tree.specs.Names.{Ident, NameTree, SelectorTree, component, deref
 use Rattle.ada_tree.specs.Expressions.{ExpressionTree, number_expression, null_expression, path_expression, aggregate_expression, enclosed_expression, unary_expression, binary_expression, ItemsTree, no_more_items, an_item, RightTree, expression_right, allocator_right, creation_right, ArgumentTree, expression_argument, text_argument, attribute_argument}
 use Rattle.ada_tree.specs.Records.{StaticTree}
 use Rattle.ada_tree.specs.Declarations.{ChoiceTree, named_choice, others_choice}
-use Rattle.ada_tree.specs.Statements.{DeclarationTree, exception_declaration, constant_declaration, object_declaration, incomplete_type, access_type, record_type, instance, DeclarationsTree, no_declarations, a_declaration, SchemeTree, endless, while_scheme, for_scheme, StatementTree, null_statement, assignment, call, if_statement, loop_statement, exit_statement, return_statement, raise_statement, block, declare_block, StatementsTree, no_statements, a_statement, BranchesTree, no_branches, a_branch, HandlersTree, no_handlers, a_handler, SequenceTree, a_sequence, UnitTree}
+use Rattle.ada_tree.specs.Statements.{DeclarationTree, exception_declaration, constant_declaration, object_declaration, borrower_declaration, incomplete_type, access_type, record_type, instance, DeclarationsTree, no_declarations, a_declaration, SchemeTree, endless, while_scheme, for_scheme, StatementTree, null_statement, assignment, call, if_statement, loop_statement, exit_statement, return_statement, raise_statement, block, declare_block, StatementsTree, no_statements, a_statement, BranchesTree, no_branches, a_branch, HandlersTree, no_handlers, a_handler, SequenceTree, a_sequence, UnitTree}
 use Rattle.ada_program.specs.declared.program.Choice.{Choice}
 use Rattle.ada_program.specs.declared.program.Choice.TheVariants as choice
+use Rattle.ada_program.specs.declared.program.TypeNo.{TypeNo}
 use Rattle.ada_program.specs.declared.program.VariableKind.{VariableKind}
 use Rattle.ada_program.specs.declared.program.VariableKind.TheVariants as variable
 use Rattle.ada_program.specs.Form.{DeclarationForm, collects, declares, PathForm, ExpressionForm, integer, boolean, reads, is_null, applied_to, ItemForm, null_item, item_of_path, item_of_value, RightForm, nothing, value_of, allocates, computes, StmtForm, skips, assigns, frees, gets, writes, writes_text, chooses, repeats, counts, exits, returns, raises, encloses, StmtsForm, no_stmts, a_stmt, BranchesForm, otherwise, HandlersForm}
@@ -20,7 +21,7 @@ use Rattle.ada_program.specs.ProgramForm.{ComponentForm, TypeForm, record_of, Pr
 use Rattle.ada_program.specs.WellFormed as fits
 use Rattle.ada_resolve.specs.Library.{library_name}
 use Rattle.ada_resolve.specs.declared.library.LibraryName.TheVariants.{PutLine, Get}
-use Rattle.ada_resolve.specs.Naming.{Context, Place, Meaning, an_incomplete_type, a_type, a_number, an_exception, an_instance, a_variable, a_parameter, meaning_among, IsPredefined, IsExceptionNamed, IsNumberNamed, IsVariableNamed, IsObjectNamed, IsFullTypeNamed, IsStaticRead, IsTypeRead, IsInstanceRead, IsInstanceNamed, IsKindNamed, truth_name}
+use Rattle.ada_resolve.specs.Naming.{Context, Place, Meaning, an_incomplete_type, a_type, a_number, an_exception, an_instance, a_variable, a_parameter, meaning_among, IsPredefined, IsExceptionNamed, IsNumberNamed, IsRecordNamed, IsVariableNamed, IsObjectNamed, IsFullTypeNamed, IsStaticRead, IsTypeRead, IsInstanceRead, IsInstanceNamed, IsKindNamed, truth_name}
 use Rattle.ada_resolve.specs.Known.{parts_of}
 use Rattle.ada_resolve.specs.Operators.{joined}
 use Rattle.ada_resolve.specs.Statics.{at_most_greatest, integer_of}
@@ -252,15 +253,33 @@ IsInitialRead p kind None form = ⊥
 -- A variable of a number, by its declaration (3.3.1): its name, its type, and its initial value.
 pub record IsObjectRead (p : Context) (name : Ident) (type_name : NameTree) (initial : Option RightTree) (x : ℕ) (form : RightForm) : Type 0 where
   pub kind : VariableKind
-  pub there : slice_get p.variables x ≡ Some (record { name = name.text; kind = kind })
+  pub there : slice_get p.variables x ≡ Some (record { name = name.text; kind = kind; borrows = false })
   pub kind_named : IsKindNamed p type_name kind
   pub starts : IsInitialRead p kind initial form
 
--- Objects, one for one (3.11), up to the end of a part: each is the next variable, of a new name, and nothing else follows.
+-- A borrower of a number, by its declaration (3.10): its name, the path that is written as its initial value, and its type, which is that of the
+-- path and designates the record type of the other name.
+pub record IsBorrowerRead (p : Context) (name designated : Ident) (initial : Option RightTree) (x : ℕ) (form : RightForm) : Type 0 where
+  pub access : TypeNo
+  pub t : ℕ
+  pub tree : PathTree
+  pub path : PathForm
+  pub there : slice_get p.variables x ≡ Some (record { name = name.text; kind = variable.Access access; borrows = true })
+  pub written : initial ≡ Some (expression_right (path_expression tree))
+  pub starts : form ≡ value_of path
+  pub lent : IsPathRead p tree path
+  pub typed : fits.path_access p.types p.variables path ≡ Some access.0
+  pub designates : fits.designated_type p.types access.0 ≡ Some t
+  pub record_named : IsRecordNamed p designated.text t
+
+-- Objects and borrowers, one for one (3.11), up to the end of a part: each is the next variable, of a new name, and nothing else follows.
 abbrev pub AreObjectsRead : Context → DeclarationsTree → List DeclarationForm → (end : Place) → Type 0
 AreObjectsRead p no_declarations [] end = end ≡ p.place
 AreObjectsRead p (a_declaration (object_declaration name type_name initial) ds) (declares x form ∷ forms) end =
     (x ≡ p.place.variables) × IsNew p.place name × IsObjectRead p name type_name initial x form ×
+    AreObjectsRead (read_at (with_new_variable name p.place) p) ds forms end
+AreObjectsRead p (a_declaration (borrower_declaration name designated initial) ds) (declares x form ∷ forms) end =
+    (x ≡ p.place.variables) × IsNew p.place name × IsBorrowerRead p name designated initial x form ×
     AreObjectsRead (read_at (with_new_variable name p.place) p) ds forms end
 AreObjectsRead p ds forms end = ⊥
 
@@ -351,7 +370,7 @@ behind_simple other place = place
 abbrev pub IsRangeRead : Context → Ident → (low high : ExpressionTree) → (x : ℕ) → (from to : ExpressionForm) → Type 0
 IsRangeRead p name low high x from to =
     (x ≡ p.place.variables) × IsNew (inside p.place) name ×
-    (slice_get p.variables x ≡ Some (record { name = name.text; kind = variable.Integer })) ×
+    (slice_get p.variables x ≡ Some (record { name = name.text; kind = variable.Integer; borrows = false })) ×
     IsExpressionRead p low from × IsExpressionRead p high to
 
 -- The declarative part of a block (5.6), up to its end: an inner part.

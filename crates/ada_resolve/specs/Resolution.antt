@@ -5,7 +5,7 @@ use Rattle.ada_text.specs.declared.spot.Spot.{Spot}
 use Rattle.ada_tree.specs.Expressions.{ExpressionTree}
 use Rattle.ada_tree.specs.Names.{Ident, NameTree}
 use Rattle.ada_tree.specs.Declarations.{ChoiceTree, ClauseTree}
-use Rattle.ada_tree.specs.Statements.{DeclarationTree, exception_declaration, constant_declaration, incomplete_type, access_type, record_type, instance, object_declaration, DeclarationsTree, no_declarations, a_declaration, SchemeTree, endless, while_scheme, for_scheme, StatementTree, if_statement, loop_statement, block, declare_block, StatementsTree, no_statements, a_statement, BranchesTree, no_branches, a_branch, BranchTree, HandlersTree, no_handlers, a_handler, HandlerTree, SequenceTree, a_sequence, begin_of, UnitTree}
+use Rattle.ada_tree.specs.Statements.{DeclarationTree, exception_declaration, constant_declaration, incomplete_type, access_type, record_type, instance, object_declaration, borrower_declaration, DeclarationsTree, no_declarations, a_declaration, SchemeTree, endless, while_scheme, for_scheme, StatementTree, if_statement, loop_statement, block, declare_block, StatementsTree, no_statements, a_statement, BranchesTree, no_branches, a_branch, BranchTree, HandlersTree, no_handlers, a_handler, HandlerTree, SequenceTree, a_sequence, begin_of, UnitTree}
 use Rattle.ada_program.specs.Form.{ExpressionForm, StmtForm, chooses, counts, encloses, repeats, StmtsForm, no_stmts, a_stmt, BranchesForm, otherwise, HandlersForm}
 use Rattle.ada_program.specs.Form as form
 use Rattle.ada_program.specs.declared.program.Choice.{Choice}
@@ -23,6 +23,7 @@ use Rattle.ada_resolve.specs.Known.{Known, Named, declared, part_from, with_part
 use Rattle.ada_resolve.specs.Library.{is_taken, is_primitive, library_name}
 use Rattle.ada_resolve.specs.Remark.{Remark, fine, wrong, node, ◌also◌, wrong_if, noted}
 use Rattle.ada_resolve.specs.Spots.{declaration_spot}
+use Rattle.ada_resolve.specs.Borrowers.{borrower_known, borrower_remark}
 use Rattle.ada_resolve.specs.Exceptions.{choices_meant, choices_remark, exception_known, exception_remark}
 use Rattle.ada_resolve.specs.Instances.{instance_known, instance_remark}
 use Rattle.ada_resolve.specs.Objects.{after_types, next_variable, object_known, object_remark, with_variable}
@@ -105,9 +106,10 @@ known_first withs procedure = record {
 abbrev pub no_notes : Notes
 no_notes = record { fault = None; nodes = 0 }
 
--- What is known where a declaration is looked at: the types end before an object (3.11, the profile's order).
+-- What is known where a declaration is looked at: the types end before an object or a borrower (3.11, the profile's order).
 abbrev pub known_at : Known → DeclarationTree → Known
 known_at known (object_declaration name type_name initial) = after_types known
+known_at known (borrower_declaration name designated initial) = after_types known
 known_at known other = known
 
 -- What is wrong with a declaration whose kind is not in the profile yet.
@@ -123,6 +125,7 @@ declaration_remark known (instance spot name generic designated access) = instan
 declaration_remark known (exception_declaration name) = exception_remark known name
 declaration_remark known (constant_declaration name value) = constant_remark known name value
 declaration_remark known (object_declaration name type_name initial) = object_remark known name type_name initial
+declaration_remark known (borrower_declaration name designated initial) = borrower_remark known name designated initial
 declaration_remark known other = unused_remark other
 
 -- What is known after it.
@@ -134,6 +137,7 @@ declaration_known known (instance spot name generic designated access) = instanc
 declaration_known known (exception_declaration name) = exception_known known name
 declaration_known known (constant_declaration name value) = constant_known known name value
 declaration_known known (object_declaration name type_name initial) = object_known known name type_name initial
+declaration_known known (borrower_declaration name designated initial) = borrower_known known name initial
 declaration_known known other = known
 
 -- A declaration where it stands: the first of the rules that it breaks, or what is known after it.
@@ -203,7 +207,7 @@ range_remark known spot name low high =
 -- What is known where the statements of such a loop begin: the parameter, an Integer, is declared in a part of its own (5.5, 8.1).
 abbrev pub with_parameter : Ident → Known → Known
 with_parameter name known =
-    declared (with_variable (record { name = name.text; kind = variable.Integer }) (with_part known)) name.text (entity.Parameter (next_variable known))
+    declared (with_variable (record { name = name.text; kind = variable.Integer; borrows = false }) (with_part known)) name.text (entity.Parameter (next_variable known))
 
 -- What comes of the head of a loop, which begins at the spot: the rules that it breaks are told with those noted before.
 abbrev pub head_told : Spot → SchemeTree → At → Told (LoopHead × At)

@@ -100,6 +100,11 @@ abbrev pub target_in : Option (Path × VariableKind) → Option (PathForm × Var
 target_in (Some found) = Some (path_form found.0, found.1)
 target_in None = None
 
+-- What a borrower borrows at first, where that is known.
+abbrev pub lender_of : Option (Path × TypeNo) → Option (PathForm × TypeNo)
+lender_of (Some lender) = Some (path_form lender.0, lender.1)
+lender_of None = None
+
 -- What a statement does, where that is known.
 abbrev pub stmt_in : Option Stmt → Option StmtForm
 stmt_in (Some statement) = Some (stmt_form statement)

@@ -14,13 +14,14 @@ use crate::notes::Notes;
 use crate::resolver::Resolver;
 use crate::scope::Entity;
 use ada_program::Spot;
+use ada_program::borrowers::names_borrower;
 use ada_program::program::{self, Expression, Stmt, VariableKind};
 use ada_tree::expressions::Right;
 use ada_tree::names::{Identifier, Path};
 
 impl<'t> Resolver<'t> {
     /// `X := ..;` (5.2): to a variable, or to a component.
-    #[tactic(auto, unfolding(crate::specs::Assignments::assignment_remark, crate::specs::Assignments::assignment_found), using(std::proofs::lemmas::Grind::common_steps, ada_program::specs::Form::statement_rules))]
+    #[tactic(auto, unfolding(crate::specs::View::known_of, crate::specs::Assignments::assignment_remark, crate::specs::Assignments::assignment_found), using(std::proofs::lemmas::Grind::common_steps, ada_program::specs::Form::statement_rules))]
     pub(crate) fn assignment(
         &self,
         target: &Path<'t>,
@@ -31,12 +32,15 @@ impl<'t> Resolver<'t> {
     {
         notes.node(target.root.spot);
         match self.target(target, notes)? {
-            Some((target, kind)) => match self.right(value, Some(kind), notes)? {
-                Some(value) => Ok(Some(Stmt::Assign { target, value })),
-                None => Ok(None),
-            },
+            Some((target, kind)) => {
+                let borrows = names_borrower(&self.variables, &target);
+                match self.right(value, Some(kind), borrows, notes)? {
+                    Some(value) => Ok(Some(Stmt::Assign { target, value })),
+                    None => Ok(None),
+                }
+            }
             None => {
-                let _value = self.right(value, None, notes)?;
+                let _value = self.right(value, None, false, notes)?;
                 Ok(None)
             }
         }

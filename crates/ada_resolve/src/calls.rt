@@ -3,6 +3,7 @@
 ghost use Rattle.std.specs.Prelude.{◌≡◌, IfErr};
 ghost use Rattle.ada_tree.specs.ExpressionView.{expression_of};
 ghost use Rattle.ada_program.specs.Form.{expression_form};
+ghost use Rattle.ada_program.specs.Kept.{variables_in};
 ghost use Rattle.ada_resolve.specs.Calls.{actual_wanted, freed_wanted, freeing, getting, got_wanted, no_path_remark, taking, written_wanted};
 ghost use Rattle.ada_resolve.specs.Look.{Looks, actual_look, call_look, library_call_look, named_call_look, actual_value_look, taker_look};
 ghost use Rattle.ada_resolve.specs.Method.{known, entity_of, IsNoted, Remarks};
@@ -17,7 +18,8 @@ use crate::notes::Notes;
 use crate::resolver::Resolver;
 use crate::scope::Entity;
 use crate::spots::{argument_spot, expression_spot};
-use ada_program::program::{self, Stmt, TextNo};
+use ada_program::borrowers::names_borrower;
+use ada_program::program::{self, Stmt, TextNo, Variable};
 use ada_program::{Spot, TypeNo};
 use ada_tree::expressions::{Argument, Expression};
 use ada_tree::names::{Identifier, Path};
@@ -141,7 +143,7 @@ impl<'t> Resolver<'t> {
     }
 
     /// The expression is a path.
-    #[tactic(auto, using(std::proofs::lemmas::Grind::common_steps, ada_tree::specs::ExpressionView::tree_rules, crate::proofs::Actuals::linked_found, crate::proofs::Actuals::linked_remark), unfolding(crate::specs::Expressions::expression_remark))]
+    #[tactic(auto, using(std::proofs::lemmas::Grind::common_steps, ada_tree::specs::ExpressionView::tree_rules, crate::proofs::Actuals::linked_found, crate::proofs::Actuals::linked_remark), unfolding(crate::specs::View::known_of, crate::specs::Expressions::expression_remark))]
     fn actual_value(
         &self,
         callee: Callee,
@@ -155,7 +157,7 @@ impl<'t> Resolver<'t> {
                 let spot = path.root.spot;
                 notes.node(spot);
                 let meant = self.path(path, notes)?;
-                let done = taking(callee, meant, spot, notes);
+                let done = taking(&self.variables, callee, meant, spot, notes);
                 self.written(path.root, notes);
                 Ok(done)
             }
@@ -195,12 +197,18 @@ impl<'t> Resolver<'t> {
 }
 
 /// What a procedure does with its one actual.
-fn taking(callee: Callee, meant: Meant, spot: Spot, notes: &mut Notes) -> Option<Stmt>
+fn taking(
+    variables: &[Variable],
+    callee: Callee,
+    meant: Meant,
+    spot: Spot,
+    notes: &mut Notes,
+) -> Option<Stmt>
     ensures found { stmt_in result ≡ taking callee (meant_of meant) }
-    ensures remark { IsNoted notes (actual_wanted callee (meant_of meant) spot) }
+    ensures remark { IsNoted notes (actual_wanted (variables_in variables.now) callee (meant_of meant) spot) }
 {
     match callee {
-        Callee::Free(access) => freeing(access, meant, spot, notes),
+        Callee::Free(access) => freeing(variables, access, meant, spot, notes),
         Callee::Get => getting(meant, spot, notes),
     }
 }
@@ -239,17 +247,28 @@ fn getting_integer(value: program::Expression, spot: Spot, notes: &mut Notes) ->
     }
 }
 
-/// What is freed: what a variable of the instance's access type gives access to.
+/// What is freed: what a variable of the instance's access type gives access to, which is no borrower.
 #[tactic(auto, using(std::proofs::lemmas::Grind::common_steps, ada_program::specs::Form::statement_rules))]
-fn freeing(access: TypeNo, meant: Meant, spot: Spot, notes: &mut Notes) -> Option<Stmt>
+fn freeing(
+    variables: &[Variable],
+    access: TypeNo,
+    meant: Meant,
+    spot: Spot,
+    notes: &mut Notes,
+) -> Option<Stmt>
     ensures found { stmt_in result ≡ freeing access (meant_of meant) }
-    ensures remark { IsNoted notes (freed_wanted access (meant_of meant) spot) }
+    ensures remark { IsNoted notes (freed_wanted (variables_in variables.now) access (meant_of meant) spot) }
 {
     match meant {
         Meant::Unknown => None,
         Meant::Access(variable, found) => {
             notes.note_if(found.0 != access.0, spot, NameRule::WrongType);
             notes.note_if(!variable.selectors.is_empty(), spot, NameRule::NotInProfile);
+            notes.note_if(
+                names_borrower(variables, &variable),
+                spot,
+                NameRule::WrongType,
+            );
             Some(Stmt::Free { access, variable })
         }
         Meant::Null | Meant::Integer(_) | Meant::Boolean(_) => {

@@ -71,8 +71,15 @@ impl<'t> Resolver<'t> {
                 self.end_of_types()?;
                 self.object(*name, type_name, initial, notes)
             }
+            Declaration::Borrower {
+                name,
+                designated,
+                initial,
+            } => {
+                self.end_of_types()?;
+                self.borrower(*name, *designated, initial, notes)
+            }
             Declaration::Pool { .. }
-            | Declaration::Borrower { .. }
             | Declaration::DerivedType { .. }
             | Declaration::Clause { .. }
             | Declaration::Specification(_)

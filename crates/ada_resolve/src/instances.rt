@@ -165,7 +165,7 @@ impl<'t> Resolver<'t> {
     }
 
     /// Whether an access type designates the record type, where that is known.
-    fn designates_if_known(&self, access: TypeNo, wanted: Option<TypeNo>) -> bool
+    pub(crate) fn designates_if_known(&self, access: TypeNo, wanted: Option<TypeNo>) -> bool
         ensures { result ≡ designates_if_known (known self).types access.0 wanted }
     {
         match wanted {

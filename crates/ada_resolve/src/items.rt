@@ -6,6 +6,7 @@ ghost use Rattle.std.proofs.Math.ListN.{replicate};
 ghost use Rattle.ada_tree.specs.ExpressionView.{items_of};
 ghost use Rattle.ada_tree.specs.Names.{optional_ident_of};
 ghost use Rattle.ada_program.specs.Form.{item_form};
+ghost use Rattle.ada_program.specs.Kept.{variables_in};
 ghost use Rattle.ada_resolve.specs.Items.{component_for, count_remark, filled_for, fits_remark, is_filled, item_meant, item_or_null, item_spot, names_component, no_component, with_item};
 ghost use Rattle.ada_resolve.specs.Kept.{forms_in};
 ghost use Rattle.ada_resolve.specs.Look.{Looks, items_look};
@@ -20,7 +21,7 @@ use crate::meant::Meant;
 use crate::notes::Notes;
 use crate::resolver::Resolver;
 use crate::spots::expression_spot;
-use ada_program::program::{self, ComponentKind};
+use ada_program::program::{self, ComponentKind, Variable};
 use ada_program::{Spot, TypeNo};
 use ada_tree::expressions::Item;
 use ada_tree::names::Identifier;
@@ -83,7 +84,7 @@ impl<'t> Resolver<'t> {
     }
 
     /// One item.
-    #[tactic(auto, unfolding(crate::specs::Items::item_remark, crate::specs::Items::after_item))]
+    #[tactic(auto, unfolding(crate::specs::View::known_of, crate::specs::Items::item_remark, crate::specs::Items::after_item))]
     fn item(
         &self,
         item: &Item<'t>,
@@ -109,7 +110,7 @@ impl<'t> Resolver<'t> {
                     item.label,
                     filling.count,
                 );
-                filling.component_item(component, item, &value, notes);
+                filling.component_item(&self.variables, component, item, &value, notes);
                 component
             }
             None => None,
@@ -123,17 +124,18 @@ impl Filling {
     /// What is wrong with the component of an item, and with its value for it: a component has one item.
     fn component_item(
         &self,
+        variables: &[Variable],
         component: Option<(usize, ComponentKind)>,
         item: &Item<'_>,
         value: &Meant,
         notes: &mut Notes,
     )
-        ensures { IsNoted notes (written_for_remark component self.now item.now value.now) }
+        ensures { IsNoted notes (written_for_remark variables.now component self.now item.now value.now) }
     {
         match component {
             Some((at, kind)) => {
                 notes.note_if(self.is_filled(at), item_spot(item), NameRule::WrongType);
-                fits(kind, value, expression_spot(&item.value), notes);
+                fits(variables, kind, value, expression_spot(&item.value), notes);
             }
             None => no_component(item, notes),
         }
@@ -261,9 +263,10 @@ fn no_component(item: &Item<'_>, notes: &mut Notes)
     }
 }
 
-/// A value is of its component's type.
-fn fits(kind: ComponentKind, value: &Meant, spot: Spot, notes: &mut Notes)
-    ensures { IsNoted notes (fits_remark kind (meant_of value.now) spot) }
+/// A value is of its component's type, and that of an access component is no borrower.
+fn fits(variables: &[Variable], kind: ComponentKind, value: &Meant, spot: Spot, notes: &mut Notes)
+    ensures { IsNoted notes
+        (fits_remark (variables_in variables.now) kind (meant_of value.now) spot) }
 {
     match kind {
         ComponentKind::Integer { .. } => value.integer_wanted(spot, notes),
@@ -271,6 +274,7 @@ fn fits(kind: ComponentKind, value: &Meant, spot: Spot, notes: &mut Notes)
         ComponentKind::Access(access) => {
             value.access_wanted(access, spot, notes);
             value.no_component_wanted(spot, notes);
+            value.owner_wanted(variables, spot, notes);
         }
     }
 }

@@ -4,6 +4,7 @@
 mod allocators;
 mod arguments;
 mod assignments;
+mod borrowers;
 mod calls;
 mod choices;
 mod components;

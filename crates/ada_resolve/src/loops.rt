@@ -87,7 +87,7 @@ impl<'t> Resolver<'t> {
         ensures memory { IfErr result (λ e. e ≡ NameFault.NoMemory) }
     {
         self.enter_part()?;
-        let parameter = self.add_variable(name, VariableKind::Integer)?;
+        let parameter = self.add_variable(name, false, VariableKind::Integer)?;
         self.declare(name.text, Entity::Parameter(parameter))?;
         Ok(parameter)
     }

@@ -2,13 +2,15 @@
 
 ghost use Rattle.std.specs.Prelude.{◌≡◌};
 ghost use Rattle.ada_program.specs.Form.{expression_form};
+ghost use Rattle.ada_program.specs.Kept.{variables_in};
 ghost use Rattle.ada_resolve.specs.Method.{IsNoted};
 ghost use Rattle.ada_resolve.specs.Operators as rules;
 ghost use Rattle.ada_resolve.specs.View.{comparable_of, meant_of};
 
 use crate::fault::NameRule;
 use crate::notes::Notes;
-use ada_program::program::Expression;
+use ada_program::borrowers::names_borrower;
+use ada_program::program::{Expression, Variable};
 use ada_program::{Path, Spot, TypeNo};
 
 /// What an expression means (4.4).
@@ -79,6 +81,16 @@ impl Meant {
     {
         if let Meant::Access(path, _) = self {
             notes.note_if(!path.selectors.is_empty(), spot, NameRule::NotInProfile);
+        }
+    }
+
+    /// The access value isn't that of a borrower, which owns nothing.
+    pub(crate) fn owner_wanted(&self, variables: &[Variable], spot: Spot, notes: &mut Notes)
+        ensures { IsNoted notes
+            (rules.owner_wanted (variables_in variables.now) (meant_of self.now) spot) }
+    {
+        if let Meant::Access(path, _) = self {
+            notes.note_if(names_borrower(variables, path), spot, NameRule::WrongType);
         }
     }
 

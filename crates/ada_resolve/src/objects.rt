@@ -40,22 +40,23 @@ impl<'t> Resolver<'t> {
         initial_wanted(found, name, initial, notes);
         notes.settle()?;
         match kind {
-            Some(kind) => self.create(name, kind, value),
+            Some(kind) => self.create(name, false, kind, value),
             None => Ok(()),
         }
     }
 
-    /// The object is known, and is created with its initial value.
-    fn create(
+    /// A variable is known, a borrower or not, and is created with its initial value.
+    pub(crate) fn create(
         &mut self,
         name: Identifier<'t>,
+        borrows: bool,
         kind: VariableKind,
         value: Option<program::Right>,
     ) -> Result<(), NameFault>
-        ensures known { OnOk result (Changes self (with_object name.entry kind value)) }
+        ensures known { OnOk result (Changes self (with_object name.entry borrows kind value)) }
         ensures memory { IfErr result (λ e. e ≡ NameFault.NoMemory) }
     {
-        let variable = self.add_variable(name, kind)?;
+        let variable = self.add_variable(name, borrows, kind)?;
         self.add_elaboration(variable, value)?;
         self.declare(name.text, Entity::Variable { variable, kind })
     }
@@ -65,15 +66,20 @@ impl<'t> Resolver<'t> {
     pub(crate) fn add_variable(
         &mut self,
         name: Identifier<'t>,
+        borrows: bool,
         kind: VariableKind,
     ) -> Result<VariableNo, NameFault>
-        ensures known { OnOk result (Changes self (with_variable (new_variable name.entry kind))) }
+        ensures known { OnOk result (Changes self (with_variable (new_variable name.entry borrows kind))) }
         ensures variable { IfOk result (λ p. p ≡ next_variable (known_of self.old)) }
         ensures memory { IfErr result (λ e. e ≡ NameFault.NoMemory) }
     {
         let variable = VariableNo(self.variables.len());
         let text = String::from_str(self.alloc, name.text)?;
-        self.variables.push(Variable { name: text, kind })?;
+        self.variables.push(Variable {
+            name: text,
+            kind,
+            borrows,
+        })?;
         Ok(variable)
     }
 
@@ -100,7 +106,7 @@ impl<'t> Resolver<'t> {
         ensures { Looks right_in result notes (initial_look self kind initial.now) }
     {
         match initial {
-            Some(right) => self.right(right, kind, notes),
+            Some(right) => self.right(right, kind, false, notes),
             None => Ok(None),
         }
     }

@@ -1,6 +1,7 @@
 //! Resolution of what is assigned: a value, or a new object (5.2).
 
 ghost use Rattle.std.specs.Prelude.{◌≡◌};
+ghost use Rattle.ada_program.specs.Kept.{variables_in};
 ghost use Rattle.ada_resolve.specs.Look.{Looks, right_look};
 ghost use Rattle.ada_resolve.specs.Method.{IsNoted};
 ghost use Rattle.ada_resolve.specs.Rights as rules;
@@ -12,25 +13,28 @@ use crate::meant::Meant;
 use crate::notes::Notes;
 use crate::resolver::Resolver;
 use crate::spots::expression_spot;
-use ada_program::program::{self, VariableKind};
+use ada_program::program::{self, Variable, VariableKind};
 use ada_program::{Spot, TypeNo};
 use ada_tree::expressions;
 
 impl<'t> Resolver<'t> {
-    /// What is assigned to an object, where what that holds is known.
-    #[tactic(auto, unfolding(crate::specs::Allocators::allocator_remark, crate::specs::Allocators::allocator_found))]
+    /// What is assigned to an object, where what that holds is known, or to a borrower.
+    #[tactic(auto, unfolding(crate::specs::View::known_of, crate::specs::Allocators::allocator_remark, crate::specs::Allocators::allocator_found))]
     pub(crate) fn right(
         &self,
         right: &expressions::Right<'t>,
         kind: Option<VariableKind>,
+        borrows: bool,
         notes: &mut Notes,
     ) -> Result<Option<program::Right>, NameFault>
-        ensures { Looks right_in result notes (right_look self kind right.now) }
+        ensures { Looks right_in result notes (right_look self kind borrows right.now) }
     {
         match right {
             expressions::Right::Expression(expression) => {
                 let value = self.expression(expression, notes)?;
-                assigned_wanted(kind, &value, expression_spot(expression), notes);
+                let spot = expression_spot(expression);
+                assigned_wanted(kind, &value, spot, notes);
+                lent_wanted(&self.variables, kind, borrows, &value, spot, notes);
                 Ok(assigned(value))
             }
             expressions::Right::Allocator {
@@ -40,6 +44,7 @@ impl<'t> Resolver<'t> {
                 items,
             } => {
                 access_object_wanted(kind, *spot, notes);
+                notes.note_if(borrows, *spot, NameRule::WrongType);
                 if is_in_use(handle, items) {
                     self.aggregate(*spot, *type_name, items, access_kind(kind), notes)
                 } else {
@@ -74,6 +79,23 @@ fn assigned_wanted(kind: Option<VariableKind>, value: &Meant, spot: Spot, notes:
         Some(VariableKind::Boolean) => value.boolean_wanted(spot, notes),
         Some(VariableKind::Access(access)) => value.access_wanted(access, spot, notes),
         None => {}
+    }
+}
+
+/// What a borrower holds goes to borrowers only.
+fn lent_wanted(
+    variables: &[Variable],
+    kind: Option<VariableKind>,
+    borrows: bool,
+    value: &Meant,
+    spot: Spot,
+    notes: &mut Notes,
+)
+    ensures { IsNoted notes
+        (rules.lent_wanted (variables_in variables.now) kind borrows (meant_of value.now) spot) }
+{
+    if kind.is_some() && !borrows {
+        value.owner_wanted(variables, spot, notes);
     }
 }
 

@@ -5,18 +5,20 @@ use Rattle.std.specs.Prelude.{Option, Some, None, map}
 use Rattle.std.specs.List.{slice_get, slice_set}
 use Rattle.ada_tree.specs.Names.{Ident}
 use Rattle.ada_tree.specs.Records.{StaticTree, ComponentTree, RecordTree}
-use Rattle.ada_tree.specs.Statements.{DeclarationTree, exception_declaration, constant_declaration, incomplete_type, access_type, record_type, instance, object_declaration, DeclarationsTree, no_declarations, a_declaration}
+use Rattle.ada_tree.specs.Statements.{DeclarationTree, exception_declaration, constant_declaration, incomplete_type, access_type, record_type, instance, object_declaration, borrower_declaration, DeclarationsTree, no_declarations, a_declaration}
 use Rattle.ada_program.specs.declared.program.Exception.TheVariants as exception
 use Rattle.ada_program.specs.declared.program.TypeNo.{TypeNo}
 use Rattle.ada_program.specs.declared.program.VariableKind.{VariableKind}
-use Rattle.ada_program.specs.Form.{RightForm}
+use Rattle.ada_program.specs.declared.program.VariableKind.TheVariants as variable
+use Rattle.ada_program.specs.Form.{PathForm, RightForm, value_of}
 use Rattle.ada_program.specs.ProgramForm.{TypeForm, record_of, access_to}
 use Rattle.ada_resolve.specs.declared.scope.Entity.{Entity}
 use Rattle.ada_resolve.specs.declared.scope.Entity.TheVariants as entity
+use Rattle.ada_resolve.specs.Borrowers.{borrower_created, lender_found}
 use Rattle.ada_resolve.specs.Exceptions.{next_exception}
 use Rattle.ada_resolve.specs.Instances.{freed_found, instance_of}
 use Rattle.ada_resolve.specs.Known.{Known, Named, Part, named, entered, declared, visible, no_variable_yet}
-use Rattle.ada_resolve.specs.Objects.{object_type_found, kind_of, initial_found, ends_types, after_types, next_variable, object_created}
+use Rattle.ada_resolve.specs.Objects.{object_type_found, kind_of, initial_found, ends_types, after_types, next_variable, initial_source, variable_created, object_created}
 use Rattle.ada_resolve.specs.Records.{kind_in, component_meant, components_written, record_type_known}
 use Rattle.ada_resolve.specs.Resolution.{gives, At, known_at, declaration_remark, declaration_known, declarations_told}
 use Rattle.ada_resolve.specs.Statics.{static_value}
@@ -146,15 +148,24 @@ instance_open around k name None w = w
 instance_open around k name (Some t) w =
     record { before = w.before; outer = w.outer; own = own_entered k.here.first_type k.here.names name.text (entity.Instance t) tt w.own; forms = w.forms }
 
--- `X : T := ..;`
-created_open : (around : List ℕ) (k : Known) (name : Ident) (kind : Option VariableKind) (value : Option RightForm) → OpenAround around k → OpenAround around (object_created k name kind value)
-created_open around k name None value w = w
-created_open around k name (Some kind) value w = record {
+-- a variable
+made_open : (around : List ℕ) (k : Known) (name : Ident) (borrows : Bool) (kind : VariableKind) (value : RightForm) → OpenAround around k → OpenAround around (variable_created k name borrows kind value)
+made_open around k name borrows kind value w = record {
   before = w.before;
   outer = w.outer;
   own = own_entered k.here.first_type k.here.names name.text (entity.Variable (next_variable k) kind) tt w.own;
   forms = w.forms;
 }
+
+-- `X : T := ..;`
+created_open : (around : List ℕ) (k : Known) (name : Ident) (kind : Option VariableKind) (value : Option RightForm) → OpenAround around k → OpenAround around (object_created k name kind value)
+created_open around k name None value w = w
+created_open around k name (Some kind) value w = made_open around k name false kind (initial_source value) w
+
+-- `B : access T := P;`
+borrower_open : (around : List ℕ) (k : Known) (name : Ident) (o : Option (PathForm × TypeNo)) → OpenAround around k → OpenAround around (borrower_created k name o)
+borrower_open around k name None w = w
+borrower_open around k name (Some lender) w = made_open around k name true (variable.Access lender.1) (value_of lender.0) w
 
 -- the types end
 ends_open : (around : List ℕ) (b : Bool) (k : Known) → OpenAround around k → OpenAround around (ends_types b k)
@@ -184,6 +195,8 @@ declaration_open around k (exception_declaration name) s w q = record {
 declaration_open around k (object_declaration name type_name initial) s w q =
     let m = after_types k in
     created_open around m name (kind_of (object_type_found m type_name)) (initial_found m (kind_of (object_type_found m type_name)) initial) (ended_open around k w)
+declaration_open around k (borrower_declaration name designated initial) s w q =
+    borrower_open around (after_types k) name (lender_found (after_types k) initial) (ended_open around k w)
 declaration_open around k d s w q = absurd q
 
 -- declarations, one behind another

@@ -1,28 +1,32 @@
 -- A declaration leaves what is known in order, and what stays.
 
-use Rattle.std.proofs.Common.{◌≡◌, ℕ, ◌≤◌, Bool, true, false, List, [], ◌∷◌, ◌++◌, length, refl, arith}
-use Rattle.std.specs.Prelude.{Option, Some, None, map}
+use Rattle.std.proofs.Common.{◌≡◌, ℕ, ◌≤◌, Bool, true, false, List, [], ◌∷◌, ◌++◌, length, refl, sym, subst, arith}
+use Rattle.std.specs.Prelude.{◌||◌, not, Option, Some, None, map}
 use Rattle.ada_text.specs.declared.spot.Spot.{Spot}
 use Rattle.ada_program.specs.declared.program.Exception.TheVariants as exception
 use Rattle.ada_program.specs.declared.program.TypeNo.{TypeNo}
 use Rattle.ada_program.specs.declared.program.VariableKind.{VariableKind}
-use Rattle.ada_program.specs.Form.{DeclarationForm, collects, declares, RightForm}
+use Rattle.ada_program.specs.declared.program.VariableKind.TheVariants as variable
+use Rattle.ada_program.specs.Form.{DeclarationForm, collects, declares, RightForm, value_of}
 use Rattle.ada_program.specs.ProgramForm.{TypeForm, record_of, access_to, VariableForm}
 use Rattle.ada_program.specs.WellFormed as fits
 use Rattle.ada_tree.specs.Declarations.{AspectTree}
+use Rattle.ada_tree.specs.Expressions.{RightTree}
 use Rattle.ada_tree.specs.Names.{Ident}
 use Rattle.ada_tree.specs.Records.{RecordTree}
-use Rattle.ada_tree.specs.Statements.{DeclarationTree, exception_declaration, constant_declaration, incomplete_type, access_type, record_type, instance, object_declaration}
+use Rattle.ada_tree.specs.Statements.{DeclarationTree, exception_declaration, constant_declaration, incomplete_type, access_type, record_type, instance, object_declaration, borrower_declaration}
 use Rattle.ada_resolve.specs.declared.scope.Entity.{Entity}
 use Rattle.ada_resolve.specs.declared.scope.Entity.TheVariants as entity
+use Rattle.ada_resolve.specs.Borrowers.{borrower_remark, borrower_known}
 use Rattle.ada_resolve.specs.Exceptions.{next_exception, with_exception, exception_known}
 use Rattle.ada_resolve.specs.Instances.{freed_found, with_elaborated, instance_of}
 use Rattle.ada_resolve.specs.Known.{Known, Part, parts, no_variable_yet}
-use Rattle.ada_resolve.specs.Objects.{object_type_found, kind_of, initial_found, initial_source, missing_collections, ends_types, after_types, next_variable, with_variable, object_created, object_known}
+use Rattle.ada_resolve.specs.Objects.{object_type_found, kind_of, initial_found, initial_source, missing_collections, ends_types, after_types, next_variable, with_variable, variable_created, object_created, object_known}
 use Rattle.ada_resolve.specs.Records.{component_meant, components_written, record_type_known, record_type_remark}
 use Rattle.ada_resolve.specs.Resolution.{known_at, declaration_remark, declaration_known}
 use Rattle.ada_resolve.specs.Statics.{static_value}
 use Rattle.ada_resolve.specs.Types.{completed_type, record_found, number_of, incomplete_known, incomplete_remark, access_remark, access_defined, access_known}
+use Rattle.ada_resolve.proofs.WellFormed.Borrowers.{lent_of, lent_kind, borrower_is}
 use Rattle.ada_resolve.proofs.WellFormed.Exceptions.{raised_outer}
 use Rattle.ada_resolve.proofs.WellFormed.Names.{EntityFits, PartsFit}
 use Rattle.ada_resolve.proofs.WellFormed.Remarks.{Quiet}
@@ -44,7 +48,7 @@ elaborated_sound es k w = record {
 
 -- one more variable
 entity_stays : (types : List TypeForm) (variables : List VariableForm) (v : VariableForm) (text : List ℕ) (e : Entity) → EntityFits types variables text e → EntityFits types (variables ++ v ∷ []) text e
-entity_stays types variables v text (entity.Variable x kind) f = (get_more variables v x.0 _ f.0, f.1)
+entity_stays types variables v text (entity.Variable x kind) f = ((f.0.0, get_more variables v x.0 _ f.0.1), f.1)
 entity_stays types variables v text (entity.Parameter x) f = get_more variables v x.0 _ f
 entity_stays types variables v text e f = f
 
@@ -56,10 +60,10 @@ longer_by : (variables : List VariableForm) (v : VariableForm) → length variab
 longer_by [] v = omega arith
 longer_by (x ∷ variables) v = let h = longer_by variables v in omega arith
 
-pub variable_sound : (v : VariableForm) (k : Known) → Sound k → fits.variable_kind_fits k.types v.kind ≡ true → Sound (with_variable v k)
+pub variable_sound : (v : VariableForm) (k : Known) → Sound k → fits.variable_fits k.types v ≡ true → Sound (with_variable v k)
 variable_sound v k w fit = record {
   types_fit = w.types_fit;
-  variables_fit = all_more (fits.variable_fits k.types) k.variables (v ∷ []) w.variables_fit (both_parts (fits.variable_kind_fits k.types v.kind) true fit refl);
+  variables_fit = all_more (fits.variable_fits k.types) k.variables (v ∷ []) w.variables_fit (both_parts (fits.variable_fits k.types v) true fit refl);
   names = parts_stay k.types k.variables v (parts k) w.names;
   exceptions = w.exceptions;
   bounds = record {
@@ -121,24 +125,46 @@ exception_keeps k name slot =
     let m = with_exception name.text k in
     keeps_on k m (exception_known k name) (keeps_exception name.text k) (keeps_name m name.text (entity.Exception (exception.Declared (next_exception k))) slot tt)
 
+-- a variable that is declared: what borrows holds access values
+made_sound : (k : Known) (name : Ident) (borrows : Bool) (kind : VariableKind) (value : RightForm) → Sound k → fits.variable_kind_fits k.types kind ≡ true → (not borrows || fits.is_access_kind kind) ≡ true → Sound (variable_created k name borrows kind value)
+made_sound k name borrows kind value w f g =
+    let v : VariableForm = record { name = name.text; kind = kind; borrows = borrows } in
+    let es : List DeclarationForm = declares (length k.variables) value ∷ [] in
+    let m = with_elaborated es (with_variable v k) in
+    let fit = both_parts (fits.variable_kind_fits k.types kind) (not borrows || fits.is_access_kind kind) f g in
+    name_sound m name.text (entity.Variable (next_variable k) kind) (elaborated_sound es (with_variable v k) (variable_sound v k w fit))
+    ((borrows, get_last k.variables v), f) tt tt
+
+made_keeps : (k : Known) (name : Ident) (borrows : Bool) (kind : VariableKind) (value : RightForm) → IsSlot k name.text None → Keeps k (variable_created k name borrows kind value)
+made_keeps k name borrows kind value slot =
+    let v : VariableForm = record { name = name.text; kind = kind; borrows = borrows } in
+    let es : List DeclarationForm = declares (length k.variables) value ∷ [] in
+    let m = with_elaborated es (with_variable v k) in
+    keeps_on k m (variable_created k name borrows kind value)
+    (keeps_on k (with_variable v k) m (keeps_variable v k) (keeps_elaborated es (with_variable v k)))
+    (keeps_name m name.text (entity.Variable (next_variable k) kind) slot tt)
+
 -- `X : T := ..;`
 created_sound : (k : Known) (name : Ident) (kind : Option VariableKind) (value : Option RightForm) → Sound k → IsKindIn k.types kind → Sound (object_created k name kind value)
 created_sound k name None value w f = w
-created_sound k name (Some kind) value w f =
-    let v : VariableForm = record { name = name.text; kind = kind } in
-    let es : List DeclarationForm = declares (length k.variables) (initial_source value) ∷ [] in
-    let m = with_elaborated es (with_variable v k) in
-    name_sound m name.text (entity.Variable (next_variable k) kind) (elaborated_sound es (with_variable v k) (variable_sound v k w f)) (get_last k.variables v, f) tt tt
+created_sound k name (Some kind) value w f = made_sound k name false kind (initial_source value) w f refl
 
 created_keeps : (k : Known) (name : Ident) (kind : Option VariableKind) (value : Option RightForm) → IsSlot k name.text None → Keeps k (object_created k name kind value)
 created_keeps k name None value slot = keeps_same k
-created_keeps k name (Some kind) value slot =
-    let v : VariableForm = record { name = name.text; kind = kind } in
-    let es : List DeclarationForm = declares (length k.variables) (initial_source value) ∷ [] in
-    let m = with_elaborated es (with_variable v k) in
-    keeps_on k m (object_created k name (Some kind) value)
-    (keeps_on k (with_variable v k) m (keeps_variable v k) (keeps_elaborated es (with_variable v k)))
-    (keeps_name m name.text (entity.Variable (next_variable k) kind) slot tt)
+created_keeps k name (Some kind) value slot = made_keeps k name false kind (initial_source value) slot
+
+-- `B : access T := P;`
+borrower_sound : (k : Known) (name designated : Ident) (initial : Option RightTree) → Sound k → Quiet (borrower_remark k name designated initial) → Sound (borrower_known k name initial)
+borrower_sound k name designated initial w q =
+    let r = lent_of k name designated initial w.names q in
+    subst Sound (sym (borrower_is k name designated initial r))
+    (made_sound k name true (variable.Access r.access) (value_of r.path) w (lent_kind k designated initial r) refl)
+
+borrower_keeps : (k : Known) (name designated : Ident) (initial : Option RightTree) → Sound k → Quiet (borrower_remark k name designated initial) → Keeps k (borrower_known k name initial)
+borrower_keeps k name designated initial w q =
+    let r = lent_of k name designated initial w.names q in
+    subst (λ (m : Known). Keeps k m) (sym (borrower_is k name designated initial r))
+    (made_keeps k name true (variable.Access r.access) (value_of r.path) (new_slot k name name.spot q.1.0))
 
 -- where the types end, only what is elaborated changes
 ends_sound : (b : Bool) (k : Known) → Sound k → Sound (ends_types b k)
@@ -169,6 +195,7 @@ declaration_sound k (object_declaration name type_name initial) w q =
     let m = after_types k in
     let s : Sound m = ended_sound k w in
     created_sound m name (kind_of (object_type_found m type_name)) (initial_found m (kind_of (object_type_found m type_name)) initial) s (found_type m type_name s.names)
+declaration_sound k (borrower_declaration name designated initial) w q = borrower_sound (after_types k) name designated initial (ended_sound k w) q
 declaration_sound k d w q = absurd q
 
 pub declaration_keeps : (k : Known) (d : DeclarationTree) → Sound k → Quiet (declaration_remark (known_at k d) d) → Keeps k (declaration_known (known_at k d) d)
@@ -182,4 +209,7 @@ declaration_keeps k (object_declaration name type_name initial) w q =
     let m = after_types k in
     keeps_on k m (object_known m name type_name initial) (ended_keeps k)
     (created_keeps m name (kind_of (object_type_found m type_name)) (initial_found m (kind_of (object_type_found m type_name)) initial) (new_slot m name name.spot q.1.0))
+declaration_keeps k (borrower_declaration name designated initial) w q =
+    let m = after_types k in
+    keeps_on k m (borrower_known m name initial) (ended_keeps k) (borrower_keeps m name designated initial (ended_sound k w) q)
 declaration_keeps k d w q = absurd q

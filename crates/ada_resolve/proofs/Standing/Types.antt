@@ -16,7 +16,7 @@ use Rattle.ada_resolve.specs.Records.{component_meant, components_written, recor
 use Rattle.ada_resolve.specs.Types.{incomplete_of, completed_type, record_found, is_designated, number_of, defined, incomplete_known, completion_remark, access_defined, access_known}
 use Rattle.ada_resolve.proofs.WellFormed.Remarks.{Quiet, quiet_if}
 use Rattle.ada_resolve.proofs.WellFormed.Tables as tables
-use Rattle.ada_resolve.proofs.WellFormed.Tables.{all_more, all_set, get_more, get_last, get_set, get_other, access_more, record_more, access_set, record_set, record_other, types_kept, types_without, components_kept, object_kind_kept, all_weaker, both_parts}
+use Rattle.ada_resolve.proofs.WellFormed.Tables.{all_more, all_set, get_more, get_last, get_set, get_other, access_more, record_more, access_set, record_set, record_other, types_kept, types_without, components_kept, object_kind_kept, variable_kept, all_weaker, both_parts}
 use Rattle.ada_resolve.proofs.WellFormed.Exceptions.{RaisedFits, raised_entered}
 use Rattle.ada_resolve.proofs.WellFormed.Names.{EntityFits, PartsFit, all_entered, names_entered, no_text}
 use Rattle.ada_resolve.proofs.WellFormed.Types.{record_is, components_fit, IsRecordNamed, found_record}
@@ -74,7 +74,7 @@ open_entered n ns text e own old other t is =
 pub type_sound : (k : Known) (text : List ℕ) (e : Entity) (more : List TypeForm) → Sound k → Grown k.here.first_type text k.types more → EntityFits more k.variables text e → RaisedFits k.exceptions text e → IsOwn k.here.first_type e → Sound (declared (record k { types = more }) text e)
 type_sound k text e more w g f r own = record {
   types_fit = g.types_fit;
-  variables_fit = all_weaker (fits.variable_fits k.types) (fits.variable_fits more) (λ v. object_kind_kept k.types more g.accesses v.kind) k.variables w.variables_fit;
+  variables_fit = all_weaker (fits.variable_fits k.types) (fits.variable_fits more) (variable_kept k.types more g.accesses) k.variables w.variables_fit;
   names = (
     names_entered more k.variables k.here.names text e f (λ t x ne is. entity_kept k.here.first_type k.types more k.variables text t g ne x (w.names.0 t x is)),
     outers_kept k.here.first_type k.types more k.variables text g k.outer w.bounds.outer_before w.names.1,

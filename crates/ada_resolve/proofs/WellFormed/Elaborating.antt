@@ -6,7 +6,7 @@ use Rattle.std.specs.List.{slice_get}
 use Rattle.std.proofs.lemmas.Bool.{ltb-false, ne_eqb}
 use Rattle.ada_text.specs.declared.spot.Spot.{Spot}
 use Rattle.ada_tree.specs.Names.{Ident, NameTree}
-use Rattle.ada_tree.specs.Statements.{DeclarationTree, exception_declaration, constant_declaration, incomplete_type, access_type, record_type, instance, object_declaration, DeclarationsTree, no_declarations, a_declaration}
+use Rattle.ada_tree.specs.Statements.{DeclarationTree, exception_declaration, constant_declaration, incomplete_type, access_type, record_type, instance, object_declaration, borrower_declaration, DeclarationsTree, no_declarations, a_declaration}
 use Rattle.ada_program.specs.declared.program.TypeNo.{TypeNo}
 use Rattle.ada_program.specs.Form.{DeclarationForm, collects, declares}
 use Rattle.ada_program.specs.ProgramForm.{TypeForm, record_of, access_to}
@@ -26,7 +26,7 @@ use Rattle.ada_resolve.proofs.WellFormed.Tables.{Keeps, all_more, all_weaker, bo
 use Rattle.ada_resolve.proofs.WellFormed.Types.{IsAccessIn, found_access, one_of_those}
 use Rattle.ada_resolve.proofs.WellFormed.Counts.{count_more, one_more}
 use Rattle.ada_resolve.proofs.WellFormed.Elaborated.{is_first, Early, InOrder, early, early_of, none_yet_of, after_late, after_order}
-use Rattle.ada_resolve.proofs.WellFormed.Objects.{object_order}
+use Rattle.ada_resolve.proofs.WellFormed.Objects.{object_order, borrower_order}
 
 -- each access type stays one
 accesses_kept : (k m : Known) → standing.Keeps k m → Keeps k.types m.types
@@ -109,6 +109,9 @@ declaration_order k (exception_declaration name) s o q =
 declaration_order k (object_declaration name type_name initial) s o q =
     let ended = ended_sound k s in
     object_order (after_types k) name type_name initial ended.names ended.bounds.first_variable (after_order k o) (after_late k o) q
+declaration_order k (borrower_declaration name designated initial) s o q =
+    let ended = ended_sound k s in
+    borrower_order (after_types k) name designated initial ended.names ended.bounds.first_variable (after_late k o) q
 declaration_order k d s o q = absurd q
 
 -- declarations, one behind another

@@ -1,7 +1,7 @@
 -- What fits stays so as types, variables, exceptions and texts are added behind those that are there.
 
-use Rattle.std.proofs.Common.{◌≡◌, ℕ, ◌<◌, ◌≤◌, Bool, true, cond, List, [], ◌∷◌, length, refl, subst, arith, eqb}
-use Rattle.std.specs.Prelude.{Option, Some, None, ◌&&◌, is_some}
+use Rattle.std.proofs.Common.{◌≡◌, ℕ, ◌<◌, ◌≤◌, Bool, true, cond, List, [], ◌∷◌, length, refl, ap, ◌∙◌, subst, arith, eqb}
+use Rattle.std.specs.Prelude.{Option, Some, None, ◌&&◌, ◌||◌, not, is_some}
 use Rattle.std.specs.List.{list_all, slice_get}
 use Rattle.std.proofs.lemmas.Bool.{lt-ltb, ltb-true}
 use Rattle.ada_program.specs.declared.program.Choice.{Choice}
@@ -79,7 +79,7 @@ module _ (types more : List TypeForm) (variables others : List VariableForm) (ts
       found_stays None rest is e = absurd (cc (nowhere types cs, e))
       found_stays (Some j) rest is e = rw (behind_stays (fits.access_of kind) c j is) (rest (Some j) e)
 
-  path_stays : (path : PathForm) (k : VariableKind) → fits.path_kind types variables path ≡ Some k → fits.path_kind more others path ≡ Some k
+  pub path_stays : (path : PathForm) (k : VariableKind) → fits.path_kind types variables path ≡ Some k → fits.path_kind more others path ≡ Some k
   path_stays path k e = root_stays (fits.variable_kind variables path.root) refl e
     where
       root_stays : (o : Option VariableKind) → fits.variable_kind variables path.root ≡ o → fits.selectors_kind types o path.selectors ≡ Some k → fits.path_kind more others path ≡ Some k
@@ -186,12 +186,81 @@ module _ (types more : List TypeForm) (variables others : List VariableForm) (ts
   taken_stays variable.Boolean s h = scalar_right_stays Boolean s h
   taken_stays (variable.Access access) s h = access_right_stays access.0 s h
 
-  right_at : (o : Option VariableKind) (found : Option VariableKind) (s : RightForm) → ((k : VariableKind) → o ≡ Some k → found ≡ Some k) → fits.right_fits types variables o s ≡ true → fits.right_fits more others found s ≡ true
-  right_at None found s w h = absurd (cc h)
-  right_at (Some k) found s w h = rw (w k refl) (taken_stays k s h)
+  -- whether a variable is a borrower, and what goes to borrowers
+  borrower_stays : (x : ℕ) (k : VariableKind) → fits.variable_kind variables x ≡ Some k → fits.is_borrower others x ≡ fits.is_borrower variables x
+  borrower_stays x k e = found_stays (slice_get variables x) refl e
+    where
+      found_stays : (o : Option VariableForm) → slice_get variables x ≡ o → fits.kind_in o ≡ Some k → fits.is_borrower others x ≡ fits.is_borrower variables x
+      found_stays None is e = absurd (cc e)
+      found_stays (Some v) is e = rw (is, vs x v is) refl
 
-  assigned_stays : (path : PathForm) (s : RightForm) → fits.right_fits types variables (fits.path_kind types variables path) s ≡ true → fits.right_fits more others (fits.path_kind more others path) s ≡ true
-  assigned_stays path s h = right_at (fits.path_kind types variables path) (fits.path_kind more others path) s (λ k e. path_stays path k e) h
+  named_borrower_stays : (path : PathForm) (k : VariableKind) → fits.path_kind types variables path ≡ Some k → fits.names_borrower others path ≡ fits.names_borrower variables path
+  named_borrower_stays path k e = root_stays (fits.variable_kind variables path.root) refl e
+    where
+      root_stays : (o : Option VariableKind) → fits.variable_kind variables path.root ≡ o → fits.selectors_kind types o path.selectors ≡ Some k → fits.names_borrower others path ≡ fits.names_borrower variables path
+      root_stays None is e = absurd (cc (nowhere types path.selectors, e))
+      root_stays (Some j) is e = ap (λ (b : Bool). fits.names_variable path && b) (borrower_stays path.root j is)
+
+  moved_owns : (path : PathForm) (access : ℕ) → fits.is_this access (fits.path_access types variables path) ≡ true → fits.names_borrower others path ≡ fits.names_borrower variables path
+  moved_owns path access h = by_kind (fits.path_kind types variables path) refl h
+    where
+      by_kind : (o : Option VariableKind) → fits.path_kind types variables path ≡ o → fits.is_this access (fits.access_of o) ≡ true → fits.names_borrower others path ≡ fits.names_borrower variables path
+      by_kind None is h = absurd (cc h)
+      by_kind (Some k) is h = named_borrower_stays path k is
+
+  item_owns_stays : (k : ComponentKind) (i : ItemForm) → fits.item_fits types variables k i ≡ true → fits.item_owns variables i ≡ true → fits.item_owns others i ≡ true
+  item_owns_stays k null_item h o = refl
+  item_owns_stays k (item_of_value e) h o = refl
+  item_owns_stays (component.Integer initial) (item_of_path path) h o = absurd (cc h)
+  item_owns_stays (component.Boolean initial) (item_of_path path) h o = absurd (cc h)
+  item_owns_stays (component.Access t) (item_of_path path) h o =
+      let same = moved_owns path t.0 (second_part (fits.names_variable path) (fits.is_this t.0 (fits.path_access types variables path)) h) in
+      ap (λ (b : Bool). not b) same ∙ o
+
+  items_own_stay : (cs : List ComponentForm) (items : List ItemForm) → fits.items_fit types variables cs items ≡ true → list_all (fits.item_owns variables) items ≡ true → list_all (fits.item_owns others) items ≡ true
+  items_own_stay cs [] h o = refl
+  items_own_stay [] (i ∷ items) h o = absurd (cc h)
+  items_own_stay (c ∷ cs) (i ∷ items) h o =
+      both_parts (fits.item_owns others i) (list_all (fits.item_owns others) items)
+      (item_owns_stays c.kind i (first_part (fits.item_fits types variables c.kind i) (fits.items_fit types variables cs items) h)
+      (first_part (fits.item_owns variables i) (list_all (fits.item_owns variables) items) o))
+      (items_own_stay cs items (second_part (fits.item_fits types variables c.kind i) (fits.items_fit types variables cs items) h)
+      (second_part (fits.item_owns variables i) (list_all (fits.item_owns variables) items) o))
+
+  filled_owns : (cs : Option (List ComponentForm)) (items : List ItemForm) → fits.is_filled types variables cs items ≡ true → list_all (fits.item_owns variables) items ≡ true → list_all (fits.item_owns others) items ≡ true
+  filled_owns None items h o = absurd (cc h)
+  filled_owns (Some cs) items h o = items_own_stay cs items h o
+
+  pub lent_stays : (kind : VariableKind) (borrows : Bool) (s : RightForm) → fits.kind_takes types variables kind s ≡ true → fits.lends_to variables borrows s ≡ true → fits.lends_to others borrows s ≡ true
+  lent_stays kind borrows nothing h l = refl
+  lent_stays kind borrows (computes e) h l = refl
+  lent_stays (variable.Access access) borrows (value_of path) h l =
+      ap (λ (b : Bool). borrows || not b) (moved_owns path access.0 h) ∙ l
+  lent_stays variable.Integer borrows (value_of path) h l = absurd (cc h)
+  lent_stays variable.Boolean borrows (value_of path) h l = absurd (cc h)
+  lent_stays (variable.Access access) borrows (allocates t items) h l =
+      both_parts (not borrows) (list_all (fits.item_owns others) items)
+      (first_part (not borrows) (list_all (fits.item_owns variables) items) l)
+      (filled_owns (fits.reached_components types access.0) items
+      (second_part (eqb t access.0) (fits.is_filled types variables (fits.reached_components types access.0) items) h)
+      (second_part (not borrows) (list_all (fits.item_owns variables) items) l))
+  lent_stays variable.Integer borrows (allocates t items) h l = absurd (cc h)
+  lent_stays variable.Boolean borrows (allocates t items) h l = absurd (cc h)
+
+  -- what is assigned to a variable, or to a path
+  right_lent : (o : Option VariableKind) (found : Option VariableKind) (borrows borrowed : Bool) (s : RightForm) → ((k : VariableKind) → o ≡ Some k → (found ≡ Some k) × (borrowed ≡ borrows)) → (fits.right_fits types variables o s && fits.lends_to variables borrows s) ≡ true → (fits.right_fits more others found s && fits.lends_to others borrowed s) ≡ true
+  right_lent None found borrows borrowed s w h = absurd (cc h)
+  right_lent (Some k) found borrows borrowed s w h =
+      let now = w k refl in
+      let fit : fits.kind_takes types variables k s ≡ true = first_part (fits.kind_takes types variables k s) (fits.lends_to variables borrows s) h in
+      rw (now.0, now.1)
+      (both_parts (fits.kind_takes more others k s) (fits.lends_to others borrows s) (taken_stays k s fit)
+      (lent_stays k borrows s fit (second_part (fits.kind_takes types variables k s) (fits.lends_to variables borrows s) h)))
+
+  assigned_stays : (path : PathForm) (s : RightForm) → (fits.right_fits types variables (fits.path_kind types variables path) s && fits.lends_to variables (fits.names_borrower variables path) s) ≡ true → (fits.right_fits more others (fits.path_kind more others path) s && fits.lends_to others (fits.names_borrower others path) s) ≡ true
+  assigned_stays path s h =
+      right_lent (fits.path_kind types variables path) (fits.path_kind more others path) (fits.names_borrower variables path) (fits.names_borrower others path) s
+      (λ k e. (path_stays path k e, named_borrower_stays path k e)) h
 
   -- declarations
   collection_stays : (d : DeclarationForm) → fits.collection_fits types d ≡ true → fits.collection_fits more d ≡ true
@@ -201,10 +270,17 @@ module _ (types more : List TypeForm) (variables others : List VariableForm) (ts
   initial_stays : (d : DeclarationForm) → fits.initial_fits types variables d ≡ true → fits.initial_fits more others d ≡ true
   initial_stays (collects access) h = refl
   initial_stays (declares x s) h =
-      both_parts (fits.names_before x s) (fits.right_fits more others (fits.variable_kind others x) s)
-      (first_part (fits.names_before x s) (fits.right_fits types variables (fits.variable_kind variables x) s) h)
-      (right_at (fits.variable_kind variables x) (fits.variable_kind others x) s (λ k e. kind_stays x k e)
-      (second_part (fits.names_before x s) (fits.right_fits types variables (fits.variable_kind variables x) s) h))
+      let before = fits.names_before x s in
+      let fit = fits.right_fits types variables (fits.variable_kind variables x) s in
+      let lent = fits.lends_to variables (fits.is_borrower variables x) s in
+      let front : (before && fit) ≡ true = first_part (before && fit) lent h in
+      let now : (fits.right_fits more others (fits.variable_kind others x) s && fits.lends_to others (fits.is_borrower others x) s) ≡ true =
+      right_lent (fits.variable_kind variables x) (fits.variable_kind others x) (fits.is_borrower variables x) (fits.is_borrower others x) s
+      (λ k e. (kind_stays x k e, borrower_stays x k e)) (both_parts fit lent (second_part before fit front) (second_part (before && fit) lent h)) in
+      both_parts (before && fits.right_fits more others (fits.variable_kind others x) s) (fits.lends_to others (fits.is_borrower others x) s)
+      (both_parts before (fits.right_fits more others (fits.variable_kind others x) s) (first_part before fit front)
+      (first_part (fits.right_fits more others (fits.variable_kind others x) s) (fits.lends_to others (fits.is_borrower others x) s) now))
+      (second_part (fits.right_fits more others (fits.variable_kind others x) s) (fits.lends_to others (fits.is_borrower others x) s) now)
 
   collections_stay : (ds : List DeclarationForm) → list_all (fits.collection_fits types) ds ≡ true → list_all (fits.collection_fits more) ds ≡ true
   collections_stay ds h = all_weaker (fits.collection_fits types) (fits.collection_fits more) collection_stays ds h
@@ -240,6 +316,13 @@ module _ (types more : List TypeForm) (variables others : List VariableForm) (ts
       by_kind None is h = absurd (cc h)
       by_kind (Some k) is h = rw (path_stays path k is) (freed_at access (fits.access_of (Some k)) h)
 
+  freed_owns : (access : ℕ) (path : PathForm) → fits.is_freed_by types access (fits.path_access types variables path) ≡ true → not (fits.names_borrower variables path) ≡ true → not (fits.names_borrower others path) ≡ true
+  freed_owns access path h o = by_kind (fits.path_kind types variables path) refl h
+    where
+      by_kind : (found : Option VariableKind) → fits.path_kind types variables path ≡ found → fits.is_freed_by types access (fits.access_of found) ≡ true → not (fits.names_borrower others path) ≡ true
+      by_kind None is h = absurd (cc h)
+      by_kind (Some k) is h = ap (λ (b : Bool). not b) (named_borrower_stays path k is) ∙ o
+
   -- an Integer that is held
   integer_at : (o found : Option VariableKind) → ((k : VariableKind) → o ≡ Some k → found ≡ Some k) → fits.is_type Integer (fits.scalar_of o) ≡ true → fits.is_type Integer (fits.scalar_of found) ≡ true
   integer_at None found w h = absurd (cc h)
@@ -271,9 +354,14 @@ module _ (types more : List TypeForm) (variables others : List VariableForm) (ts
       statement_stays inside skips h = refl
       statement_stays inside (assigns target s) h = assigned_stays target s h
       statement_stays inside (frees access path) h =
-          both_parts (fits.names_variable path) (fits.is_freed_by more access (fits.path_access more others path))
-          (first_part (fits.names_variable path) (fits.is_freed_by types access (fits.path_access types variables path)) h)
-          (freed_stays access path (second_part (fits.names_variable path) (fits.is_freed_by types access (fits.path_access types variables path)) h))
+          let whole = fits.names_variable path in
+          let freed : Bool = fits.is_freed_by types access (fits.path_access types variables path) in
+          let owns = not (fits.names_borrower variables path) in
+          let front : (whole && freed) ≡ true = first_part (whole && freed) owns h in
+          let own : freed ≡ true = second_part whole freed front in
+          both_parts (whole && fits.is_freed_by more access (fits.path_access more others path)) (not (fits.names_borrower others path))
+          (both_parts whole (fits.is_freed_by more access (fits.path_access more others path)) (first_part whole freed front) (freed_stays access path own))
+          (freed_owns access path own (second_part (whole && freed) owns h))
       statement_stays inside (gets target) h = integer_at (fits.path_kind types variables target) (fits.path_kind more others target) (λ k e. path_stays target k e) h
       statement_stays inside (writes e) h = has_type_stays Integer e h
       statement_stays inside (writes_text text) h =

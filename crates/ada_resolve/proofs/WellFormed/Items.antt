@@ -1,6 +1,6 @@
 -- Where nothing is wrong with items and their count, each component has an item that fits it.
 
-use Rattle.std.proofs.Common.{◌≡◌, ◌∙◌, ℕ, Bool, true, false, ◌&&◌, List, [], ◌∷◌, length, map, refl, sym, subst, zero, suc, arith, cond, eqb, eq-eqb, eqb-true}
+use Rattle.std.proofs.Common.{◌≡◌, ◌∙◌, ℕ, Bool, true, false, ◌&&◌, List, [], ◌∷◌, length, map, refl, sym, ap, subst, zero, suc, arith, cond, eqb, eq-eqb, eqb-true}
 use Rattle.std.specs.Prelude.{Option, Some, None, is_some, not}
 use Rattle.std.specs.List.{slice_get, slice_set, list_all}
 use Rattle.std.proofs.Math.ListN.{replicate}
@@ -27,24 +27,28 @@ use Rattle.ada_resolve.proofs.WellFormed.Typing.{is_of_type}
 use Rattle.ada_resolve.proofs.WellFormed.Meanings.{MeantFits, expression_fits}
 use Rattle.ada_resolve.proofs.WellFormed.Selected.{IsComponentOf, named_at}
 
+-- an item fits its component, and is no borrower
+abbrev IsItemOf : List TypeForm → List VariableForm → ComponentKind → ItemForm → Type 0
+IsItemOf types variables k i = (fits.item_fits types variables k i ≡ true) × (fits.item_owns variables i ≡ true)
+
 -- the items so far fit their components
 abbrev pub SlotsFit : List TypeForm → List VariableForm → List ComponentForm → List (Option ItemForm) → Type 0
 SlotsFit types variables [] [] = Unit {0}
 SlotsFit types variables [] (s ∷ slots) = ⊥
 SlotsFit types variables (c ∷ cs) [] = ⊥
 SlotsFit types variables (c ∷ cs) (None ∷ slots) = SlotsFit types variables cs slots
-SlotsFit types variables (c ∷ cs) (Some i ∷ slots) = (fits.item_fits types variables c.kind i ≡ true) × SlotsFit types variables cs slots
+SlotsFit types variables (c ∷ cs) (Some i ∷ slots) = IsItemOf types variables c.kind i × SlotsFit types variables cs slots
 
 none_filled : (types : List TypeForm) (variables : List VariableForm) (cs : List ComponentForm) → SlotsFit types variables cs (replicate (length cs) None)
 none_filled types variables [] = tt
 none_filled types variables (c ∷ cs) = none_filled types variables cs
 
 -- one more item that fits its component
-slot_set : (types : List TypeForm) (variables : List VariableForm) (cs : List ComponentForm) (slots : List (Option ItemForm)) (j : ℕ) (c : ComponentForm) (i : ItemForm) → SlotsFit types variables cs slots → slice_get cs j ≡ Some c → fits.item_fits types variables c.kind i ≡ true → SlotsFit types variables cs (slice_set slots j (Some i))
+slot_set : (types : List TypeForm) (variables : List VariableForm) (cs : List ComponentForm) (slots : List (Option ItemForm)) (j : ℕ) (c : ComponentForm) (i : ItemForm) → SlotsFit types variables cs slots → slice_get cs j ≡ Some c → IsItemOf types variables c.kind i → SlotsFit types variables cs (slice_set slots j (Some i))
 slot_set types variables [] slots j c i w e f = absurd (cc e)
 slot_set types variables (d ∷ cs) [] j c i w e f = absurd w
-slot_set types variables (d ∷ cs) (None ∷ slots) zero c i w e f = let same : c ≡ d = cc e in (subst (λ v. fits.item_fits types variables v.kind i ≡ true) same f, w)
-slot_set types variables (d ∷ cs) (Some old ∷ slots) zero c i w e f = let same : c ≡ d = cc e in (subst (λ v. fits.item_fits types variables v.kind i ≡ true) same f, w.1)
+slot_set types variables (d ∷ cs) (None ∷ slots) zero c i w e f = let same : c ≡ d = cc e in (subst (λ (v : ComponentForm). IsItemOf types variables v.kind i) same f, w)
+slot_set types variables (d ∷ cs) (Some old ∷ slots) zero c i w e f = let same : c ≡ d = cc e in (subst (λ (v : ComponentForm). IsItemOf types variables v.kind i) same f, w.1)
 slot_set types variables (d ∷ cs) (None ∷ slots) (suc j) c i w e f = slot_set types variables cs slots j c i w e f
 slot_set types variables (d ∷ cs) (Some old ∷ slots) (suc j) c i w e f = (w.0, slot_set types variables cs slots j c i w.1 e f)
 
@@ -55,20 +59,40 @@ all_filled types variables [] (s ∷ slots) w e = absurd w
 all_filled types variables (c ∷ cs) [] w e = absurd w
 all_filled types variables (c ∷ cs) (None ∷ slots) w e = absurd (cc e)
 all_filled types variables (c ∷ cs) (Some i ∷ slots) w e =
-    both_parts (fits.item_fits types variables c.kind i) (fits.items_fit types variables cs (map item_or_null slots)) w.0 (all_filled types variables cs slots w.1 e)
+    both_parts (fits.item_fits types variables c.kind i) (fits.items_fit types variables cs (map item_or_null slots)) w.0.0 (all_filled types variables cs slots w.1 e)
+
+-- and none of them is a borrower
+all_own : (types : List TypeForm) (variables : List VariableForm) (cs : List ComponentForm) (slots : List (Option ItemForm)) → SlotsFit types variables cs slots → list_all (fits.item_owns variables) (map item_or_null slots) ≡ true
+all_own types variables [] [] w = refl
+all_own types variables [] (s ∷ slots) w = absurd w
+all_own types variables (c ∷ cs) [] w = absurd w
+all_own types variables (c ∷ cs) (None ∷ slots) w = all_own types variables cs slots w
+all_own types variables (c ∷ cs) (Some i ∷ slots) w =
+    both_parts (fits.item_owns variables i) (list_all (fits.item_owns variables) (map item_or_null slots)) w.0.1 (all_own types variables cs slots w.1)
 
 -- a value is of its component's type
-value_fits : (types : List TypeForm) (variables : List VariableForm) (k : ComponentKind) (m : Meant) (spot : Spot) → MeantFits types variables m → Quiet (fits_remark k m spot) → fits.item_fits types variables k (item_meant m) ≡ true
+value_fits : (types : List TypeForm) (variables : List VariableForm) (k : ComponentKind) (m : Meant) (spot : Spot) → MeantFits types variables m → Quiet (fits_remark variables k m spot) → fits.item_fits types variables k (item_meant m) ≡ true
 value_fits types variables (kind.Integer initial) (integer_value e) spot f q = is_of_type Integer (fits.type_of types variables e) f
 value_fits types variables (kind.Boolean initial) (boolean_value e) spot f q = is_of_type Boolean (fits.type_of types variables e) f
 value_fits types variables (kind.Access t) null_value spot f q = refl
 value_fits types variables (kind.Access t) (access_value path u) spot f q =
     let same : t.0 ≡ u.0 = eqb-true t.0 u.0 (quiet_unless (eqb t.0 u.0) spot WrongType q.0) in
-    both_parts (fits.names_variable path) (fits.is_this t.0 (fits.path_access types variables path)) (quiet_unless (fits.names_variable path) spot NotInProfile q.1)
+    both_parts (fits.names_variable path) (fits.is_this t.0 (fits.path_access types variables path)) (quiet_unless (fits.names_variable path) spot NotInProfile q.1.0)
     (rw f (eq-eqb u.0 t.0 (sym same)))
 value_fits types variables k unknown spot f q = absurd f
 value_fits types variables (kind.Access t) m spot f q = absurd q.0
 value_fits types variables k m spot f q = absurd q
+
+-- it is no borrower
+value_owns : (types : List TypeForm) (variables : List VariableForm) (k : ComponentKind) (m : Meant) (spot : Spot) → MeantFits types variables m → Quiet (fits_remark variables k m spot) → fits.item_owns variables (item_meant m) ≡ true
+value_owns types variables (kind.Integer initial) (access_value path t) spot f q = absurd q
+value_owns types variables (kind.Boolean initial) (access_value path t) spot f q = absurd q
+value_owns types variables (kind.Access u) (access_value path t) spot f q =
+    ap (λ (b : Bool). not b) (quiet_if (fits.names_borrower variables path) spot WrongType q.1.1)
+value_owns types variables k null_value spot f q = refl
+value_owns types variables k (integer_value e) spot f q = refl
+value_owns types variables k (boolean_value e) spot f q = refl
+value_owns types variables k unknown spot f q = absurd f
 
 -- the component that an item is for is one of these
 component_is : (at : ℕ) (cs : List ComponentForm) (o : Option ComponentForm) → slice_get cs at ≡ o → IsComponentOf cs 0 (component_at at o)
@@ -84,15 +108,16 @@ record Fills (types : List TypeForm) (variables : List VariableForm) (cs : List 
   slots_fit : SlotsFit types variables cs filling.slots
   is_whole : filling.whole ≡ true
 
-filled_fits : (types : List TypeForm) (variables : List VariableForm) (cs : List ComponentForm) (filling : Filling) (o : Option (ℕ × ComponentKind)) (label : Option Ident) (value : ExpressionTree) (m : Meant) (alike : Bool) → Fills types variables cs filling → IsComponentOf cs 0 o → MeantFits types variables m → alike ≡ true → Quiet (for_remark o filling label value m) → Fills types variables cs (filled_for o filling alike (item_meant m))
+filled_fits : (types : List TypeForm) (variables : List VariableForm) (cs : List ComponentForm) (filling : Filling) (o : Option (ℕ × ComponentKind)) (label : Option Ident) (value : ExpressionTree) (m : Meant) (alike : Bool) → Fills types variables cs filling → IsComponentOf cs 0 o → MeantFits types variables m → alike ≡ true → Quiet (for_remark variables o filling label value m) → Fills types variables cs (filled_for o filling alike (item_meant m))
 filled_fits types variables cs filling None label value m alike w i f a q = absurd (none_for label q)
   where
-    none_for : (l : Option Ident) → Quiet (for_remark None filling l value m) → ⊥
+    none_for : (l : Option Ident) → Quiet (for_remark variables None filling l value m) → ⊥
     none_for (Some l) q = q
     none_for None q = q
 filled_fits types variables cs filling (Some found) label value m alike w i f a q =
     let at : found.0 ≡ i.0 = i.2 ∙ omega arith in
-    let own : fits.item_fits types variables found.1 (item_meant m) ≡ true = value_fits types variables found.1 m (expression_spot value) f q.1 in
+    let own : IsItemOf types variables found.1 (item_meant m) =
+    (value_fits types variables found.1 m (expression_spot value) f q.1, value_owns types variables found.1 m (expression_spot value) f q.1) in
     let fresh : is_filled found.0 filling.slots ≡ false = quiet_if (is_filled found.0 filling.slots) (item_spot label value) WrongType q.0 in
     record {
       slots_fit = rw at (slot_set types variables cs filling.slots i.0 i.1 (item_meant m) w.slots_fit i.3 (rw i.4 own));
@@ -134,3 +159,11 @@ items_fit k cs items spot w q c =
     let done = items_fill k cs (names_component items) (first_filling (Some cs)) items w start q in
     let after = after_items k (Some cs) (names_component items) (first_filling (Some cs)) items in
     all_filled k.types k.variables cs after.slots done.slots_fit (count_is _ after _ spot c done.is_whole)
+
+-- none of them is a borrower
+pub items_own : (k : Known) (cs : List ComponentForm) (items : ItemsTree) → PartsFit k.types k.variables (parts k) → Quiet (items_remark k (Some cs) (names_component items) (first_filling (Some cs)) items) → list_all (fits.item_owns k.variables) (map item_or_null (filling_of k (Some cs) items).slots) ≡ true
+unfolding filling_of
+items_own k cs items w q =
+    let start : Fills k.types k.variables cs (first_filling (Some cs)) = record { slots_fit = none_filled k.types k.variables cs; is_whole = refl } in
+    let done = items_fill k cs (names_component items) (first_filling (Some cs)) items w start q in
+    all_own k.types k.variables cs (after_items k (Some cs) (names_component items) (first_filling (Some cs)) items).slots done.slots_fit

@@ -61,7 +61,7 @@ variable_fits k x spot of selectors h q =
 entity_one : (k : Known) (text : List ℕ) (e : Entity) (name : Ident) (selectors : List SelectorTree) → EntityFits k.types k.variables text e → Quiet (value_wanted k (Some e) name selectors) → MeantFits k.types k.variables (entity_meant k (Some e) name.spot selectors)
 entity_one k text (entity.Variable x of) name selectors f q = variable_fits k x name.spot of selectors (kind_there k.variables x.0 text of f.0) q
 entity_one k text (entity.Parameter x) name selectors f q =
-    variable_fits k x name.spot variable.Integer selectors (kind_there k.variables x.0 text variable.Integer f) q
+    variable_fits k x name.spot variable.Integer selectors (kind_there k.variables x.0 text variable.Integer (false, f)) q
 entity_one k text (entity.Number n) name [] f q = refl
 entity_one k text (entity.Number n) name (s ∷ ss) f q = absurd q
 entity_one k text (entity.Truth b) name [] f q = refl

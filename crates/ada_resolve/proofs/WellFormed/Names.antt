@@ -16,6 +16,10 @@ use Rattle.ada_resolve.specs.Naming.{truth_name}
 use Rattle.ada_resolve.specs.Known.{Known, Named, Part, named, entered, first_named, named_in, inner_first, visible, parts}
 use Rattle.ada_resolve.specs.Library.{predefined}
 
+-- a variable of this name is there, which holds this, a borrower or not
+abbrev pub IsVariableIn : List VariableForm → List ℕ → VariableKind → ℕ → Type 0
+IsVariableIn variables text kind x = (borrows : Bool) × (slice_get variables x ≡ Some (record { name = text; kind = kind; borrows = borrows }))
+
 -- what a name stands for is there, and has the name
 abbrev pub EntityFits : List TypeForm → List VariableForm → List ℕ → Entity → Type 0
 EntityFits types variables text entity.Integer = Unit {0}
@@ -28,8 +32,8 @@ EntityFits types variables text (entity.Incomplete t) = slice_get types t.0 ≡ 
 EntityFits types variables text (entity.Record t) = (cs : List ComponentForm) × (slice_get types t.0 ≡ Some (record_of text cs))
 EntityFits types variables text (entity.Access t) = (d : ℕ) × (slice_get types t.0 ≡ Some (access_to text d))
 EntityFits types variables text (entity.Instance t) = fits.is_access types t.0 ≡ true
-EntityFits types variables text (entity.Variable x kind) = (slice_get variables x.0 ≡ Some (record { name = text; kind = kind })) × (fits.variable_kind_fits types kind ≡ true)
-EntityFits types variables text (entity.Parameter x) = slice_get variables x.0 ≡ Some (record { name = text; kind = variable.Integer })
+EntityFits types variables text (entity.Variable x kind) = IsVariableIn variables text kind x.0 × (fits.variable_kind_fits types kind ≡ true)
+EntityFits types variables text (entity.Parameter x) = slice_get variables x.0 ≡ Some (record { name = text; kind = variable.Integer; borrows = false })
 
 abbrev pub NamesFit : List TypeForm → List VariableForm → List Named → Type 0
 NamesFit types variables names = (text : List ℕ) (e : Entity) → named text names ≡ Some e → EntityFits types variables text e
@@ -98,8 +102,8 @@ predefined_fits types variables text x e =
     (text_same text (codes "TRUE")) (text_same text (codes "FALSE")) e
 
 -- a variable of that name holds what it is declared to hold
-pub kind_there : (variables : List VariableForm) (x : ℕ) (text : List ℕ) (kind : VariableKind) → slice_get variables x ≡ Some (record { name = text; kind = kind }) → fits.variable_kind variables x ≡ Some kind
-kind_there variables x text kind e = rw e refl
+pub kind_there : (variables : List VariableForm) (x : ℕ) (text : List ℕ) (kind : VariableKind) → IsVariableIn variables text kind x → fits.variable_kind variables x ≡ Some kind
+kind_there variables x text kind f = rw f.1 refl
 
 inner_fits : (types : List TypeForm) (variables : List VariableForm) (text : List ℕ) (x : Entity) (own : Option Entity) (b : Bool) → ((y : Entity) → own ≡ Some y → EntityFits types variables text y) → inner_first own b (predefined text) ≡ Some x → EntityFits types variables text x
 inner_fits types variables text x (Some y) b w e = let is : y ≡ x = cc e in rw (sym is) (w y refl)

@@ -1,7 +1,7 @@
--- An object's declaration leaves what is elaborated in order.
+-- The declaration of an object or of a borrower leaves what is elaborated in order.
 
-use Rattle.std.proofs.Common.{◌≡◌, ◌∙◌, ℕ, ◌+◌, ◌≤◌, true, false, List, [], ◌∷◌, ◌++◌, length, append_assoc, refl, ap, arith, eqb, eq-eqb}
-use Rattle.std.specs.Prelude.{Option, Some, None, nat_lt, ◌==◌, map}
+use Rattle.std.proofs.Common.{◌≡◌, ◌∙◌, ℕ, ◌+◌, ◌≤◌, true, false, List, [], ◌∷◌, ◌++◌, length, append_assoc, refl, sym, ap, subst, arith, eqb, eq-eqb}
+use Rattle.std.specs.Prelude.{Bool, ◌&&◌, Option, Some, None, nat_lt, ◌==◌, map}
 use Rattle.std.specs.List.{list_all}
 use Rattle.std.proofs.lemmas.Bool.{ne_eqb}
 use Rattle.ada_program.specs.declared.program.ComponentKind.{ComponentKind}
@@ -17,22 +17,27 @@ use Rattle.ada_tree.specs.Expressions.{RightTree}
 use Rattle.ada_program.specs.ProgramForm.{ComponentForm, TypeForm, VariableForm}
 use Rattle.ada_program.specs.WellFormed as fits
 use Rattle.ada_program.specs.WellFormed.{of_variable}
+use Rattle.ada_resolve.specs.Borrowers.{borrower_remark, borrower_known}
 use Rattle.ada_resolve.specs.declared.scope.Entity.{Entity}
 use Rattle.ada_resolve.specs.declared.scope.Entity.TheVariants as entity
 use Rattle.ada_resolve.specs.Known.{Known, parts}
-use Rattle.ada_resolve.specs.Objects.{initial_remark, initial_found, initial_wanted, object_type_found, kind_of, object_remark, initial_source, object_created, object_known}
+use Rattle.ada_resolve.specs.Objects.{initial_remark, initial_found, initial_wanted, object_type_found, kind_of, object_remark, initial_source, variable_created, object_created, object_known}
 use Rattle.ada_resolve.proofs.Names.{map_append}
+use Rattle.ada_resolve.proofs.WellFormed.Borrowers.{lent_of, borrower_is}
 use Rattle.ada_resolve.proofs.WellFormed.Remarks.{Quiet}
 use Rattle.ada_resolve.proofs.WellFormed.Tables.{all_more, both_parts, first_part, second_part, get_last, get_more}
 use Rattle.ada_resolve.proofs.WellFormed.Names.{PartsFit}
 use Rattle.ada_resolve.proofs.WellFormed.Counts.{count_more}
 use Rattle.ada_resolve.proofs.WellFormed.Elaborated.{Late, InOrder, late}
-use Rattle.ada_resolve.proofs.WellFormed.Growing.{taken_stays, initials_stay}
+use Rattle.ada_resolve.proofs.WellFormed.Growing.{lent_stays, taken_stays, initials_stay}
 use Rattle.ada_resolve.proofs.WellFormed.Typing.{path_before, typed_before, of_type}
 use Rattle.ada_resolve.proofs.WellFormed.Values.{IsSourceFor, right_fits}
 
 kind_last : (variables : List VariableForm) (o : VariableForm) → fits.variable_kind (variables ++ o ∷ []) (length variables) ≡ Some o.kind
 kind_last variables o = rw (get_last variables o) refl
+
+borrows_last : (variables : List VariableForm) (o : VariableForm) → fits.is_borrower (variables ++ o ∷ []) (length variables) ≡ o.borrows
+borrows_last variables o = rw (get_last variables o) refl
 
 -- a value that fits now names what is declared before
 type_before : (types : List TypeForm) (variables : List VariableForm) (t : ScalarType) (e : ExpressionForm) → fits.has_type types variables t e ≡ true → fits.expression_before (length variables) e ≡ true
@@ -98,10 +103,13 @@ one_longer (y ∷ xs) x = let h = one_longer xs x in omega arith
 not_none : (variables : List VariableForm) (o : VariableForm) (n : ℕ) → n ≤ length variables → (length (variables ++ o ∷ []) == n) ≡ false
 not_none variables o n first = ne_eqb (length (variables ++ o ∷ [])) n (omega (arith, one_longer variables o, first))
 
-created_late : (k : Known) (name : Ident) (kind : VariableKind) (value : Option RightForm) → Late k → fits.kind_takes k.types k.variables kind (initial_source value) ≡ true → Late (object_created k name (Some kind) value)
-created_late k name kind value w f =
-    let o : VariableForm = record { name = name.text; kind = kind } in
-    let s = initial_source value in
+-- what a variable is created with fits what it holds, and suits it, a borrower or not
+abbrev pub IsCreatedWith : Known → VariableKind → (borrows : Bool) → RightForm → Type 0
+IsCreatedWith k kind borrows s = (fits.kind_takes k.types k.variables kind s ≡ true) × (fits.lends_to k.variables borrows s ≡ true)
+
+created_late : (k : Known) (name : Ident) (borrows : Bool) (kind : VariableKind) (s : RightForm) → Late k → IsCreatedWith k kind borrows s → Late (variable_created k name borrows kind s)
+created_late k name borrows kind s w f =
+    let o : VariableForm = record { name = name.text; kind = kind; borrows = borrows } in
     let es = k.here.elaborated in
     record {
       collections_first = next_first es (length k.variables) s w.collections_first;
@@ -109,11 +117,16 @@ created_late k name kind value w f =
       initials_fit = all_more (fits.initial_fits k.types (k.variables ++ o ∷ [])) es (declares (length k.variables) s ∷ [])
           (initials_stay k.types k.types k.variables (k.variables ++ o ∷ []) (λ i x is. is) (λ i x is. get_more k.variables o i x is) es w.initials_fit)
           (both_parts (fits.initial_fits k.types (k.variables ++ o ∷ []) (declares (length k.variables) s)) true
+          (both_parts
+          (fits.names_before (length k.variables) s && fits.right_fits k.types (k.variables ++ o ∷ []) (fits.variable_kind (k.variables ++ o ∷ []) (length k.variables)) s)
+          (fits.lends_to (k.variables ++ o ∷ []) (fits.is_borrower (k.variables ++ o ∷ []) (length k.variables)) s)
           (both_parts (fits.names_before (length k.variables) s)
           (fits.right_fits k.types (k.variables ++ o ∷ []) (fits.variable_kind (k.variables ++ o ∷ []) (length k.variables)) s)
-          (source_before k.types k.variables kind s f)
+          (source_before k.types k.variables kind s f.0)
           (rw (kind_last k.variables o) (taken_stays k.types k.types k.variables (k.variables ++ o ∷ []) (λ i x is. is)
-          (λ i x is. get_more k.variables o i x is) kind s f)))
+          (λ i x is. get_more k.variables o i x is) kind s f.0)))
+          (rw (borrows_last k.variables o) (lent_stays k.types k.types k.variables (k.variables ++ o ∷ []) (λ i x is. is)
+          (λ i x is. get_more k.variables o i x is) kind borrows s f.0 f.1)))
           refl);
       one_each = λ a. count_more a es (declares (length k.variables) s ∷ []) ∙ (let h = w.one_each a in omega (arith, h));
       in_order = λ n rest.
@@ -123,32 +136,39 @@ created_late k name kind value w f =
           (rw (one_longer k.variables o, eq-eqb (length k.variables) (length k.variables) refl) refl)));
     }
 
+-- one more variable
+made_order : (k : Known) (name : Ident) (borrows : Bool) (kind : VariableKind) (s : RightForm) → k.here.first_variable ≤ length k.variables → Late k → IsCreatedWith k kind borrows s → InOrder (variable_created k name borrows kind s)
+made_order k name borrows kind s first w f =
+    late (created_late k name borrows kind s w f) (not_none k.variables (record { name = name.text; kind = kind; borrows = borrows }) k.here.first_variable first)
+
 -- the initial value, null where none is written
-initial_value : (types : List TypeForm) (variables : List VariableForm) (kind : VariableKind) (o : Option RightForm) → IsSourceFor types variables kind o → fits.kind_takes types variables kind (initial_source o) ≡ true
-initial_value types variables kind None h = absurd h
-initial_value types variables kind (Some s) h = h
+initial_value : (k : Known) (kind : VariableKind) (o : Option RightForm) → IsSourceFor k.types k.variables kind false o → IsCreatedWith k kind false (initial_source o)
+initial_value k kind None h = absurd h
+initial_value k kind (Some s) h = h
 
-access_initial : (k : Known) (access : TypeNo) (initial : Option RightTree) → PartsFit k.types k.variables (parts k) → Quiet (initial_remark k (Some (variable.Access access)) initial) → fits.kind_takes k.types k.variables (variable.Access access) (initial_source (initial_found k (Some (variable.Access access)) initial)) ≡ true
-access_initial k access None w q = refl
-access_initial k access (Some right) w q = initial_value k.types k.variables (variable.Access access) _ (right_fits k (variable.Access access) right w q)
-
-made_order : (k : Known) (name : Ident) (kind : VariableKind) (initial : Option RightTree) → k.here.first_variable ≤ length k.variables → Late k → fits.kind_takes k.types k.variables kind (initial_source (initial_found k (Some kind) initial)) ≡ true → InOrder (object_created k name (Some kind) (initial_found k (Some kind) initial))
-made_order k name kind initial first w f =
-    late (created_late k name kind (initial_found k (Some kind) initial) w f)
-    (not_none k.variables (record { name = name.text; kind = kind }) k.here.first_variable first)
+access_initial : (k : Known) (access : TypeNo) (initial : Option RightTree) → PartsFit k.types k.variables (parts k) → Quiet (initial_remark k (Some (variable.Access access)) initial) → IsCreatedWith k (variable.Access access) false (initial_source (initial_found k (Some (variable.Access access)) initial))
+access_initial k access None w q = (refl, refl)
+access_initial k access (Some right) w q = initial_value k (variable.Access access) _ (right_fits k (variable.Access access) false right w q)
 
 created_order : (k : Known) (name : Ident) (o : Option Entity) (initial : Option RightTree) → PartsFit k.types k.variables (parts k) → k.here.first_variable ≤ length k.variables → InOrder k → Late k → Quiet (initial_remark k (kind_of o) initial) → Quiet (initial_wanted o name initial) → InOrder (object_created k name (kind_of o) (initial_found k (kind_of o) initial))
 created_order k name None initial p first s w q g = s
 created_order k name (Some entity.Integer) None p first s w q g = absurd g
 created_order k name (Some entity.Boolean) None p first s w q g = absurd g
 created_order k name (Some entity.Integer) (Some right) p first s w q g =
-    made_order k name variable.Integer (Some right) first w (initial_value k.types k.variables variable.Integer _ (right_fits k variable.Integer right p q))
+    made_order k name false variable.Integer _ first w (initial_value k variable.Integer _ (right_fits k variable.Integer false right p q))
 created_order k name (Some entity.Boolean) (Some right) p first s w q g =
-    made_order k name variable.Boolean (Some right) first w (initial_value k.types k.variables variable.Boolean _ (right_fits k variable.Boolean right p q))
+    made_order k name false variable.Boolean _ first w (initial_value k variable.Boolean _ (right_fits k variable.Boolean false right p q))
 created_order k name (Some (entity.Access access)) initial p first s w q g =
-    made_order k name (variable.Access access) initial first w (access_initial k access initial p q)
+    made_order k name false (variable.Access access) _ first w (access_initial k access initial p q)
 created_order k name (Some other) initial p first s w q g = s
 
 -- `X : T := ..;`, where the types have ended
 pub object_order : (k : Known) (name : Ident) (type_name : NameTree) (initial : Option RightTree) → PartsFit k.types k.variables (parts k) → k.here.first_variable ≤ length k.variables → InOrder k → Late k → Quiet (object_remark k name type_name initial) → InOrder (object_known k name type_name initial)
 object_order k name type_name initial p first s w q = created_order k name (object_type_found k type_name) initial p first s w q.1.1.1.0 q.1.1.1.1
+
+-- `B : access T := P;`, where the types have ended
+pub borrower_order : (k : Known) (name designated : Ident) (initial : Option RightTree) → PartsFit k.types k.variables (parts k) → k.here.first_variable ≤ length k.variables → Late k → Quiet (borrower_remark k name designated initial) → InOrder (borrower_known k name initial)
+borrower_order k name designated initial p first w q =
+    let r = lent_of k name designated initial p q in
+    subst InOrder (sym (borrower_is k name designated initial r))
+    (made_order k name true (variable.Access r.access) (value_of r.path) first w (rw (r.typed) (eq-eqb r.access.0 r.access.0 refl), refl))

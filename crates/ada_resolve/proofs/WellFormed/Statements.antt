@@ -1,7 +1,7 @@
 -- A statement with which nothing is wrong has the types that it wants.
 
-use Rattle.std.proofs.Common.{◌≡◌, ℕ, ◌+◌, ◌≤◌, Bool, true, false, List, [], ◌∷◌, ◌++◌, length, length-append, refl, arith, cond, eqb, eq-eqb, eqb-true}
-use Rattle.std.specs.Prelude.{Option, Some, None, is_some}
+use Rattle.std.proofs.Common.{◌≡◌, ℕ, ◌+◌, ◌≤◌, Bool, true, false, List, [], ◌∷◌, ◌++◌, length, length-append, refl, ap, arith, cond, eqb, eq-eqb, eqb-true}
+use Rattle.std.specs.Prelude.{◌&&◌, not, Option, Some, None, is_some}
 use Rattle.std.proofs.lemmas.Bool.{lt-ltb}
 use Rattle.ada_text.specs.declared.spot.Spot.{Spot}
 use Rattle.ada_program.specs.declared.program.VariableKind.{VariableKind}
@@ -13,13 +13,14 @@ use Rattle.ada_tree.specs.Names.{Ident, PathTree}
 use Rattle.ada_tree.specs.Expressions.{ExpressionTree, path_expression, RightTree, ArgumentTree, expression_argument, text_argument, attribute_argument}
 use Rattle.ada_tree.specs.Statements.{StatementTree, null_statement, assignment, call, exit_statement, return_statement, raise_statement}
 use Rattle.ada_program.specs.WellFormed as fits
+use Rattle.ada_program.specs.WellFormed.{names_borrower}
 use Rattle.ada_resolve.specs.declared.fault.NameRule.TheVariants.{WrongType, NotInProfile}
 use Rattle.ada_resolve.specs.declared.library.LibraryName.{LibraryName}
 use Rattle.ada_resolve.specs.declared.library.LibraryName.TheVariants.{PutLine, Get}
 use Rattle.ada_resolve.specs.declared.scope.Entity.{Entity}
 use Rattle.ada_resolve.specs.declared.scope.Entity.TheVariants as entity
 use Rattle.ada_resolve.specs.Arguments.{image_value_remark}
-use Rattle.ada_resolve.specs.Assignments.{target_found, kind_of_target, assignment_remark, assignment_of, assignment_found}
+use Rattle.ada_resolve.specs.Assignments.{target_found, kind_of_target, target_borrows, assignment_remark, assignment_of, assignment_found}
 use Rattle.ada_resolve.specs.Lines.{line_remark, line_found, put_line_remark, put_line_found}
 use Rattle.ada_resolve.specs.Calls.{freed_wanted, actual_wanted, actual_remark, freeing, getting, taking, actual_found, taker_remark, taker_found, library_call_remark, library_call_found, own_call_remark, own_call_found}
 use Rattle.ada_resolve.specs.declared.calls.Callee.{Callee}
@@ -34,7 +35,7 @@ use Rattle.ada_resolve.specs.Rights.{right_found, right_remark}
 use Rattle.ada_resolve.specs.Remark.{Remark, ◌also◌}
 use Rattle.ada_resolve.specs.Spots.{expression_spot}
 use Rattle.ada_resolve.specs.Statements.{bound_remark, bound_meant, condition_remark, condition_meant, optional_condition_remark, optional_condition_meant, exit_remark, exit_found, statement_remark, statement_found, text_in, simple_texts, form_or_null, statement_meant}
-use Rattle.ada_resolve.proofs.WellFormed.Remarks.{Quiet, quiet_unless}
+use Rattle.ada_resolve.proofs.WellFormed.Remarks.{Quiet, quiet_if, quiet_unless}
 use Rattle.ada_resolve.proofs.WellFormed.Names.{EntityFits, PartsFit, visible_fits}
 use Rattle.ada_resolve.proofs.WellFormed.Exceptions.{PartsRaised, FoundIs, found_is}
 use Rattle.ada_resolve.proofs.WellFormed.Tables.{both_parts}
@@ -48,13 +49,17 @@ FormFits k texts inside None = Unit {0}
 FormFits k texts inside (Some f) = (fits.statement_fits k.types k.variables texts k.exceptions inside f ≡ true) × (fits.created_by f ≡ [])
 
 -- `X := ..;`
-value_fits : (k : Known) (texts : List (List ℕ)) (inside : Bool) (found : PathForm × VariableKind) (s : Option RightForm) → IsTargetIn k.types k.variables (Some found) → IsSourceFor k.types k.variables found.1 s → FormFits k texts inside (assignment_of (Some found) s)
+value_fits : (k : Known) (texts : List (List ℕ)) (inside : Bool) (found : PathForm × VariableKind) (s : Option RightForm) → IsTargetIn k.types k.variables (Some found) → IsSourceFor k.types k.variables found.1 (names_borrower k.variables found.0) s → FormFits k texts inside (assignment_of (Some found) s)
 value_fits k texts inside found None h f = tt
-value_fits k texts inside found (Some s) h f = (rw h f, refl)
+value_fits k texts inside found (Some s) h f = (
+  both_parts (fits.right_fits k.types k.variables (fits.path_kind k.types k.variables found.0) s) (fits.lends_to k.variables (names_borrower k.variables found.0) s)
+      (rw h f.0) f.1,
+  refl,
+)
 
-assigned_fits : (k : Known) (texts : List (List ℕ)) (inside : Bool) (o : Option (PathForm × VariableKind)) (value : RightTree) → PartsFit k.types k.variables (parts k) → IsTargetIn k.types k.variables o → Quiet (right_remark k (kind_of_target o) value) → FormFits k texts inside (assignment_of o (right_found k (kind_of_target o) value))
+assigned_fits : (k : Known) (texts : List (List ℕ)) (inside : Bool) (o : Option (PathForm × VariableKind)) (value : RightTree) → PartsFit k.types k.variables (parts k) → IsTargetIn k.types k.variables o → Quiet (right_remark k (kind_of_target o) (target_borrows k.variables o) value) → FormFits k texts inside (assignment_of o (right_found k (kind_of_target o) value))
 assigned_fits k texts inside None value w h q = tt
-assigned_fits k texts inside (Some found) value w h q = value_fits k texts inside found (right_found k (Some found.1) value) h (right_fits k found.1 value w q)
+assigned_fits k texts inside (Some found) value w h q = value_fits k texts inside found (right_found k (Some found.1) value) h (right_fits k found.1 (names_borrower k.variables found.0) value w q)
 
 assignment_fits : (k : Known) (texts : List (List ℕ)) (inside : Bool) (target : PathTree) (value : RightTree) → PartsFit k.types k.variables (parts k) → Quiet (assignment_remark k target value) → FormFits k texts inside (assignment_found k target value)
 unfolding assignment_remark assignment_found
@@ -65,11 +70,13 @@ freed_of : (d : Option ℕ) → is_some d ≡ true → fits.same_record d d ≡ 
 freed_of None e = absurd (cc e)
 freed_of (Some t) e = eq-eqb t t refl
 
-freeing_fits : (k : Known) (texts : List (List ℕ)) (inside : Bool) (access : TypeNo) (m : Meant) (spot : Spot) → fits.is_access k.types access.0 ≡ true → MeantFits k.types k.variables m → Quiet (freed_wanted access m spot) → FormFits k texts inside (freeing access m)
+freeing_fits : (k : Known) (texts : List (List ℕ)) (inside : Bool) (access : TypeNo) (m : Meant) (spot : Spot) → fits.is_access k.types access.0 ≡ true → MeantFits k.types k.variables m → Quiet (freed_wanted k.variables access m spot) → FormFits k texts inside (freeing access m)
 freeing_fits k texts inside access (access_value path t) spot a h q =
     let same : t.0 ≡ access.0 = eqb-true t.0 access.0 (quiet_unless (eqb t.0 access.0) spot WrongType q.0) in (
-      both_parts (fits.names_variable path) (fits.is_freed_by k.types access.0 (fits.path_access k.types k.variables path)) (quiet_unless (fits.names_variable path) spot NotInProfile q.1)
-          (rw (h, same) (freed_of (fits.designated_type k.types access.0) a)),
+      both_parts (fits.names_variable path && fits.is_freed_by k.types access.0 (fits.path_access k.types k.variables path)) (not (names_borrower k.variables path))
+          (both_parts (fits.names_variable path) (fits.is_freed_by k.types access.0 (fits.path_access k.types k.variables path)) (quiet_unless (fits.names_variable path) spot NotInProfile q.1.0)
+          (rw (h, same) (freed_of (fits.designated_type k.types access.0) a)))
+          (ap (λ (b : Bool). not b) (quiet_if (names_borrower k.variables path) spot WrongType q.1.1)),
       refl,
     )
 freeing_fits k texts inside access m spot a h q = tt
@@ -84,7 +91,7 @@ abbrev Takes : Known → Callee → Type 0
 Takes k (callee.Free access) = fits.is_access k.types access.0 ≡ true
 Takes k callee.Get = Unit {0}
 
-taking_fits : (k : Known) (texts : List (List ℕ)) (inside : Bool) (taker : Callee) (m : Meant) (spot : Spot) → Takes k taker → MeantFits k.types k.variables m → Quiet (actual_wanted taker m spot) → FormFits k texts inside (taking taker m)
+taking_fits : (k : Known) (texts : List (List ℕ)) (inside : Bool) (taker : Callee) (m : Meant) (spot : Spot) → Takes k taker → MeantFits k.types k.variables m → Quiet (actual_wanted k.variables taker m spot) → FormFits k texts inside (taking taker m)
 taking_fits k texts inside (callee.Free access) m spot a h q = freeing_fits k texts inside access m spot a h q
 taking_fits k texts inside callee.Get m spot a h q = getting_fits k texts inside m h
 

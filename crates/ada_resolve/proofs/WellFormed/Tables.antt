@@ -1,13 +1,13 @@
 -- What stays of types and objects as more of them are declared.
 
 use Rattle.std.proofs.Common.{◌≡◌, ℕ, ◌<◌, Bool, true, false, ◌&&◌, ◌||◌, List, [], ◌∷◌, ◌++◌, length, refl, zero, suc, sym, ap, eqb, eq-eqb, arith}
-use Rattle.std.specs.Prelude.{Option, Some, None, is_some}
+use Rattle.std.specs.Prelude.{Option, Some, None, is_some, not}
 use Rattle.std.specs.List.{list_all, slice_get, slice_set}
 use Rattle.ada_program.specs.declared.program.ComponentKind.{ComponentKind}
 use Rattle.ada_program.specs.declared.program.ComponentKind.TheVariants as kind
 use Rattle.ada_program.specs.declared.program.VariableKind.{VariableKind}
 use Rattle.ada_program.specs.declared.program.VariableKind.TheVariants as variable
-use Rattle.ada_program.specs.ProgramForm.{ComponentForm, TypeForm, record_of, access_to}
+use Rattle.ada_program.specs.ProgramForm.{ComponentForm, TypeForm, record_of, access_to, VariableForm}
 use Rattle.ada_program.specs.WellFormed as fits
 use Rattle.ada_resolve.specs.Types.{is_designated}
 
@@ -78,6 +78,13 @@ pub object_kind_kept : (types more : List TypeForm) → Keeps types more → (k 
 object_kind_kept types more w variable.Integer e = refl
 object_kind_kept types more w variable.Boolean e = refl
 object_kind_kept types more w (variable.Access t) e = w t.0 e
+
+pub variable_kept : (types more : List TypeForm) → Keeps types more → (v : VariableForm) → fits.variable_fits types v ≡ true → fits.variable_fits more v ≡ true
+variable_kept types more w v e =
+    let borrowed = not v.borrows || fits.is_access_kind v.kind in
+    both_parts (fits.variable_kind_fits more v.kind) borrowed
+    (object_kind_kept types more w v.kind (first_part (fits.variable_kind_fits types v.kind) borrowed e))
+    (second_part (fits.variable_kind_fits types v.kind) borrowed e)
 
 pub components_kept : (types more : List TypeForm) → Keeps types more → (cs : List ComponentForm) → list_all (fits.component_fits types) cs ≡ true → list_all (fits.component_fits more) cs ≡ true
 components_kept types more w cs e = all_weaker (fits.component_fits types) (fits.component_fits more) (λ c. kind_kept types more w c.kind) cs e

@@ -1,7 +1,7 @@
 -- What is assigned where nothing is wrong is of the type of its object.
 
 use Rattle.std.proofs.Common.{◌≡◌, ℕ, Bool, true, false, List, map, refl, sym, cond, ap, eqb, eq-eqb, eqb-true}
-use Rattle.std.specs.Prelude.{Option, Some, None}
+use Rattle.std.specs.Prelude.{◌||◌, not, Option, Some, None}
 use Rattle.std.specs.List.{slice_get}
 use Rattle.ada_text.specs.declared.spot.Spot.{Spot}
 use Rattle.ada_program.specs.declared.program.VariableKind.{VariableKind}
@@ -23,15 +23,15 @@ use Rattle.ada_resolve.specs.Items.{items_remark, first_filling, names_component
 use Rattle.ada_resolve.specs.Allocators.{allocated_wanted, allocated_remark, complete_in, allocated_found, filled_components, aggregate_remark, allocation, aggregate_found, is_in_use, allocator_remark, allocator_found}
 use Rattle.ada_resolve.specs.Expressions.{expression_meant}
 use Rattle.ada_resolve.specs.Assignments.{component_target, target_wanted, target_found, target_remark, variable_target, variable_wanted}
-use Rattle.ada_resolve.specs.Rights.{assigned_wanted, assigned, right_remark, right_found}
+use Rattle.ada_resolve.specs.Rights.{assigned_wanted, assigned, lent_wanted, right_remark, right_found}
 use Rattle.ada_resolve.specs.Remark.{wrong, ◌also◌}
 use Rattle.ada_resolve.specs.Spots.{expression_spot}
-use Rattle.ada_resolve.proofs.WellFormed.Remarks.{Quiet, quiet_unless}
+use Rattle.ada_resolve.proofs.WellFormed.Remarks.{Quiet, quiet_if, quiet_unless}
 use Rattle.ada_resolve.proofs.WellFormed.Tables.{both_parts}
 use Rattle.ada_resolve.proofs.WellFormed.Names.{EntityFits, PartsFit, visible_fits, kind_there}
 use Rattle.ada_resolve.proofs.WellFormed.Typing.{is_of_type}
 use Rattle.ada_resolve.proofs.WellFormed.Meanings.{MeantFits, path_fits, expression_fits}
-use Rattle.ada_resolve.proofs.WellFormed.Items.{items_fit}
+use Rattle.ada_resolve.proofs.WellFormed.Items.{items_fit, items_own}
 
 -- what is assigned to is there, with what it holds
 abbrev pub IsTargetIn : List TypeForm → List VariableForm → Option (PathForm × VariableKind) → Type 0
@@ -72,21 +72,26 @@ found_target k target w q = target_by (is_empty target.selectors) q
     target_by true q = variable_named k.types k.variables target.root.text target.root.spot (visible k target.root.text) (visible_fits k w target.root.text)
     target_by false q = component_fits k.types k.variables (path_meant k target) (path_fits k target w q.0)
 
--- what is assigned is known, and fits what the object holds
-abbrev pub IsSourceFor : List TypeForm → List VariableForm → VariableKind → Option RightForm → Type 0
-IsSourceFor types variables kind None = ⊥
-IsSourceFor types variables kind (Some s) = fits.kind_takes types variables kind s ≡ true
+-- what is assigned is known, fits what the object holds, and suits it, a borrower or not
+abbrev pub IsSourceFor : List TypeForm → List VariableForm → VariableKind → (borrows : Bool) → Option RightForm → Type 0
+IsSourceFor types variables kind borrows None = ⊥
+IsSourceFor types variables kind borrows (Some s) = (fits.kind_takes types variables kind s ≡ true) × (fits.lends_to variables borrows s ≡ true)
+
+-- no borrower is assigned but to a borrower
+lent_fits : (variables : List VariableForm) (kind : VariableKind) (borrows : Bool) (path : PathForm) (t : TypeNo) (spot : Spot) → Quiet (lent_wanted variables (Some kind) borrows (access_value path t) spot) → (borrows || not (fits.names_borrower variables path)) ≡ true
+lent_fits variables kind true path t spot q = refl
+lent_fits variables kind false path t spot q = ap (λ (b : Bool). not b) (quiet_if (fits.names_borrower variables path) spot WrongType q)
 
 -- the value of an expression
-assigned_fits : (types : List TypeForm) (variables : List VariableForm) (kind : VariableKind) (m : Meant) (spot : Spot) → MeantFits types variables m → Quiet (assigned_wanted (Some kind) m spot) → IsSourceFor types variables kind (assigned m)
-assigned_fits types variables variable.Integer (integer_value e) spot f q = is_of_type Integer (fits.type_of types variables e) f
-assigned_fits types variables variable.Boolean (boolean_value e) spot f q = is_of_type Boolean (fits.type_of types variables e) f
-assigned_fits types variables (variable.Access access) null_value spot f q = refl
-assigned_fits types variables (variable.Access access) (access_value path t) spot f q =
+assigned_fits : (types : List TypeForm) (variables : List VariableForm) (kind : VariableKind) (borrows : Bool) (m : Meant) (spot : Spot) → MeantFits types variables m → Quiet (assigned_wanted (Some kind) m spot) → Quiet (lent_wanted variables (Some kind) borrows m spot) → IsSourceFor types variables kind borrows (assigned m)
+assigned_fits types variables variable.Integer borrows (integer_value e) spot f q r = (is_of_type Integer (fits.type_of types variables e) f, refl)
+assigned_fits types variables variable.Boolean borrows (boolean_value e) spot f q r = (is_of_type Boolean (fits.type_of types variables e) f, refl)
+assigned_fits types variables (variable.Access access) borrows null_value spot f q r = (refl, refl)
+assigned_fits types variables (variable.Access access) borrows (access_value path t) spot f q r =
     let same : access.0 ≡ t.0 = eqb-true access.0 t.0 (quiet_unless (eqb access.0 t.0) spot WrongType q) in
-    rw f (eq-eqb t.0 access.0 (sym same))
-assigned_fits types variables kind unknown spot f q = absurd f
-assigned_fits types variables kind m spot f q = absurd q
+    (rw f (eq-eqb t.0 access.0 (sym same)), lent_fits variables (variable.Access access) borrows path t spot r)
+assigned_fits types variables kind borrows unknown spot f q r = absurd f
+assigned_fits types variables kind borrows m spot f q r = absurd q
 
 -- what an access type designates
 designated_is : (o : Option TypeForm) (r : ℕ) → is_access_to o r ≡ true → fits.designated_in o ≡ Some r
@@ -106,38 +111,41 @@ reached_is : (types : List TypeForm) (access t : ℕ) (name : List ℕ) (cs : Li
 reached_is types access t name cs d e = rw d (rw e refl)
 
 -- a new object
-filled_one : (k : Known) (text : List ℕ) (e : Entity) (access : TypeNo) (spot end_spot : Spot) (name : Ident) (items : ItemsTree) → PartsFit k.types k.variables (parts k) → EntityFits k.types k.variables text e → Quiet (allocated_wanted (Some e) k.types (Some access) spot name) → Quiet (items_remark k (filled_components k (complete_in (Some e))) (names_component items) (first_filling (filled_components k (complete_in (Some e)))) items) → Quiet (count_remark (names_component items) (filling_of k (filled_components k (complete_in (Some e))) items) end_spot) → IsSourceFor k.types k.variables (variable.Access access) (allocation k (Some access) (complete_in (Some e)) items)
+filled_one : (k : Known) (text : List ℕ) (e : Entity) (access : TypeNo) (spot end_spot : Spot) (name : Ident) (items : ItemsTree) → PartsFit k.types k.variables (parts k) → EntityFits k.types k.variables text e → Quiet (allocated_wanted (Some e) k.types (Some access) spot name) → Quiet (items_remark k (filled_components k (complete_in (Some e))) (names_component items) (first_filling (filled_components k (complete_in (Some e)))) items) → Quiet (count_remark (names_component items) (filling_of k (filled_components k (complete_in (Some e))) items) end_spot) → IsSourceFor k.types k.variables (variable.Access access) false (allocation k (Some access) (complete_in (Some e)) items)
 filled_one k text (entity.Record t) access spot end_spot name items w f q i c =
     let d : fits.designated_type k.types access.0 ≡ Some t.0 = access_designates k.types access.0 t.0 (quiet_unless (designates k.types access.0 t.0) spot WrongType q) in
     let whole : components_of k.types t.0 ≡ f.0 = components_are k.types t.0 text f.0 f.1 in
     let reached : fits.reached_components k.types access.0 ≡ Some f.0 = reached_is k.types access.0 t.0 text f.0 d f.1 in
-    let made = map item_or_null (filling_of k (Some (components_of k.types t.0)) items).slots in
-    both_parts (eqb access.0 access.0) (fits.is_filled k.types k.variables (fits.reached_components k.types access.0) made) (eq-eqb access.0 access.0 refl)
-    (rw (reached, sym whole) (items_fit k (components_of k.types t.0) items end_spot w i c))
+    let made = map item_or_null (filling_of k (Some (components_of k.types t.0)) items).slots in (
+      both_parts (eqb access.0 access.0) (fits.is_filled k.types k.variables (fits.reached_components k.types access.0) made) (eq-eqb access.0 access.0 refl)
+          (rw (reached, sym whole) (items_fit k (components_of k.types t.0) items end_spot w i c)),
+      items_own k (components_of k.types t.0) items w i,
+    )
 filled_one k text e access spot end_spot name items w f q i c = absurd q
 
-filled_named : (k : Known) (text : List ℕ) (o : Option Entity) (access : TypeNo) (spot end_spot : Spot) (name : Ident) (items : ItemsTree) → PartsFit k.types k.variables (parts k) → ((e : Entity) → o ≡ Some e → EntityFits k.types k.variables text e) → Quiet (allocated_wanted o k.types (Some access) spot name) → Quiet (items_remark k (filled_components k (complete_in o)) (names_component items) (first_filling (filled_components k (complete_in o))) items) → Quiet (count_remark (names_component items) (filling_of k (filled_components k (complete_in o)) items) end_spot) → IsSourceFor k.types k.variables (variable.Access access) (allocation k (Some access) (complete_in o) items)
+filled_named : (k : Known) (text : List ℕ) (o : Option Entity) (access : TypeNo) (spot end_spot : Spot) (name : Ident) (items : ItemsTree) → PartsFit k.types k.variables (parts k) → ((e : Entity) → o ≡ Some e → EntityFits k.types k.variables text e) → Quiet (allocated_wanted o k.types (Some access) spot name) → Quiet (items_remark k (filled_components k (complete_in o)) (names_component items) (first_filling (filled_components k (complete_in o))) items) → Quiet (count_remark (names_component items) (filling_of k (filled_components k (complete_in o)) items) end_spot) → IsSourceFor k.types k.variables (variable.Access access) false (allocation k (Some access) (complete_in o) items)
 filled_named k text (Some e) access spot end_spot name items w v q i c = filled_one k text e access spot end_spot name items w (v e refl) q i c
 filled_named k text None access spot end_spot name items w v q i c = absurd q
 
-aggregate_fits : (k : Known) (access : TypeNo) (spot : Spot) (type_name : Ident) (items : ItemsTree) → PartsFit k.types k.variables (parts k) → Quiet (aggregate_remark k (Some access) spot type_name items) → IsSourceFor k.types k.variables (variable.Access access) (aggregate_found k (Some access) type_name items)
+aggregate_fits : (k : Known) (access : TypeNo) (spot : Spot) (type_name : Ident) (items : ItemsTree) → PartsFit k.types k.variables (parts k) → Quiet (aggregate_remark k (Some access) spot type_name items) → IsSourceFor k.types k.variables (variable.Access access) false (aggregate_found k (Some access) type_name items)
 unfolding aggregate_remark aggregate_found allocated_remark allocated_found
 aggregate_fits k access spot type_name items w q =
     filled_named k type_name.text (visible k type_name.text) access spot type_name.spot type_name items w (visible_fits k w type_name.text) q.0 q.1.0 q.1.1
 
-allocator_by : (k : Known) (access : TypeNo) (spot : Spot) (type_name : Ident) (items : ItemsTree) (b : Bool) → PartsFit k.types k.variables (parts k) → Quiet (cond b (aggregate_remark k (Some access) spot type_name items) (wrong spot NotInProfile)) → IsSourceFor k.types k.variables (variable.Access access) (cond b (aggregate_found k (Some access) type_name items) None)
+allocator_by : (k : Known) (access : TypeNo) (spot : Spot) (type_name : Ident) (items : ItemsTree) (b : Bool) → PartsFit k.types k.variables (parts k) → Quiet (cond b (aggregate_remark k (Some access) spot type_name items) (wrong spot NotInProfile)) → IsSourceFor k.types k.variables (variable.Access access) false (cond b (aggregate_found k (Some access) type_name items) None)
 allocator_by k access spot type_name items true w q = aggregate_fits k access spot type_name items w q
 allocator_by k access spot type_name items false w q = absurd q
 
-allocator_fits : (k : Known) (access : TypeNo) (spot : Spot) (handle : Option Ident) (type_name : Ident) (items : ItemsTree) → PartsFit k.types k.variables (parts k) → Quiet (allocator_remark k (Some access) spot handle type_name items) → IsSourceFor k.types k.variables (variable.Access access) (allocator_found k (Some access) handle type_name items)
+allocator_fits : (k : Known) (access : TypeNo) (spot : Spot) (handle : Option Ident) (type_name : Ident) (items : ItemsTree) → PartsFit k.types k.variables (parts k) → Quiet (allocator_remark k (Some access) spot handle type_name items) → IsSourceFor k.types k.variables (variable.Access access) false (allocator_found k (Some access) handle type_name items)
 unfolding allocator_remark allocator_found
 allocator_fits k access spot handle type_name items w q = allocator_by k access spot type_name items (is_in_use handle items) w q
 
 -- what is assigned to an object that holds this
-pub right_fits : (k : Known) (kind : VariableKind) (right : RightTree) → PartsFit k.types k.variables (parts k) → Quiet (right_remark k (Some kind) right) → IsSourceFor k.types k.variables kind (right_found k (Some kind) right)
-right_fits k kind (expression_right e) w q =
-    assigned_fits k.types k.variables kind (expression_meant k e) (expression_spot e) (expression_fits k e w q.0) q.1
-right_fits k (variable.Access access) (allocator_right spot handle type_name items) w q = allocator_fits k access spot handle type_name items w q.1
-right_fits k variable.Integer (allocator_right spot handle type_name items) w q = absurd q.0
-right_fits k variable.Boolean (allocator_right spot handle type_name items) w q = absurd q.0
-right_fits k kind (creation_right function argument) w q = absurd q
+pub right_fits : (k : Known) (kind : VariableKind) (borrows : Bool) (right : RightTree) → PartsFit k.types k.variables (parts k) → Quiet (right_remark k (Some kind) borrows right) → IsSourceFor k.types k.variables kind borrows (right_found k (Some kind) right)
+right_fits k kind borrows (expression_right e) w q =
+    assigned_fits k.types k.variables kind borrows (expression_meant k e) (expression_spot e) (expression_fits k e w q.0) q.1.0 q.1.1
+right_fits k (variable.Access access) false (allocator_right spot handle type_name items) w q = allocator_fits k access spot handle type_name items w q.1.1
+right_fits k (variable.Access access) true (allocator_right spot handle type_name items) w q = absurd q.1.0
+right_fits k variable.Integer borrows (allocator_right spot handle type_name items) w q = absurd q.0
+right_fits k variable.Boolean borrows (allocator_right spot handle type_name items) w q = absurd q.0
+right_fits k kind borrows (creation_right function argument) w q = absurd q
