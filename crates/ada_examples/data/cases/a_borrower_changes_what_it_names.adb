@@ -1,0 +1,11 @@
+with Ada.Text_IO; with Ada.Unchecked_Deallocation;
+procedure Main is
+type Node; type Link is access Node;
+type Node is record Value : Integer := 0; Next : Link; end record;
+procedure Free is new Ada.Unchecked_Deallocation (Node, Link);
+A : Link := new Node'(1, null);
+B : access Node := A;
+begin
+B.Value := B.Value + 4; B.Next := new Node'(B.Value * 2, null);
+Ada.Text_IO.Put_Line (Integer'Image (A.Value)); Ada.Text_IO.Put_Line (Integer'Image (A.Next.Value));
+end Main;

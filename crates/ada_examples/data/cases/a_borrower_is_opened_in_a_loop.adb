@@ -1,0 +1,12 @@
+with Ada.Text_IO; with Ada.Unchecked_Deallocation;
+procedure Main is
+type Node; type Link is access Node;
+type Node is record Value : Integer := 0; Next : Link; end record;
+procedure Free is new Ada.Unchecked_Deallocation (Node, Link);
+A : Link := new Node'(1, null); O : Link; B : access Node := O; N : Integer := 0;
+begin
+while N < 2 loop
+if B /= null then Ada.Text_IO.Put_Line (Integer'Image (B.Value)); end if;
+N := N + 1; B := A;
+end loop;
+end Main;

@@ -1,0 +1,8 @@
+with Ada.Text_IO; with Ada.Unchecked_Deallocation;
+procedure Main is
+type Node; type Link is access Node;
+type Node is record Value : Integer := 0; Next : Link; end record;
+type Cell is record Value : Integer := 0; end record;
+procedure Free is new Ada.Unchecked_Deallocation (Node, Link);
+A : Link; B : access Cell := A;
+begin null; end Main;

@@ -1,0 +1,12 @@
+with Ada.Text_IO; with Ada.Unchecked_Deallocation;
+procedure Main is
+type Node; type Link is access Node;
+type Node is record Value : Integer := 0; Next : Link; end record;
+procedure Free is new Ada.Unchecked_Deallocation (Node, Link);
+A : Link := new Node'(1, null); T : Link; N : Integer := 1;
+B : access Node := A;
+begin
+while N < 4 loop N := N + 1; T := new Node'(N, A); A := T; T := null; end loop;
+B := A;
+while B /= null loop Ada.Text_IO.Put_Line (Integer'Image (B.Value)); B := B.Next; end loop;
+end Main;
