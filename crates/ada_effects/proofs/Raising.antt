@@ -71,7 +71,7 @@ mutual
       let follows = path_raises target.selectors in
       either (p ConstraintError && follows) (right_raises p right) (q ConstraintError && follows) (right_raises q right)
       (checked p q w follows) (right_stays p q w right) h
-  stmt_stays (frees access variable) p q w h = cc
+  stmt_stays (frees access path) p q w h = checked p q w (path_raises path.selectors) h
   stmt_stays (gets target) p q w h =
       let follows = path_raises target.selectors in
       either (p EndError) (p ConstraintError && follows) (q EndError) (q ConstraintError && follows) (w EndError) (checked p q w follows) h
@@ -164,7 +164,7 @@ mutual
   stmt_has_one (assigns target right) p h =
       one_of p (λ r. r ConstraintError && path_raises target.selectors) (λ r. right_raises r right)
       (one_checked p (path_raises target.selectors)) (right_has_one p right) h
-  stmt_has_one (frees access variable) p h = cc
+  stmt_has_one (frees access path) p h = one_checked p (path_raises path.selectors) h
   stmt_has_one (gets target) p h =
       one_of p (λ r. r EndError) (λ r. r ConstraintError && path_raises target.selectors)
       (itself p EndError) (one_checked p (path_raises target.selectors)) h

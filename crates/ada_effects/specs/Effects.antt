@@ -91,7 +91,7 @@ abbrev mutual
   pub stmt_raises : (Exception → Bool) → StmtForm → Bool
   stmt_raises among skips = false
   stmt_raises among (assigns target right) = (among ConstraintError && path_raises target.selectors) || right_raises among right
-  stmt_raises among (frees access variable) = false
+  stmt_raises among (frees access path) = among ConstraintError && path_raises path.selectors
   stmt_raises among (gets target) = among EndError || (among ConstraintError && path_raises target.selectors)
   stmt_raises among (writes e) = among ConstraintError && expression_raises e
   stmt_raises among (writes_text text) = false

@@ -85,7 +85,8 @@ fn stmt_raises(alloc: Global, statement: &Stmt, taken: &mut Taken) -> Result<boo
     ensures kept { OnOk result (set_of taken.new ≡ set_of taken.old) }
 {
     match statement {
-        Stmt::Null | Stmt::Free { .. } | Stmt::PutText(_) | Stmt::Return(_) => Ok(false),
+        Stmt::Null | Stmt::PutText(_) | Stmt::Return(_) => Ok(false),
+        Stmt::Free { access: _, path } => Ok(constraint_error_leaves(taken) && path_raises(path)),
         Stmt::Assign { target, value } => {
             Ok(constraint_error_leaves(taken) && path_raises(target) || right_raises(value, taken))
         }

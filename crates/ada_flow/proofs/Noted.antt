@@ -12,7 +12,7 @@ use Rattle.ada_flow.specs.Flow.{Holds, Outcome, faults, goes, Around, begins_pai
 use Rattle.ada_flow.specs.Told.{Noted, unwanted, wanted, also_noted, noted_behind, emptied, ending, end_handled, joined_end, judgement, noted_for}
 use Rattle.ada_flow.proofs.Joined.{join_option_of_three, join_option_none}
 use Rattle.ada_program.specs.Form.{StmtForm, StmtsForm, a_stmt, BranchesForm, a_branch, ExpressionForm, HandlersForm, no_handlers, a_handler, DeclarationForm, encloses, handlers_form}
-use Rattle.ada_program.specs.ProgramForm.{VariableForm}
+use Rattle.ada_program.specs.ProgramForm.{TypeForm, VariableForm}
 
 -- how a form ends, as data
 abbrev pub End : Type 0
@@ -74,71 +74,71 @@ joined_to_none (Err breach) = refl
 joined_to_none (Ok end) = refl
 
 -- statements end as the first, or else as the others
-pub statements_end : (n : Noted) (variables : List VariableForm) (around : Around) (f : StmtForm) (fs : StmtsForm) (holds : Holds) →
-    ending n (stmts_flow variables around (a_stmt f fs) holds) ≡ then_end (ending n (stmt_flow variables around (begins_pair f fs) f holds)) (stmts_flow variables around fs)
-statements_end n variables around f fs holds = then_ends n (stmt_flow variables around (begins_pair f fs) f holds) (stmts_flow variables around fs)
+pub statements_end : (n : Noted) (types : List TypeForm) (variables : List VariableForm) (around : Around) (f : StmtForm) (fs : StmtsForm) (holds : Holds) →
+    ending n (stmts_flow types variables around (a_stmt f fs) holds) ≡ then_end (ending n (stmt_flow types variables around (begins_pair f fs) f holds)) (stmts_flow types variables around fs)
+statements_end n types variables around f fs holds = then_ends n (stmt_flow types variables around (begins_pair f fs) f holds) (stmts_flow types variables around fs)
 
 -- an `if` ends as its first branch behind its condition, joined with the others
-abbrev pub branch_end : (so_far : Option Holds) (variables : List VariableForm) (around : Around) → StmtsForm → BranchesForm → End → End
-branch_end so_far variables around fs branches (Err breach) = Err breach
-branch_end so_far variables around fs branches (Ok end) =
-    joined_end so_far (end_on end.0 end.1 (λ hs. either_of (stmts_flow variables around fs hs) (branches_flow variables around branches hs)))
+abbrev pub branch_end : (so_far : Option Holds) (types : List TypeForm) (variables : List VariableForm) (around : Around) → StmtsForm → BranchesForm → End → End
+branch_end so_far types variables around fs branches (Err breach) = Err breach
+branch_end so_far types variables around fs branches (Ok end) =
+    joined_end so_far (end_on end.0 end.1 (λ hs. either_of (stmts_flow types variables around fs hs) (branches_flow types variables around branches hs)))
 
-pub branches_end : (so_far : Option Holds) (n m k : Noted) (variables : List VariableForm) (around : Around) (e : ExpressionForm) (fs : StmtsForm) (branches : BranchesForm) (holds : Holds) (end : Option Holds) →
-    ending n (computed e holds) ≡ Ok (Some holds, m) → ending m (stmts_flow variables around fs holds) ≡ Ok (end, k) →
-    joined_end so_far (ending n (branches_flow variables around (a_branch e fs branches) holds))
-    ≡ joined_end (join_option so_far end) (ending k (branches_flow variables around branches holds))
-branches_end so_far n m k variables around e fs branches holds end computes ends =
-    ap (joined_end so_far) (then_ends n (computed e holds) (λ hs. either_of (stmts_flow variables around fs hs) (branches_flow variables around branches hs))
-    ∙ ap (λ o. then_end o (λ hs. either_of (stmts_flow variables around fs hs) (branches_flow variables around branches hs))) computes
-    ∙ either_ends m (stmts_flow variables around fs holds) (branches_flow variables around branches holds)
-    ∙ ap (λ o. either_end o (λ x. ending x (branches_flow variables around branches holds))) ends)
-    ∙ sym (joined_twice so_far end (ending k (branches_flow variables around branches holds)))
+pub branches_end : (so_far : Option Holds) (n m k : Noted) (types : List TypeForm) (variables : List VariableForm) (around : Around) (e : ExpressionForm) (fs : StmtsForm) (branches : BranchesForm) (holds : Holds) (end : Option Holds) →
+    ending n (computed e holds) ≡ Ok (Some holds, m) → ending m (stmts_flow types variables around fs holds) ≡ Ok (end, k) →
+    joined_end so_far (ending n (branches_flow types variables around (a_branch e fs branches) holds))
+    ≡ joined_end (join_option so_far end) (ending k (branches_flow types variables around branches holds))
+branches_end so_far n m k types variables around e fs branches holds end computes ends =
+    ap (joined_end so_far) (then_ends n (computed e holds) (λ hs. either_of (stmts_flow types variables around fs hs) (branches_flow types variables around branches hs))
+    ∙ ap (λ o. then_end o (λ hs. either_of (stmts_flow types variables around fs hs) (branches_flow types variables around branches hs))) computes
+    ∙ either_ends m (stmts_flow types variables around fs holds) (branches_flow types variables around branches holds)
+    ∙ ap (λ o. either_end o (λ x. ending x (branches_flow types variables around branches holds))) ends)
+    ∙ sym (joined_twice so_far end (ending k (branches_flow types variables around branches holds)))
 
-pub branches_break : (so_far : Option Holds) (n m : Noted) (variables : List VariableForm) (around : Around) (e : ExpressionForm) (fs : StmtsForm) (branches : BranchesForm) (holds : Holds) (breach : Spot × Rule) →
-    ending n (computed e holds) ≡ Ok (Some holds, m) → ending m (stmts_flow variables around fs holds) ≡ Err breach →
-    joined_end so_far (ending n (branches_flow variables around (a_branch e fs branches) holds)) ≡ Err breach
-branches_break so_far n m variables around e fs branches holds breach computes breaks =
-    ap (joined_end so_far) (then_ends n (computed e holds) (λ hs. either_of (stmts_flow variables around fs hs) (branches_flow variables around branches hs))
-    ∙ ap (λ o. then_end o (λ hs. either_of (stmts_flow variables around fs hs) (branches_flow variables around branches hs))) computes
-    ∙ either_ends m (stmts_flow variables around fs holds) (branches_flow variables around branches holds)
-    ∙ ap (λ o. either_end o (λ x. ending x (branches_flow variables around branches holds))) breaks)
+pub branches_break : (so_far : Option Holds) (n m : Noted) (types : List TypeForm) (variables : List VariableForm) (around : Around) (e : ExpressionForm) (fs : StmtsForm) (branches : BranchesForm) (holds : Holds) (breach : Spot × Rule) →
+    ending n (computed e holds) ≡ Ok (Some holds, m) → ending m (stmts_flow types variables around fs holds) ≡ Err breach →
+    joined_end so_far (ending n (branches_flow types variables around (a_branch e fs branches) holds)) ≡ Err breach
+branches_break so_far n m types variables around e fs branches holds breach computes breaks =
+    ap (joined_end so_far) (then_ends n (computed e holds) (λ hs. either_of (stmts_flow types variables around fs hs) (branches_flow types variables around branches hs))
+    ∙ ap (λ o. then_end o (λ hs. either_of (stmts_flow types variables around fs hs) (branches_flow types variables around branches hs))) computes
+    ∙ either_ends m (stmts_flow types variables around fs holds) (branches_flow types variables around branches holds)
+    ∙ ap (λ o. either_end o (λ x. ending x (branches_flow types variables around branches holds))) breaks)
 
-pub condition_breaks : (so_far : Option Holds) (n : Noted) (variables : List VariableForm) (around : Around) (e : ExpressionForm) (fs : StmtsForm) (branches : BranchesForm) (holds : Holds) (breach : Spot × Rule) →
+pub condition_breaks : (so_far : Option Holds) (n : Noted) (types : List TypeForm) (variables : List VariableForm) (around : Around) (e : ExpressionForm) (fs : StmtsForm) (branches : BranchesForm) (holds : Holds) (breach : Spot × Rule) →
     ending n (computed e holds) ≡ Err breach →
-    joined_end so_far (ending n (branches_flow variables around (a_branch e fs branches) holds)) ≡ Err breach
-condition_breaks so_far n variables around e fs branches holds breach breaks =
-    ap (joined_end so_far) (then_ends n (computed e holds) (λ hs. either_of (stmts_flow variables around fs hs) (branches_flow variables around branches hs))
-    ∙ ap (λ o. then_end o (λ hs. either_of (stmts_flow variables around fs hs) (branches_flow variables around branches hs))) breaks)
+    joined_end so_far (ending n (branches_flow types variables around (a_branch e fs branches) holds)) ≡ Err breach
+condition_breaks so_far n types variables around e fs branches holds breach breaks =
+    ap (joined_end so_far) (then_ends n (computed e holds) (λ hs. either_of (stmts_flow types variables around fs hs) (branches_flow types variables around branches hs))
+    ∙ ap (λ o. then_end o (λ hs. either_of (stmts_flow types variables around fs hs) (branches_flow types variables around branches hs))) breaks)
 
 -- handlers end as the first, joined with the others
-pub handlers_end : (so_far : Option Holds) (n k : Noted) (variables : List VariableForm) (around : Around) (choices : List Choice) (fs : StmtsForm) (hs : HandlersForm) (raising : Holds) (end : Option Holds) →
-    ending n (stmts_flow variables around fs raising) ≡ Ok (end, k) →
-    joined_end so_far (ending n (handlers_flow variables around (a_handler choices fs hs) raising))
-    ≡ joined_end (join_option so_far end) (ending k (handlers_flow variables around hs raising))
-handlers_end so_far n k variables around choices fs hs raising end ends =
-    ap (joined_end so_far) (either_ends n (stmts_flow variables around fs raising) (handlers_flow variables around hs raising)
-    ∙ ap (λ o. either_end o (λ m. ending m (handlers_flow variables around hs raising))) ends)
-    ∙ sym (joined_twice so_far end (ending k (handlers_flow variables around hs raising)))
+pub handlers_end : (so_far : Option Holds) (n k : Noted) (types : List TypeForm) (variables : List VariableForm) (around : Around) (choices : List Choice) (fs : StmtsForm) (hs : HandlersForm) (raising : Holds) (end : Option Holds) →
+    ending n (stmts_flow types variables around fs raising) ≡ Ok (end, k) →
+    joined_end so_far (ending n (handlers_flow types variables around (a_handler choices fs hs) raising))
+    ≡ joined_end (join_option so_far end) (ending k (handlers_flow types variables around hs raising))
+handlers_end so_far n k types variables around choices fs hs raising end ends =
+    ap (joined_end so_far) (either_ends n (stmts_flow types variables around fs raising) (handlers_flow types variables around hs raising)
+    ∙ ap (λ o. either_end o (λ m. ending m (handlers_flow types variables around hs raising))) ends)
+    ∙ sym (joined_twice so_far end (ending k (handlers_flow types variables around hs raising)))
 
-pub handlers_break : (so_far : Option Holds) (n : Noted) (variables : List VariableForm) (around : Around) (choices : List Choice) (fs : StmtsForm) (hs : HandlersForm) (raising : Holds) (breach : Spot × Rule) →
-    ending n (stmts_flow variables around fs raising) ≡ Err breach →
-    joined_end so_far (ending n (handlers_flow variables around (a_handler choices fs hs) raising)) ≡ Err breach
-handlers_break so_far n variables around choices fs hs raising breach breaks =
-    ap (joined_end so_far) (either_ends n (stmts_flow variables around fs raising) (handlers_flow variables around hs raising)
-    ∙ ap (λ o. either_end o (λ m. ending m (handlers_flow variables around hs raising))) breaks)
+pub handlers_break : (so_far : Option Holds) (n : Noted) (types : List TypeForm) (variables : List VariableForm) (around : Around) (choices : List Choice) (fs : StmtsForm) (hs : HandlersForm) (raising : Holds) (breach : Spot × Rule) →
+    ending n (stmts_flow types variables around fs raising) ≡ Err breach →
+    joined_end so_far (ending n (handlers_flow types variables around (a_handler choices fs hs) raising)) ≡ Err breach
+handlers_break so_far n types variables around choices fs hs raising breach breaks =
+    ap (joined_end so_far) (either_ends n (stmts_flow types variables around fs raising) (handlers_flow types variables around hs raising)
+    ∙ ap (λ o. either_end o (λ m. ending m (handlers_flow types variables around hs raising))) breaks)
 
 -- a block that is left
-abbrev pub left_end : Noted → List VariableForm → (types : List ℕ) → End → End
-left_end n variables types (Err breach) = Err breach
-left_end n variables types (Ok end) = Ok (left_option variables types end.0, noted_behind n variables types end.1)
+abbrev pub left_end : Noted → List VariableForm → (collections : List ℕ) → End → End
+left_end n variables collections (Err breach) = Err breach
+left_end n variables collections (Ok end) = Ok (left_option variables collections end.0, noted_behind n variables collections end.1)
 
-pub block_ends : (n : Noted) (variables : List VariableForm) (types : List ℕ) (o : Outcome) →
-    ending n (leaves_block variables types o) ≡ left_end n variables types (ending (emptied n) o)
-block_ends unwanted variables types (faults spot rule) = refl
-block_ends unwanted variables types (goes normal raising) = refl
-block_ends (wanted before) variables types (faults spot rule) = refl
-block_ends (wanted before) variables types (goes normal raising) = refl
+pub block_ends : (n : Noted) (variables : List VariableForm) (collections : List ℕ) (o : Outcome) →
+    ending n (leaves_block variables collections o) ≡ left_end n variables collections (ending (emptied n) o)
+block_ends unwanted variables collections (faults spot rule) = refl
+block_ends unwanted variables collections (goes normal raising) = refl
+block_ends (wanted before) variables collections (faults spot rule) = refl
+block_ends (wanted before) variables collections (goes normal raising) = refl
 
 -- a loop that is left, or is not
 abbrev pub left_over : Bool → Holds → End → End
@@ -189,37 +189,37 @@ wanted_ends n passes handlers (faults spot rule) = refl
 wanted_ends n passes handlers (goes normal None) = ap (λ m. Ok (normal, m)) (nothing_noted n)
 wanted_ends n passes handlers (goes normal (Some raising)) = either_ends n (goes normal (raising_if passes raising)) (handlers raising)
 
-pub handled_ends : (n : Noted) (variables : List VariableForm) (around : Around) (passes : Bool) (hs : HandlersForm) (o : Outcome) →
-    ending n (handled passes (handlers_flow variables around hs) o) ≡ handled_end n passes (handlers_flow variables around hs) (ending (noted_for n hs) o)
-handled_ends unwanted variables around passes no_handlers (faults spot rule) = refl
-handled_ends unwanted variables around passes no_handlers (goes normal None) = refl
-handled_ends unwanted variables around passes no_handlers (goes normal (Some raising)) = ap (λ h. Ok (h, unwanted)) (join_option_none normal)
-handled_ends unwanted variables around passes (a_handler choices fs hs) o = wanted_ends unwanted passes (handlers_flow variables around (a_handler choices fs hs)) o
-handled_ends (wanted before) variables around passes hs o = wanted_ends (wanted before) passes (handlers_flow variables around hs) o
+pub handled_ends : (n : Noted) (types : List TypeForm) (variables : List VariableForm) (around : Around) (passes : Bool) (hs : HandlersForm) (o : Outcome) →
+    ending n (handled passes (handlers_flow types variables around hs) o) ≡ handled_end n passes (handlers_flow types variables around hs) (ending (noted_for n hs) o)
+handled_ends unwanted types variables around passes no_handlers (faults spot rule) = refl
+handled_ends unwanted types variables around passes no_handlers (goes normal None) = refl
+handled_ends unwanted types variables around passes no_handlers (goes normal (Some raising)) = ap (λ h. Ok (h, unwanted)) (join_option_none normal)
+handled_ends unwanted types variables around passes (a_handler choices fs hs) o = wanted_ends unwanted passes (handlers_flow types variables around (a_handler choices fs hs)) o
+handled_ends (wanted before) types variables around passes hs o = wanted_ends (wanted before) passes (handlers_flow types variables around hs) o
 
 -- what statements with their handlers come to behind this end
-abbrev pub handled_on : List VariableForm → Around → (passes : Bool) → StmtsForm → HandlersForm → Option Holds → Noted → End
-handled_on variables around passes fs hs None n = Ok (None, n)
-handled_on variables around passes fs hs (Some at) n =
-    handled_end n passes (handlers_flow variables around hs) (ending (noted_for n hs) (stmts_flow variables around fs at))
+abbrev pub handled_on : List TypeForm → List VariableForm → Around → (passes : Bool) → StmtsForm → HandlersForm → Option Holds → Noted → End
+handled_on types variables around passes fs hs None n = Ok (None, n)
+handled_on types variables around passes fs hs (Some at) n =
+    handled_end n passes (handlers_flow types variables around hs) (ending (noted_for n hs) (stmts_flow types variables around fs at))
 
-abbrev pub then_handled : List VariableForm → Around → (passes : Bool) → StmtsForm → HandlersForm → End → End
-then_handled variables around passes fs hs (Err breach) = Err breach
-then_handled variables around passes fs hs (Ok end) = handled_on variables around passes fs hs end.0 end.1
+abbrev pub then_handled : List TypeForm → List VariableForm → Around → (passes : Bool) → StmtsForm → HandlersForm → End → End
+then_handled types variables around passes fs hs (Err breach) = Err breach
+then_handled types variables around passes fs hs (Ok end) = handled_on types variables around passes fs hs end.0 end.1
 
-handled_behind : (variables : List VariableForm) (around : Around) (passes : Bool) (fs : StmtsForm) (hs : HandlersForm) (end : End) →
-    then_end end (λ at. handled passes (handlers_flow variables around hs) (stmts_flow variables around fs at)) ≡ then_handled variables around passes fs hs end
-handled_behind variables around passes fs hs (Err breach) = refl
-handled_behind variables around passes fs hs (Ok (None, n)) = refl
-handled_behind variables around passes fs hs (Ok (Some at, n)) = handled_ends n variables around passes hs (stmts_flow variables around fs at)
+handled_behind : (types : List TypeForm) (variables : List VariableForm) (around : Around) (passes : Bool) (fs : StmtsForm) (hs : HandlersForm) (end : End) →
+    then_end end (λ at. handled passes (handlers_flow types variables around hs) (stmts_flow types variables around fs at)) ≡ then_handled types variables around passes fs hs end
+handled_behind types variables around passes fs hs (Err breach) = refl
+handled_behind types variables around passes fs hs (Ok (None, n)) = refl
+handled_behind types variables around passes fs hs (Ok (Some at, n)) = handled_ends n types variables around passes hs (stmts_flow types variables around fs at)
 
 -- declarations, then statements with their handlers
-pub body_ends : (n : Noted) (variables : List VariableForm) (around : Around) (passes : Bool) (ds : List DeclarationForm) (fs : StmtsForm) (hs : HandlersForm) (holds : Holds) →
-    ending n (then_flow (declarations_flow variables ds holds) (λ at. handled passes (handlers_flow variables around hs) (stmts_flow variables around fs at)))
-    ≡ then_handled variables around passes fs hs (ending n (declarations_flow variables ds holds))
-body_ends n variables around passes ds fs hs holds =
-    then_ends n (declarations_flow variables ds holds) (λ at. handled passes (handlers_flow variables around hs) (stmts_flow variables around fs at))
-    ∙ handled_behind variables around passes fs hs (ending n (declarations_flow variables ds holds))
+pub body_ends : (n : Noted) (types : List TypeForm) (variables : List VariableForm) (around : Around) (passes : Bool) (ds : List DeclarationForm) (fs : StmtsForm) (hs : HandlersForm) (holds : Holds) →
+    ending n (then_flow (declarations_flow variables ds holds) (λ at. handled passes (handlers_flow types variables around hs) (stmts_flow types variables around fs at)))
+    ≡ then_handled types variables around passes fs hs (ending n (declarations_flow variables ds holds))
+body_ends n types variables around passes ds fs hs holds =
+    then_ends n (declarations_flow variables ds holds) (λ at. handled passes (handlers_flow types variables around hs) (stmts_flow types variables around fs at))
+    ∙ handled_behind types variables around passes fs hs (ending n (declarations_flow variables ds holds))
 
 -- the judgement by an end
 abbrev pub judged : End → Result (Unit {0}) (Spot × Rule)
@@ -231,12 +231,12 @@ judgement_by n (faults spot rule) = refl
 judgement_by n (goes normal raising) = refl
 
 -- a whole program is judged by how it ends
-pub program_ends : (n : Noted) (variables : List VariableForm) (around : Around) (passes : Bool) (ds : List DeclarationForm) (fs : StmtsForm) (hs : HandlersForm) (holds : Holds) →
-    judgement (then_flow (declarations_flow variables ds holds) (λ at. handled passes (handlers_flow variables around hs) (stmts_flow variables around fs at)))
-    ≡ judged (then_handled variables around passes fs hs (ending n (declarations_flow variables ds holds)))
-program_ends n variables around passes ds fs hs holds =
-    judgement_by n (then_flow (declarations_flow variables ds holds) (λ at. handled passes (handlers_flow variables around hs) (stmts_flow variables around fs at)))
-    ∙ ap judged (body_ends n variables around passes ds fs hs holds)
+pub program_ends : (n : Noted) (types : List TypeForm) (variables : List VariableForm) (around : Around) (passes : Bool) (ds : List DeclarationForm) (fs : StmtsForm) (hs : HandlersForm) (holds : Holds) →
+    judgement (then_flow (declarations_flow variables ds holds) (λ at. handled passes (handlers_flow types variables around hs) (stmts_flow types variables around fs at)))
+    ≡ judged (then_handled types variables around passes fs hs (ending n (declarations_flow variables ds holds)))
+program_ends n types variables around passes ds fs hs holds =
+    judgement_by n (then_flow (declarations_flow variables ds holds) (λ at. handled passes (handlers_flow types variables around hs) (stmts_flow types variables around fs at)))
+    ∙ ap judged (body_ends n types variables around passes ds fs hs holds)
 
 -- declarations end as the first, or else as the others
 pub declarations_end : (n : Noted) (variables : List VariableForm) (d : DeclarationForm) (ds : List DeclarationForm) (holds : Holds) →
@@ -244,78 +244,78 @@ pub declarations_end : (n : Noted) (variables : List VariableForm) (d : Declarat
 declarations_end n variables d ds holds = then_ends n (declaration_flow variables d holds) (declarations_flow variables ds)
 
 -- one turn of a loop, where it leads back
-pub turn_returns : (leaves : Bool) (n m k : Noted) (condition : Option ExpressionForm) (spot : Spot) (variables : List VariableForm) (fs : StmtsForm) (start after : Holds) →
-    ending n (condition_flow condition start) ≡ Ok (Some start, m) → ending m (stmts_flow variables (in_loop (Some start)) fs start) ≡ Ok (Some after, k) →
+pub turn_returns : (leaves : Bool) (n m k : Noted) (condition : Option ExpressionForm) (spot : Spot) (types : List TypeForm) (variables : List VariableForm) (fs : StmtsForm) (start after : Holds) →
+    ending n (condition_flow condition start) ≡ Ok (Some start, m) → ending m (stmts_flow types variables (in_loop (Some start)) fs start) ≡ Ok (Some after, k) →
     unless_worse start after spot (goes (Some after) None) ≡ goes (Some after) None →
-    ending n (loop_flow condition leaves spot (λ place hs. stmts_flow variables (in_loop place) fs hs) start) ≡ Ok ((if leaves then Some start else None), k)
-turn_returns leaves n m k condition spot variables fs start after tests turns keeps =
-    left_ends n leaves start (then_flow (condition_flow condition start) (λ hs. ends_turn start spot (stmts_flow variables (in_loop (Some start)) fs hs)))
+    ending n (loop_flow condition leaves spot (λ place hs. stmts_flow types variables (in_loop place) fs hs) start) ≡ Ok ((if leaves then Some start else None), k)
+turn_returns leaves n m k condition spot types variables fs start after tests turns keeps =
+    left_ends n leaves start (then_flow (condition_flow condition start) (λ hs. ends_turn start spot (stmts_flow types variables (in_loop (Some start)) fs hs)))
     ∙ ap (left_over leaves start)
-    (then_ends n (condition_flow condition start) (λ hs. ends_turn start spot (stmts_flow variables (in_loop (Some start)) fs hs))
-    ∙ ap (λ e. then_end e (λ hs. ends_turn start spot (stmts_flow variables (in_loop (Some start)) fs hs))) tests
-    ∙ turn_ends m k start spot (stmts_flow variables (in_loop (Some start)) fs start) after turns keeps)
+    (then_ends n (condition_flow condition start) (λ hs. ends_turn start spot (stmts_flow types variables (in_loop (Some start)) fs hs))
+    ∙ ap (λ e. then_end e (λ hs. ends_turn start spot (stmts_flow types variables (in_loop (Some start)) fs hs))) tests
+    ∙ turn_ends m k start spot (stmts_flow types variables (in_loop (Some start)) fs start) after turns keeps)
 
 -- and where it doesn't
-pub turn_stops : (leaves : Bool) (n m k : Noted) (condition : Option ExpressionForm) (spot : Spot) (variables : List VariableForm) (fs : StmtsForm) (start : Holds) →
-    ending n (condition_flow condition start) ≡ Ok (Some start, m) → ending m (stmts_flow variables (in_loop (Some start)) fs start) ≡ Ok (None, k) →
-    ending n (loop_flow condition leaves spot (λ place hs. stmts_flow variables (in_loop place) fs hs) start) ≡ Ok ((if leaves then Some start else None), k)
-turn_stops leaves n m k condition spot variables fs start tests turns =
-    left_ends n leaves start (then_flow (condition_flow condition start) (λ hs. ends_turn start spot (stmts_flow variables (in_loop (Some start)) fs hs)))
+pub turn_stops : (leaves : Bool) (n m k : Noted) (condition : Option ExpressionForm) (spot : Spot) (types : List TypeForm) (variables : List VariableForm) (fs : StmtsForm) (start : Holds) →
+    ending n (condition_flow condition start) ≡ Ok (Some start, m) → ending m (stmts_flow types variables (in_loop (Some start)) fs start) ≡ Ok (None, k) →
+    ending n (loop_flow condition leaves spot (λ place hs. stmts_flow types variables (in_loop place) fs hs) start) ≡ Ok ((if leaves then Some start else None), k)
+turn_stops leaves n m k condition spot types variables fs start tests turns =
+    left_ends n leaves start (then_flow (condition_flow condition start) (λ hs. ends_turn start spot (stmts_flow types variables (in_loop (Some start)) fs hs)))
     ∙ ap (left_over leaves start)
-    (then_ends n (condition_flow condition start) (λ hs. ends_turn start spot (stmts_flow variables (in_loop (Some start)) fs hs))
-    ∙ ap (λ e. then_end e (λ hs. ends_turn start spot (stmts_flow variables (in_loop (Some start)) fs hs))) tests
-    ∙ turn_stays m k start spot (stmts_flow variables (in_loop (Some start)) fs start) turns)
+    (then_ends n (condition_flow condition start) (λ hs. ends_turn start spot (stmts_flow types variables (in_loop (Some start)) fs hs))
+    ∙ ap (λ e. then_end e (λ hs. ends_turn start spot (stmts_flow types variables (in_loop (Some start)) fs hs))) tests
+    ∙ turn_stays m k start spot (stmts_flow types variables (in_loop (Some start)) fs start) turns)
 
 -- a block ends as its statements do with their handlers, behind its declarations
-enclosed_ends : (n : Noted) (variables : List VariableForm) (around : Around) (cleared : Bool) (ds : List DeclarationForm) (fs : StmtsForm) (hs : HandlersForm) (holds : Holds) →
-    ending n (stmt_flow variables around cleared (encloses ds fs hs) holds)
+enclosed_ends : (n : Noted) (types : List TypeForm) (variables : List VariableForm) (around : Around) (cleared : Bool) (ds : List DeclarationForm) (fs : StmtsForm) (hs : HandlersForm) (holds : Holds) →
+    ending n (stmt_flow types variables around cleared (encloses ds fs hs) holds)
     ≡ left_end n variables (collected ds)
-    (then_handled variables (in_block (collected ds) around) (passes fs hs) fs hs (ending (emptied n) (declarations_flow variables ds holds)))
-enclosed_ends n variables around cleared ds fs hs holds =
-    block_ends n variables (collected ds) (then_flow (declarations_flow variables ds holds) (λ at. handled (passes fs hs) (handlers_flow variables (in_block (collected ds) around) hs) (stmts_flow variables (in_block (collected ds) around) fs at)))
-    ∙ ap (left_end n variables (collected ds)) (body_ends (emptied n) variables (in_block (collected ds) around) (passes fs hs) ds fs hs holds)
+    (then_handled types variables (in_block (collected ds) around) (passes fs hs) fs hs (ending (emptied n) (declarations_flow variables ds holds)))
+enclosed_ends n types variables around cleared ds fs hs holds =
+    block_ends n variables (collected ds) (then_flow (declarations_flow variables ds holds) (λ at. handled (passes fs hs) (handlers_flow types variables (in_block (collected ds) around) hs) (stmts_flow types variables (in_block (collected ds) around) fs at)))
+    ∙ ap (left_end n variables (collected ds)) (body_ends (emptied n) types variables (in_block (collected ds) around) (passes fs hs) ds fs hs holds)
 
 -- its declarations break a rule
-pub block_declares_badly : (n : Noted) (variables : List VariableForm) (around : Around) (cleared : Bool) (ds : List DeclarationForm) (fs : StmtsForm) (hs : HandlersForm) (holds : Holds) (breach : Spot × Rule) →
+pub block_declares_badly : (n : Noted) (types : List TypeForm) (variables : List VariableForm) (around : Around) (cleared : Bool) (ds : List DeclarationForm) (fs : StmtsForm) (hs : HandlersForm) (holds : Holds) (breach : Spot × Rule) →
     ending (emptied n) (declarations_flow variables ds holds) ≡ Err breach →
-    ending n (stmt_flow variables around cleared (encloses ds fs hs) holds) ≡ Err breach
-block_declares_badly n variables around cleared ds fs hs holds breach declares =
-    enclosed_ends n variables around cleared ds fs hs holds
-    ∙ ap (λ e. left_end n variables (collected ds) (then_handled variables (in_block (collected ds) around) (passes fs hs) fs hs e)) declares
+    ending n (stmt_flow types variables around cleared (encloses ds fs hs) holds) ≡ Err breach
+block_declares_badly n types variables around cleared ds fs hs holds breach declares =
+    enclosed_ends n types variables around cleared ds fs hs holds
+    ∙ ap (λ e. left_end n variables (collected ds) (then_handled types variables (in_block (collected ds) around) (passes fs hs) fs hs e)) declares
 
 -- its statements do
-pub block_breaks : (n m : Noted) (variables : List VariableForm) (around : Around) (cleared : Bool) (types : List ℕ) (ds : List DeclarationForm) (fs : StmtsForm) (hs : HandlersForm) (holds at : Holds) (breach : Spot × Rule) →
-    types ≡ collected ds → ending (emptied n) (declarations_flow variables ds holds) ≡ Ok (Some at, m) →
-    ending (noted_for m hs) (stmts_flow variables (in_block types around) fs at) ≡ Err breach →
-    ending n (stmt_flow variables around cleared (encloses ds fs hs) holds) ≡ Err breach
-block_breaks n m variables around cleared types ds fs hs holds at breach same declares breaks =
-    enclosed_ends n variables around cleared ds fs hs holds
-    ∙ ap (λ e. left_end n variables (collected ds) (then_handled variables (in_block (collected ds) around) (passes fs hs) fs hs e)) declares
-    ∙ ap (λ ts. left_end n variables (collected ds) (handled_end m (passes fs hs) (handlers_flow variables (in_block (collected ds) around) hs) (ending (noted_for m hs) (stmts_flow variables (in_block ts around) fs at)))) (sym same)
-    ∙ ap (λ e. left_end n variables (collected ds) (handled_end m (passes fs hs) (handlers_flow variables (in_block (collected ds) around) hs) e)) breaks
+pub block_breaks : (n m : Noted) (types : List TypeForm) (variables : List VariableForm) (around : Around) (cleared : Bool) (collections : List ℕ) (ds : List DeclarationForm) (fs : StmtsForm) (hs : HandlersForm) (holds at : Holds) (breach : Spot × Rule) →
+    collections ≡ collected ds → ending (emptied n) (declarations_flow variables ds holds) ≡ Ok (Some at, m) →
+    ending (noted_for m hs) (stmts_flow types variables (in_block collections around) fs at) ≡ Err breach →
+    ending n (stmt_flow types variables around cleared (encloses ds fs hs) holds) ≡ Err breach
+block_breaks n m types variables around cleared collections ds fs hs holds at breach same declares breaks =
+    enclosed_ends n types variables around cleared ds fs hs holds
+    ∙ ap (λ e. left_end n variables (collected ds) (then_handled types variables (in_block (collected ds) around) (passes fs hs) fs hs e)) declares
+    ∙ ap (λ ts. left_end n variables (collected ds) (handled_end m (passes fs hs) (handlers_flow types variables (in_block (collected ds) around) hs) (ending (noted_for m hs) (stmts_flow types variables (in_block ts around) fs at)))) (sym same)
+    ∙ ap (λ e. left_end n variables (collected ds) (handled_end m (passes fs hs) (handlers_flow types variables (in_block (collected ds) around) hs) e)) breaks
 
 -- its statements end, and its handlers do, or break a rule
-pub block_handles : (n m k : Noted) (variables : List VariableForm) (around : Around) (cleared : Bool) (types : List ℕ) (ds : List DeclarationForm) (fs : StmtsForm) (hs : HandlersForm) (holds at : Holds) (normal : Option Holds) (end : End) →
-    types ≡ collected ds → ending (emptied n) (declarations_flow variables ds holds) ≡ Ok (Some at, m) →
-    ending (noted_for m hs) (stmts_flow variables (in_block types around) fs at) ≡ Ok (normal, k) →
-    end_handled m (passes fs hs) (handlers_flow variables (in_block types around) hs) normal k ≡ end →
-    ending n (stmt_flow variables around cleared (encloses ds fs hs) holds) ≡ left_end n variables types end
-block_handles n m k variables around cleared types ds fs hs holds at normal end same declares ends handles =
-    enclosed_ends n variables around cleared ds fs hs holds
-    ∙ ap (λ e. left_end n variables (collected ds) (then_handled variables (in_block (collected ds) around) (passes fs hs) fs hs e)) declares
-    ∙ ap (λ ts. left_end n variables ts (handled_end m (passes fs hs) (handlers_flow variables (in_block ts around) hs) (ending (noted_for m hs) (stmts_flow variables (in_block ts around) fs at)))) (sym same)
-    ∙ ap (λ e. left_end n variables types (handled_end m (passes fs hs) (handlers_flow variables (in_block types around) hs) e)) ends
-    ∙ ap (left_end n variables types) handles
+pub block_handles : (n m k : Noted) (types : List TypeForm) (variables : List VariableForm) (around : Around) (cleared : Bool) (collections : List ℕ) (ds : List DeclarationForm) (fs : StmtsForm) (hs : HandlersForm) (holds at : Holds) (normal : Option Holds) (end : End) →
+    collections ≡ collected ds → ending (emptied n) (declarations_flow variables ds holds) ≡ Ok (Some at, m) →
+    ending (noted_for m hs) (stmts_flow types variables (in_block collections around) fs at) ≡ Ok (normal, k) →
+    end_handled m (passes fs hs) (handlers_flow types variables (in_block collections around) hs) normal k ≡ end →
+    ending n (stmt_flow types variables around cleared (encloses ds fs hs) holds) ≡ left_end n variables collections end
+block_handles n m k types variables around cleared collections ds fs hs holds at normal end same declares ends handles =
+    enclosed_ends n types variables around cleared ds fs hs holds
+    ∙ ap (λ e. left_end n variables (collected ds) (then_handled types variables (in_block (collected ds) around) (passes fs hs) fs hs e)) declares
+    ∙ ap (λ ts. left_end n variables ts (handled_end m (passes fs hs) (handlers_flow types variables (in_block ts around) hs) (ending (noted_for m hs) (stmts_flow types variables (in_block ts around) fs at)))) (sym same)
+    ∙ ap (λ e. left_end n variables collections (handled_end m (passes fs hs) (handlers_flow types variables (in_block collections around) hs) e)) ends
+    ∙ ap (left_end n variables collections) handles
 
 -- a program whose declarations, statements and handlers come to an end obeys the rules
-pub program_obeys : (n m k : Noted) (variables : List VariableForm) (around : Around) (passes : Bool) (ds : List DeclarationForm) (fs : StmtsForm) (hs : HandlersForm) (holds at : Holds) (normal : Option Holds) (end : Option Holds × Noted) →
-    ending n (declarations_flow variables ds holds) ≡ Ok (Some at, m) → ending (noted_for m hs) (stmts_flow variables around fs at) ≡ Ok (normal, k) →
-    end_handled m passes (handlers_flow variables around hs) normal k ≡ Ok end →
-    judgement (then_flow (declarations_flow variables ds holds) (λ at. handled passes (handlers_flow variables around hs) (stmts_flow variables around fs at))) ≡ Ok tt
-program_obeys n m k variables around passes ds fs hs holds at normal end declares ends handles =
-    program_ends n variables around passes ds fs hs holds
-    ∙ ap (λ e. judged (then_handled variables around passes fs hs e)) declares
-    ∙ ap (λ e. judged (handled_end m passes (handlers_flow variables around hs) e)) ends
+pub program_obeys : (n m k : Noted) (types : List TypeForm) (variables : List VariableForm) (around : Around) (passes : Bool) (ds : List DeclarationForm) (fs : StmtsForm) (hs : HandlersForm) (holds at : Holds) (normal : Option Holds) (end : Option Holds × Noted) →
+    ending n (declarations_flow variables ds holds) ≡ Ok (Some at, m) → ending (noted_for m hs) (stmts_flow types variables around fs at) ≡ Ok (normal, k) →
+    end_handled m passes (handlers_flow types variables around hs) normal k ≡ Ok end →
+    judgement (then_flow (declarations_flow variables ds holds) (λ at. handled passes (handlers_flow types variables around hs) (stmts_flow types variables around fs at))) ≡ Ok tt
+program_obeys n m k types variables around passes ds fs hs holds at normal end declares ends handles =
+    program_ends n types variables around passes ds fs hs holds
+    ∙ ap (λ e. judged (then_handled types variables around passes fs hs e)) declares
+    ∙ ap (λ e. judged (handled_end m passes (handlers_flow types variables around hs) e)) ends
     ∙ ap judged handles
 
 pub ruleset block_steps = (block_declares_badly, block_breaks, block_handles)

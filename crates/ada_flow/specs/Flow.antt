@@ -5,15 +5,16 @@ use Rattle.std.specs.List.{slice_index_or, slice_set}
 use Rattle.std.proofs.Math.ListN.{replicate}
 use Rattle.ada_text.specs.declared.spot.Spot.{Spot}
 use Rattle.ada_program.specs.declared.program.Program.{Program}
+use Rattle.ada_program.specs.declared.program.VariableKind.{VariableKind}
 use Rattle.ada_program.specs.Form.{PathForm, ExpressionForm, integer, boolean, reads, is_null, applied_to, chained, LinksForm, no_more_links, a_link, ItemForm, null_item, item_of_path, item_of_value, RightForm, nothing, value_of, allocates, computes, StmtForm, skips, assigns, frees, gets, writes, writes_text, chooses, repeats, counts, exits, returns, raises, encloses, StmtsForm, no_stmts, a_stmt, BranchesForm, otherwise, a_branch, HandlersForm, no_handlers, a_handler, DeclarationForm, collects, declares, declaration_forms, stmt_forms, handler_forms}
-use Rattle.ada_program.specs.ProgramForm.{VariableForm, variable_form}
-use Rattle.ada_program.specs.WellFormed.{access_of, variable_kind, is_this, is_borrower}
+use Rattle.ada_program.specs.ProgramForm.{TypeForm, type_form, VariableForm, variable_form}
+use Rattle.ada_program.specs.WellFormed.{access_of, variable_kind, selected_kind, path_access, is_this, is_borrower}
 use Rattle.ada_effects.specs.Effects.{expression_raises, path_raises, passes}
 use Rattle.ada_flow.specs.declared.rule.Hold.{Hold}
 use Rattle.ada_flow.specs.declared.rule.Hold.TheVariants.{Null, Own, Alias, Lost}
 use Rattle.ada_flow.specs.declared.rule.Region.TheVariants.{Whole}
 use Rattle.ada_flow.specs.declared.rule.Rule.{Rule}
-use Rattle.ada_flow.specs.declared.rule.Rule.TheVariants.{LostValue, AliasMoved, TakePair, LoopState}
+use Rattle.ada_flow.specs.declared.rule.Rule.TheVariants.{LostValue, AliasMoved, TakePair, LoopState, UnsafePath}
 
 -- What the variables of a body hold, by their numbers.
 abbrev pub Holds : Type 0
@@ -80,13 +81,14 @@ ends_with may_raise before after = goes (Some after) (raising_if may_raise befor
 
 -- Paths that are used (4.1, 4.5.2, 5.2).
 
--- A path that a statement uses: its value is read, or an access value is compared with null, or moved: out of a variable, or out of a component,
--- which the next statement clears then, or does not; or it is moved though an item before it moves it already (4.8); or it is lent to a borrower.
+-- A path that a statement uses: its value is read, or an access value is compared with null, or lent to a borrower, or moved: out of a variable, or
+-- out of a component, which the same or the next statement overwrites then, or none does; or it is moved though an item before it moves it already
+-- (4.8).
 pub data Use : Type 0 where
   reads_it : PathForm → Use
   compares_it : PathForm → Use
   borrows_it : PathForm → Use
-  moves_it : (cleared : Bool) → PathForm → Use
+  moves_it : (overwritten : Bool) → PathForm → Use
   moves_again : PathForm → Use
 
 unfoldable mutual
@@ -120,36 +122,59 @@ moved_by_item null_item = []
 moved_by_item (item_of_path path) = variable_of path.selectors path.root
 moved_by_item (item_of_value e) = []
 
--- Is a path one of these variables?
-abbrev pub is_moved : List ℕ → List ℕ → (root : ℕ) → Bool
-is_moved earlier [] x = is_one_of earlier x
-is_moved earlier (c ∷ cs) x = false
+-- Are these the same selectors?
+abbrev pub same_selectors : List ℕ → List ℕ → Bool
+same_selectors [] [] = true
+same_selectors [] (d ∷ ds) = false
+same_selectors (c ∷ cs) [] = false
+same_selectors (c ∷ cs) (d ∷ ds) = (c == d) && same_selectors cs ds
 
--- How an item moves what its path names, behind items that move these variables: each variable once (4.8).
-abbrev pub item_move : (earlier : List ℕ) → PathForm → Use
-item_move earlier path = if is_moved earlier path.selectors path.root then moves_again path else moves_it false path
+-- Are two paths one?
+abbrev pub same_path : PathForm → PathForm → Bool
+same_path a b = (a.root == b.root) && same_selectors a.selectors b.selectors
 
--- The paths in an item of an aggregate, behind items that move these variables.
-abbrev pub uses_in_item : (earlier : List ℕ) → ItemForm → List Use
-uses_in_item earlier null_item = []
-uses_in_item earlier (item_of_path path) = item_move earlier path ∷ []
-uses_in_item earlier (item_of_value e) = uses_in e
+-- Is a path one of these?
+abbrev pub is_named : List PathForm → PathForm → Bool
+is_named [] path = false
+is_named (p ∷ ps) path = same_path p path || is_named ps path
+
+-- Is a path the component that the assignment goes to, if it goes to one?
+abbrev pub is_target : (target : Option PathForm) → PathForm → Bool
+is_target None path = false
+is_target (Some target) path = same_path target path
+
+-- How an item moves what its path names, behind items that name these paths: each path once, and of components the target's alone, which gets the
+-- new object (4.8).
+abbrev pub item_move : (target : Option PathForm) → (earlier : List PathForm) → PathForm → Use
+item_move target earlier path = if is_named earlier path then moves_again path else moves_it (is_target target path) path
+
+-- The paths in an item of an aggregate, behind items that name these paths.
+abbrev pub uses_in_item : (target : Option PathForm) → (earlier : List PathForm) → ItemForm → List Use
+uses_in_item target earlier null_item = []
+uses_in_item target earlier (item_of_path path) = item_move target earlier path ∷ []
+uses_in_item target earlier (item_of_value e) = uses_in e
+
+-- The path that an item moves, if it moves one.
+abbrev pub named_by_item : ItemForm → List PathForm
+named_by_item null_item = []
+named_by_item (item_of_path path) = path ∷ []
+named_by_item (item_of_value e) = []
 
 -- The paths in items, in the order of the components.
-abbrev pub uses_in_items : (earlier : List ℕ) → List ItemForm → List Use
-uses_in_items earlier [] = []
-uses_in_items earlier (i ∷ is) = uses_in_item earlier i ++ uses_in_items (moved_by_item i ++ earlier) is
+abbrev pub uses_in_items : (target : Option PathForm) → (earlier : List PathForm) → List ItemForm → List Use
+uses_in_items target earlier [] = []
+uses_in_items target earlier (i ∷ is) = uses_in_item target earlier i ++ uses_in_items target (named_by_item i ++ earlier) is
 
 -- How an assignment uses the path whose value it assigns (5.2): it lends the value to a borrower, and else moves it.
 abbrev pub value_use : (borrows cleared : Bool) → PathForm → Use
 value_use borrows cleared path = if borrows then borrows_it path else moves_it cleared path
 
--- The paths in what is assigned, to a borrower or not, where the next statement clears what is moved, or does not.
-abbrev pub uses_in_right : (borrows cleared : Bool) → RightForm → List Use
-uses_in_right borrows cleared nothing = []
-uses_in_right borrows cleared (value_of path) = value_use borrows cleared path ∷ []
-uses_in_right borrows cleared (allocates access items) = uses_in_items [] items
-uses_in_right borrows cleared (computes e) = uses_in e
+-- The paths in what is assigned, to a borrower or not, and to a component or not, where the next statement clears what is moved, or does not.
+abbrev pub uses_in_right : (borrows cleared : Bool) → (target : Option PathForm) → RightForm → List Use
+uses_in_right borrows cleared target nothing = []
+uses_in_right borrows cleared target (value_of path) = value_use borrows cleared path ∷ []
+uses_in_right borrows cleared target (allocates access items) = uses_in_items target [] items
+uses_in_right borrows cleared target (computes e) = uses_in e
 
 -- The path of a target is followed up to the object in which its component lies (5.2); a variable is not.
 abbrev pub uses_in_target : PathForm → List Use
@@ -188,8 +213,8 @@ moved_by (Own r) spot = None
 moved_by (Alias r) spot = Some (spot, AliasMoved)
 moved_by Lost spot = Some (spot, LostValue)
 
--- A value that is moved out of a component is not found behind a lost one, and the next statement clears the component.
-abbrev pub taken_by : (cleared : Bool) → Hold → Spot → Option Breach
+-- A value that is moved out of a component is not found behind a lost one, and the component is overwritten.
+abbrev pub taken_by : (overwritten : Bool) → Hold → Spot → Option Breach
 taken_by true hold spot = lost_by hold spot
 taken_by false Null spot = Some (spot, TakePair)
 taken_by false (Own r) spot = Some (spot, TakePair)
@@ -197,16 +222,16 @@ taken_by false (Alias r) spot = Some (spot, TakePair)
 taken_by false Lost spot = Some (spot, LostValue)
 
 -- What is wrong with a value that is moved, if anything is.
-abbrev pub moved_behind : (cleared : Bool) → List ℕ → Hold → Spot → Option Breach
-moved_behind cleared [] hold spot = moved_by hold spot
-moved_behind cleared (c ∷ cs) hold spot = taken_by cleared hold spot
+abbrev pub moved_behind : (overwritten : Bool) → List ℕ → Hold → Spot → Option Breach
+moved_behind overwritten [] hold spot = moved_by hold spot
+moved_behind overwritten (c ∷ cs) hold spot = taken_by overwritten hold spot
 
--- The rule that a use of a path breaks, if it breaks one: of two items that move one variable, the second moves what is lost.
+-- The rule that a use of a path breaks, if it breaks one: of two items that move one path, the second moves what is lost.
 abbrev pub broken_in : Holds → Use → Option Breach
 broken_in holds (reads_it path) = lost_behind path.selectors (hold_at holds path.root) path.spot
 broken_in holds (compares_it path) = lost_by (hold_at holds path.root) path.spot
 broken_in holds (borrows_it path) = lost_by (hold_at holds path.root) path.spot
-broken_in holds (moves_it cleared path) = moved_behind cleared path.selectors (hold_at holds path.root) path.spot
+broken_in holds (moves_it overwritten path) = moved_behind overwritten path.selectors (hold_at holds path.root) path.spot
 broken_in holds (moves_again path) = Some (path.spot, LostValue)
 
 -- The leftmost of the rules that paths break.
@@ -306,7 +331,7 @@ evaluation_raises (computes e) = expression_raises e
 -- After a variable, a borrower or not, gets a value (3.3.1, 5.2): what was moved goes there.
 abbrev pub gives_value : (borrows cleared : Bool) → (x : ℕ) → RightForm → Holds → Outcome
 gives_value borrows cleared x right holds =
-    using_paths (uses_in_right borrows cleared right) holds
+    using_paths (uses_in_right borrows cleared None right) holds
     (ends_with (evaluation_raises right) holds
     (slice_set (without_values (moved_by_right borrows right) holds) x (right_hold borrows right holds)))
 
@@ -317,7 +342,7 @@ gives variables cleared x right holds = gives_value (is_borrower variables x) cl
 -- After a component gets a value (5.2), whose object is found first: it owns what it gets, and no variable changes but those that are moved.
 abbrev pub gives_component : (cleared : Bool) → PathForm → RightForm → Holds → Outcome
 gives_component cleared path right holds =
-    using_paths (uses_in_target path ++ uses_in_right false cleared right) holds
+    using_paths (uses_in_target path ++ uses_in_right false cleared (Some path) right) holds
     (ends_with true holds (without_values (moved_by_right false right) holds))
 
 -- Statements (5.1).
@@ -359,17 +384,6 @@ gives_path variables cleared (c ∷ cs) path right holds = gives_component clear
 
 -- A take pair (5.2): `T := P.C;` and `P.C := null;`, one behind the other, move a value out of a component.
 
--- Are these the same selectors?
-abbrev pub same_selectors : List ℕ → List ℕ → Bool
-same_selectors [] [] = true
-same_selectors [] (d ∷ ds) = false
-same_selectors (c ∷ cs) [] = false
-same_selectors (c ∷ cs) (d ∷ ds) = (c == d) && same_selectors cs ds
-
--- Are two paths one?
-abbrev pub same_path : PathForm → PathForm → Bool
-same_path a b = (a.root == b.root) && same_selectors a.selectors b.selectors
-
 -- The target of a take pair changes nothing that the path follows: it is another variable than the path's, or a component, where the path
 -- follows the value of its variable alone.
 abbrev pub leaves_path : (target selectors : List ℕ) → Bool → Bool
@@ -393,10 +407,35 @@ abbrev pub gets_path : List ℕ → PathForm → Holds → Outcome
 gets_path [] path holds = ends_with true holds (slice_set holds path.root Lost)
 gets_path (c ∷ cs) path holds = using_paths (uses_in_target path) holds (ends_with true holds holds)
 
--- What freeing does that a path names: its variable owns nothing any more. In use so far: what is freed is a variable.
-abbrev pub frees_path : List VariableForm → List ℕ → PathForm → Holds → Outcome
-frees_path variables [] path holds = released variables path.root path.spot holds (hold_at holds path.root)
-frees_path variables (c ∷ cs) path holds = faults path.spot LostValue
+-- A path passes an access type, where it follows a value of it: that of its variable, or one behind that (4.1).
+abbrev pub passes_type : List TypeForm → Option VariableKind → (selectors : List ℕ) → (access : ℕ) → Bool
+passes_type types kind [] t = false
+passes_type types kind (c ∷ cs) t = is_this t (access_of kind) || passes_type types (selected_kind types kind c) cs t
+
+-- A component's path passes the component's own access type, if it has one: what is freed may be an object that the path follows.
+abbrev pub passes_own : List TypeForm → List VariableForm → PathForm → Option ℕ → Bool
+passes_own types variables path None = false
+passes_own types variables path (Some t) = passes_type types (variable_kind variables path.root) path.selectors t
+
+-- What Free (P.C) breaks, by what the path's variable holds: what is lost is not followed, and the path does not pass its own type.
+abbrev pub freed_behind : (passes : Bool) → Hold → Spot → Option Breach
+freed_behind false hold spot = lost_by hold spot
+freed_behind true Null spot = Some (spot, UnsafePath)
+freed_behind true (Own r) spot = Some (spot, UnsafePath)
+freed_behind true (Alias r) spot = Some (spot, UnsafePath)
+freed_behind true Lost spot = Some (spot, LostValue)
+
+-- After Free (P.C) (13.11.2), for whose own access type this is: the component holds null, and whoever borrowed an object of the type may have
+-- borrowed this one. So it is where a value on the path is null, and Constraint_Error is raised.
+abbrev pub released_behind : List TypeForm → List VariableForm → PathForm → Holds → Option ℕ → Outcome
+released_behind types variables path holds access =
+    unless_broken (freed_behind (passes_own types variables path access) (hold_at holds path.root) path.spot)
+    (ends_with true (behind_end variables access holds) (behind_end variables access holds))
+
+-- After Free of a variable, or of a component.
+abbrev pub frees_path : List TypeForm → List VariableForm → List ℕ → PathForm → Holds → Outcome
+frees_path types variables [] path holds = released variables path.root path.spot holds (hold_at holds path.root)
+frees_path types variables (c ∷ cs) path holds = released_behind types variables path holds (path_access types variables path)
 
 -- Two ways that join behind an `if` (5.3): the first fault in text order stands.
 abbrev pub either_of : Outcome → Outcome → Outcome
@@ -453,7 +492,7 @@ abbrev mutual
   pub opened_by : List VariableForm → StmtForm → Holds → Holds
   opened_by variables skips holds = holds
   opened_by variables (assigns target right) holds = opened_target variables target.selectors target.root holds
-  opened_by variables (frees access variable) holds = holds
+  opened_by variables (frees access path) holds = holds
   opened_by variables (gets target) holds = holds
   opened_by variables (writes e) holds = holds
   opened_by variables (writes_text text) holds = holds
@@ -482,7 +521,7 @@ abbrev mutual
   pub has_exit : StmtForm → Bool
   has_exit skips = false
   has_exit (assigns target right) = false
-  has_exit (frees access variable) = false
+  has_exit (frees access path) = false
   has_exit (gets target) = false
   has_exit (writes e) = false
   has_exit (writes_text text) = false
@@ -620,44 +659,44 @@ counting_start variables x fs holds = slice_set (opened_by_all variables fs hold
 
 abbrev mutual
   -- After a statement, which is the first one of a take pair, or is not.
-  pub stmt_flow : List VariableForm → Around → (cleared : Bool) → StmtForm → Holds → Outcome
-  stmt_flow variables around cleared skips holds = ends_with false holds holds
-  stmt_flow variables around cleared (assigns target right) holds = gives_path variables cleared target.selectors target right holds
-  stmt_flow variables around cleared (frees access variable) holds = frees_path variables variable.selectors variable holds
-  stmt_flow variables around cleared (gets target) holds = gets_path target.selectors target holds
-  stmt_flow variables around cleared (writes e) holds = computed e holds
-  stmt_flow variables around cleared (writes_text text) holds = ends_with false holds holds
-  stmt_flow variables around cleared (chooses branches) holds = branches_flow variables around branches holds
-  stmt_flow variables around cleared (repeats condition fs end_spot) holds =
-      loop_flow condition (is_left condition fs) end_spot (λ start hs. stmts_flow variables (in_loop start) fs hs) (opened_by_all variables fs holds)
-  stmt_flow variables around cleared (counts x low high fs end_spot) holds =
+  pub stmt_flow : List TypeForm → List VariableForm → Around → (cleared : Bool) → StmtForm → Holds → Outcome
+  stmt_flow types variables around cleared skips holds = ends_with false holds holds
+  stmt_flow types variables around cleared (assigns target right) holds = gives_path variables cleared target.selectors target right holds
+  stmt_flow types variables around cleared (frees access path) holds = frees_path types variables path.selectors path holds
+  stmt_flow types variables around cleared (gets target) holds = gets_path target.selectors target holds
+  stmt_flow types variables around cleared (writes e) holds = computed e holds
+  stmt_flow types variables around cleared (writes_text text) holds = ends_with false holds holds
+  stmt_flow types variables around cleared (chooses branches) holds = branches_flow types variables around branches holds
+  stmt_flow types variables around cleared (repeats condition fs end_spot) holds =
+      loop_flow condition (is_left condition fs) end_spot (λ start hs. stmts_flow types variables (in_loop start) fs hs) (opened_by_all variables fs holds)
+  stmt_flow types variables around cleared (counts x low high fs end_spot) holds =
       then_flow (bounds_flow low high holds)
-      (λ hs. loop_flow None true end_spot (λ start hs. stmts_flow variables (in_loop start) fs hs) (counting_start variables x fs hs))
-  stmt_flow variables around cleared (exits condition spot) holds = exit_flow variables around.start around.inside condition spot holds
-  stmt_flow variables around cleared (returns spot) holds = goes None None
-  stmt_flow variables around cleared (raises e) holds = goes None (Some holds)
-  stmt_flow variables around cleared (encloses ds fs hs) holds =
+      (λ hs. loop_flow None true end_spot (λ start hs. stmts_flow types variables (in_loop start) fs hs) (counting_start variables x fs hs))
+  stmt_flow types variables around cleared (exits condition spot) holds = exit_flow variables around.start around.inside condition spot holds
+  stmt_flow types variables around cleared (returns spot) holds = goes None None
+  stmt_flow types variables around cleared (raises e) holds = goes None (Some holds)
+  stmt_flow types variables around cleared (encloses ds fs hs) holds =
       leaves_block variables (collected ds)
       (then_flow (declarations_flow variables ds holds)
-      (λ at. handled (passes fs hs) (handlers_flow variables (in_block (collected ds) around) hs)
-      (stmts_flow variables (in_block (collected ds) around) fs at)))
+      (λ at. handled (passes fs hs) (handlers_flow types variables (in_block (collected ds) around) hs)
+      (stmts_flow types variables (in_block (collected ds) around) fs at)))
 
   -- After statements, in order.
-  pub stmts_flow : List VariableForm → Around → StmtsForm → Holds → Outcome
-  stmts_flow variables around no_stmts holds = ends_with false holds holds
-  stmts_flow variables around (a_stmt f fs) holds = then_flow (stmt_flow variables around (begins_pair f fs) f holds) (stmts_flow variables around fs)
+  pub stmts_flow : List TypeForm → List VariableForm → Around → StmtsForm → Holds → Outcome
+  stmts_flow types variables around no_stmts holds = ends_with false holds holds
+  stmts_flow types variables around (a_stmt f fs) holds = then_flow (stmt_flow types variables around (begins_pair f fs) f holds) (stmts_flow types variables around fs)
 
   -- After an `if` (5.3): each branch begins behind the conditions up to its own.
-  pub branches_flow : List VariableForm → Around → BranchesForm → Holds → Outcome
-  branches_flow variables around (otherwise fs) holds = stmts_flow variables around fs holds
-  branches_flow variables around (a_branch e fs branches) holds =
-      then_flow (computed e holds) (λ hs. either_of (stmts_flow variables around fs hs) (branches_flow variables around branches hs))
+  pub branches_flow : List TypeForm → List VariableForm → Around → BranchesForm → Holds → Outcome
+  branches_flow types variables around (otherwise fs) holds = stmts_flow types variables around fs holds
+  branches_flow types variables around (a_branch e fs branches) holds =
+      then_flow (computed e holds) (λ hs. either_of (stmts_flow types variables around fs hs) (branches_flow types variables around branches hs))
 
   -- After the handlers that begin with these holds (11.4): their ends join.
-  pub handlers_flow : List VariableForm → Around → HandlersForm → Holds → Outcome
-  handlers_flow variables around no_handlers raising = goes None None
-  handlers_flow variables around (a_handler choices fs hs) raising =
-      either_of (stmts_flow variables around fs raising) (handlers_flow variables around hs raising)
+  pub handlers_flow : List TypeForm → List VariableForm → Around → HandlersForm → Holds → Outcome
+  handlers_flow types variables around no_handlers raising = goes None None
+  handlers_flow types variables around (a_handler choices fs hs) raising =
+      either_of (stmts_flow types variables around fs raising) (handlers_flow types variables around hs raising)
 
 -- The whole program.
 
@@ -665,7 +704,11 @@ abbrev mutual
 abbrev pub first_holds : Program → Holds
 first_holds program = replicate (length program.variables.items) Lost
 
--- The variables of a program, as plain data.
+-- The types of a program, as plain data.
+abbrev pub types_of : Program → List TypeForm
+types_of program = map type_form program.types.items
+
+-- Its variables.
 abbrev pub variables_of : Program → List VariableForm
 variables_of program = map variable_form program.variables.items
 
@@ -674,8 +717,8 @@ abbrev pub program_flow : Program → Outcome
 program_flow program =
     then_flow (declarations_flow (variables_of program) (declaration_forms program) (first_holds program))
     (λ at. handled (passes (stmt_forms program) (handler_forms program))
-    (handlers_flow (variables_of program) outermost (handler_forms program))
-    (stmts_flow (variables_of program) outermost (stmt_forms program) at))
+    (handlers_flow (types_of program) (variables_of program) outermost (handler_forms program))
+    (stmts_flow (types_of program) (variables_of program) outermost (stmt_forms program) at))
 
 -- No rule is broken.
 abbrev pub ObeysRules : Program → Type 0

@@ -1,6 +1,7 @@
 -- How the answers of the code are tied to the outcomes of the flow of values.
 
-use Rattle.std.specs.Prelude.{◌≡◌, ℕ, Bool, true, false, List, [], ◌∷◌, map, not, Option, Some, None, IfSome, Result, Ok, Err}
+use denote.Ref.{Bor}
+use Rattle.std.specs.Prelude.{◌≡◌, ℕ, Bool, true, false, List, [], ◌∷◌, ◌++◌, map, not, Option, Some, None, IfSome, Result, Ok, Err}
 use Rattle.std.specs.List.{slice_index_or}
 use Rattle.std.specs.Option.{option_copied}
 use Rattle.ada_text.specs.declared.spot.Spot.{Spot}
@@ -24,11 +25,11 @@ use Rattle.ada_program.specs.declared.program.Right.{Right}
 use Rattle.ada_program.specs.declared.program.Stmt.{Stmt}
 use Rattle.ada_program.specs.declared.program.TypeNo.{TypeNo}
 use Rattle.ada_program.specs.declared.program.Variable.{Variable}
-use Rattle.ada_program.specs.Form.{ExpressionForm, StmtsForm, branches_form, HandlersForm, no_handlers, a_handler, condition_form, declaration_form, handlers_form, path_form, right_form, stmts_form}
-use Rattle.ada_program.specs.ProgramForm.{VariableForm, variable_form}
+use Rattle.ada_program.specs.Form.{PathForm, ItemForm, ExpressionForm, StmtsForm, branches_form, HandlersForm, no_handlers, a_handler, condition_form, declaration_form, handlers_form, path_form, right_form, stmts_form}
+use Rattle.ada_program.specs.ProgramForm.{TypeForm, type_form, VariableForm, variable_form}
 use Rattle.ada_program.specs.WellFormed.{access_of}
 use Rattle.ada_effects.specs.Effects.{passes}
-use Rattle.ada_flow.specs.Flow.{Outcome, faults, goes, Holds, Around, if_own, is_among, is_left, join_option, left, left_option, in_loop, loop_flow, opened_by_all, counting_start, exit_flow, gives_path, raising_if, unless_worse, declarations_flow, handlers_flow, stmts_flow, branches_flow, program_flow}
+use Rattle.ada_flow.specs.Flow.{Outcome, faults, goes, Holds, Around, if_own, is_among, is_left, join_option, left, left_option, in_loop, loop_flow, named_by_item, opened_by_all, counting_start, exit_flow, gives_path, raising_if, unless_worse, declarations_flow, handlers_flow, stmts_flow, branches_flow, program_flow}
 
 -- The judgement of a whole program: no rule is broken, or this is the first one, and where.
 abbrev pub judgement : Outcome → Result (Unit {0}) (Spot × Rule)
@@ -60,7 +61,11 @@ broken (Some breach) = Some (breach.spot, breach.rule)
 abbrev pub type_number : TypeNo → ℕ
 type_number t = t.0
 
--- Where a statement stands: the variables of its program, the start of the innermost loop, and the access types of blocks.
+-- Where a statement stands: the types and the variables of its program, the start of the innermost loop, and the access types of blocks.
+abbrev pub types_in : HeldAround → List TypeForm
+types_in around = map type_form around.types.now
+
+-- The variables of its program.
 abbrev pub variables_in : HeldAround → List VariableForm
 variables_in around = map variable_form around.variables.now
 
@@ -153,10 +158,10 @@ joined_end so_far (Ok end) = Ok (join_option so_far end.0, end.1)
 -- The answer for branches of an `if` joins their ends, whatever is done where no condition is true; or it is the first fault of all.
 abbrev pub Joins : Result (Option Known) FlowFault → (before after : Raised) → HeldAround → List Branch → Holds → Type 0
 Joins (Ok joined) before after around branches holds = (others : StmtsForm) →
-    ending (noted before) (branches_flow (variables_in around) (around_of around) (branches_form branches others) holds)
-    ≡ joined_end (held joined) (ending (noted after) (stmts_flow (variables_in around) (around_of around) others holds))
+    ending (noted before) (branches_flow (types_in around) (variables_in around) (around_of around) (branches_form branches others) holds)
+    ≡ joined_end (held joined) (ending (noted after) (stmts_flow (types_in around) (variables_in around) (around_of around) others holds))
 Joins (Err fault) before after around branches holds = IfSome (breach_of fault) (λ breach. (others : StmtsForm) →
-    ending (noted before) (branches_flow (variables_in around) (around_of around) (branches_form branches others) holds) ≡ Err breach)
+    ending (noted before) (branches_flow (types_in around) (variables_in around) (around_of around) (branches_form branches others) holds) ≡ Err breach)
 
 -- How statements end with their handlers, by how they do themselves, and by what is noted of them.
 abbrev pub end_handled : Noted → (passes : Bool) → (handlers : Holds → Outcome) → (normal : Option Holds) → Noted → Result (Option Holds × Noted) (Spot × Rule)
@@ -187,7 +192,7 @@ exit_in around condition spot holds = exit_flow (variables_in around) (start_in 
 
 -- The handlers of statements that stand here, with what is known where an exception is raised.
 abbrev pub handlers_in : HeldAround → List Handler → Holds → Outcome
-handlers_in around handlers raising = handlers_flow (variables_in around) (around_of around) (handlers_form handlers) raising
+handlers_in around handlers raising = handlers_flow (types_in around) (variables_in around) (around_of around) (handlers_form handlers) raising
 
 -- How statements that stand here end with their handlers, by how they do themselves, and by what is noted of them.
 abbrev pub handled_in : HeldAround → (before : Noted) → List Stmt → List Handler → (normal : Option Holds) → Noted →
@@ -195,26 +200,36 @@ abbrev pub handled_in : HeldAround → (before : Noted) → List Stmt → List H
 handled_in around before statements handlers normal inner =
     end_handled before (passes (stmts_form statements) (handlers_form handlers)) (handlers_in around handlers) normal inner
 
--- A loop from its start.
-abbrev pub turns_of : List Variable → Option Expression → (leaves : Bool) → List Stmt → Spot → (start : Holds) → Outcome
-turns_of variables condition leaves body end start =
-    loop_flow (condition_form condition) leaves end (λ place hs. stmts_flow (map variable_form variables) (in_loop place) (stmts_form body) hs) start
+-- A loop that stands here, from its start.
+abbrev pub turns_of : HeldAround → Option Expression → (leaves : Bool) → List Stmt → Spot → (start : Holds) → Outcome
+turns_of around condition leaves body end start =
+    loop_flow (condition_form condition) leaves end (λ place hs. stmts_flow (types_in around) (variables_in around) (in_loop place) (stmts_form body) hs) start
 
 -- `loop`, or `while` with a condition.
-abbrev pub loop_of : List Variable → Option Expression → List Stmt → Spot → Holds → Outcome
-loop_of variables condition body end holds =
-    turns_of variables condition (is_left (condition_form condition) (stmts_form body)) body end
-    (opened_by_all (map variable_form variables) (stmts_form body) holds)
+abbrev pub loop_of : HeldAround → Option Expression → List Stmt → Spot → Holds → Outcome
+loop_of around condition body end holds =
+    turns_of around condition (is_left (condition_form condition) (stmts_form body)) body end
+    (opened_by_all (variables_in around) (stmts_form body) holds)
 
 -- `for`, behind its bounds.
-abbrev pub for_of : List Variable → (parameter : ℕ) → List Stmt → Spot → Holds → Outcome
-for_of variables parameter body end holds =
-    turns_of variables None true body end (counting_start (map variable_form variables) parameter (stmts_form body) holds)
+abbrev pub for_of : HeldAround → (parameter : ℕ) → List Stmt → Spot → Holds → Outcome
+for_of around parameter body end holds =
+    turns_of around None true body end (counting_start (variables_in around) parameter (stmts_form body) holds)
 
 -- An assignment, which is the first one of a take pair, or is not.
 abbrev pub assignment_of : List Variable → (cleared : Bool) → Path → Right → Holds → Outcome
 assignment_of variables cleared target value holds =
     gives_path (map variable_form variables) cleared (path_form target).selectors (path_form target) (right_form value) holds
+
+-- The component that an assignment goes to, if it goes to one.
+abbrev pub target_of : Option (Bor Path) → Option PathForm
+target_of None = None
+target_of (Some path) = Some (path_form path.now)
+
+-- The paths that items move.
+abbrev pub named_by_items : List ItemForm → List PathForm
+named_by_items [] = []
+named_by_items (i ∷ is) = named_by_item i ++ named_by_items is
 
 -- Declarations, in order.
 abbrev pub declarations_of : List Variable → List Declaration → Holds → Outcome

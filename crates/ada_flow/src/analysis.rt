@@ -155,6 +155,7 @@ pub fn flow(alloc: Global, program: &Program) -> Result<(), FlowFault>
     ensures { Exactly (λ _. tt) breach_of result (judgement (program_flow program.now)) }
 {
     let around = Around {
+        types: &program.types,
         variables: &program.variables,
         start: None,
         inside: &[],

@@ -2,20 +2,24 @@
 
 ghost use Rattle.std.specs.Prelude.{◌≡◌, Some, map};
 ghost use Rattle.ada_flow.specs.Flow as rules;
-ghost use Rattle.ada_flow.specs.Told.{Tells};
+ghost use Rattle.ada_flow.specs.Told.{Leads, Tells, broken};
 ghost use Rattle.ada_program.specs.Form.{path_form};
-ghost use Rattle.ada_program.specs.ProgramForm.{variable_form};
-ghost use Rattle.ada_program.specs.WellFormed.{access_of, is_this};
+ghost use Rattle.ada_program.specs.ProgramForm.{type_form, variable_form};
+ghost use Rattle.ada_program.specs.WellFormed as fits;
 
-use crate::fault::Breach;
+use crate::fault::{Breach, FlowFault};
+use crate::follow::{lost_by, unless_broken};
 use crate::holds::{have_alias, hold_of};
 use crate::known::Known;
+use crate::raised::Raised;
 use crate::rule::{Hold, Rule};
-use ada_program::program::{Variable, VariableKind};
-use ada_program::{Path, TypeNo, VariableNo};
+use ada_program::lookup::{access_of, is_this, path_access, selected_kind, variable_kind};
+use ada_program::program::{TypeDefinition, Variable};
+use ada_program::{Path, Spot};
+use std::alloc::Global;
 
 /// A rule that is broken where a path stands.
-fn broken(path: &Path, rule: Rule) -> Breach
+fn breach_at(path: &Path, rule: Rule) -> Breach
     ensures { result ≡ record { spot = path.now.spot; rule = rule } }
 {
     Breach {
@@ -24,32 +28,22 @@ fn broken(path: &Path, rule: Rule) -> Breach
     }
 }
 
-/// Whether a variable is of an access type.
-fn is_of(kind: VariableKind, access: TypeNo) -> bool
-    ensures { result ≡ is_this access.0 (access_of (Some kind)) }
-{
-    match kind {
-        VariableKind::Integer | VariableKind::Boolean => false,
-        VariableKind::Access(own) => own == access,
-    }
-}
-
 /// What is known of one variable where an object of an access type may be gone: an alias of it is lost.
-fn without_alias(variable: &Variable, access: TypeNo, hold: Hold) -> Hold
+fn without_alias(variable: &Variable, access: usize, hold: Hold) -> Hold
     ensures { result
-        ≡ rules.without_alias (is_this access.0 (access_of (Some variable.now.kind))) hold }
+        ≡ rules.without_alias (fits.is_this access (fits.access_of (Some variable.now.kind))) hold }
 {
     match hold {
-        Hold::Alias(_) if is_of(variable.kind, access) => Hold::Lost,
+        Hold::Alias(_) if is_this(access, access_of(Some(variable.kind))) => Hold::Lost,
         hold => hold,
     }
 }
 
 /// Where an object of an access type may be gone, every alias of the type is lost.
 #[tactic(auto, using(std::proofs::lemmas::Grind::common_steps, crate::proofs::Freed::losing_steps))]
-fn lose_aliases(variables: &[Variable], holds: &mut Vec<Hold>, access: TypeNo)
+fn lose_aliases(variables: &[Variable], holds: &mut Vec<Hold>, access: usize)
     ensures { holds.new.items
-        ≡ rules.without_aliases (map variable_form variables.now) access.0 holds.old.items }
+        ≡ rules.without_aliases (map variable_form variables.now) access holds.old.items }
 {
     holds.truncate(variables.len());
     for number in 0..holds.len() {
@@ -59,9 +53,9 @@ fn lose_aliases(variables: &[Variable], holds: &mut Vec<Hold>, access: TypeNo)
 
 /// The same of what is known. Costs the number of variables where one may hold an alias, and nothing where none does.
 #[tactic(auto, using(std::proofs::lemmas::Grind::common_steps, crate::proofs::Aliased::freeing_steps))]
-fn forget_aliases(variables: &[Variable], known: &mut Known, access: TypeNo)
+fn forget_aliases(variables: &[Variable], known: &mut Known, access: usize)
     ensures { known.new.holds.items
-        ≡ rules.without_aliases (map variable_form variables.now) access.0 known.old.holds.items }
+        ≡ rules.without_aliases (map variable_form variables.now) access known.old.holds.items }
 {
     if known.aliased {
         lose_aliases(variables, &mut known.holds, access);
@@ -71,17 +65,13 @@ fn forget_aliases(variables: &[Variable], known: &mut Known, access: TypeNo)
     }
 }
 
-/// Where the object of a variable may be gone, every alias of its access type is lost.
-fn end_object(variables: &[Variable], known: &mut Known, owner: VariableNo)
-    ensures { let all = map variable_form variables.now in
-        let access = rules.variable_access all owner.0 in
-        known.new.holds.items ≡ rules.behind_end all access known.old.holds.items }
+/// The same where the object has an access type: an Integer or a Boolean has none.
+fn end_object(variables: &[Variable], known: &mut Known, access: Option<usize>)
+    ensures { known.new.holds.items
+        ≡ rules.behind_end (map variable_form variables.now) access known.old.holds.items }
 {
-    if let Some(variable) = variables.get(owner.0) {
-        match variable.kind {
-            VariableKind::Integer | VariableKind::Boolean => {}
-            VariableKind::Access(access) => forget_aliases(variables, known, access),
-        }
+    if let Some(access) = access {
+        forget_aliases(variables, known, access);
     }
 }
 
@@ -89,20 +79,116 @@ fn end_object(variables: &[Variable], known: &mut Known, owner: VariableNo)
 ///
 /// # Errors
 /// Where what is freed is lost, or an alias.
-pub(crate) fn release(variables: &[Variable], known: &mut Known, path: &Path) -> Result<(), Breach>
+fn release_variable(variables: &[Variable], known: &mut Known, path: &Path) -> Result<(), Breach>
     ensures { let freed = path_form path.now in
-        Tells result known.new.holds.items (rules.frees_path (map variable_form variables.now) freed.selectors freed known.old.holds.items) }
+        let hold = rules.hold_at known.old.holds.items freed.root in
+        Tells result known.new.holds.items
+        (rules.released (map variable_form variables.now) freed.root freed.spot known.old.holds.items hold) }
 {
-    if !path.selectors.is_empty() {
-        return Err(broken(path, Rule::LostValue));
-    }
     match hold_of(known.holds(), path.root) {
         Hold::Null | Hold::Own(_) => {
-            end_object(variables, known, path.root);
+            let own = access_of(variable_kind(variables, path.root.0));
+            end_object(variables, known, own);
             known.put(path.root, Hold::Null);
             Ok(())
         }
-        Hold::Alias(_) => Err(broken(path, Rule::AliasMoved)),
-        Hold::Lost => Err(broken(path, Rule::LostValue)),
+        Hold::Alias(_) => Err(breach_at(path, Rule::AliasMoved)),
+        Hold::Lost => Err(breach_at(path, Rule::LostValue)),
+    }
+}
+
+/// Whether a path passes an access type: it follows a value of it. Costs the length of the path.
+fn passes_type(types: &[TypeDefinition], variables: &[Variable], path: &Path, access: usize) -> bool
+    ensures { let followed = path_form path.now in
+        let kind = fits.variable_kind (map variable_form variables.now) followed.root in
+        result ≡ rules.passes_type (map type_form types.now) kind followed.selectors access }
+{
+    let mut kind = variable_kind(variables, path.root.0);
+    'selectors: for component in &path.selectors {
+        if is_this(access, access_of(kind)) {
+            return true;
+        }
+        kind = selected_kind(types, kind, component.0);
+    }
+    false
+}
+
+/// Whether a path passes the access type of what it names, if that has one.
+fn passes_own(
+    types: &[TypeDefinition],
+    variables: &[Variable],
+    path: &Path,
+    access: Option<usize>,
+) -> bool
+    ensures { result ≡ rules.passes_own
+        (map type_form types.now) (map variable_form variables.now) (path_form path.now) access }
+{
+    match access {
+        None => false,
+        Some(access) => passes_type(types, variables, path, access),
+    }
+}
+
+/// The rule that freeing a component breaks: what is lost is not followed, and its path does not pass its own type.
+fn freed_behind(passes: bool, hold: Hold, spot: Spot) -> Option<Breach>
+    ensures { broken result ≡ rules.freed_behind passes hold spot }
+{
+    match hold {
+        Hold::Null | Hold::Own(_) | Hold::Alias(_) if passes => Some(Breach {
+            spot,
+            rule: Rule::UnsafePath,
+        }),
+        _ => lost_by(hold, spot),
+    }
+}
+
+/// `Free (P.C)`: a component owns its object. Behind it every alias of its access type is lost, and so it is where a
+/// value on the path is null. Costs the length of the path besides.
+///
+/// # Errors
+/// Where the path follows a lost value, or passes its own type.
+fn release_component(
+    alloc: Global,
+    types: &[TypeDefinition],
+    variables: &[Variable],
+    known: &mut Known,
+    raised: &mut Raised,
+    path: &Path,
+) -> Result<(), FlowFault>
+    ensures { let freed = path_form path.now in
+        let all_types = map type_form types.now in
+        let all = map variable_form variables.now in
+        let access = fits.path_access all_types all freed in
+        Leads result known.new.holds.items raised.old raised.new
+        (rules.released_behind all_types all freed known.old.holds.items access) }
+{
+    let access = path_access(types, variables, path);
+    let passes = passes_own(types, variables, path, access);
+    let hold = hold_of(known.holds(), path.root);
+    unless_broken(freed_behind(passes, hold, path.spot))?;
+    end_object(variables, known, access);
+    raised.note(alloc, known)?;
+    Ok(())
+}
+
+/// `Free`, of a variable or of a component.
+pub(crate) fn release(
+    alloc: Global,
+    types: &[TypeDefinition],
+    variables: &[Variable],
+    known: &mut Known,
+    raised: &mut Raised,
+    path: &Path,
+) -> Result<(), FlowFault>
+    ensures { let freed = path_form path.now in
+        let all = map variable_form variables.now in
+        Leads result known.new.holds.items raised.old raised.new
+        (rules.frees_path (map type_form types.now) all freed.selectors freed known.old.holds.items) }
+{
+    if path.selectors.is_empty() {
+        release_variable(variables, known, path)?;
+        Ok(())
+    } else {
+        release_component(alloc, types, variables, known, raised, path)
     }
 }

@@ -1,18 +1,19 @@
 //! What an assignment moves: the rules that moved paths break, and what is known behind the move.
 
-ghost use Rattle.std.specs.Prelude.{◌≡◌, false, [], ◌++◌, map};
+ghost use Rattle.std.specs.Prelude.{◌≡◌, false, [], ◌++◌, None, Some, map};
 ghost use Rattle.ada_flow.specs.Flow as rules;
-ghost use Rattle.ada_flow.specs.Told.{Follows, broken};
+ghost use Rattle.ada_flow.specs.Told.{Follows, broken, named_by_items, target_of};
 ghost use Rattle.ada_program.specs.Form.{path_form, item_form, right_form};
 
 use crate::fault::Breach;
 use crate::follow::{broken_in, broken_in_target, leftmost, lost_by, unless_broken};
 use crate::holds::hold_of;
 use crate::known::Known;
+use crate::pairs::is_same_path;
 use crate::rule::{Hold, Region, Rule};
 use ada_effects::expression_raises;
 use ada_program::program::{Item, Right};
-use ada_program::{Path, Spot, VariableNo};
+use ada_program::{Path, Spot};
 
 /// Uses what is assigned to a variable, a borrower or not, where the next statement clears what is moved, or does not.
 ///
@@ -25,9 +26,9 @@ pub(crate) fn use_right(
     value: &Right,
 ) -> Result<(), Breach>
     ensures { Follows result
-        (rules.broken_among holds.now (rules.uses_in_right borrows cleared (right_form value.now))) }
+        (rules.broken_among holds.now (rules.uses_in_right borrows cleared None (right_form value.now))) }
 {
-    unless_broken(broken_in_right(holds, borrows, cleared, value))
+    unless_broken(broken_in_right(holds, borrows, cleared, None, value))
 }
 
 /// Uses the path of a component that gets a value, and what is assigned to it: a component is no borrower.
@@ -41,24 +42,32 @@ pub(crate) fn use_assignment(
     value: &Right,
 ) -> Result<(), Breach>
     ensures { let place = rules.uses_in_target (path_form target.now) in
-        let assigned = rules.uses_in_right false cleared (right_form value.now) in
+        let to = Some (path_form target.now) in
+        let assigned = rules.uses_in_right false cleared to (right_form value.now) in
         Follows result (rules.broken_among holds.now (place ++ assigned)) }
 {
     unless_broken(leftmost(
         broken_in_target(holds, target),
-        broken_in_right(holds, false, cleared, value),
+        broken_in_right(holds, false, cleared, Some(target), value),
     ))
 }
 
-/// The leftmost rule that what is assigned breaks, to a borrower or not.
-fn broken_in_right(holds: &[Hold], borrows: bool, cleared: bool, value: &Right) -> Option<Breach>
-    ensures { broken result
-        ≡ rules.broken_among holds.now (rules.uses_in_right borrows cleared (right_form value.now)) }
+/// The leftmost rule that what is assigned breaks, to a borrower or not, to this component or to a variable.
+fn broken_in_right(
+    holds: &[Hold],
+    borrows: bool,
+    cleared: bool,
+    target: Option<&Path>,
+    value: &Right,
+) -> Option<Breach>
+    ensures { let place = target_of target.entry in
+        let uses = rules.uses_in_right borrows cleared place (right_form value.now) in
+        broken result ≡ rules.broken_among holds.now uses }
 {
     match value {
         Right::Null => None,
         Right::Path(path) => leftmost(broken_in_value(holds, borrows, cleared, path), None),
-        Right::Allocator { access: _, items } => broken_in_items(holds, items),
+        Right::Allocator { access: _, items } => broken_in_items(holds, target, items),
         Right::Value(expression) => broken_in(holds, expression),
     }
 }
@@ -82,80 +91,102 @@ fn broken_in_loan(holds: &[Hold], path: &Path) -> Option<Breach>
     lost_by(hold_of(holds, path.root), path.spot)
 }
 
-/// The leftmost rule that the items of an allocator break.
-fn broken_in_items(holds: &[Hold], items: &[Item]) -> Option<Breach>
-    ensures { broken result
-        ≡ rules.broken_among holds.now (rules.uses_in_items [] (map item_form items.now)) }
+/// The leftmost rule that the items of an allocator break, whose object goes to this component or to a variable.
+fn broken_in_items(holds: &[Hold], target: Option<&Path>, items: &[Item]) -> Option<Breach>
+    ensures { let place = target_of target.entry in
+        broken result ≡ rules.broken_among holds.now (rules.uses_in_items place [] (map item_form items.now)) }
 {
     let mut found = None;
     for (number, item) in items.iter().enumerate() {
-        found = leftmost(found, broken_in_item(holds, &items[..number], item));
+        found = leftmost(found, broken_in_item(holds, target, &items[..number], item));
     }
     found
 }
 
 /// The leftmost rule that an item breaks behind earlier items of its allocator.
-fn broken_in_item(holds: &[Hold], earlier: &[Item], item: &Item) -> Option<Breach>
-    ensures { let moved = rules.moved_by_items (map item_form earlier.now) in
-        let uses = rules.uses_in_item moved (item_form item.now) in
+fn broken_in_item(
+    holds: &[Hold],
+    target: Option<&Path>,
+    earlier: &[Item],
+    item: &Item,
+) -> Option<Breach>
+    ensures { let named = named_by_items (map item_form earlier.now) in
+        let uses = rules.uses_in_item (target_of target.entry) named (item_form item.now) in
         broken result ≡ rules.broken_among holds.now uses }
 {
     match item {
         Item::Null => None,
-        Item::Path(path) => leftmost(broken_in_item_move(holds, earlier, path), None),
+        Item::Path(path) => leftmost(broken_in_item_move(holds, target, earlier, path), None),
         Item::Value(expression) => broken_in(holds, expression),
     }
 }
 
-/// The rule that an item breaks by moving a path: each variable is moved once.
-fn broken_in_item_move(holds: &[Hold], earlier: &[Item], path: &Path) -> Option<Breach>
-    ensures { let moved = rules.moved_by_items (map item_form earlier.now) in
-        broken result ≡ rules.broken_in holds.now (rules.item_move moved (path_form path.now)) }
+/// The rule that an item breaks by moving a path: each is moved once, and of components the target alone.
+fn broken_in_item_move(
+    holds: &[Hold],
+    target: Option<&Path>,
+    earlier: &[Item],
+    path: &Path,
+) -> Option<Breach>
+    ensures { let named = named_by_items (map item_form earlier.now) in
+        let moved = rules.item_move (target_of target.entry) named (path_form path.now) in
+        broken result ≡ rules.broken_in holds.now moved }
 {
-    if path.selectors.is_empty() && is_moved_by(earlier, path.root) {
+    if is_named(earlier, path) {
         Some(Breach {
             spot: path.spot,
             rule: Rule::LostValue,
         })
     } else {
-        broken_in_move(holds, false, path)
+        broken_in_move(holds, is_target(target, path), path)
     }
 }
 
-/// Whether one of these items moves a variable.
-#[tactic(auto, using(std::proofs::lemmas::Grind::common_steps, crate::proofs::Moved::moved_steps))]
-fn is_moved_by(items: &[Item], variable: VariableNo) -> bool
+/// Whether a path is the component that the assignment goes to, if it goes to one.
+fn is_target(target: Option<&Path>, path: &Path) -> bool
+    ensures { result ≡ rules.is_target (target_of target.entry) (path_form path.now) }
+{
+    match target {
+        None => false,
+        Some(target) => is_same_path(target, path),
+    }
+}
+
+/// Whether one of these items is this path.
+#[tactic(auto, using(std::proofs::lemmas::Grind::common_steps, crate::proofs::Moved::named_steps))]
+fn is_named(items: &[Item], path: &Path) -> bool
     ensures { result
-        ≡ rules.is_one_of (rules.moved_by_items (map item_form items.now)) variable.0 }
+        ≡ rules.is_named (named_by_items (map item_form items.now)) (path_form path.now) }
 {
     'items: for item in items {
-        if item_moves(item, variable) {
+        if item_is(item, path) {
             return true;
         }
     }
     false
 }
 
-/// Whether an item moves a variable.
-fn item_moves(item: &Item, variable: VariableNo) -> bool
-    ensures { result ≡ rules.is_one_of (rules.moved_by_item (item_form item.now)) variable.0 }
+/// Whether an item is this path.
+fn item_is(item: &Item, path: &Path) -> bool
+    ensures { result
+        ≡ rules.is_named (rules.named_by_item (item_form item.now)) (path_form path.now) }
 {
     match item {
-        Item::Path(path) => path.selectors.is_empty() && path.root == variable,
+        Item::Path(named) => is_same_path(named, path),
         Item::Null | Item::Value(_) => false,
     }
 }
 
-/// The rule that a moved path breaks, where the next statement clears it, or does not.
-fn broken_in_move(holds: &[Hold], cleared: bool, path: &Path) -> Option<Breach>
+/// The rule that a moved path breaks, where it is overwritten then, or is not.
+fn broken_in_move(holds: &[Hold], overwritten: bool, path: &Path) -> Option<Breach>
     ensures { broken result
-        ≡ rules.broken_in holds.now (rules.moves_it cleared (path_form path.now)) }
+        ≡ rules.broken_in holds.now (rules.moves_it overwritten (path_form path.now)) }
 {
     let hold = hold_of(holds, path.root);
     if path.selectors.is_empty() {
         moved_by(hold, path.spot)
     } else {
-        taken_by(cleared, hold, path.spot)
+        taken_by(overwritten, hold, path.spot)
     }
 }
 
@@ -173,12 +204,12 @@ fn moved_by(hold: Hold, spot: Spot) -> Option<Breach>
     }
 }
 
-/// A value that is moved out of a component is not found behind a lost one, and the next statement clears it.
-fn taken_by(cleared: bool, hold: Hold, spot: Spot) -> Option<Breach>
-    ensures { broken result ≡ rules.taken_by cleared hold spot }
+/// A value that is moved out of a component is not found behind a lost one, and the component is overwritten.
+fn taken_by(overwritten: bool, hold: Hold, spot: Spot) -> Option<Breach>
+    ensures { broken result ≡ rules.taken_by overwritten hold spot }
 {
     match hold {
-        Hold::Null | Hold::Own(_) | Hold::Alias(_) if !cleared => Some(Breach {
+        Hold::Null | Hold::Own(_) | Hold::Alias(_) if !overwritten => Some(Breach {
             spot,
             rule: Rule::TakePair,
         }),
@@ -275,7 +306,7 @@ fn lose_item(known: &mut Known, item: &Item)
     }
 }
 
-/// A variable that is moved owns nothing any more; a component is cleared by the next statement.
+/// A variable that is moved owns nothing any more; a component is overwritten.
 fn lose_path(known: &mut Known, path: &Path)
     ensures { let moved = path_form path.now in
         known.new.holds.items ≡ rules.without_values (rules.variable_of moved.selectors moved.root) known.old.holds.items }

@@ -88,7 +88,7 @@ fn sets_to_null(path: &Path, statement: &Stmt) -> bool
 }
 
 /// Whether two paths are one.
-fn is_same_path(one: &Path, other: &Path) -> bool
+pub(crate) fn is_same_path(one: &Path, other: &Path) -> bool
     ensures { result ≡ rules.same_path (path_form one.now) (path_form other.now) }
 {
     one.root == other.root && are_same(&one.selectors, &other.selectors)

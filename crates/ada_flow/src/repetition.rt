@@ -13,7 +13,7 @@ use crate::marks::Marks;
 use crate::raised::Raised;
 use crate::rule::{Hold, Rule};
 use crate::statements::statements;
-use ada_program::program::{Expression, Variable};
+use ada_program::program::Expression;
 use ada_program::{Spot, Stmt, VariableNo};
 use std::alloc::Global;
 
@@ -61,7 +61,7 @@ pub(crate) fn keeps_start(
 #[cycle(flowing)]
 pub(crate) fn repeat(
     alloc: Global,
-    variables: &[Variable],
+    around: &Around<'_>,
     mut known: Known,
     raised: &mut Raised,
     condition: &Option<Expression>,
@@ -69,20 +69,18 @@ pub(crate) fn repeat(
     end: Spot,
 ) -> Result<Option<Known>, FlowFault>
     ensures { Ends result raised.old raised.new
-        (loop_of variables.now condition.now body.now end known.holds.items) }
+        (loop_of around.now condition.now body.now end known.holds.items) }
 {
-    open_all(variables, &mut known, body);
+    open_all(around.variables, &mut known, body);
     let leaves = condition.is_some() || have_exit(body);
-    turn(
-        alloc, variables, known, raised, condition, body, end, leaves,
-    )
+    turn(alloc, around, known, raised, condition, body, end, leaves)
 }
 
 /// `for`, behind its bounds.
 #[cycle(flowing)]
 pub(crate) fn count(
     alloc: Global,
-    variables: &[Variable],
+    around: &Around<'_>,
     mut known: Known,
     raised: &mut Raised,
     parameter: VariableNo,
@@ -90,11 +88,11 @@ pub(crate) fn count(
     end: Spot,
 ) -> Result<Option<Known>, FlowFault>
     ensures { Ends result raised.old raised.new
-        (for_of variables.now parameter.0 body.now end known.holds.items) }
+        (for_of around.now parameter.0 body.now end known.holds.items) }
 {
-    open_all(variables, &mut known, body);
+    open_all(around.variables, &mut known, body);
     known.put(parameter, Hold::Lost);
-    turn(alloc, variables, known, raised, &None, body, end, true)
+    turn(alloc, around, known, raised, &None, body, end, true)
 }
 
 /// One turn of a loop, from its start; behind the loop, if it is left, the variables hold what they did there.
@@ -102,7 +100,7 @@ pub(crate) fn count(
 #[tactic(auto, using(std::proofs::lemmas::Grind::common_steps, crate::proofs::Noted::turn_returns, crate::proofs::Noted::turn_stops))]
 fn turn(
     alloc: Global,
-    variables: &[Variable],
+    around: &Around<'_>,
     start: Known,
     raised: &mut Raised,
     condition: &Option<Expression>,
@@ -111,11 +109,11 @@ fn turn(
     leaves: bool,
 ) -> Result<Option<Known>, FlowFault>
     ensures { Ends result raised.old raised.new
-        (turns_of variables.now condition.now leaves body.now end start.holds.items) }
+        (turns_of around.now condition.now leaves body.now end start.holds.items) }
 {
     compute_condition(alloc, &start, raised, condition)?;
-    let around = Around::in_loop(variables, start.holds());
-    if let Some(after) = statements(alloc, &around, start.copy(alloc)?, raised, body)? {
+    let within = Around::in_loop(around.types, around.variables, start.holds());
+    if let Some(after) = statements(alloc, &within, start.copy(alloc)?, raised, body)? {
         unless_worse(after.holds(), start.holds(), end)?;
     }
     if leaves { Ok(Some(start)) } else { Ok(None) }

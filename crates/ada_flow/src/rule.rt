@@ -27,8 +27,10 @@ pub enum Rule {
     LostValue,
     /// A variable is moved or freed whose object another variable owns.
     AliasMoved,
-    /// A value is moved out of a component that the next statement does not set to null.
+    /// A value is moved out of a component that keeps it: the next statement does not set it to null, and it is not what gets the new object.
     TakePair,
     /// At the end of a loop's body, or at an exit, less is known of a variable than at the loop's start.
     LoopState,
+    /// A component is freed whose path follows a value of the component's own access type: the object that is freed may be one on the way.
+    UnsafePath,
 }

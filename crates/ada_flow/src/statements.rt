@@ -2,7 +2,7 @@
 
 ghost use Rattle.std.specs.Prelude.{◌≡◌, None};
 ghost use Rattle.ada_flow.specs.Flow.{stmt_flow, stmts_flow};
-ghost use Rattle.ada_flow.specs.Told.{Joins, Ends, around_of, exit_in, variables_in};
+ghost use Rattle.ada_flow.specs.Told.{Joins, Ends, around_of, exit_in, types_in, variables_in};
 ghost use Rattle.ada_program.specs.Form.{condition_form, stmt_form, stmts_form};
 
 use crate::analysis::{assign, declare, get};
@@ -57,7 +57,7 @@ fn statement(
     statement: &Stmt,
 ) -> Result<Option<Known>, FlowFault>
     ensures { Ends result raised.old raised.new
-        (stmt_flow (variables_in around.now) (around_of around.now) cleared (stmt_form statement.now) known.holds.items) }
+        (stmt_flow (types_in around.now) (variables_in around.now) (around_of around.now) cleared (stmt_form statement.now) known.holds.items) }
 {
     match statement {
         Stmt::Null | Stmt::PutText(_) => {}
@@ -72,10 +72,14 @@ fn statement(
                 value,
             )?;
         }
-        Stmt::Free {
-            access: _,
-            variable,
-        } => release(around.variables, &mut known, variable)?,
+        Stmt::Free { access: _, path } => release(
+            alloc,
+            around.types,
+            around.variables,
+            &mut known,
+            raised,
+            path,
+        )?,
         Stmt::Get(target) => get(alloc, &mut known, raised, target)?,
         Stmt::PutImage(expression) => compute(alloc, &known, raised, expression)?,
         Stmt::If {
@@ -90,15 +94,7 @@ fn statement(
             condition,
             statements,
             end,
-        } => return repeat(
-            alloc,
-            around.variables,
-            known,
-            raised,
-            condition,
-            statements,
-            *end,
-        ),
+        } => return repeat(alloc, around, known, raised, condition, statements, *end),
         Stmt::For {
             parameter,
             first,
@@ -108,15 +104,7 @@ fn statement(
         } => {
             compute(alloc, &known, raised, first)?;
             compute(alloc, &known, raised, last)?;
-            return count(
-                alloc,
-                around.variables,
-                known,
-                raised,
-                *parameter,
-                statements,
-                *end,
-            );
+            return count(alloc, around, known, raised, *parameter, statements, *end);
         }
         Stmt::Exit { condition, spot } => {
             return exit(alloc, around, known, raised, condition, *spot);
@@ -134,6 +122,7 @@ fn statement(
             let types = collected(alloc, declarations)?;
             let inside = joined_types(alloc, &types, around.inside)?;
             let within = Around {
+                types: around.types,
                 variables: around.variables,
                 start: around.start,
                 inside: &inside,
@@ -161,7 +150,7 @@ pub(crate) fn statements(
     statements: &[Stmt],
 ) -> Result<Option<Known>, FlowFault>
     ensures { Ends result raised.old raised.new
-        (stmts_flow (variables_in around.now) (around_of around.now) (stmts_form statements.now) known.holds.items) }
+        (stmts_flow (types_in around.now) (variables_in around.now) (around_of around.now) (stmts_form statements.now) known.holds.items) }
 {
     for (number, one) in statements.iter().enumerate() {
         let cleared = begins_pair(one, &statements[number + 1..]);

@@ -54,11 +54,13 @@ frame_of (held.Stores variable) = frame.Stores variable.0
 frame_of (held.Targets component right) = frame.Targets component.0 (right_form right.now)
 frame_of (held.StoresIn object component) = frame.StoresIn object component.0
 frame_of (held.Receives component) = frame.Receives component.0
+frame_of (held.FreesIn access component) = frame.FreesIn access.0 component.0
 frame_of (held.Declares variable) = frame.Declares variable.0
 frame_of held.Writes = frame.Writes
 frame_of (held.Ends object) = frame.Ends object
 frame_of (held.GivesBack object cause pool) = frame.GivesBack object cause pool
 frame_of (held.Clears variable) = frame.Clears variable.0
+frame_of (held.ClearsIn object component) = frame.ClearsIn object component.0
 
 -- Where a jump lands.
 abbrev pub landing_of : HeldLanding → Landing
@@ -141,6 +143,6 @@ ending v cause s = record s {
   control = frame.Ends v ∷ frame.GivesBack v cause 0 ∷ s.control;
 }
 
--- An object begins to end by a Free: a number is used up for it, and the variable is to become null (13.11.2).
-abbrev pub releasing : ValueOf → ℕ → State → State
-releasing v x s = numbered (ending v (freeing s.next) (pushed (frame.Clears x) s))
+-- An object begins to end by a Free: a number is used up for it (13.11.2).
+abbrev pub releasing : ValueOf → State → State
+releasing v s = numbered (ending v (freeing s.next) s)

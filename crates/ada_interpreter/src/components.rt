@@ -77,7 +77,7 @@ impl<'a> Process<'a> {
     }
 
     /// The access value to the object of a component is read (4.1), and then something is to be done with it.
-    fn find(
+    pub(crate) fn find(
         &mut self,
         variable: VariableNo,
         selectors: &'a [ComponentNo],

@@ -101,6 +101,7 @@ impl<'a> Process<'a> {
             Frame::Targets { component, right } => self.target(component, right),
             Frame::StoresIn { object, component } => Ok(self.store_in(object, component)),
             Frame::Receives(component) => Ok(self.receive(component)),
+            Frame::FreesIn { access, component } => self.free_in(access, component),
             Frame::Declares(variable) => self.create(variable),
             Frame::Writes => Ok(self.write()),
             Frame::Ends(object) => Ok(self.end(object)),
@@ -110,6 +111,7 @@ impl<'a> Process<'a> {
                 pool,
             } => Ok(self.give_back(object, cause, pool)),
             Frame::Clears(variable) => Ok(self.clear(variable)),
+            Frame::ClearsIn { object, component } => Ok(self.clear_in(object, component)),
         }
     }
 

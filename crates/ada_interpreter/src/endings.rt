@@ -1,81 +1,23 @@
 //! The ends of objects, and the leaving of masters.
 
-ghost use Rattle.std.specs.Prelude.{◌≡◌, ℕ, OnOk};
+ghost use Rattle.std.specs.Prelude.{◌≡◌, OnOk};
 ghost use Rattle.ada_meaning.specs.Event.{Quiet};
 ghost use Rattle.ada_meaning.specs.Frame as frame;
 ghost use Rattle.ada_meaning.specs.Step as step;
 ghost use Rattle.ada_meaning.specs.Named.{named, look, lent, members};
 ghost use Rattle.ada_meaning.specs.declared.event.Cause.TheVariants.{Leaving as leaving};
-ghost use Rattle.ada_interpreter.specs.Process.{frame_of, state_of, passed, replaced, Turns, IsTurn, ending, releasing};
+ghost use Rattle.ada_interpreter.specs.Process.{state_of, passed, replaced, Turns, IsTurn, ending};
 
 use crate::frame::Frame;
 use crate::masters::Remains;
 use crate::process::Process;
 use crate::turn::{Leaving, QUIET, Turn};
 use ada_meaning::{Cause, Event, Halt, Id, Mode, Request, Value, Why};
-use ada_program::{TypeNo, VariableNo};
 use std::alloc::AllocError;
 
 impl<'a> Process<'a> {
-    /// Free (X) (13.11.2): null has no effect; else the object leaves its collection, and is to end.
-    pub(crate) fn free(
-        &mut self,
-        access: TypeNo,
-        variable: VariableNo,
-        rest: Frame<'a>,
-    ) -> Result<Turn, AllocError>
-        ensures { let s = replaced (frame_of rest.entry) (state_of self.old) in
-            let v = step.held named s variable.0 in
-            Turns (step.free_next named access.0 variable.0 v (look s.heap v) s)
-            (state_of self.old) result (state_of self.new) }
-    {
-        match self.held(variable) {
-            Value::Null => {
-                self.replace(rest)?;
-                Ok(QUIET)
-            }
-            Value::Scalar(_) => Ok(Turn::Halts(Halt::Stuck)),
-            Value::Names(object) => self.free_object(object, variable, rest),
-        }
-    }
-
-    /// The object that a variable names is to end, and the variable is to become null; twice is erroneous.
-    fn free_object(
-        &mut self,
-        object: Id,
-        variable: VariableNo,
-        rest: Frame<'a>,
-    ) -> Result<Turn, AllocError>
-        ensures { let s = replaced (frame_of rest.entry) (state_of self.old) in
-            let v = Value.Names object in
-            (access : ℕ) → Turns (step.free_next named access variable.0 v (look s.heap v) s) (state_of self.old) result (state_of self.new) }
-    {
-        match self.objects.existing(object) {
-            None => Ok(Turn::Halts(Halt::Erroneous(Why::EndsTwice))),
-            Some(_) => {
-                self.replace(rest)?;
-                self.release(Value::Names(object), variable)?;
-                Ok(QUIET)
-            }
-        }
-    }
-
-    /// An object is to end by a Free, and the variable is to become null.
-    fn release(&mut self, value: Value, variable: VariableNo) -> Result<(), AllocError>
-        ensures { OnOk result (state_of self.new ≡ releasing value variable.0 (state_of self.old)) }
-    {
-        let number = self.next;
-        let Some(next) = number.checked_add(1) else {
-            return Err(AllocError);
-        };
-        self.push(Frame::Clears(variable))?;
-        self.dispose(value, Cause::Freeing { number })?;
-        self.next = next;
-        Ok(())
-    }
-
     /// An object leaves its collection; it is to cease to exist, and its words are to go back to the standard pool.
-    fn dispose(&mut self, object: Value, cause: Cause) -> Result<(), AllocError>
+    pub(crate) fn dispose(&mut self, object: Value, cause: Cause) -> Result<(), AllocError>
         ensures { OnOk result (state_of self.new ≡ ending object cause (state_of self.old)) }
     {
         self.push(Frame::GivesBack {

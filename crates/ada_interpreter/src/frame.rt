@@ -97,6 +97,12 @@ pub(crate) enum Frame<'a> {
     },
     /// The newest operand gives access to an object, whose component takes the next number of the input.
     Receives(ComponentNo),
+    /// The newest operand gives access to an object, whose component is freed by the instance for this access type
+    /// (13.11.2).
+    FreesIn {
+        access: TypeNo,
+        component: ComponentNo,
+    },
     /// The newest operand is the initial value of a variable, which then is created (3.3.1).
     Declares(VariableNo),
     /// The newest operand is to be written (A.10.7).
@@ -111,6 +117,11 @@ pub(crate) enum Frame<'a> {
     },
     /// A variable becomes null: the end of a Free (13.11.2).
     Clears(VariableNo),
+    /// A component of an object becomes null: the end of a Free (13.11.2).
+    ClearsIn {
+        object: Value,
+        component: ComponentNo,
+    },
 }
 
 impl<'a> Frame<'a> {

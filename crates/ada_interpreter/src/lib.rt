@@ -18,6 +18,7 @@ mod control;
 mod endings;
 mod expressions;
 mod frame;
+mod frees;
 mod handling;
 mod input;
 mod listed;

@@ -92,7 +92,7 @@ impl<'a> Process<'a> {
         }
     }
 
-    /// A statement (5.1). What is freed is a variable.
+    /// A statement (5.1).
     #[tactic(auto, using(std::proofs::lemmas::Grind::common_steps, ada_program::specs::Form::statement_rules))]
     fn execute(&mut self, statement: &'a Stmt, rest: Frame<'a>) -> Result<Turn, AllocError>
         ensures { let s = state_of self.old in
@@ -106,13 +106,7 @@ impl<'a> Process<'a> {
                 Ok(QUIET)
             }
             Stmt::Assign { target, value } => self.assign(target, value, rest),
-            Stmt::Free { access, variable } => {
-                if variable.selectors.is_empty() {
-                    self.free(*access, variable.root, rest)
-                } else {
-                    Ok(Turn::Halts(Halt::Stuck))
-                }
-            }
+            Stmt::Free { access, path } => self.free(*access, path, rest),
             Stmt::Get(target) => self.get(target, rest),
             Stmt::PutImage(expression) => {
                 self.replace_by_three(Frame::Computes(expression), Frame::Writes, rest)?;
@@ -311,16 +305,5 @@ impl<'a> Process<'a> {
     {
         self.replace(Frame::Leaves(Mode::Running))?;
         Ok(QUIET)
-    }
-
-    /// A variable becomes null: the end of a Free (13.11.2).
-    pub(crate) fn clear(&mut self, variable: VariableNo) -> Turn
-        ensures { let s = state_of self.old in
-            IsTurn (step.moves Quiet (step.put variable.0 Value.Null (passed s)))
-            s result (state_of self.new) }
-    {
-        self.pass();
-        self.put(variable, Value::Null);
-        QUIET
     }
 }

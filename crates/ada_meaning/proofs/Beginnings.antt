@@ -37,11 +37,13 @@ by_frame (frame.Stores x) k s runs is h = absurd (cc)
 by_frame (frame.Targets c right) k s runs is h = absurd (cc)
 by_frame (frame.StoresIn object c) k s runs is h = absurd (cc)
 by_frame (frame.Receives c) k s runs is h = absurd (cc)
+by_frame (frame.FreesIn access c) k s runs is h = absurd (cc)
 by_frame (frame.Declares x) k s runs is h = absurd (cc)
 by_frame frame.Writes k s runs is h = absurd (cc)
 by_frame (frame.Ends v) k s runs is h = absurd (cc)
 by_frame (frame.GivesBack v cause pool) k s runs is h = absurd (cc)
 by_frame (frame.Clears x) k s runs is h = absurd (cc)
+by_frame (frame.ClearsIn object c) k s runs is h = absurd (cc)
 
 by_control : (k : List (Frame Value)) (s : State) → s.mode ≡ Running → s.control ≡ k → begins_among k ≡ true → BeginsStatement s
 by_control [] s runs is h = absurd (cc)

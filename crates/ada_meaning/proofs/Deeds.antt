@@ -24,7 +24,7 @@ use Rattle.ada_meaning.specs.Frame.{Frame, is_master, is_loop, Landing, passes_o
 use Rattle.ada_meaning.specs.Frame as frame
 use Rattle.ada_meaning.specs.State.{Owned, declared, collection, Item, Master, home_of}
 use Rattle.ada_meaning.specs.Heap.{Cell, Found, on_null, on_gone, on_other, finds}
-use Rattle.ada_meaning.specs.Step.{halts, moves, tells, asks, picks, at, popped, held, newest, reading, component_next, follow_next, path_next, expression_next, null_test_next, is_decided, link_next, links_next, outcome_next, item_next, items_next, answered, new_next, new_cell, right_next, free_next, end_next, given_back, back_next, before_last, last_of, assign_next, target_next, stored_next, store_next, received_next, receive_next, frees_next, branches_next, decided_next, turn_next, repeats_next, turned_next, count_turn_next, counts_next, ranges_next, gets_next, exit_next, exited_next, stmt_next, stmts_next, line_next, declaration_next, declarations_next, members_next, item_leave_next, master_leave_next, leave_next, frame_next, landed, pass_next, running_next, jump_next, mode_next}
+use Rattle.ada_meaning.specs.Step.{halts, moves, tells, asks, picks, at, popped, held, newest, reading, component_next, follow_next, path_next, expression_next, null_test_next, is_decided, link_next, links_next, outcome_next, item_next, items_next, answered, new_next, new_cell, right_next, free_next, end_next, given_back, back_next, before_last, last_of, assign_next, target_next, stored_next, store_next, received_next, receive_next, frees_next, freed_next, free_component_next, free_in_next, branches_next, decided_next, turn_next, repeats_next, turned_next, count_turn_next, counts_next, ranges_next, gets_next, exit_next, exited_next, stmt_next, stmts_next, line_next, declaration_next, declarations_next, members_next, item_leave_next, master_leave_next, leave_next, frame_next, landed, pass_next, running_next, jump_next, mode_next}
 use Rattle.ada_meaning.specs.Named.{Object, State, Next, next, named, look, lent, lent_by, reads_boolean, reads_null, reads_integer, unary_given, binary_given, members, object_at, changed, on_object, new_object, parted, finished, returned, filled, an_integer}
 use Rattle.ada_meaning.specs.Run.{Event, Choice, settled, grants, takes, Leads, Step}
 use Rattle.ada_meaning.specs.Law.{back_of}
@@ -173,7 +173,23 @@ store_does o c v (finds cell) s = stored_does o c v (slice_get cell.values c) s
 
 frees_do : (cs : List ℕ) (access x : ℕ) (s : State) → Does s.heap (frees_next named cs access x s)
 frees_do [] access x s = free_does access x (held named s x) (look s.heap (held named s x)) s
-frees_do (c ∷ cs) access x s = tt
+frees_do (c ∷ cs) access x s = path_does (before_last c cs) (held named s x) (at (frame.FreesIn access (last_of c cs) ∷ s.control) s)
+
+freed_does : (access : ℕ) (o : Value) (c : ℕ) (v : Value) (found : Found (Cell Value)) (s : State) → Does s.heap (freed_next named access o c v found s)
+freed_does access o c v on_null s = same refl refl
+freed_does access o c v on_gone s = tt
+freed_does access o c v on_other s = tt
+freed_does access o c v (finds cell) s = parts v refl refl
+
+free_component_does : (access : ℕ) (o : Value) (c : ℕ) (held : Option Value) (s : State) → Does s.heap (free_component_next named access o c held s)
+free_component_does access o c None s = tt
+free_component_does access o c (Some v) s = freed_does access o c v (look s.heap v) s
+
+free_in_does : (access : ℕ) (o : Value) (c : ℕ) (found : Found (Cell Value)) (s : State) → Does s.heap (free_in_next named access o c found s)
+free_in_does access o c on_null s = same refl refl
+free_in_does access o c on_gone s = tt
+free_in_does access o c on_other s = tt
+free_in_does access o c (finds cell) s = free_component_does access o c (slice_get cell.values c) s
 
 branches_do : (branches : BranchesForm) (s : State) → Does s.heap (branches_next named branches s)
 branches_do (otherwise fs) s = same refl refl
@@ -241,7 +257,7 @@ exited_does (Some false) s = same refl refl
 stmt_does : (f : StmtForm) (s : State) → Does s.heap (stmt_next named f s)
 stmt_does skips s = same refl refl
 stmt_does (assigns target right) s = assign_does target.selectors target.root right s
-stmt_does (frees access variable) s = frees_do variable.selectors access variable.root s
+stmt_does (frees access path) s = frees_do path.selectors access path.root s
 stmt_does (gets target) s = gets_do target.selectors target.root s.input s
 stmt_does (writes e) s = same refl refl
 stmt_does (writes_text text) s = same refl refl
@@ -313,11 +329,13 @@ frame_does types (frame.Stores x) s = same refl refl
 frame_does types (frame.Targets c right) s = target_does (newest named s) c right (look s.heap (newest named s)) (popped s)
 frame_does types (frame.StoresIn object c) s = store_does object c (newest named s) (look s.heap object) (popped s)
 frame_does types (frame.Receives c) s = receive_does (newest named s) c (look s.heap (newest named s)) (popped s)
+frame_does types (frame.FreesIn access c) s = free_in_does access (newest named s) c (look s.heap (newest named s)) (popped s)
 frame_does types (frame.Declares x) s = same refl refl
 frame_does types frame.Writes s = line_does (reads_integer (newest named s)) (popped s)
 frame_does types (frame.Ends v) s = end_does v (look s.heap v) s
 frame_does types (frame.GivesBack v cause pool) s = back_does v cause pool s
 frame_does types (frame.Clears x) s = same refl refl
+frame_does types (frame.ClearsIn object c) s = store_does object c Null (look s.heap object) s
 
 running_does : (types : List TypeDefinition) (k : List (Frame Value)) (s : State) → Does s.heap (running_next named types k s)
 running_does types [] s = tt

@@ -81,6 +81,10 @@ finished_lighter objects v = on_object_lighter finished objects v (λ object. om
 pub returned_lighter : (objects : List Object) (v : Value) → heap_weight (on_object returned objects v) ≤ heap_weight objects
 returned_lighter objects v = on_object_lighter returned objects v (λ object. omega arith)
 
+-- And one that leaves its collection.
+pub parted_lighter : (objects : List Object) (v : Value) → heap_weight (on_object parted objects v) ≤ heap_weight objects
+parted_lighter objects v = on_object_lighter parted objects v (λ object. omega arith)
+
 pub filled_lighter : (objects : List Object) (v : Value) (c : ℕ) (u : Value) → heap_weight (on_object (filled c u) objects v) ≤ heap_weight objects
 filled_lighter objects v c u = on_object_lighter (filled c u) objects v (λ object. omega arith)
 

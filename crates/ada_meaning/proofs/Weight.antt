@@ -24,12 +24,12 @@ use Rattle.ada_meaning.specs.Frame as frame
 use Rattle.ada_meaning.specs.State.{Owned, declared, collection, Item, Master, height, home_of, begins, begins_in, begins_among}
 use Rattle.ada_meaning.specs.Event.{Quiet}
 use Rattle.ada_meaning.specs.Heap.{Cell, Found, on_null, on_gone, on_other, finds}
-use Rattle.ada_meaning.specs.Step.{halts, moves, tells, asks, picks, at, older, owning, shorter, popped, held, newest, reading, component_next, follow_next, path_next, expression_next, null_test_next, is_decided, link_next, links_next, outcome_next, item_next, items_next, answered, new_next, new_cell, right_next, free_next, end_next, given_back, back_next, assign_next, frees_next, branches_next, decided_next, turn_next, repeats_next, turned_next, count_turn_next, counts_next, ranges_next, gets_next, exit_next, exited_next, stmt_next, line_next, before_last, last_of, target_next, stored_next, store_next, received_next, receive_next, declaration_next, declarations_next, members_next, item_leave_next, master_leave_next, leave_next, frame_next, pass_next, running_next, mode_next}
+use Rattle.ada_meaning.specs.Step.{halts, moves, tells, asks, picks, at, older, owning, shorter, popped, held, newest, reading, component_next, follow_next, path_next, expression_next, null_test_next, is_decided, link_next, links_next, outcome_next, item_next, items_next, answered, new_next, new_cell, right_next, free_next, end_next, given_back, back_next, assign_next, frees_next, freed_next, free_component_next, free_in_next, branches_next, decided_next, turn_next, repeats_next, turned_next, count_turn_next, counts_next, ranges_next, gets_next, exit_next, exited_next, stmt_next, line_next, before_last, last_of, target_next, stored_next, store_next, received_next, receive_next, declaration_next, declarations_next, members_next, item_leave_next, master_leave_next, leave_next, frame_next, pass_next, running_next, mode_next}
 use Rattle.ada_meaning.specs.Named.{State, Next, next, named, look, lent, reads_boolean, reads_null, reads_integer, unary_given, binary_given, members, new_object, an_integer}
 use Rattle.ada_meaning.specs.Run.{Event, Choice, settled, grants, takes, Leads, Step}
 use Rattle.ada_meaning.specs.Beginning.{BeginsStatement}
 use Rattle.ada_meaning.specs.Ending.{expression_weight, links_weight, item_weight, items_weight, right_weight, branches_weight, condition_weight, declaration_weight, declarations_weight, frame_weight, has_handlers, pass_weight, passed_weight, by_mode, behind_weight, run_weight, exit_weight, heap_weight, masters_weight, weight, GoesOn, WithinStatement, here, there}
-use Rattle.ada_meaning.proofs.Members.{member_listed, heap_append, finished_lighter, returned_lighter, filled_lighter, taken_lighter}
+use Rattle.ada_meaning.proofs.Members.{member_listed, heap_append, finished_lighter, returned_lighter, filled_lighter, parted_lighter, taken_lighter}
 use Rattle.ada_meaning.proofs.Beginnings.{statements_begin}
 
 -- What the objects and the items weigh, and the weight of a state, open.
@@ -110,11 +110,13 @@ frame_passed (frame.Stores x) passed exited run h i = omega (arith, h)
 frame_passed (frame.Targets c right) passed exited run h i = omega (arith, h)
 frame_passed (frame.StoresIn object c) passed exited run h i = omega (arith, h)
 frame_passed (frame.Receives c) passed exited run h i = omega (arith, h)
+frame_passed (frame.FreesIn access c) passed exited run h i = omega (arith, h)
 frame_passed (frame.Declares x) passed exited run h i = omega (arith, h)
 frame_passed frame.Writes passed exited run h i = omega (arith, h)
 frame_passed (frame.Ends v) passed exited run h i = omega (arith, h)
 frame_passed (frame.GivesBack v cause pool) passed exited run h i = omega (arith, h)
 frame_passed (frame.Clears x) passed exited run h i = omega (arith, h)
+frame_passed (frame.ClearsIn object c) passed exited run h i = omega (arith, h)
 
 loop_passed : (loop : Bool) (passed exited run : ℕ) → passed ≤ run → passed ≤ exited → passed ≤ (if loop then run else exited)
 loop_passed true passed exited run h i = h
@@ -256,6 +258,23 @@ receive_lightens o c on_gone s w h = λ memory. cc
 receive_lightens o c on_other s w h = λ memory. cc
 receive_lightens o c (finds cell) s w h = received_lightens o c s.input (slice_get cell.values c) s w h
 
+-- A component that is freed: an end and a back are to come, and the component is to be cleared.
+freed_lightens : (access : ℕ) (o : Value) (c : ℕ) (v : Value) (found : Found (Cell Value)) (s : State) (w : ℕ) → load (running s) + 4 ≤ w → Lightens (freed_next named access o c v found (running s)) w
+freed_lightens access o c v on_null s w h = omega (arith, h)
+freed_lightens access o c v on_gone s w h = λ memory. cc
+freed_lightens access o c v on_other s w h = λ memory. cc
+freed_lightens access o c v (finds cell) s w h = omega (arith, h, parted_lighter s.heap v)
+
+free_component_lightens : (access : ℕ) (o : Value) (c : ℕ) (held : Option Value) (s : State) (w : ℕ) → load (running s) + 4 ≤ w → Lightens (free_component_next named access o c held (running s)) w
+free_component_lightens access o c None s w h = λ memory. cc
+free_component_lightens access o c (Some v) s w h = freed_lightens access o c v (look s.heap v) s w h
+
+free_in_lightens : (access : ℕ) (o : Value) (c : ℕ) (found : Found (Cell Value)) (s : State) (w : ℕ) → load (running s) + 4 ≤ w → Lightens (free_in_next named access o c found (running s)) w
+free_in_lightens access o c on_null s w h = omega (arith, h, passed_run s.control)
+free_in_lightens access o c on_gone s w h = λ memory. cc
+free_in_lightens access o c on_other s w h = λ memory. cc
+free_in_lightens access o c (finds cell) s w h = free_component_lightens access o c (slice_get cell.values c) s w h
+
 -- Branches, loops and exits, behind their conditions.
 branches_lighten : (branches : BranchesForm) (s : State) (w : ℕ) → load (running s) + 1 + branches_weight branches ≤ w → Lightens (branches_next named branches (running s)) w
 branches_lighten (otherwise fs) s w h = omega (arith, h, does_once fs s.control)
@@ -374,11 +393,14 @@ frame_lightens types (frame.StoresIn object c) s w b h =
     store_lightens object c (newest named s) (look s.heap object) (popped s) w (omega (arith, h))
 frame_lightens types (frame.Receives c) s w b h =
     receive_lightens (newest named s) c (look s.heap (newest named s)) (popped s) w (omega (arith, h))
+frame_lightens types (frame.FreesIn access c) s w b h =
+    free_in_lightens access (newest named s) c (look s.heap (newest named s)) (popped s) w (omega (arith, h))
 frame_lightens types (frame.Declares x) s w b h = omega (arith, h, masters_owning (record { number = height s.masters; owned = declared x }) s.masters)
 frame_lightens types frame.Writes s w b h = line_lightens (reads_integer (newest named s)) (popped s) w (omega (arith, h))
 frame_lightens types (frame.Ends v) s w b h = end_lightens v (look s.heap v) s w (omega (arith, h))
 frame_lightens types (frame.GivesBack v cause pool) s w b h = back_lightens v cause pool (lent s.heap v) s w (omega (arith, h))
 frame_lightens types (frame.Clears x) s w b h = omega (arith, h)
+frame_lightens types (frame.ClearsIn object c) s w b h = store_lightens object c Null (look s.heap object) s w (omega (arith, h))
 
 running_lightens : (types : List TypeDefinition) (k : List (Frame Value)) (s : State) (w : ℕ) → begins_among k ≡ false → stored s + run_weight k ≤ w → Lightens (running_next named types k (running s)) w
 running_lightens types [] s w b h = λ memory. cc
@@ -419,11 +441,13 @@ exception_lands e (frame.Stores x) = tt
 exception_lands e (frame.Targets c right) = tt
 exception_lands e (frame.StoresIn object c) = tt
 exception_lands e (frame.Receives c) = tt
+exception_lands e (frame.FreesIn access c) = tt
 exception_lands e (frame.Declares x) = tt
 exception_lands e frame.Writes = tt
 exception_lands e (frame.Ends v) = tt
 exception_lands e (frame.GivesBack v cause pool) = tt
 exception_lands e (frame.Clears x) = tt
+exception_lands e (frame.ClearsIn object c) = tt
 
 raise_lightens : (master handlers : Bool) (l : Landing) (e : Exception) (s : State) (w : ℕ) → LandsIn handlers l → load (in_mode (Raising e) s) + (if master || handlers then 2 else 1) ≤ w → Lightens (pass_next named master l (Raising e) (in_mode (Raising e) s)) w
 raise_lightens true handlers l e s w lands h = omega (arith, h)
@@ -467,11 +491,13 @@ master_no_loop (frame.Stores x) is = refl
 master_no_loop (frame.Targets c right) is = refl
 master_no_loop (frame.StoresIn object c) is = refl
 master_no_loop (frame.Receives c) is = refl
+master_no_loop (frame.FreesIn access c) is = refl
 master_no_loop (frame.Declares x) is = refl
 master_no_loop frame.Writes is = refl
 master_no_loop (frame.Ends v) is = refl
 master_no_loop (frame.GivesBack v cause pool) is = refl
 master_no_loop (frame.Clears x) is = refl
+master_no_loop (frame.ClearsIn object c) is = refl
 
 exit_lightens : (master handlers loop : Bool) (s : State) (w : ℕ) → (master ≡ true → loop ≡ false) → stored s + (if master || handlers then 2 else 1) + (if loop then run_weight s.control else exit_weight s.control) ≤ w → Lightens (pass_next named master (if loop then goes_behind else passes_on) Exiting (in_mode Exiting s)) w
 exit_lightens true handlers true s w apart h = let never : true ≡ false = apart refl in absurd (cc)
@@ -559,7 +585,7 @@ free_goes_on access x v (finds cell) s = tt
 
 frees_go_on : (cs : List ℕ) (access x : ℕ) (s : State) → GoesOn (frees_next named cs access x s)
 frees_go_on [] access x s = free_goes_on access x (held named s x) (look s.heap (held named s x)) s
-frees_go_on (c ∷ cs) access x s = λ memory. cc
+frees_go_on (c ∷ cs) access x s = path_goes_on (before_last c cs) (held named s x) (at (frame.FreesIn access (last_of c cs) ∷ s.control) s)
 
 branches_go_on : (branches : BranchesForm) (s : State) → GoesOn (branches_next named branches s)
 branches_go_on (otherwise fs) s = tt
@@ -577,7 +603,7 @@ exit_goes_on (Some e) s = tt
 stmt_goes_on : (f : StmtForm) (s : State) → GoesOn (stmt_next named f s)
 stmt_goes_on skips s = tt
 stmt_goes_on (assigns target right) s = assign_goes_on target.selectors target.root right s
-stmt_goes_on (frees access variable) s = frees_go_on variable.selectors access variable.root s
+stmt_goes_on (frees access path) s = frees_go_on path.selectors access path.root s
 stmt_goes_on (gets target) s = gets_go_on target.selectors target.root s.input s
 stmt_goes_on (writes e) s = tt
 stmt_goes_on (writes_text text) s = tt

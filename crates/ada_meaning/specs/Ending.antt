@@ -97,11 +97,13 @@ frame_weight (frame.Stores x) = 1
 frame_weight (frame.Targets c right) = 2 + right_weight right
 frame_weight (frame.StoresIn o c) = 1
 frame_weight (frame.Receives c) = 1
+frame_weight (frame.FreesIn access c) = 4
 frame_weight (frame.Declares x) = 2
 frame_weight frame.Writes = 1
 frame_weight (frame.Ends v) = 1
 frame_weight (frame.GivesBack v cause pool) = 1
 frame_weight (frame.Clears x) = 1
+frame_weight (frame.ClearsIn o c) = 1
 
 -- Are these handlers?
 abbrev pub has_handlers : {V : Type 0} → Frame V → Bool

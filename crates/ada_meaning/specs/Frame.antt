@@ -61,6 +61,8 @@ pub data Frame (V : Type 0) : Type 0 where
   StoresIn : (object : V) → (component : ℕ) → Frame V
   -- the newest operand gives access to an object, whose component takes the next number of the input
   Receives : (component : ℕ) → Frame V
+  -- the newest operand gives access to an object, whose component is freed by the instance for this access type (13.11.2)
+  FreesIn : (access component : ℕ) → Frame V
   -- the newest operand is the initial value of a variable, which then is created (3.3.1)
   Declares : (variable : ℕ) → Frame V
   -- the newest operand is to be written (A.10.7)
@@ -71,6 +73,8 @@ pub data Frame (V : Type 0) : Type 0 where
   GivesBack : V → Cause → (pool : ℕ) → Frame V
   -- a variable becomes null: the end of a Free (13.11.2)
   Clears : (variable : ℕ) → Frame V
+  -- a component of an object becomes null: the end of a Free (13.11.2)
+  ClearsIn : (object : V) → (component : ℕ) → Frame V
 
 -- Does a jump stop at this frame? A master does not let it pass before it has been left (7.6.1, 11.4).
 abbrev pub is_master : {V : Type 0} → Frame V → Bool

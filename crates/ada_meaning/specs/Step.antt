@@ -255,17 +255,20 @@ module _ {V H : Type 0} (ops : Ops V H) where
   right_next (allocates access items) s = moves Quiet (at (frame.Fills items ∷ frame.Creates access (length items) ∷ s.control) s)
   right_next (computes e) s = moves Quiet (at (frame.Computes e ∷ s.control) s)
 
-  -- Free (X) (13.11.2): null has no effect; else the object leaves its collection, ceases to exist, its words go back to the pool of the
-  -- access type, and X becomes null.
+  -- A Free of an object begins (13.11.2): it leaves its collection, is to cease to exist, its words are to go back to the pool of the access type,
+  -- and then what held its name becomes null.
+  abbrev pub freeing : (access : ℕ) → V → (clears : Frame V) → State V H → State V H
+  freeing access v clears s = numbered (record s {
+    heap = ops.part s.heap v;
+    control = frame.Ends v ∷ frame.GivesBack v (Freeing s.next) (pool_of access) ∷ clears ∷ s.control;
+  })
+
+  -- Free (X) (13.11.2): null has no effect.
   abbrev pub free_next : (access x : ℕ) → V → Found (Cell V) → State V H → Next V H
   free_next access x v on_null s = moves Quiet s
   free_next access x v on_gone s = halts (Erroneous EndsTwice)
   free_next access x v on_other s = halts Stuck
-  free_next access x v (finds cell) s =
-      moves Quiet (numbered (record s {
-        heap = ops.part s.heap v;
-        control = frame.Ends v ∷ frame.GivesBack v (Freeing s.next) (pool_of access) ∷ frame.Clears x ∷ s.control;
-      }))
+  free_next access x v (finds cell) s = moves Quiet (freeing access v (frame.Clears x) s)
 
   -- An object ceases to exist (13.11.2): twice is erroneous.
   abbrev pub end_next : V → Found (Cell V) → State V H → Next V H
@@ -310,7 +313,26 @@ module _ {V H : Type 0} (ops : Ops V H) where
 
   abbrev pub frees_next : List ℕ → (access x : ℕ) → State V H → Next V H
   frees_next [] access x s = free_next access x (held s x) (ops.look s.heap (held s x)) s
-  frees_next (c ∷ cs) access x s = halts Stuck
+  frees_next (c ∷ cs) access x s = path_next (before_last c cs) (held s x) (at (frame.FreesIn access (last_of c cs) ∷ s.control) s)
+
+  -- Free (P.C): the object that P leads to is found first, as that of a target. What its component gives access to is freed as by Free (X), and
+  -- the component becomes null.
+  abbrev pub freed_next : (access : ℕ) → V → (c : ℕ) → V → Found (Cell V) → State V H → Next V H
+  freed_next access o c v on_null s = moves (Followed o) s
+  freed_next access o c v on_gone s = halts (Erroneous EndsTwice)
+  freed_next access o c v on_other s = halts Stuck
+  freed_next access o c v (finds cell) s =
+      moves (Followed o) (freeing access v (frame.ClearsIn o c) s)
+
+  abbrev pub free_component_next : (access : ℕ) → V → (c : ℕ) → Option V → State V H → Next V H
+  free_component_next access o c None s = halts Stuck
+  free_component_next access o c (Some v) s = freed_next access o c v (ops.look s.heap v) s
+
+  abbrev pub free_in_next : (access : ℕ) → V → (c : ℕ) → Found (Cell V) → State V H → Next V H
+  free_in_next access o c on_null s = moves Quiet (raised ConstraintError s)
+  free_in_next access o c on_gone s = halts (Erroneous FollowsGone)
+  free_in_next access o c on_other s = halts Stuck
+  free_in_next access o c (finds cell) s = free_component_next access o c (slice_get cell.values c) s
 
   -- Branches (5.3): the conditions are evaluated one after another, until one is true.
   abbrev pub branches_next : BranchesForm → State V H → Next V H
@@ -380,7 +402,7 @@ module _ {V H : Type 0} (ops : Ops V H) where
   abbrev pub stmt_next : StmtForm → State V H → Next V H
   stmt_next skips s = moves Quiet s
   stmt_next (assigns target right) s = assign_next target.selectors target.root right s
-  stmt_next (frees access variable) s = frees_next variable.selectors access variable.root s
+  stmt_next (frees access path) s = frees_next path.selectors access path.root s
   stmt_next (gets target) s = gets_next target.selectors target.root s.input s
   stmt_next (writes e) s = moves Quiet (at (frame.Computes e ∷ frame.Writes ∷ s.control) s)
   stmt_next (writes_text text) s = moves (Line (Literal (record { 0 = text }))) s
@@ -463,11 +485,13 @@ module _ {V H : Type 0} (ops : Ops V H) where
   frame_next types (frame.Targets c right) s = target_next (newest s) c right (ops.look s.heap (newest s)) (popped s)
   frame_next types (frame.StoresIn o c) s = store_next o c (newest s) (ops.look s.heap o) (popped s)
   frame_next types (frame.Receives c) s = receive_next (newest s) c (ops.look s.heap (newest s)) (popped s)
+  frame_next types (frame.FreesIn access c) s = free_in_next access (newest s) c (ops.look s.heap (newest s)) (popped s)
   frame_next types (frame.Declares x) s = moves Quiet (owned (declared x) (put x (newest s) (popped s)))
   frame_next types frame.Writes s = line_next (ops.reads_integer (newest s)) (popped s)
   frame_next types (frame.Ends v) s = end_next v (ops.look s.heap v) s
   frame_next types (frame.GivesBack v cause pool) s = back_next v cause pool (ops.lent s.heap v) s
   frame_next types (frame.Clears x) s = moves Quiet (put x ops.null s)
+  frame_next types (frame.ClearsIn o c) s = store_next o c ops.null (ops.look s.heap o) s
 
   -- While a jump is on its way (5.7, 6.5, 11.4), pending work is discarded frame by frame, up to where it lands. Only a master interrupts it:
   -- the master is left first, and then the jump continues.

@@ -11,6 +11,7 @@ use Rattle.ada_values.specs.declared.operator.BinaryOperator.{BinaryOperator}
 use Rattle.ada_values.specs.declared.fault.OperatorFault.{OperatorFault}
 use Rattle.ada_values.specs.declared.fault.OperatorFault.TheVariants.{Overflow, DivisionByZero, WrongType}
 use Rattle.ada_meaning.specs.declared.state.Value.{Value}
+use Rattle.ada_meaning.specs.declared.state.Value.TheVariants.{Null}
 use Rattle.ada_meaning.specs.declared.state.Mode.{Mode}
 use Rattle.ada_meaning.specs.declared.event.Cause.{Cause}
 use Rattle.ada_meaning.specs.declared.event.Cause.TheVariants.{Leaving, Freeing, Assigning, Undoing}
@@ -21,7 +22,7 @@ use Rattle.ada_meaning.specs.Frame.{Frame, is_master, Landing, passes_on, goes_b
 use Rattle.ada_meaning.specs.Frame as frame
 use Rattle.ada_meaning.specs.State.{declared, collection, home_of}
 use Rattle.ada_meaning.specs.Heap.{Cell, Found, on_null, on_gone, on_other, finds}
-use Rattle.ada_meaning.specs.Step.{halts, at, popped, held, newest, reading, component_next, follow_next, path_next, expression_next, null_test_next, is_decided, link_next, links_next, outcome_next, item_next, items_next, answered, new_next, right_next, free_next, end_next, given_back, back_next, before_last, last_of, assign_next, target_next, stored_next, store_next, received_next, receive_next, frees_next, branches_next, decided_next, turn_next, repeats_next, turned_next, count_turn_next, counts_next, ranges_next, gets_next, exit_next, exited_next, stmt_next, stmts_next, line_next, declaration_next, declarations_next, frame_next, landed, pass_next, jump_next}
+use Rattle.ada_meaning.specs.Step.{halts, at, popped, held, newest, reading, component_next, follow_next, path_next, expression_next, null_test_next, is_decided, link_next, links_next, outcome_next, item_next, items_next, answered, new_next, right_next, free_next, end_next, given_back, back_next, before_last, last_of, assign_next, target_next, stored_next, store_next, received_next, receive_next, frees_next, freed_next, free_component_next, free_in_next, branches_next, decided_next, turn_next, repeats_next, turned_next, count_turn_next, counts_next, ranges_next, gets_next, exit_next, exited_next, stmt_next, stmts_next, line_next, declaration_next, declarations_next, frame_next, landed, pass_next, jump_next}
 use Rattle.ada_meaning.specs.Named.{State, Next, named, look, lent, reads_boolean, reads_null, reads_integer, unary_given, binary_given}
 use Rattle.ada_meaning.specs.Run.{Event}
 use Rattle.ada_meaning.specs.Law.{left_by}
@@ -151,7 +152,24 @@ store_works o c v (finds cell) s p = stored_works o c v (slice_get cell.values c
 
 frees_work : (cs : List ℕ) (access x : ℕ) (s : State) → Plain s.control → Works s (frees_next named cs access x s)
 frees_work [] access x s p = free_works access x (held named s x) (look s.heap (held named s x)) s p
-frees_work (c ∷ cs) access x s p = tt
+frees_work (c ∷ cs) access x s p =
+    path_works (before_last c cs) (held named s x) (at (frame.FreesIn access (last_of c cs) ∷ s.control) s) (tt, p)
+
+freed_works : (access : ℕ) (o : Value) (c : ℕ) (v : Value) (found : Found (Cell Value)) (s : State) → Plain s.control → Works s (freed_next named access o c v found s)
+freed_works access o c v on_null s p = stays refl p refl refl
+freed_works access o c v on_gone s p = tt
+freed_works access o c v on_other s p = tt
+freed_works access o c v (finds cell) s p = numbers refl (tt, (tt, (tt, p))) refl refl
+
+free_component_works : (access : ℕ) (o : Value) (c : ℕ) (before : Option Value) (s : State) → Plain s.control → Works s (free_component_next named access o c before s)
+free_component_works access o c None s p = tt
+free_component_works access o c (Some v) s p = freed_works access o c v (look s.heap v) s p
+
+free_in_works : (access : ℕ) (o : Value) (c : ℕ) (found : Found (Cell Value)) (s : State) → Plain s.control → Works s (free_in_next named access o c found s)
+free_in_works access o c on_null s p = stays refl p refl refl
+free_in_works access o c on_gone s p = tt
+free_in_works access o c on_other s p = tt
+free_in_works access o c (finds cell) s p = free_component_works access o c (slice_get cell.values c) s p
 
 branches_work : (branches : BranchesForm) (s : State) → Plain s.control → Works s (branches_next named branches s)
 branches_work (otherwise fs) s p = stays refl (tt, p) refl refl
@@ -220,7 +238,7 @@ exited_works (Some false) s p = stays refl p refl refl
 stmt_works : (f : StmtForm) (s : State) → Plain s.control → Works s (stmt_next named f s)
 stmt_works skips s p = stays refl p refl refl
 stmt_works (assigns target right) s p = assign_works target.selectors target.root right s p
-stmt_works (frees access variable) s p = frees_work variable.selectors access variable.root s p
+stmt_works (frees access path) s p = frees_work path.selectors access path.root s p
 stmt_works (gets target) s p = gets_work target.selectors target.root s.input s p
 stmt_works (writes e) s p = stays refl (tt, (tt, p)) refl refl
 stmt_works (writes_text text) s p = stays refl p refl refl
@@ -286,11 +304,13 @@ frame_works types (frame.Stores x) s is p = stays refl p refl refl
 frame_works types (frame.Targets c right) s is p = target_works (newest named s) c right (look s.heap (newest named s)) (popped s) p
 frame_works types (frame.StoresIn object c) s is p = store_works object c (newest named s) (look s.heap object) (popped s) p
 frame_works types (frame.Receives c) s is p = receive_works (newest named s) c (look s.heap (newest named s)) (popped s) p
+frame_works types (frame.FreesIn access c) s is p = free_in_works access (newest named s) c (look s.heap (newest named s)) (popped s) p
 frame_works types (frame.Declares x) s is p = owns (declared x) refl p refl refl
 frame_works types frame.Writes s is p = line_works (reads_integer (newest named s)) (popped s) p
 frame_works types (frame.Ends v) s is p = end_works v (look s.heap v) s p
 frame_works types (frame.GivesBack v cause pool) s is p = back_works v cause pool (lent s.heap v) s (back_is_plain v cause pool is) p
 frame_works types (frame.Clears x) s is p = stays refl p refl refl
+frame_works types (frame.ClearsIn object c) s is p = store_works object c Null (look s.heap object) s p
 
 -- A jump: what it passes, and where it lands.
 landed_works : (l : Landing) (s : State) → Plain s.control → Works s (landed named l s)

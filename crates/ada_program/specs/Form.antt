@@ -78,7 +78,7 @@ mutual
   pub data StmtForm : Type 0 where
     skips : StmtForm
     assigns : (target : PathForm) → RightForm → StmtForm
-    frees : (access : ℕ) → (variable : PathForm) → StmtForm
+    frees : (access : ℕ) → (path : PathForm) → StmtForm
     gets : (target : PathForm) → StmtForm
     writes : ExpressionForm → StmtForm
     writes_text : (text : ℕ) → StmtForm
@@ -166,7 +166,7 @@ unfoldable mutual
   pub stmt_form : Stmt → StmtForm
   stmt_form stmt.Null = skips
   stmt_form (stmt.Assign target value) = assigns (path_form target) (right_form value)
-  stmt_form (stmt.Free access variable) = frees access.0 (path_form variable)
+  stmt_form (stmt.Free access path) = frees access.0 (path_form path)
   stmt_form (stmt.Get target) = gets (path_form target)
   stmt_form (stmt.PutImage e) = writes (expression_form e)
   stmt_form (stmt.PutText text) = writes_text text.0
@@ -267,9 +267,9 @@ pub assigns_form : (target : Path) (value : Right) → stmt_form (stmt.Assign ta
 unfolding stmt_form
 assigns_form target value = refl
 
-pub frees_form : (access : TypeNo) (variable : Path) → stmt_form (stmt.Free access variable) ≡ frees access.0 (path_form variable)
+pub frees_form : (access : TypeNo) (path : Path) → stmt_form (stmt.Free access path) ≡ frees access.0 (path_form path)
 unfolding stmt_form
-frees_form access variable = refl
+frees_form access path = refl
 
 pub gets_form : (target : Path) → stmt_form (stmt.Get target) ≡ gets (path_form target)
 unfolding stmt_form

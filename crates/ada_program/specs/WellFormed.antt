@@ -242,7 +242,7 @@ abbrev pub is_this : ℕ → Option ℕ → Bool
 is_this access None = false
 is_this access (Some t) = t == access
 
--- In use so far: what is freed, and an access value that goes to a new object, are variables, and no components.
+-- A path is a variable, and no component.
 abbrev pub names_variable : PathForm → Bool
 names_variable path = length path.selectors == 0
 
@@ -321,7 +321,7 @@ abbrev mutual
 abbrev pub has_type : List TypeForm → List VariableForm → ScalarType → ExpressionForm → Bool
 has_type types variables type e = is_type type (type_of types variables e)
 
--- An item of an aggregate is null or a variable of the component's very type for an access component, and else an expression of the component's
+-- An item of an aggregate is null or a path of the component's very type for an access component, and else an expression of the component's
 -- type (4.3.1).
 abbrev pub item_fits : List TypeForm → List VariableForm → ComponentKind → ItemForm → Bool
 item_fits types variables (component.Integer initial) null_item = false
@@ -331,8 +331,7 @@ item_fits types variables (component.Boolean initial) null_item = false
 item_fits types variables (component.Boolean initial) (item_of_path path) = false
 item_fits types variables (component.Boolean initial) (item_of_value e) = has_type types variables Boolean e
 item_fits types variables (component.Access access) null_item = true
-item_fits types variables (component.Access access) (item_of_path path) =
-    names_variable path && is_this access.0 (path_access types variables path)
+item_fits types variables (component.Access access) (item_of_path path) = is_this access.0 (path_access types variables path)
 item_fits types variables (component.Access access) (item_of_value e) = false
 
 -- There is one item for each component, in order (4.3.1).
@@ -429,7 +428,7 @@ abbrev pub same_record : Option ℕ → Option ℕ → Bool
 same_record None other = false
 same_record (Some t) other = is_this t other
 
--- A variable is freed by an instance whose access type designates what the variable's own type designates (13.11.2).
+-- What is freed has an access type that designates what the instance's access type designates (13.11.2).
 abbrev pub is_freed_by : List TypeForm → ℕ → Option ℕ → Bool
 is_freed_by types access None = false
 is_freed_by types access (Some own) = same_record (designated_type types access) (designated_type types own)
@@ -475,7 +474,7 @@ abbrev mutual
   statement_fits types variables texts exceptions inside_loop (assigns target right) =
       right_fits types variables (path_kind types variables target) right && lends_to variables (names_borrower variables target) right
   statement_fits types variables texts exceptions inside_loop (frees access path) =
-      names_variable path && is_freed_by types access (path_access types variables path) && not (names_borrower variables path)
+      is_freed_by types access (path_access types variables path) && not (names_borrower variables path)
   statement_fits types variables texts exceptions inside_loop (gets target) = is_integer_target types variables target
   statement_fits types variables texts exceptions inside_loop (writes e) = has_type types variables Integer e
   statement_fits types variables texts exceptions inside_loop (writes_text text) = nat_lt text (length texts)

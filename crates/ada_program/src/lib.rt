@@ -8,7 +8,7 @@
 pub mod borrowers;
 mod creations;
 mod kinds;
-mod lookup;
+pub mod lookup;
 pub mod program;
 mod targets;
 mod typing;

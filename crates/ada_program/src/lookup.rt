@@ -63,7 +63,7 @@ pub(crate) fn reached_components<'p>(
 }
 
 /// What a variable holds.
-pub(crate) fn variable_kind(variables: &[Variable], number: usize) -> Option<VariableKind>
+pub fn variable_kind(variables: &[Variable], number: usize) -> Option<VariableKind>
     ensures { result ≡ fits.variable_kind (variables_in variables.now) number }
 {
     match variables.get(number) {
@@ -73,7 +73,7 @@ pub(crate) fn variable_kind(variables: &[Variable], number: usize) -> Option<Var
 }
 
 /// The access type of a value: none, if it is an Integer or a Boolean.
-pub(crate) fn access_of(kind: Option<VariableKind>) -> Option<usize>
+pub fn access_of(kind: Option<VariableKind>) -> Option<usize>
     ensures { result ≡ fits.access_of kind }
 {
     match kind? {
@@ -105,7 +105,7 @@ pub(crate) fn held_kind(kind: ComponentKind) -> VariableKind
 }
 
 /// What a component holds of the object that a value gives access to (4.1, 4.1.3).
-fn selected_kind(
+pub fn selected_kind(
     types: &[TypeDefinition],
     kind: Option<VariableKind>,
     component: usize,
@@ -135,11 +135,7 @@ pub(crate) fn path_kind(
 }
 
 /// The access type of the value where a path leads.
-pub(crate) fn path_access(
-    types: &[TypeDefinition],
-    variables: &[Variable],
-    path: &Path,
-) -> Option<usize>
+pub fn path_access(types: &[TypeDefinition], variables: &[Variable], path: &Path) -> Option<usize>
     ensures { result ≡ kept.path_access types.now variables.now path.now }
 {
     access_of(path_kind(types, variables, path))
@@ -153,7 +149,7 @@ pub(crate) fn names_variable(path: &Path) -> bool
 }
 
 /// Whether a type is there, and is this one.
-pub(crate) fn is_this(wanted: usize, found: Option<usize>) -> bool
+pub fn is_this(wanted: usize, found: Option<usize>) -> bool
     ensures { result ≡ fits.is_this wanted found }
 {
     match found {

@@ -138,7 +138,7 @@ pub enum Stmt {
     /// A call of the instance of Unchecked_Deallocation for an access type (13.11.2).
     Free {
         access: TypeNo,
-        variable: Path,
+        path: Path,
     },
     /// `Run_Input.Get (..);` The next number of the input goes to an Integer.
     Get(Path),
@@ -216,7 +216,7 @@ pub enum Right {
 #[derive(Drop)]
 pub enum Item {
     Null,
-    /// The access value that a path names: that of a variable.
+    /// The access value that a path names: that of a variable, or of a component.
     Path(Path),
     /// An Integer or a Boolean (4.4).
     Value(Expression),

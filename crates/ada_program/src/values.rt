@@ -6,7 +6,7 @@ ghost use Rattle.ada_program.specs.Form.{expression_form, item_form, links_form,
 ghost use Rattle.ada_program.specs.Kept as kept;
 ghost use Rattle.ada_program.specs.WellFormed as fits;
 
-use crate::lookup::{is_this, names_variable, path_access, reached_components};
+use crate::lookup::{is_this, path_access, reached_components};
 use crate::program::{
     Component, ComponentKind, Expression, Item, Link, Right, ScalarType, TypeDefinition, Variable,
     VariableKind,
@@ -112,8 +112,10 @@ fn item_fits(
 {
     match (kind, item) {
         (ComponentKind::Access(_), Item::Null) => true,
-        (ComponentKind::Access(access), Item::Path(path)) => names_variable(path)
-            && is_this(access.0, path_access(types, variables, path)),
+        (ComponentKind::Access(access), Item::Path(path)) => is_this(
+            access.0,
+            path_access(types, variables, path),
+        ),
         (ComponentKind::Integer { initial: _ }, Item::Value(expression)) => has_type(
             types,
             variables,

@@ -11,9 +11,7 @@ ghost use Rattle.ada_program.specs.WellFormed as fits;
 use crate::borrowers::{is_borrower, lends_to, names_borrower};
 use crate::creations::{creates_in_order, has_collections};
 use crate::kinds::{types_fit, variables_fit};
-use crate::lookup::{
-    access_of, is_access, names_variable, path_access, path_kind, scalar_of, variable_kind,
-};
+use crate::lookup::{access_of, is_access, path_access, path_kind, scalar_of, variable_kind};
 use crate::program::{
     Branch, Choice, Declaration, Exception, Expression, Handler, Program, ScalarType, Stmt,
     TypeDefinition, Variable,
@@ -174,9 +172,11 @@ fn statement_fits(
             path_kind(types, variables, target),
             value,
         ) && lends_to(variables, names_borrower(variables, target), value),
-        Stmt::Free { access, variable } => names_variable(variable)
-            && is_freed_by(types, access.0, path_access(types, variables, variable))
-            && !names_borrower(variables, variable),
+        Stmt::Free { access, path } => is_freed_by(
+            types,
+            access.0,
+            path_access(types, variables, path),
+        ) && !names_borrower(variables, path),
         Stmt::Get(target) => is_integer_target(types, variables, target),
         Stmt::PutImage(expression) => has_type(types, variables, ScalarType::Integer, expression),
         Stmt::PutText(text) => text.0 < texts.len(),

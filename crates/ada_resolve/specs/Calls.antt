@@ -21,15 +21,14 @@ use Rattle.ada_resolve.specs.Spots.{argument_spot, expression_spot}
 use Rattle.ada_resolve.specs.Arguments.{argument_remark, arguments_remark, none_wanted}
 use Rattle.ada_resolve.specs.Expressions.{expression_remark}
 use Rattle.ada_resolve.specs.Lines.{put_line_found, put_line_remark}
-use Rattle.ada_resolve.specs.Operators.{no_component_wanted, owner_wanted}
+use Rattle.ada_resolve.specs.Operators.{owner_wanted}
 use Rattle.ada_resolve.specs.Paths.{Meant, access_value, integer_value, path_meant, unknown}
 
--- `Free (X);` (13.11.2): the actual is a variable of the instance's access type, and no borrower.
+-- `Free (X);` (13.11.2): the actual is a variable or a component of the instance's access type, and no borrower as a whole.
 abbrev pub freed_wanted : List VariableForm → TypeNo → Meant → Spot → Remark
 freed_wanted variables access unknown spot = fine
 freed_wanted variables access (access_value path t) spot =
-    wrong_if (not (t.0 == access.0)) spot WrongType also no_component_wanted (access_value path t) spot also
-    owner_wanted variables (access_value path t) spot
+    wrong_if (not (t.0 == access.0)) spot WrongType also owner_wanted variables (access_value path t) spot
 freed_wanted variables access other spot = wrong spot WrongType
 
 -- `Run_Input.Get (X);`: the actual is an Integer, a variable or a component.
@@ -61,7 +60,7 @@ actual_remark known taker (expression_argument (path_expression path)) =
     written_wanted (visible known path.root.text) path.root.spot
 actual_remark known taker other = wrong (argument_spot other) WrongType also argument_remark known other
 
--- What the variable gives access to is freed, by the instance of this access type.
+-- What the path gives access to is freed, by the instance of this access type.
 abbrev pub freeing : TypeNo → Meant → Option StmtForm
 freeing access (access_value path t) = Some (frees access.0 path)
 freeing access other = None

@@ -16,7 +16,7 @@ use Rattle.ada_resolve.specs.Library.{no_component_rule}
 use Rattle.ada_resolve.specs.Remark.{Remark, fine, wrong, ◌also◌, wrong_if}
 use Rattle.ada_resolve.specs.Spots.{expression_spot}
 use Rattle.ada_resolve.specs.Expressions.{expression_meant, expression_remark}
-use Rattle.ada_resolve.specs.Operators.{access_wanted, boolean_wanted, integer_wanted, no_component_wanted, owner_wanted}
+use Rattle.ada_resolve.specs.Operators.{access_wanted, boolean_wanted, integer_wanted, owner_wanted}
 use Rattle.ada_resolve.specs.Paths.{Meant, access_value, boolean_value, component_at, component_named, integer_value}
 
 -- What is known before an item: how many items come before it, which components have their items, and whether each item so far names a
@@ -43,12 +43,12 @@ item_meant (boolean_value e) = item_of_value e
 item_meant (access_value path t) = item_of_path path
 item_meant other = null_item
 
--- A value is of its component's type: an access component is given null, or what a variable of that very type holds, which is no borrower.
+-- A value is of its component's type: an access component is given null, or what a path of that very type names, which is no borrower as a whole.
 abbrev pub fits_remark : List VariableForm → ComponentKind → Meant → Spot → Remark
 fits_remark variables (kind.Integer initial) value spot = integer_wanted value spot
 fits_remark variables (kind.Boolean initial) value spot = boolean_wanted value spot
 fits_remark variables (kind.Access t) value spot =
-    access_wanted t value spot also no_component_wanted value spot also owner_wanted variables value spot
+    access_wanted t value spot also owner_wanted variables value spot
 
 -- No component has that name (4.1.3), or there are too many items.
 abbrev pub no_component : Option Ident → ExpressionTree → Remark

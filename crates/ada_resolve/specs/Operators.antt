@@ -8,9 +8,9 @@ use Rattle.ada_values.specs.declared.operator.BinaryOperator.{BinaryOperator}
 use Rattle.ada_values.specs.declared.operator.BinaryOperator.TheVariants as binary
 use Rattle.ada_program.specs.Form.{ExpressionForm, integer, boolean, is_null, applied_to, chained, LinksForm, no_more_links, a_link}
 use Rattle.ada_program.specs.ProgramForm.{VariableForm}
-use Rattle.ada_program.specs.WellFormed.{names_borrower, names_variable}
+use Rattle.ada_program.specs.WellFormed.{names_borrower}
 use Rattle.ada_program.specs.declared.program.TypeNo.{TypeNo}
-use Rattle.ada_resolve.specs.declared.fault.NameRule.TheVariants.{WrongType, NotInProfile}
+use Rattle.ada_resolve.specs.declared.fault.NameRule.TheVariants.{WrongType}
 use Rattle.ada_resolve.specs.Remark.{Remark, fine, wrong, ◌also◌, wrong_if}
 use Rattle.ada_resolve.specs.Paths.{Meant, access_value, boolean_value, integer_value, null_value, unknown}
 
@@ -117,11 +117,6 @@ access_wanted access unknown spot = fine
 access_wanted access null_value spot = fine
 access_wanted access (access_value path t) spot = wrong_if (not (access.0 == t.0)) spot WrongType
 access_wanted access other spot = wrong spot WrongType
-
--- In use so far: what is freed, and an access value that goes to a new object, are variables, and no components.
-abbrev pub no_component_wanted : Meant → Spot → Remark
-no_component_wanted (access_value path t) spot = wrong_if (not (names_variable path)) spot NotInProfile
-no_component_wanted other spot = fine
 
 -- What a borrower holds goes to borrowers alone, and is freed by its owner (3.10.2, 13.11.2): elsewhere no borrower is wanted.
 abbrev pub owner_wanted : List VariableForm → Meant → Spot → Remark

@@ -247,7 +247,8 @@ fn getting_integer(value: program::Expression, spot: Spot, notes: &mut Notes) ->
     }
 }
 
-/// What is freed: what a variable of the instance's access type gives access to, which is no borrower.
+/// What is freed: what a variable or a component of the instance's access type gives access to.
+/// A borrower as a whole frees nothing.
 #[tactic(auto, using(std::proofs::lemmas::Grind::common_steps, ada_program::specs::Form::statement_rules))]
 fn freeing(
     variables: &[Variable],
@@ -261,15 +262,10 @@ fn freeing(
 {
     match meant {
         Meant::Unknown => None,
-        Meant::Access(variable, found) => {
+        Meant::Access(path, found) => {
             notes.note_if(found.0 != access.0, spot, NameRule::WrongType);
-            notes.note_if(!variable.selectors.is_empty(), spot, NameRule::NotInProfile);
-            notes.note_if(
-                names_borrower(variables, &variable),
-                spot,
-                NameRule::WrongType,
-            );
-            Some(Stmt::Free { access, variable })
+            notes.note_if(names_borrower(variables, &path), spot, NameRule::WrongType);
+            Some(Stmt::Free { access, path })
         }
         Meant::Null | Meant::Integer(_) | Meant::Boolean(_) => {
             notes.note(spot, NameRule::WrongType);

@@ -263,7 +263,7 @@ fn no_component(item: &Item<'_>, notes: &mut Notes)
     }
 }
 
-/// A value is of its component's type, and that of an access component is no borrower.
+/// A value is of its component's type, and that of an access component is no borrower as a whole.
 fn fits(variables: &[Variable], kind: ComponentKind, value: &Meant, spot: Spot, notes: &mut Notes)
     ensures { IsNoted notes
         (fits_remark (variables_in variables.now) kind (meant_of value.now) spot) }
@@ -273,7 +273,6 @@ fn fits(variables: &[Variable], kind: ComponentKind, value: &Meant, spot: Spot, 
         ComponentKind::Boolean { .. } => value.boolean_wanted(spot, notes),
         ComponentKind::Access(access) => {
             value.access_wanted(access, spot, notes);
-            value.no_component_wanted(spot, notes);
             value.owner_wanted(variables, spot, notes);
         }
     }

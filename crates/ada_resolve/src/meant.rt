@@ -75,15 +75,6 @@ impl Meant {
         }
     }
 
-    /// The access value is that of a variable: no component is in use there.
-    pub(crate) fn no_component_wanted(&self, spot: Spot, notes: &mut Notes)
-        ensures { IsNoted notes (rules.no_component_wanted (meant_of self.now) spot) }
-    {
-        if let Meant::Access(path, _) = self {
-            notes.note_if(!path.selectors.is_empty(), spot, NameRule::NotInProfile);
-        }
-    }
-
     /// The access value isn't that of a borrower, which owns nothing.
     pub(crate) fn owner_wanted(&self, variables: &[Variable], spot: Spot, notes: &mut Notes)
         ensures { IsNoted notes

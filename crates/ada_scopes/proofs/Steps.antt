@@ -27,7 +27,7 @@ use Rattle.ada_meaning.specs.Frame.{Frame, is_master, is_loop, Landing, passes_o
 use Rattle.ada_meaning.specs.Frame as frame
 use Rattle.ada_meaning.specs.State.{Owned, declared, collection, Item, Master, height, home_of}
 use Rattle.ada_meaning.specs.Heap.{Cell, Found, on_null, on_gone, on_other, finds}
-use Rattle.ada_meaning.specs.Step.{halts, moves, tells, asks, picks, at, older, owning, shorter, popped, held, newest, reading, component_next, follow_next, path_next, expression_next, null_test_next, is_decided, link_next, links_next, outcome_next, item_next, items_next, new_cell, answered, new_next, right_next, free_next, end_next, given_back, back_next, before_last, last_of, assign_next, target_next, stored_next, store_next, frees_next, branches_next, decided_next, turn_next, repeats_next, turned_next, count_turn_next, ranges_next, gets_next, received_next, receive_next, exit_next, exited_next, stmt_next, stmts_next, line_next, declarations_next, members_next, item_leave_next, master_leave_next, leave_next, frame_next, landed, pass_next, running_next, jump_next, mode_next}
+use Rattle.ada_meaning.specs.Step.{halts, moves, tells, asks, picks, at, older, owning, shorter, popped, held, newest, reading, component_next, follow_next, path_next, expression_next, null_test_next, is_decided, link_next, links_next, outcome_next, item_next, items_next, new_cell, answered, new_next, right_next, free_next, end_next, given_back, back_next, before_last, last_of, assign_next, target_next, stored_next, store_next, freeing, frees_next, freed_next, free_component_next, free_in_next, branches_next, decided_next, turn_next, repeats_next, turned_next, count_turn_next, ranges_next, gets_next, received_next, receive_next, exit_next, exited_next, stmt_next, stmts_next, line_next, declarations_next, members_next, item_leave_next, master_leave_next, leave_next, frame_next, landed, pass_next, running_next, jump_next, mode_next}
 use Rattle.ada_meaning.specs.Named.{Object, State, Next, next, named, look, lent, an_integer, parted, finished, filled, returned, on_object, reads_boolean, reads_null, reads_integer, unary_given, binary_given, members}
 use Rattle.ada_meaning.specs.Law.{items_of}
 use Rattle.ada_scopes.proofs.Counts.{one, times, opened, scopes, all_of, older_shorter, scopes_older}
@@ -145,11 +145,30 @@ module _ (types : List TypeForm) where
   right_good (computes e) s h = standing h.0 (tt, h.1)
 
   -- Free, and what it leads to.
+  freeing_good : (access : ℕ) (v : Value) (clears : Frame Value) (s : State) → Whole types s.masters s.heap → Nests types (scopes s.masters) (clears ∷ s.control) → Nested types (freeing named access v clears s)
+  freeing_good access v clears s w n = standing (whole_on parted v s keeps_parted w) (tt, (tt, n))
+
   free_good : (access x : ℕ) (v : Value) (found : Found (Cell Value)) (s : State) → Stands types s → Good types (free_next named access x v found s)
   free_good access x v on_null s h = standing h.0 h.1
   free_good access x v on_gone s h = tt
   free_good access x v on_other s h = tt
-  free_good access x v (finds cell) s h = standing (whole_on parted v s keeps_parted h.0) (tt, (tt, (tt, h.1)))
+  free_good access x v (finds cell) s h = freeing_good access v (frame.Clears x) s h.0 (tt, h.1)
+
+  freed_good : (access : ℕ) (o : Value) (c : ℕ) (v : Value) (found : Found (Cell Value)) (s : State) → Stands types s → Good types (freed_next named access o c v found s)
+  freed_good access o c v on_null s h = standing h.0 h.1
+  freed_good access o c v on_gone s h = tt
+  freed_good access o c v on_other s h = tt
+  freed_good access o c v (finds cell) s h = freeing_good access v (frame.ClearsIn o c) s h.0 (tt, h.1)
+
+  free_component_good : (access : ℕ) (o : Value) (c : ℕ) (found : Option Value) (s : State) → Stands types s → Good types (free_component_next named access o c found s)
+  free_component_good access o c None s h = tt
+  free_component_good access o c (Some v) s h = freed_good access o c v (look s.heap v) s h
+
+  free_in_good : (access : ℕ) (o : Value) (c : ℕ) (found : Found (Cell Value)) (s : State) → Stands types s → Good types (free_in_next named access o c found s)
+  free_in_good access o c on_null s h = standing h.0 h.1
+  free_in_good access o c on_gone s h = tt
+  free_in_good access o c on_other s h = tt
+  free_in_good access o c (finds cell) s h = free_component_good access o c (slice_get cell.values c) s h
 
   end_good : (v : Value) (found : Found (Cell Value)) (s : State) → Stands types s → Good types (end_next named v found s)
   end_good v on_null s h = tt
@@ -193,7 +212,7 @@ module _ (types : List TypeForm) where
 
   frees_good : (cs : List ℕ) (access x : ℕ) (s : State) → Stands types s → Good types (frees_next named cs access x s)
   frees_good [] access x s h = free_good access x (held named s x) (look s.heap (held named s x)) s h
-  frees_good (c ∷ cs) access x s h = tt
+  frees_good (c ∷ cs) access x s h = path_good (before_last c cs) (held named s x) (at (frame.FreesIn access (last_of c cs) ∷ s.control) s) (h.0, (tt, h.1))
 
   branches_good : (branches : BranchesForm) (s : State) (around : List ℕ) → Alike around (all_of (scopes s.masters)) → BranchesNest types around branches → Stands types s → Good types (branches_next named branches s)
   branches_good (otherwise fs) s around alike nest h = standing h.0 ((around, alike, nest), h.1)
@@ -258,7 +277,7 @@ module _ (types : List TypeForm) where
   stmt_good : (f : StmtForm) (s : State) (around : List ℕ) → s.mode ≡ Running → Alike around (all_of (scopes s.masters)) → StatementNests types around f → Stands types s → Good types (stmt_next named f s)
   stmt_good skips s around runs alike nest h = standing h.0 h.1
   stmt_good (assigns target right) s around runs alike nest h = assign_good target.selectors target.root right s h
-  stmt_good (frees access variable) s around runs alike nest h = frees_good variable.selectors access variable.root s h
+  stmt_good (frees access path) s around runs alike nest h = frees_good path.selectors access path.root s h
   stmt_good (gets target) s around runs alike nest h = gets_good target.selectors target.root s.input s h
   stmt_good (writes e) s around runs alike nest h = standing h.0 (tt, (tt, h.1))
   stmt_good (writes_text text) s around runs alike nest h = standing h.0 h.1
@@ -331,6 +350,8 @@ module _ (types : List TypeForm) where
   frame_good definitions (frame.Targets c right) s runs w nest n = target_good (newest named s) c right (look s.heap (newest named s)) (popped s) (w, n)
   frame_good definitions (frame.StoresIn o c) s runs w nest n = store_good o c (newest named s) (look s.heap o) (popped s) (w, n)
   frame_good definitions (frame.Receives c) s runs w nest n = receive_good (newest named s) c (look s.heap (newest named s)) (popped s) (w, n)
+  frame_good definitions (frame.FreesIn access c) s runs w nest n = free_in_good access (newest named s) c (look s.heap (newest named s)) (popped s) (w, n)
+  frame_good definitions (frame.ClearsIn o c) s runs w nest n = store_good o c Null (look s.heap o) s (w, n)
 
   stands_good : (definitions : List TypeDefinition) (k : List (Frame Value)) (s : State) → s.mode ≡ Running → Whole types s.masters s.heap → Nests types (scopes s.masters) k → Good types (running_next named definitions k s)
   stands_good definitions [] s runs w n = tt

@@ -22,8 +22,7 @@ pub fn components_are_outlived()
 {}
 
 /// What a component names lies in a collection of the same master as the object, or of an outer one. So when the innermost
-/// master is left, no object of an outer one has a component that names an object of the innermost one. No component names
-/// an object in a run yet: the law rests on the types of components, not on that.
+/// master is left, no object of an outer one has a component that names an object of the innermost one.
 pub fn names_stay_outside()
     ensures home { NamesStayOutside }
     ensures innermost { InnermostIsNotNamed }

@@ -12,7 +12,7 @@ use Rattle.ada_program.specs.WellFormed.{type_fits, variable_fits, creations, cr
 use Rattle.ada_program.specs.Nested.{collected, part_nests, statements_nest, handlers_nest, CollectionsNest}
 use Rattle.ada_effects.specs.Effects.{passes}
 use Rattle.ada_flow.specs.declared.rule.Rule.{Rule}
-use Rattle.ada_flow.specs.Flow.{Holds, Outcome, goes, faults, then_flow, stmts_flow, handlers_flow, handled, declarations_flow, outermost, variables_of, first_holds, program_flow}
+use Rattle.ada_flow.specs.Flow.{Holds, Outcome, goes, faults, then_flow, stmts_flow, handlers_flow, handled, declarations_flow, outermost, types_of, variables_of, first_holds, program_flow}
 use Rattle.ada_meaning.specs.declared.event.Halt.{Halt}
 use Rattle.ada_meaning.specs.Frame as frame
 use Rattle.ada_meaning.specs.Event.{Quiet}
@@ -106,7 +106,7 @@ last program input fs hs cs = last_of (first_with program input fs hs) (came pro
 abbrev pub flow_with : Program → StmtsForm → HandlersForm → Outcome
 flow_with program fs hs =
     then_flow (declarations_flow (variables_of program) (declaration_forms program) (first_holds program))
-    (λ at. handled (passes fs hs) (handlers_flow (variables_of program) outermost hs) (stmts_flow (variables_of program) outermost fs at))
+    (λ at. handled (passes fs hs) (handlers_flow (types_of program) (variables_of program) outermost hs) (stmts_flow (types_of program) (variables_of program) outermost fs at))
 
 -- The program as plain data, with these statements and these handlers.
 abbrev pub form_with : Program → StmtsForm → HandlersForm → ProgramForm
@@ -189,8 +189,8 @@ module _ (program : Program) (fs : StmtsForm) (hs : HandlersForm) (is : stmt_for
   -- The same of its parts.
   pub fine_at_ends_by : (holds : Holds) (before within normal raising : Option Holds)
       → declarations_flow (variables_of program) (declaration_forms program) (first_holds program) ≡ goes (Some holds) before
-      → stmts_flow (variables_of program) outermost fs holds ≡ goes (Some holds) within
-      → handlers_flow (variables_of program) outermost hs holds ≡ goes normal raising → IsFineAtEnds holds program
+      → stmts_flow (types_of program) (variables_of program) outermost fs holds ≡ goes (Some holds) within
+      → handlers_flow (types_of program) (variables_of program) outermost hs holds ≡ goes normal raising → IsFineAtEnds holds program
   fine_at_ends_by holds before within normal raising d e g = (before, within, normal, raising, d, rw is e, rw has g)
 
   -- A run by these choices.

@@ -1,31 +1,57 @@
 -- Objects end, their words go back, and masters are left.
 
 use Rattle.std.proofs.lemmas.Bool.{eq-eqb}
-use Rattle.std.proofs.Common.{◌≡◌, ℕ, Bool, true, List, [], ◌∷◌, ◌++◌, refl, sym, ◌∙◌, inl, inr}
+use Rattle.std.proofs.Common.{◌≡◌, ◌≢◌, ℕ, zero, suc, Bool, true, false, List, [], ◌∷◌, ◌++◌, refl, sym, ap, ◌∙◌, inl, inr}
 use Rattle.std.specs.Prelude.{Some, None}
 use Rattle.std.specs.List.{slice_set, slice_index_or}
 use Rattle.ada_flow.specs.Flow.{Holds, is_among}
 use Rattle.ada_meaning.specs.declared.state.Id.{Id}
 use Rattle.ada_meaning.specs.declared.state.Value.{Value}
 use Rattle.ada_meaning.specs.declared.state.Value.TheVariants.{Null, Names, Scalar}
+use Rattle.ada_meaning.specs.declared.state.Stage.{Stage}
+use Rattle.ada_meaning.specs.declared.state.Stage.TheVariants.{Existing, Gone}
 use Rattle.ada_meaning.specs.declared.state.Mode.{Mode}
 use Rattle.ada_meaning.specs.declared.state.Mode.TheVariants.{Running}
 use Rattle.ada_meaning.specs.declared.event.Cause.{Cause}
 use Rattle.ada_meaning.specs.declared.event.Cause.TheVariants.{Leaving, Freeing, Assigning, Undoing}
-use Rattle.ada_meaning.specs.Frame.{Leaves, Ends, GivesBack, Clears}
+use Rattle.ada_meaning.specs.Frame.{Leaves, Ends, GivesBack, Clears, ClearsIn}
 use Rattle.ada_meaning.specs.Event.{Back, Left, Quiet}
 use Rattle.ada_meaning.specs.State.{Owned, declared, collection, Item, Master, Activation}
 use Rattle.ada_meaning.specs.Step.{end_next, back_next, members_next, item_leave_next, master_leave_next, leave_next}
-use Rattle.ada_meaning.specs.Named.{Object, State, object_at, look, lent, members, named, parted, finished, returned}
+use Rattle.ada_meaning.specs.Named.{Object, State, object_at, look, lent, members, named, parted, finished, returned, filled, store}
 use Rattle.ada_meaning.specs.Law.{leaving_by, LeavesHome, items_of}
+use Rattle.ada_owners.proofs.Changes.{store_is}
+use Rattle.ada_owners.proofs.Objects.{at_other}
 use Rattle.ada_sound.proofs.Objects.{set_here}
 use Rattle.ada_sound.proofs.Items.{newest_is}
 use Rattle.ada_sound.proofs.Stored.{Stored, IsTaken, stored_part, stored_finish, stored_back, stored_shorter, stored_older, exists_out, none_is_left, taken_is}
 use Rattle.ada_sound.proofs.Fits.{Fit, none_spared, going, weaker_fit, part_fit, finish_fit, back_fit, going_set, going_shorter, going_left}
 use Rattle.ada_sound.proofs.Alters.{alters_set}
-use Rattle.ada_sound.proofs.Invariant.{Known, Control, Rooms, Roomed, OwnedAmong, NamesNone, RunsOn, Working, Parting, Freed, ClearsTo, LeavesTo, Behind, ThenBack, Ending, EndingBy, Backing, BackingBy, ReadyIn, Stepped, Fine, innermost}
+use Rattle.ada_sound.proofs.Invariant.{Known, Control, Rooms, Roomed, OwnedAmong, NamesNone, RunsOn, Working, Parting, Freed, Clearing, ClearsTo, LeavesTo, Behind, ThenBack, Ending, EndingBy, Backing, BackingBy, ReadyIn, Stepped, Fine, innermost}
 use Rattle.ada_sound.proofs.Ready.{running, stays, goes_ready}
+use Rattle.ada_sound.proofs.Taken.{stored_after}
 use Rattle.ada_sound.proofs.Leavings.{HeldIn, taken_unnamed}
+
+-- What is stored in one object stays where another one changes.
+swapped : {X : Type 0} (xs : List X) (i j : ℕ) (x y : X) → i ≢ j → slice_set (slice_set xs i x) j y ≡ slice_set (slice_set xs j y) i x
+swapped [] i j x y ne = refl
+swapped (z ∷ xs) zero zero x y ne = absurd (ne refl)
+swapped (z ∷ xs) zero (suc j) x y ne = refl
+swapped (z ∷ xs) (suc i) zero x y ne = refl
+swapped {X} (z ∷ xs) (suc i) (suc j) x y ne = ap (λ (ys : List X). z ∷ ys) (swapped xs i j x y (λ e. ne (ap suc e)))
+
+pub stored_elsewhere : (heap : List Object) (h : Id) (holder : Object) (c : ℕ) (o : Id) (x y : Object) → object_at heap h ≡ Some holder → object_at heap o ≡ Some x → h ≢ o → (object_at (slice_set heap o.0 y) h ≡ Some holder) × (object_at (store heap (Names h) c Null) o ≡ Some x) × (store (slice_set heap o.0 y) (Names h) c Null ≡ slice_set (store heap (Names h) c Null) o.0 y)
+stored_elsewhere heap h holder c o x y at_h at_o ne =
+    let still = at_other heap o h y ne ∙ at_h in
+    let stored = store_is heap h holder at_h c Null in
+    let numbers : o.0 ≢ h.0 = λ e. (let same : h ≡ o = ap (λ (n : ℕ). record { 0 = n }) (sym e) in ne same) in
+    let other = at_other heap h o (filled c Null holder) (λ e. ne (sym e)) ∙ at_o in
+    (still, rw stored other, store_is (slice_set heap o.0 y) h holder still c Null ∙ (swapped heap o.0 h.0 y (filled c Null holder) numbers ∙ sym (ap (λ (objects : List Object). slice_set objects o.0 y) stored)))
+
+-- What is gone is in no collection.
+gone_off : {stage : Stage} (listed : Bool) → (listed ≡ true → stage ≡ Existing) → stage ≡ Gone → listed ≡ false
+gone_off true on gone = let exists = on refl in absurd (cc (exists, gone))
+gone_off false on gone = refl
 
 -- A change of an object under way, that keeps what fits, and its home.
 abbrev KeepsFit : Known → Id → Object → List Object → List Value → Type 0
@@ -40,10 +66,32 @@ freed_parts stored c = record { rooms = c.rooms; holds = c.holds; stored = store
 
 module _ (known : Known) where
   -- What is behind an object under way stays so.
-  module _ (o : Id) (x y : Object) (heap : List Object) (found : object_at heap o ≡ Some x) (same : y.cell.home ≡ x.cell.home) (keeps : (places : List Value) → KeepsFit known o y heap places) where
+  module _ (o : Id) (x y : Object) (heap : List Object) (found : object_at heap o ≡ Some x) (off : x.listed ≡ false) (same : y.cell.home ≡ x.cell.home) (keeps : (objects : List Object) (places : List Value) → object_at objects o ≡ Some x → KeepsFit known o y objects places) where
+    holder_set : (h : Value) (c : ℕ) (places : List Value) (ms : List Master) (k : Control) → ClearsTo known heap places ms (ClearsIn h c ∷ k) → ClearsTo known (slice_set heap o.0 y) places ms (ClearsIn h c ∷ k)
+    holder_set Null c places ms k r = absurd r.0
+    holder_set (Names h) c places ms k r =
+        let there = r.0 in
+        let apart : h ≢ o = λ e. (
+        let one : there.0 ≡ x = let f = there.1 in cc (rw e at f, found) in
+        let on = there.2 in
+        cc (on, off, one)
+        ) in
+        let elsewhere = stored_elsewhere heap h there.0 c o x y there.1 found apart in (
+          (there.0, elsewhere.0, there.2),
+          record {
+            rooms = r.1.rooms;
+            holds = r.1.holds;
+            roomed = r.1.roomed;
+            fit = rw elsewhere.2 (keeps (store heap (Names h) c Null) places elsewhere.1 none_spared r.1.holds r.1.fit);
+            rest = r.1.rest;
+          },
+        )
+    holder_set (Scalar n) c places ms k r = absurd r.0
+
     clears_set : (places : List Value) (ms : List Master) (k : Control) → ClearsTo known heap places ms k → ClearsTo known (slice_set heap o.0 y) places ms k
     clears_set places ms [] c = absurd c
-    clears_set places ms (Clears z ∷ k) c = record { rooms = c.rooms; holds = c.holds; roomed = c.roomed; fit = keeps (slice_set places z Null) none_spared c.holds c.fit; rest = c.rest }
+    clears_set places ms (Clears z ∷ k) c = record { rooms = c.rooms; holds = c.holds; roomed = c.roomed; fit = keeps heap (slice_set places z Null) found none_spared c.holds c.fit; rest = c.rest }
+    clears_set places ms (ClearsIn h c ∷ k) r = holder_set h c places ms k r
     clears_set places ms (f ∷ k) c = absurd c
 
     leaves_set : (places : List Value) (ms : List Master) (k : Control) → LeavesTo known heap places ms k → LeavesTo known (slice_set heap o.0 y) places ms k
@@ -52,7 +100,7 @@ module _ (known : Known) where
       rooms = c.rooms;
       holds = c.holds;
       roomed = c.roomed;
-      fit = going_set heap (innermost ms) o x y found same (keeps places (going heap (innermost ms)) c.holds c.fit);
+      fit = going_set heap (innermost ms) o x y found same (keeps heap places found (going heap (innermost ms)) c.holds c.fit);
       rest = c.rest;
     }
     leaves_set places ms (f ∷ k) c = absurd c
@@ -77,7 +125,7 @@ module _ (known : Known) where
           out = exists_out o e.object e.found e.exists e.stored;
           standard = b.1;
           stored = stored_finish o e.object e.found e.stored;
-          rest = behind_set o e.object (finished e.object) s.heap e.found refl (λ places spared holds f. finish_fit o e.object e.found e.parted f) cause e.object.cell.home.item a.places s.masters k b.2;
+          rest = behind_set o e.object (finished e.object) s.heap e.found e.parted refl (λ objects places at spared holds f. finish_fit o e.object at e.parted f) cause e.object.cell.home.item a.places s.masters k b.2;
         }),
       );
       alters = alters_set s.heap Quiet o e.object (finished e.object) e.found (refl, refl, refl) (λ h. h) (λ h. inl h);
@@ -92,9 +140,15 @@ module _ (known : Known) where
 
     -- Its words go back.
     module _ (heap : List Object) (stored : Stored None heap s.masters) where
+      clearing_ready : (h : Value) (d : ℕ) (k : Control) → ClearsTo known heap a.places s.masters (ClearsIn h d ∷ k) → Clearing known h d k heap a.places s.masters
+      clearing_ready Null d k c = absurd c.0
+      clearing_ready (Names h) d k c = (c.0, freed_works (stored_after heap h d Null stored) c.1)
+      clearing_ready (Scalar n) d k c = absurd c.0
+
       cleared_ready : (k : Control) → ClearsTo known heap a.places s.masters k → ReadyIn known Running k heap a.places a.operands s.masters
       cleared_ready [] c = absurd c
       cleared_ready (Clears x ∷ k) c = freed_works stored c
+      cleared_ready (ClearsIn h d ∷ k) c = clearing_ready h d k c
       cleared_ready (f ∷ k) c = absurd c
 
       left_ready : (k : Control) → LeavesTo known heap a.places s.masters k → ReadyIn known Running k heap a.places a.operands s.masters
@@ -115,27 +169,29 @@ module _ (known : Known) where
     leaves_home (Undoing number) o x k b = tt
 
     back_object : (o : Id) (cause : Cause) (pool : ℕ) (k : Control) (b : Backing known o cause pool k s.heap a.places s.masters) → Stepped known s.heap (Back (Names o) b.object.cell.access b.object.cell.number b.object.cell.home.pool b.object.cell.home.subpool cause) (record (running k a rest s) { heap = slice_set s.heap o.0 (returned b.object) })
-    back_object o cause pool k b = record {
-      ready = (
-        tt,
-        behind_ready (slice_set s.heap o.0 (returned b.object)) (stored_back o b.object b.found b.gone b.stored) cause b.object.cell.home.item k
-            (behind_set o b.object (returned b.object) s.heap b.found refl (λ places spared holds f. back_fit o b.object b.found f) cause b.object.cell.home.item a.places s.masters k b.rest),
-      );
-      alters = alters_set s.heap _ o b.object (returned b.object) b.found (refl, refl, refl) (λ h. refl) (λ h. inr refl);
-      says = record {
-        id = o;
-        object = b.object;
-        is = refl;
-        found = b.found;
-        out = b.out;
-        of_type = refl;
-        numbered = refl;
-        to_pool = refl;
-        to_subpool = refl;
-        home = leaves_home cause o b.object k b.rest;
-        back = (returned b.object, set_here s.heap o.0 b.object (returned b.object) b.found, refl);
-      };
-    }
+    back_object o cause pool k b =
+        let off = gone_off b.object.listed (λ on. (b.stored.sane o b.object b.found).listed_exists on) b.gone in
+        record {
+          ready = (
+            tt,
+            behind_ready (slice_set s.heap o.0 (returned b.object)) (stored_back o b.object b.found b.gone b.stored) cause b.object.cell.home.item k
+                (behind_set o b.object (returned b.object) s.heap b.found off refl (λ objects places at spared holds f. back_fit o b.object at f) cause b.object.cell.home.item a.places s.masters k b.rest),
+          );
+          alters = alters_set s.heap _ o b.object (returned b.object) b.found (refl, refl, refl) (λ h. refl) (λ h. inr refl);
+          says = record {
+            id = o;
+            object = b.object;
+            is = refl;
+            found = b.found;
+            out = b.out;
+            of_type = refl;
+            numbered = refl;
+            to_pool = refl;
+            to_subpool = refl;
+            home = leaves_home cause o b.object k b.rest;
+            back = (returned b.object, set_here s.heap o.0 b.object (returned b.object) b.found, refl);
+          };
+        }
 
     pub backs_fine : (v : Value) (cause : Cause) (pool : ℕ) (k : Control) → BackingBy known v cause pool k s.heap a.places s.masters → Fine known s.heap s.masters (back_next named v cause pool (lent s.heap v) (running k a rest s))
     backs_fine Null cause pool k b = absurd b

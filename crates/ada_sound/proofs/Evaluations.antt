@@ -14,7 +14,7 @@ use Rattle.ada_effects.specs.Effects.{expression_raises, right_raises}
 use Rattle.ada_flow.specs.declared.rule.Hold.{Hold}
 use Rattle.ada_flow.specs.declared.rule.Hold.TheVariants as hold
 use Rattle.ada_flow.specs.declared.rule.Region.TheVariants.{Whole}
-use Rattle.ada_flow.specs.Flow.{Holds, hold_at, variable_access, uses_in, uses_in_item, uses_in_items, moved_by_item, reads_it, gives_component, lost_by, without_values, moved_by_items, value_hold, borrowed_hold, ends_with, gives, same_selectors, same_path, clears}
+use Rattle.ada_flow.specs.Flow.{Holds, hold_at, variable_access, uses_in, uses_in_item, uses_in_items, named_by_item, reads_it, gives_component, lost_by, without_values, moved_by_items, value_hold, borrowed_hold, ends_with, gives, same_selectors, same_path, clears}
 use Rattle.ada_meaning.specs.declared.state.Id.{Id}
 use Rattle.ada_meaning.specs.declared.state.Value.{Value}
 use Rattle.ada_meaning.specs.declared.state.Value.TheVariants.{Null, Names, Scalar}
@@ -36,9 +36,9 @@ use Rattle.ada_typed.proofs.Control as typed
 use Rattle.ada_sound.proofs.Values.{read_other}
 use Rattle.ada_sound.proofs.Stored.{Stored, exists_out, stored_owning}
 use Rattle.ada_sound.proofs.Fits.{Fit, MayFollow, component_value, component_access, none_spared, bare, place_at, put_null, put_alias, component_is, root_follows, component_follows, take_variable, take_component}
-use Rattle.ada_sound.proofs.Invariant.{Known, Control, Rooms, Roomed, Accepts, Allocating, ItemsKeep, Clearing, component_among, StoringIn, Pairs, IsAlone, IsOne, Half, HalfBy, IsCleared, front, final, WalksOn, Goes, Raised, RunsOn, NoneBroken, MayRaise, FillsIn, IsHolder, Takes, Computing, Working, Resumes, EvaluatesTo, Awaits, FindsFor, MovesOn, FollowsFor, HalfFollows, ReadyIn, Stepped, Fine, ways}
+use Rattle.ada_sound.proofs.Invariant.{Known, Control, Rooms, Roomed, Accepts, LeadsTo, GoesInto, Allocating, ItemsKeep, Clearing, component_among, StoringIn, Pairs, IsAlone, IsOne, Half, HalfBy, IsCleared, front, final, WalksOn, Goes, Raised, RunsOn, NoneBroken, MayRaise, FillsIn, IsHolder, Takes, Computing, Working, Resumes, EvaluatesTo, Awaits, FindsFor, MovesOn, FillsOn, FollowsFor, HalfFollows, ReadyIn, Stepped, Fine, ways}
 use Rattle.ada_sound.proofs.Ready.{running, at_work, stays, ready_on, runs_on, resumes_on, jumps_less}
-use Rattle.ada_sound.proofs.Walks.{finds_fine, half_fine}
+use Rattle.ada_sound.proofs.Walks.{finds_fine, fills_fine, half_fine}
 use Rattle.ada_sound.proofs.Rooms.{roomed_declares}
 use Rattle.ada_sound.proofs.Outcomes.{using_goes, ends_goes}
 use Rattle.ada_sound.proofs.Followings.{first_kept, kept_apart}
@@ -46,9 +46,17 @@ use Rattle.ada_sound.proofs.Expressions.{reads_fine}
 use Rattle.ada_sound.proofs.Assigned.{Allocated, value_goes, computed_goes, allocated_goes, kind_names, selected_of}
 use Rattle.ada_sound.proofs.Taken.{variable_goes, declared_goes, component_goes, at_path, value_gives, value_fills, cleared_is, stored_after, there_after, selectors_are, walk_on, kept_root, root_access, path_goes, null_place, move_by, borrow_by, borrow_gives, store_by}
 
+-- An item's path is followed, or its value is there.
+filling : (known : Known) (a : Activation Value) (rest : List (Activation Value)) (s : State) (below : List Value) (k : Control) (cs : List ℕ) (v : Value) → MayFollow s.heap v → (w : Working known s.heap a.places s.masters (FillsOn known s.heap a.places v below cs k)) → MayRaise known true ConstraintError k w.rooms w.holds → Fine known s.heap s.masters (path_next named cs v (running k (record a { operands = below }) rest s))
+filling known a rest s below [] cs v follows w raise = absurd (w.rest)
+filling known a rest s below (Fills items ∷ k) [] v follows w raise =
+    stays known Quiet (running (Fills items ∷ k) (record a { operands = v ∷ below }) rest s) (tt, at_work w (w.rest v refl)) tt
+filling known a rest s below (Fills items ∷ k) (c ∷ cs) v follows w raise = fills_fine known a rest s below items k c cs v w follows raise
+filling known a rest s below (f ∷ k) cs v follows w raise = absurd (w.rest)
+
 module _ (known : Known) (k : Control) (a : Activation Value) (rest : List (Activation Value)) (s : State) where
   -- A variable's value is there for what awaits it.
-  variable_ready : (root : ℕ) (spot : Spot) (kinds : List VariableKind) → typed.Fits known.program (cells_of s.heap) kinds (Evaluates (value_of (at_path root [] spot)) ∷ k) → Working known s.heap a.places s.masters (Takes known s.heap (value_of (at_path root [] spot)) k) → ReadyIn known Running k s.heap a.places (place_at a.places root ∷ a.operands) s.masters
+  variable_ready : (root : ℕ) (spot : Spot) (kinds : List VariableKind) → typed.Fits known.program (cells_of s.heap) kinds (Evaluates (value_of (at_path root [] spot)) ∷ k) → Working known s.heap a.places s.masters (Takes known s.heap a.places (value_of (at_path root [] spot)) k) → ReadyIn known Running k s.heap a.places (place_at a.places root ∷ a.operands) s.masters
   variable_ready root spot kinds fits w = go k fits w
     where
       path : PathForm
@@ -57,7 +65,7 @@ module _ (known : Known) (k : Control) (a : Activation Value) (rest : List (Acti
       own_access : (kind : VariableKind) → kind_takes known.program.types known.program.variables kind (value_of (at_path root [] spot)) ≡ true → variable_access known.program.variables root ≡ access_of (Some kind)
       own_access kind takes = value_goes known.program.types known.program.variables kind (at_path root [] spot) takes
 
-      into : (o : Value) (c : ℕ) (k' : Control) (kind : VariableKind) → kind_takes known.program.types known.program.variables kind (value_of (at_path root [] spot)) ≡ true → typed.Fits known.program (cells_of s.heap) (kind ∷ kinds) (StoresIn o c ∷ k') → (w' : Working known s.heap a.places s.masters (Takes known s.heap (value_of (at_path root [] spot)) (StoresIn o c ∷ k'))) → StoringIn known o c (place_at a.places root) k' s.heap a.places s.masters
+      into : (o : Value) (c : ℕ) (k' : Control) (kind : VariableKind) → kind_takes known.program.types known.program.variables kind (value_of (at_path root [] spot)) ≡ true → typed.Fits known.program (cells_of s.heap) (kind ∷ kinds) (StoresIn o c ∷ k') → (w' : Working known s.heap a.places s.masters (Takes known s.heap a.places (value_of (at_path root [] spot)) (StoresIn o c ∷ k'))) → StoringIn known o c (place_at a.places root) k' s.heap a.places s.masters
       into Null c k' kind takes fits' w' = absurd (w'.rest.0)
       into (Names o) c k' kind takes fits' w' =
           let there = w'.rest.0 in
@@ -102,7 +110,7 @@ module _ (known : Known) (k : Control) (a : Activation Value) (rest : List (Acti
                 rest = h.1;
               }
 
-      go : (k' : Control) → typed.Fits known.program (cells_of s.heap) kinds (Evaluates (value_of (at_path root [] spot)) ∷ k') → Working known s.heap a.places s.masters (Takes known s.heap (value_of (at_path root [] spot)) k') → ReadyIn known Running k' s.heap a.places (place_at a.places root ∷ a.operands) s.masters
+      go : (k' : Control) → typed.Fits known.program (cells_of s.heap) kinds (Evaluates (value_of (at_path root [] spot)) ∷ k') → Working known s.heap a.places s.masters (Takes known s.heap a.places (value_of (at_path root [] spot)) k') → ReadyIn known Running k' s.heap a.places (place_at a.places root ∷ a.operands) s.masters
       go [] fits' w' = absurd (w'.rest)
       go (Stores x ∷ k') (kind, takes, fits') w' = inl (to w'.rest.0 x k' (variable_goes known.program s.heap kind kinds x k' fits' ∙ sym (own_access kind takes)) w'.rooms w'.holds w'.stored w'.roomed w'.fit w'.rest.1)
       go (Declares x ∷ k') (kind, takes, fits') w' = to w'.rest.0 x k' (declared_goes known.program s.heap kind kinds x k' fits' ∙ sym (own_access kind takes)) w'.rooms w'.holds w'.stored w'.roomed w'.fit w'.rest.1
@@ -229,10 +237,10 @@ module _ (known : Known) (k : Control) (a : Activation Value) (rest : List (Acti
             go (inl one) = store_value s.heap q holder at_q e v (bare a.places) p (ap (λ place. value_at (store s.heap (Names q) e v) (bare a.places) place) (sym one) ∙ is)
             go (inr ne) = sym (component_value s.heap [] o object c v found listed at) ∙ (sym (store_reads s.heap q holder at_q e v (bare a.places) (component o c) ne) ∙ is)
 
-    take_ready : (d : ℕ) (ds : List ℕ) (to : VariableKind) (kinds : List VariableKind) (below : List Value) → component_access known.program.types object c ≡ access_of (Some to) → WalksOn s.heap a.places (at_path root (d ∷ ds) spot) (Names o) (c ∷ []) → typed.Fits known.program (cells_of s.heap) (to ∷ kinds) k → Working known s.heap a.places s.masters (Takes known s.heap (value_of (at_path root (d ∷ ds) spot)) k) → ReadyIn known Running k s.heap a.places (v ∷ below) s.masters
+    take_ready : (d : ℕ) (ds : List ℕ) (to : VariableKind) (kinds : List VariableKind) (below : List Value) → component_access known.program.types object c ≡ access_of (Some to) → WalksOn s.heap a.places (at_path root (d ∷ ds) spot) (Names o) (c ∷ []) → typed.Fits known.program (cells_of s.heap) (to ∷ kinds) k → Working known s.heap a.places s.masters (Takes known s.heap a.places (value_of (at_path root (d ∷ ds) spot)) k) → ReadyIn known Running k s.heap a.places (v ∷ below) s.masters
     take_ready d ds to kinds below is walks fits w = go k fits w
       where
-        into : (q : Value) (e : ℕ) (k' : Control) → typed.Fits known.program (cells_of s.heap) (to ∷ kinds) (StoresIn q e ∷ k') → (w' : Working known s.heap a.places s.masters (Takes known s.heap (value_of (at_path root (d ∷ ds) spot)) (StoresIn q e ∷ k'))) → StoringIn known q e v k' s.heap a.places s.masters
+        into : (q : Value) (e : ℕ) (k' : Control) → typed.Fits known.program (cells_of s.heap) (to ∷ kinds) (StoresIn q e ∷ k') → (w' : Working known s.heap a.places s.masters (Takes known s.heap a.places (value_of (at_path root (d ∷ ds) spot)) (StoresIn q e ∷ k'))) → StoringIn known q e v k' s.heap a.places s.masters
         into Null e k' fits' w' = absurd (w'.rest.0)
         into (Names q) e k' fits' w' =
             let there = w'.rest.0 in
@@ -240,7 +248,7 @@ module _ (known : Known) (k : Control) (a : Activation Value) (rest : List (Acti
             inl (there, inr (take_into g.1 g.0 q there.0 e d ds k' w'.rooms w'.holds there.1 there.2 w'.stored w'.roomed w'.fit walks (component_goes known.program s.heap to kinds q there.0 e k' there.1 fits' ∙ sym is) g.2 g.3))
         into (Scalar n) e k' fits' w' = absurd (w'.rest.0)
 
-        go : (k' : Control) → typed.Fits known.program (cells_of s.heap) (to ∷ kinds) k' → Working known s.heap a.places s.masters (Takes known s.heap (value_of (at_path root (d ∷ ds) spot)) k') → ReadyIn known Running k' s.heap a.places (v ∷ below) s.masters
+        go : (k' : Control) → typed.Fits known.program (cells_of s.heap) (to ∷ kinds) k' → Working known s.heap a.places s.masters (Takes known s.heap a.places (value_of (at_path root (d ∷ ds) spot)) k') → ReadyIn known Running k' s.heap a.places (v ∷ below) s.masters
         go [] fits' w' = absurd (w'.rest)
         go (Stores x ∷ k') fits' w' = stores_to w'.rest.0 x d ds k' w'.rooms w'.holds w'.stored w'.roomed w'.fit walks (variable_goes known.program s.heap to kinds x k' fits' ∙ sym is) w'.rest.1 w'.rest.2
         go (Declares x ∷ k') fits' w' = declares_to w'.rest.0 x d ds k' w'.rooms w'.holds w'.stored w'.roomed w'.fit walks (declared_goes known.program s.heap to kinds x k' fits' ∙ sym is) w'.rest.1 w'.rest.2
@@ -249,14 +257,14 @@ module _ (known : Known) (k : Control) (a : Activation Value) (rest : List (Acti
 
   -- A path that is moved is followed by one selector.
   module _ (root : ℕ) (cs : List ℕ) (spot : Spot) (below : List Value) where
-    at_last : (o : Id) (object : Object) (c : ℕ) (v : Value) (from : Option VariableKind) (to : VariableKind) (kinds : List VariableKind) → object_at s.heap o ≡ Some object → object.listed ≡ true → slice_get object.cell.values c ≡ Some v → access_of from ≡ Some object.cell.access → selected_kind known.program.types from c ≡ Some to → typed.Fits known.program (cells_of s.heap) (to ∷ kinds) k → WalksOn s.heap a.places (at_path root cs spot) (Names o) (c ∷ []) → Working known s.heap a.places s.masters (Takes known s.heap (value_of (at_path root cs spot)) k) → ReadyIn known Running k s.heap a.places (v ∷ below) s.masters
+    at_last : (o : Id) (object : Object) (c : ℕ) (v : Value) (from : Option VariableKind) (to : VariableKind) (kinds : List VariableKind) → object_at s.heap o ≡ Some object → object.listed ≡ true → slice_get object.cell.values c ≡ Some v → access_of from ≡ Some object.cell.access → selected_kind known.program.types from c ≡ Some to → typed.Fits known.program (cells_of s.heap) (to ∷ kinds) k → WalksOn s.heap a.places (at_path root cs spot) (Names o) (c ∷ []) → Working known s.heap a.places s.masters (Takes known s.heap a.places (value_of (at_path root cs spot)) k) → ReadyIn known Running k s.heap a.places (v ∷ below) s.masters
     at_last o object c v from to kinds found listed at own leads fits walks w = go cs walks w
       where
-        go : (ds : List ℕ) → WalksOn s.heap a.places (at_path root ds spot) (Names o) (c ∷ []) → Working known s.heap a.places s.masters (Takes known s.heap (value_of (at_path root ds spot)) k) → ReadyIn known Running k s.heap a.places (v ∷ below) s.masters
+        go : (ds : List ℕ) → WalksOn s.heap a.places (at_path root ds spot) (Names o) (c ∷ []) → Working known s.heap a.places s.masters (Takes known s.heap a.places (value_of (at_path root ds spot)) k) → ReadyIn known Running k s.heap a.places (v ∷ below) s.masters
         go [] walks' w' = absurd (cc (walks'.1))
         go (d ∷ ds) walks' w' = take_ready root spot o object c v found listed at d ds to kinds below (selected_of known.program.types from object c to own leads) walks' fits w'
 
-    moved_on : (o : Id) (object : Object) (c : ℕ) (ds : List ℕ) (v : Value) (from : Option VariableKind) (to : VariableKind) (kinds : List VariableKind) → object_at s.heap o ≡ Some object → object.listed ≡ true → slice_get object.cell.values c ≡ Some v → access_of from ≡ Some object.cell.access → selectors_kind known.program.types from (c ∷ ds) ≡ Some to → typed.Fits known.program (cells_of s.heap) (to ∷ kinds) k → WalksOn s.heap a.places (at_path root cs spot) (Names o) (c ∷ ds) → (w : Working known s.heap a.places s.masters (Takes known s.heap (value_of (at_path root cs spot)) k)) → MayRaise known true ConstraintError k w.rooms w.holds → Stepped known s.heap (Followed (Names o)) (reading named ds v (running k (record a { operands = below }) rest s))
+    moved_on : (o : Id) (object : Object) (c : ℕ) (ds : List ℕ) (v : Value) (from : Option VariableKind) (to : VariableKind) (kinds : List VariableKind) → object_at s.heap o ≡ Some object → object.listed ≡ true → slice_get object.cell.values c ≡ Some v → access_of from ≡ Some object.cell.access → selectors_kind known.program.types from (c ∷ ds) ≡ Some to → typed.Fits known.program (cells_of s.heap) (to ∷ kinds) k → WalksOn s.heap a.places (at_path root cs spot) (Names o) (c ∷ ds) → (w : Working known s.heap a.places s.masters (Takes known s.heap a.places (value_of (at_path root cs spot)) k)) → MayRaise known true ConstraintError k w.rooms w.holds → Stepped known s.heap (Followed (Names o)) (reading named ds v (running k (record a { operands = below }) rest s))
     moved_on o object c [] v from to kinds found listed at own leads fits walks w raise =
         stays known (Followed (Names o)) (running k (record a { operands = v ∷ below }) rest s)
         (tt, at_last o object c v from to kinds found listed at own leads fits walks w)
@@ -264,14 +272,14 @@ module _ (known : Known) (k : Control) (a : Activation Value) (rest : List (Acti
     moved_on o object c (d ∷ ds) v from to kinds found listed at own leads fits walks w raise =
         let seen : walk s.heap (Names o) (c ∷ front (d ∷ ds)) ≡ walk s.heap v (front (d ∷ ds)) = walk_on s.heap o object c (front (d ∷ ds)) v found ((w.stored.sane o object found).listed_exists listed) at in
         stays known (Followed (Names o)) (running (Follows (d ∷ ds) ∷ k) (record a { operands = v ∷ below }) rest s)
-        (tt, inl (at_work w (component_follows o object c v refl found listed at w.fit, raise, inr (inr (at_path root cs spot, (walks.0 ∙ seen, walks.1), w.rest)))))
+        (tt, inl (at_work w (component_follows o object c v refl found listed at w.fit, inr (raise, inr (inl (at_path root cs spot, (walks.0 ∙ seen, walks.1), w.rest))))))
         (record { id = o; object = object; is = refl; found = found; out = exists_out o object found ((w.stored.sane o object found).listed_exists listed) w.stored })
 
-    moved_component : (o : Id) (object : Object) (c : ℕ) (ds : List ℕ) (found_value : Option Value) (from : Option VariableKind) (to : VariableKind) (kinds : List VariableKind) → slice_get object.cell.values c ≡ found_value → object_at s.heap o ≡ Some object → object.listed ≡ true → access_of from ≡ Some object.cell.access → selectors_kind known.program.types from (c ∷ ds) ≡ Some to → typed.Fits known.program (cells_of s.heap) (to ∷ kinds) k → WalksOn s.heap a.places (at_path root cs spot) (Names o) (c ∷ ds) → (w : Working known s.heap a.places s.masters (Takes known s.heap (value_of (at_path root cs spot)) k)) → MayRaise known true ConstraintError k w.rooms w.holds → Fine known s.heap s.masters (component_next named (Names o) ds found_value (running k (record a { operands = below }) rest s))
+    moved_component : (o : Id) (object : Object) (c : ℕ) (ds : List ℕ) (found_value : Option Value) (from : Option VariableKind) (to : VariableKind) (kinds : List VariableKind) → slice_get object.cell.values c ≡ found_value → object_at s.heap o ≡ Some object → object.listed ≡ true → access_of from ≡ Some object.cell.access → selectors_kind known.program.types from (c ∷ ds) ≡ Some to → typed.Fits known.program (cells_of s.heap) (to ∷ kinds) k → WalksOn s.heap a.places (at_path root cs spot) (Names o) (c ∷ ds) → (w : Working known s.heap a.places s.masters (Takes known s.heap a.places (value_of (at_path root cs spot)) k)) → MayRaise known true ConstraintError k w.rooms w.holds → Fine known s.heap s.masters (component_next named (Names o) ds found_value (running k (record a { operands = below }) rest s))
     moved_component o object c ds None from to kinds at found listed own leads fits walks w raise = tt
     moved_component o object c ds (Some v) from to kinds at found listed own leads fits walks w raise = moved_on o object c ds v from to kinds found listed at own leads fits walks w raise
 
-    moves_fine : (c : ℕ) (ds : List ℕ) (u : Value) (from : Option VariableKind) (to : VariableKind) (kinds : List VariableKind) → MayFollow s.heap u → ((o : Id) (object : Object) → u ≡ Names o → object_at s.heap o ≡ Some object → access_of from ≡ Some object.cell.access) → selectors_kind known.program.types from (c ∷ ds) ≡ Some to → typed.Fits known.program (cells_of s.heap) (to ∷ kinds) k → WalksOn s.heap a.places (at_path root cs spot) u (c ∷ ds) → (w : Working known s.heap a.places s.masters (Takes known s.heap (value_of (at_path root cs spot)) k)) → MayRaise known true ConstraintError k w.rooms w.holds → Fine known s.heap s.masters (follow_next named u c ds (look s.heap u) (running k (record a { operands = below }) rest s))
+    moves_fine : (c : ℕ) (ds : List ℕ) (u : Value) (from : Option VariableKind) (to : VariableKind) (kinds : List VariableKind) → MayFollow s.heap u → ((o : Id) (object : Object) → u ≡ Names o → object_at s.heap o ≡ Some object → access_of from ≡ Some object.cell.access) → selectors_kind known.program.types from (c ∷ ds) ≡ Some to → typed.Fits known.program (cells_of s.heap) (to ∷ kinds) k → WalksOn s.heap a.places (at_path root cs spot) u (c ∷ ds) → (w : Working known s.heap a.places s.masters (Takes known s.heap a.places (value_of (at_path root cs spot)) k)) → MayRaise known true ConstraintError k w.rooms w.holds → Fine known s.heap s.masters (follow_next named u c ds (look s.heap u) (running k (record a { operands = below }) rest s))
     moves_fine c ds Null from to kinds follows own leads fits walks w raise = jumps_less known k (record a { operands = below }) rest s (Raising ConstraintError) (at_work w (raise refl))
     moves_fine c ds (Names o) from to kinds follows own leads fits walks w raise =
         rw (follows.1, (w.stored.sane o follows.0 follows.1).listed_exists follows.2)
@@ -279,7 +287,7 @@ module _ (known : Known) (k : Control) (a : Activation Value) (rest : List (Acti
     moves_fine c ds (Scalar n) from to kinds follows own leads fits walks w raise = tt
 
   -- What is moved is a variable's value, or a component's.
-  value_fine : (root : ℕ) (cs : List ℕ) (spot : Spot) (kinds : List VariableKind) → typed.Fits known.program (cells_of s.heap) kinds (Evaluates (value_of (at_path root cs spot)) ∷ k) → Working known s.heap a.places s.masters (Takes known s.heap (value_of (at_path root cs spot)) k) → Fine known s.heap s.masters (path_next named cs (place_at a.places root) (running k a rest s))
+  value_fine : (root : ℕ) (cs : List ℕ) (spot : Spot) (kinds : List VariableKind) → typed.Fits known.program (cells_of s.heap) kinds (Evaluates (value_of (at_path root cs spot)) ∷ k) → Working known s.heap a.places s.masters (Takes known s.heap a.places (value_of (at_path root cs spot)) k) → Fine known s.heap s.masters (path_next named cs (place_at a.places root) (running k a rest s))
   value_fine root [] spot kinds fits w = ready_on known k a rest s (place_at a.places root ∷ a.operands) (variable_ready root spot kinds fits w)
   value_fine root (c ∷ cs) spot kinds (kind, takes, fits) w =
       let kept = kept_root known k s.heap a.places s.masters root c cs spot w in
@@ -288,46 +296,51 @@ module _ (known : Known) (k : Control) (a : Activation Value) (rest : List (Acti
       (λ o object is found. root_access w.fit root spot o object kept.0 is found)
       (path_goes known.program kind root (c ∷ cs) spot takes) fits (refl, refl) w (λ may. kept.1)
 
+  -- The component that the object goes to, if it goes to one; that no item breaks a rule; and what an allocator leads to.
+  abbrev Allocated_to : ℕ → List ItemForm → Control → Rooms → Holds → Type 0
+  Allocated_to access items k' rooms holds =
+      (target : Option PathForm) × GoesInto s.heap a.places target k' × NoneBroken holds (uses_in_items target [] items) × Allocating known s.heap access items k' rooms holds
+
   -- What an allocator leads to.
-  allocating : (access : ℕ) (items : List ItemForm) (kind : VariableKind) (kinds : List VariableKind) → kind_takes known.program.types known.program.variables kind (allocates access items) ≡ true → typed.Fits known.program (cells_of s.heap) (kind ∷ kinds) k → (rooms : Rooms) (holds : Holds) → Takes known s.heap (allocates access items) k rooms holds → NoneBroken holds (uses_in_items [] items) × Allocating known s.heap access items k rooms holds
+  allocating : (access : ℕ) (items : List ItemForm) (kind : VariableKind) (kinds : List VariableKind) → kind_takes known.program.types known.program.variables kind (allocates access items) ≡ true → typed.Fits known.program (cells_of s.heap) (kind ∷ kinds) k → (rooms : Rooms) (holds : Holds) → Takes known s.heap a.places (allocates access items) k rooms holds → Allocated_to access items k rooms holds
   allocating access items kind kinds takes fits rooms holds = go k fits
     where
       al : Allocated known.program.types known.program.variables kind access items
       al = allocated_goes known.program.types known.program.variables kind access items takes
 
-      to : (x : ℕ) (k' : Control) → variable_access known.program.variables x ≡ access_of (Some kind) → (cleared : Bool) → Goes (gives known.program.variables cleared x (allocates access items) holds) (RunsOn known k' rooms) (Raised (λ e. right_raises (is_same e) (allocates access items)) (ways known k' rooms)) → NoneBroken holds (uses_in_items [] items) × (((variable_access known.program.variables x ≡ Some access) × RunsOn known k' rooms (slice_set (without_values (moved_by_items items) holds) x (hold.Own Whole))) × Raised (λ e. right_raises (is_same e) (allocates access items)) (ways known k' rooms) holds)
+      to : (x : ℕ) (k' : Control) → variable_access known.program.variables x ≡ access_of (Some kind) → (cleared : Bool) → Goes (gives known.program.variables cleared x (allocates access items) holds) (RunsOn known k' rooms) (Raised (λ e. right_raises (is_same e) (allocates access items)) (ways known k' rooms)) → NoneBroken holds (uses_in_items None [] items) × (((variable_access known.program.variables x ≡ Some access) × RunsOn known k' rooms (slice_set (without_values (moved_by_items items) holds) x (hold.Own Whole))) × Raised (λ e. right_raises (is_same e) (allocates access items)) (ways known k' rooms) holds)
       to x k' is cleared g =
-          let u = using_goes (uses_in_items [] items) holds (ends_with true holds (slice_set (without_values (moved_by_items items) holds) x (hold.Own Whole))) (RunsOn known k' rooms) (Raised (λ e. right_raises (is_same e) (allocates access items)) (ways known k' rooms)) g in
+          let u = using_goes (uses_in_items None [] items) holds (ends_with true holds (slice_set (without_values (moved_by_items items) holds) x (hold.Own Whole))) (RunsOn known k' rooms) (Raised (λ e. right_raises (is_same e) (allocates access items)) (ways known k' rooms)) g in
           (u.0, ((is ∙ al.goes, u.1.0), u.1.1))
 
-      into : (o : Value) (c : ℕ) (k' : Control) → typed.Fits known.program (cells_of s.heap) (kind ∷ kinds) (StoresIn o c ∷ k') → IsHolder s.heap o → FillsIn known (allocates access items) rooms holds k' → NoneBroken holds (uses_in_items [] items) × ((Accepts known s.heap o c (Some access) × RunsOn known k' rooms (without_values (moved_by_items items) holds)) × Raised (component_among (allocates access items)) (ways known k' rooms) holds)
+      into : (o : Value) (c : ℕ) (k' : Control) → typed.Fits known.program (cells_of s.heap) (kind ∷ kinds) (StoresIn o c ∷ k') → IsHolder s.heap o → (g : FillsIn known (allocates access items) (LeadsTo s.heap a.places o [] c) rooms holds k') → NoneBroken holds (uses_in_items (Some g.0) [] items) × ((Accepts known s.heap o c (Some access) × RunsOn known k' rooms (without_values (moved_by_items items) holds)) × Raised (component_among (allocates access items)) (ways known k' rooms) holds)
       into Null c k' fits' there g = absurd there
       into (Names o) c k' fits' there g =
-          let u = using_goes (reads_it g.0 ∷ uses_in_items [] items) holds (ends_with true holds (without_values (moved_by_items items) holds)) (RunsOn known k' rooms) (Raised (component_among (allocates access items)) (ways known k' rooms)) g.2 in
-          ((first_kept holds (reads_it g.0) (uses_in_items [] items) u.0).1, (((there.0, there.1, there.2, component_goes known.program s.heap kind kinds o there.0 c k' there.1 fits' ∙ al.goes), u.1.0), u.1.1))
+          let u = using_goes (reads_it g.0 ∷ uses_in_items (Some g.0) [] items) holds (ends_with true holds (without_values (moved_by_items items) holds)) (RunsOn known k' rooms) (Raised (component_among (allocates access items)) (ways known k' rooms)) g.2 in
+          ((first_kept holds (reads_it g.0) (uses_in_items (Some g.0) [] items) u.0).1, (((there.0, there.1, there.2, component_goes known.program s.heap kind kinds o there.0 c k' there.1 fits' ∙ al.goes), u.1.0), u.1.1))
       into (Scalar n) c k' fits' there g = absurd there
 
-      go : (k' : Control) → typed.Fits known.program (cells_of s.heap) (kind ∷ kinds) k' → Takes known s.heap (allocates access items) k' rooms holds → NoneBroken holds (uses_in_items [] items) × Allocating known s.heap access items k' rooms holds
+      go : (k' : Control) → typed.Fits known.program (cells_of s.heap) (kind ∷ kinds) k' → Takes known s.heap a.places (allocates access items) k' rooms holds → Allocated_to access items k' rooms holds
       go [] fits' g = absurd g
       go (Stores x ∷ k') fits' g =
           let h = to x k' (variable_goes known.program s.heap kind kinds x k' fits') g.0 g.1 in
-          (h.0, record { components = al.components; reached = al.reached; fit = al.fit; fails = λ may. h.1.1 ConstraintError (rw may refl); refused = λ may. h.1.1 StorageError refl; to = h.1.0 })
+          (None, tt, h.0, record { components = al.components; reached = al.reached; fit = al.fit; fails = λ may. h.1.1 ConstraintError (rw may refl); refused = λ may. h.1.1 StorageError refl; to = h.1.0 })
       go (Declares x ∷ k') fits' g =
           let h = to x k' (declared_goes known.program s.heap kind kinds x k' fits') g.0 g.1 in
-          (h.0, record { components = al.components; reached = al.reached; fit = al.fit; fails = λ may. h.1.1 ConstraintError (rw may refl); refused = λ may. h.1.1 StorageError refl; to = h.1.0 })
+          (None, tt, h.0, record { components = al.components; reached = al.reached; fit = al.fit; fails = λ may. h.1.1 ConstraintError (rw may refl); refused = λ may. h.1.1 StorageError refl; to = h.1.0 })
       go (StoresIn o c ∷ k') fits' g =
           let h = into o c k' fits' g.0 g.1 in
-          (h.0, record { components = al.components; reached = al.reached; fit = al.fit; fails = λ may. h.1.1 ConstraintError refl; refused = λ may. h.1.1 StorageError refl; to = h.1.0 })
+          (Some g.1.0, g.1.4, h.0, record { components = al.components; reached = al.reached; fit = al.fit; fails = λ may. h.1.1 ConstraintError refl; refused = λ may. h.1.1 StorageError refl; to = h.1.0 })
       go (f ∷ k') fits' g = absurd g
 
-  items_keep : (holds : Holds) (earlier : List ℕ) (items : List ItemForm) → NoneBroken holds (uses_in_items earlier items) → ItemsKeep holds earlier items
-  items_keep holds earlier [] kept = tt
-  items_keep holds earlier (i ∷ is) kept =
-      let h = kept_apart holds (uses_in_item earlier i) (uses_in_items (moved_by_item i ++ earlier) is) kept in
-      (h.0, items_keep holds (moved_by_item i ++ earlier) is h.1)
+  items_keep : (target : Option PathForm) (holds : Holds) (earlier : List PathForm) (items : List ItemForm) → NoneBroken holds (uses_in_items target earlier items) → ItemsKeep target holds earlier items
+  items_keep target holds earlier [] kept = tt
+  items_keep target holds earlier (i ∷ is) kept =
+      let h = kept_apart holds (uses_in_item target earlier i) (uses_in_items target (named_by_item i ++ earlier) is) kept in
+      (h.0, items_keep target holds (named_by_item i ++ earlier) is h.1)
 
   -- An expression goes to a variable on which nothing relies, or into a component without access values.
-  computing : (e : ExpressionForm) (kind : VariableKind) (kinds : List VariableKind) → kind_takes known.program.types known.program.variables kind (computes e) ≡ true → typed.Fits known.program (cells_of s.heap) (kind ∷ kinds) k → (rooms : Rooms) (holds : Holds) → Takes known s.heap (computes e) k rooms holds → Computing known s.heap a.places a.operands e k rooms holds
+  computing : (e : ExpressionForm) (kind : VariableKind) (kinds : List VariableKind) → kind_takes known.program.types known.program.variables kind (computes e) ≡ true → typed.Fits known.program (cells_of s.heap) (kind ∷ kinds) k → (rooms : Rooms) (holds : Holds) → Takes known s.heap a.places (computes e) k rooms holds → Computing known s.heap a.places a.operands e k rooms holds
   computing e kind kinds takes fits rooms holds = go k fits
     where
       to : (x : ℕ) (k' : Control) (cleared : Bool) → Goes (gives known.program.variables cleared x (computes e) holds) (RunsOn known k' rooms) (Raised (λ y. right_raises (is_same y) (computes e)) (ways known k' rooms)) → NoneBroken holds (uses_in e) × (RunsOn known k' rooms (slice_set holds x hold.Lost) × (expression_raises e ≡ true → Raised (λ y. right_raises (is_same y) (computes e)) (ways known k' rooms) holds))
@@ -337,14 +350,14 @@ module _ (known : Known) (k : Control) (a : Activation Value) (rest : List (Acti
           let n = ends_goes (expression_raises e) holds (slice_set holds x hold.Lost) (RunsOn known k' rooms) raised' u.1 in
           (u.0, (n.0, n.1))
 
-      into : (o : Value) (c : ℕ) (k' : Control) → typed.Fits known.program (cells_of s.heap) (kind ∷ kinds) (StoresIn o c ∷ k') → IsHolder s.heap o → FillsIn known (computes e) rooms holds k' → NoneBroken holds (uses_in e) × ((Accepts known s.heap o c None × RunsOn known k' rooms holds) × Raised (component_among (computes e)) (ways known k' rooms) holds)
+      into : (o : Value) (c : ℕ) (k' : Control) → typed.Fits known.program (cells_of s.heap) (kind ∷ kinds) (StoresIn o c ∷ k') → IsHolder s.heap o → FillsIn known (computes e) (LeadsTo s.heap a.places o [] c) rooms holds k' → NoneBroken holds (uses_in e) × ((Accepts known s.heap o c None × RunsOn known k' rooms holds) × Raised (component_among (computes e)) (ways known k' rooms) holds)
       into Null c k' fits' there g = absurd there
       into (Names o) c k' fits' there g =
           let u = using_goes (reads_it g.0 ∷ uses_in e) holds (ends_with true holds holds) (RunsOn known k' rooms) (Raised (component_among (computes e)) (ways known k' rooms)) g.2 in
           ((first_kept holds (reads_it g.0) (uses_in e) u.0).1, (((there.0, there.1, there.2, component_goes known.program s.heap kind kinds o there.0 c k' there.1 fits' ∙ computed_goes known.program.types known.program.variables kind e takes), u.1.0), u.1.1))
       into (Scalar n) c k' fits' there g = absurd there
 
-      go : (k' : Control) → typed.Fits known.program (cells_of s.heap) (kind ∷ kinds) k' → Takes known s.heap (computes e) k' rooms holds → Computing known s.heap a.places a.operands e k' rooms holds
+      go : (k' : Control) → typed.Fits known.program (cells_of s.heap) (kind ∷ kinds) k' → Takes known s.heap a.places (computes e) k' rooms holds → Computing known s.heap a.places a.operands e k' rooms holds
       go [] fits' g = absurd g
       go (Stores x ∷ k') fits' g = let h = to x k' g.0 g.1 in (h.0, (λ may. h.1.1 may ConstraintError may), h.1.0)
       go (Declares x ∷ k') fits' g = let h = to x k' g.0 g.1 in (h.0, (λ may. h.1.1 may ConstraintError may), h.1.0)
@@ -377,7 +390,7 @@ module _ (known : Known) (k : Control) (a : Activation Value) (rest : List (Acti
   right_fine (allocates access items) kinds (kind, takes, fits) w =
       let h = allocating access items kind kinds takes fits w.rooms w.holds w.rest in
       ready_on known (Fills items ∷ Creates access (length items) ∷ k) a rest s a.operands
-      (at_work w (record { done = []; filled = tt; counted = refl; before = tt; behind = items_keep w.holds [] items h.0; leads = h.1 }))
+      (at_work w (record { done = []; target = h.0; into = h.1; filled = tt; counted = refl; before = tt; behind = items_keep h.0 w.holds [] items h.2; leads = h.3 }))
   right_fine (computes e) kinds (kind, takes, fits) w =
       ready_on known (Computes e ∷ k) a rest s a.operands (at_work w (computing e kind kinds takes fits w.rooms w.holds w.rest))
 
@@ -398,12 +411,13 @@ module _ (known : Known) (k : Control) (a : Activation Value) (rest : List (Acti
   -- A path is followed.
   pub follows_fine : (cs : List ℕ) (v : Value) (below : List Value) (kinds : List VariableKind) → typed.Fits known.program (cells_of s.heap) kinds (Follows cs ∷ k) → AreComputed (cells_of s.heap) kinds (v ∷ below) → (Working known s.heap a.places s.masters (FollowsFor known s.heap a.places v below cs k) ⊎ HalfFollows known v cs k s.heap a.places s.masters) → Fine known s.heap s.masters (path_next named cs v (running k (record a { operands = below }) rest s))
   follows_fine cs v below kinds fits computed (inr h) = half_fine known a rest s below k cs v h
-  follows_fine cs v below kinds fits computed (inl w) = go w.rest.2
+  follows_fine cs v below kinds fits computed (inl w) = go w.rest.1
     where
-      go : (Awaits known s.heap a.places below k w.rooms w.holds ⊎ (FindsFor known s.heap k w.rooms w.holds ⊎ MovesOn known s.heap a.places v cs k w.rooms w.holds)) → Fine known s.heap s.masters (path_next named cs v (running k (record a { operands = below }) rest s))
-      go (inl awaits) = reads_fine known k a rest s below cs v (λ may. w.rest.0) (at_work w awaits) (λ may. w.rest.1 refl)
-      go (inr (inl for)) = finds_fine known a rest s below k cs v (at_work w for) w.rest.0 w.rest.1
-      go (inr (inr moves)) = moving cs v below kinds fits computed w.rest.0 (at_work w moves) w.rest.1
+      go : (FindsFor known s.heap a.places v cs k w.rooms w.holds ⊎ (MayRaise known true ConstraintError k w.rooms w.holds × (Awaits known s.heap a.places below k w.rooms w.holds ⊎ (MovesOn known s.heap a.places v cs k w.rooms w.holds ⊎ FillsOn known s.heap a.places v below cs k w.rooms w.holds)))) → Fine known s.heap s.masters (path_next named cs v (running k (record a { operands = below }) rest s))
+      go (inl for) = finds_fine known a rest s below k cs v (at_work w for) w.rest.0
+      go (inr (raise, inl awaits)) = reads_fine known k a rest s below cs v (λ may. w.rest.0) (at_work w awaits) (λ may. raise refl)
+      go (inr (raise, inr (inl moves))) = moving cs v below kinds fits computed w.rest.0 (at_work w moves) raise
+      go (inr (raise, inr (inr fills))) = filling known a rest s below k cs v w.rest.0 (at_work w fills) raise
 
   -- A value is stored, a variable is created, a line is written.
   pub stores_fine : (x : ℕ) (v : Value) (vs : List Value) → Resumes known s.heap (slice_set a.places x v) s.masters k → Stepped known s.heap Quiet (running k (record { places = slice_set a.places x v; operands = vs }) rest s)

@@ -36,7 +36,7 @@ borrower = record link { borrows = true }
 abbrev borrower_declarations : List Declaration
 borrower_declarations = declarations ++ declaration.Variable (record { 0 = 2 }) None ∷ []
 
-abbrev program_with : (statements : List Stmt) → length statements ≤ 9 → Program
+abbrev pub program_with : (statements : List Stmt) → length statements ≤ 9 → Program
 program_with statements le = record {
   types = vec node_types (omega arith);
   variables = vec (link ∷ link ∷ borrower ∷ []) (omega arith);
@@ -48,18 +48,19 @@ program_with statements le = record {
 }
 
 -- B := Head;
-abbrev b_is_head : Stmt
+abbrev pub b_is_head : Stmt
 b_is_head = gives (whole 2) (whole 0)
 
--- Head := new Node'(1, Head); Head := new Node'(2, Head); B := Head;
 -- while B /= null loop Put_Line (Integer'Image (B.Value)); B := B.Next; end loop;
 abbrev walking_turn : List Stmt
 walking_turn = stmt.PutImage (Reads (part 2 0)) ∷ gives (whole 2) (part 2 1) ∷ []
 
+abbrev pub walking_loop : Stmt
+walking_loop = stmt.Loop (Some (NullTest (whole 2) false)) (vec walking_turn (omega arith)) spot
+
+-- Head := new Node'(1, Head); Head := new Node'(2, Head); B := Head; and the loop.
 abbrev pub walking : Program
-walking =
-    program_with
-    (pushing 1 ∷ pushing 2 ∷ b_is_head ∷ stmt.Loop (Some (NullTest (whole 2) false)) (vec walking_turn (omega arith)) spot ∷ []) (omega arith)
+walking = program_with (pushing 1 ∷ pushing 2 ∷ b_is_head ∷ walking_loop ∷ []) (omega arith)
 
 pub walking_form : stmt_forms walking ≡ walking_stmts
 walking_form = simp (statement_rules, expression_rules)

@@ -36,16 +36,16 @@ use Rattle.ada_sound.proofs.Example.{steps, vec, no_name, spot, link, declaratio
 abbrev of_kind : ComponentKind → Component
 of_kind kind = record { name = no_name; kind = kind }
 
-abbrev record_of : (components : List Component) → length components ≤ 8 → TypeDefinition
+abbrev pub record_of : (components : List Component) → length components ≤ 8 → TypeDefinition
 record_of components le = definition.Record no_name (vec components le)
 
-abbrev access_to : ℕ → TypeDefinition
+abbrev pub access_to : ℕ → TypeDefinition
 access_to designated = definition.Access no_name (record { 0 = designated })
 
-abbrev an_integer : Component
+abbrev pub an_integer : Component
 an_integer = of_kind (component.Integer (pos 0))
 
-abbrev an_access : ℕ → Component
+abbrev pub an_access : ℕ → Component
 an_access access = of_kind (component.Access (record { 0 = access }))
 
 -- A program with X, Y : Link; where the types are these
@@ -61,7 +61,7 @@ program_with types few statements le = record {
 }
 
 -- A path: a variable, and components behind it.
-abbrev path : ℕ → (selectors : List ComponentNo) → length selectors ≤ 8 → Path
+abbrev pub path : ℕ → (selectors : List ComponentNo) → length selectors ≤ 8 → Path
 path x selectors le = record { root = record { 0 = x }; selectors = vec selectors le; spot = spot }
 
 abbrev pub whole : ℕ → Path
@@ -173,7 +173,7 @@ shares =
 abbrev outlasting_types : List TypeDefinition
 outlasting_types = record_of (an_integer ∷ []) (omega arith) ∷ record_of (an_access 3 ∷ []) (omega arith) ∷ access_to 1 ∷ access_to 0 ∷ []
 
-abbrev of_access : ℕ → Variable
+abbrev pub of_access : ℕ → Variable
 of_access access = record { name = no_name; kind = variable.Access (record { 0 = access }); borrows = false }
 
 abbrev created : (access x : ℕ) → List Declaration

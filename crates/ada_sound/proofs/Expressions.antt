@@ -1,6 +1,6 @@
 -- Expressions, and values behind paths that are read.
 
-use Rattle.std.proofs.Common.{◌≡◌, ℕ, Bool, true, false, ◌||◌, List, [], ◌∷◌, refl, inl}
+use Rattle.std.proofs.Common.{◌≡◌, ℕ, Bool, true, false, ◌||◌, List, [], ◌∷◌, refl, inl, inr}
 use Rattle.std.specs.Prelude.{Option, Some, None, Result, Ok, Err}
 use Rattle.std.specs.List.{slice_get}
 use Rattle.ada_text.specs.declared.spot.Spot.{Spot}
@@ -42,7 +42,7 @@ module _ (known : Known) (k : Control) (a : Activation Value) (rest : List (Acti
         (record { id = o; object = object; is = refl; found = found; out = exists_out o object found ((w.stored.sane o object found).listed_exists listed) w.stored })
     read_fine o object (c ∷ cs) v found listed follows raise =
         stays known (Followed (Names o)) (running (Follows (c ∷ cs) ∷ k) (record a { operands = v ∷ below }) rest s)
-        (tt, inl (at_work w (follows, raise, inl w.rest)))
+        (tt, inl (at_work w (follows, inr (raise, inl w.rest))))
         (record { id = o; object = object; is = refl; found = found; out = exists_out o object found ((w.stored.sane o object found).listed_exists listed) w.stored })
 
     -- A component of an object that is there is read.

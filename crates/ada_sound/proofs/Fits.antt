@@ -19,8 +19,8 @@ use Rattle.ada_meaning.specs.Heap.{Cell}
 use Rattle.ada_meaning.specs.State.{Activation, Item}
 use Rattle.ada_meaning.specs.Named.{Object, object_at, create, created, store, parted, finished, returned}
 use Rattle.ada_scopes.specs.Scopes.{is_number_of}
-use Rattle.ada_owners.specs.Places.{Place, variable, component, elsewhere, component_in, value_at, access_at}
-use Rattle.ada_owners.specs.Reliance.{IsOf, Says, Owns, Borrows, Kinds, kind_of, Reliance, component_hold, hold_of, with_hold, Fits, IsInHand, AreInHand}
+use Rattle.ada_owners.specs.Places.{Place, variable, component, elsewhere, component_in, value_at, access_at, is_lent}
+use Rattle.ada_owners.specs.Reliance.{IsOf, Says, Owns, Borrows, Kinds, kind_of, Reliance, component_hold, hold_of, with_hold, with_lent, Fits, IsInHand, AreInHand}
 use Rattle.ada_owners.specs.Keeping.{IsThere}
 use Rattle.ada_owners.proofs.Kernel as kernel
 use Rattle.ada_owners.proofs.Kernel.{same_or_not, same_id, same_place, lost_owns}
@@ -30,7 +30,7 @@ use Rattle.ada_owners.proofs.Changes.{weaken, taken, nulls, put_fits, put_hand, 
 use Rattle.ada_owners.proofs.Creations.{create_fits, created_hand}
 use Rattle.ada_owners.proofs.Ends.{IsUnnamed, kind_is, part_fits, finish_parted, back_fits}
 use Rattle.ada_owners.proofs.Reliances.{good_same, good_lost, forget_good, forget_borrows, forget_owner}
-use Rattle.ada_owners.proofs.Keeping.{take_pairs_keep, component_pairs_keep}
+use Rattle.ada_owners.proofs.Keeping.{take_pairs_keep, component_pairs_keep, insertions_keep}
 
 -- The access types of components and of variables; no activation is suspended.
 abbrev pub kinds_of : List TypeForm → List VariableForm → Kinds
@@ -266,7 +266,7 @@ pub move_fit : {types : List TypeForm} {variables : List VariableForm} {spared :
 move_fit {places = places} x y r own same f = put_owner x (place_at places y) r (rw same (hand_of y own f)) (lose y f)
 
 -- What is relied on to name an object names one that is there.
-there_by : (heap : List Object) (kind : Option ℕ) (o : Id) → IsOf (access_at heap) kind o → IsThere heap o
+pub there_by : (heap : List Object) (kind : Option ℕ) (o : Id) → IsOf (access_at heap) kind o → IsThere heap o
 there_by heap None o s = absurd s
 there_by heap (Some t) o s = let h = listed_at heap o t s in (h.object, h.found, h.listed)
 
@@ -334,7 +334,7 @@ root_names {variables = variables} {heap = heap} {holds = holds} x spot kept f o
     says_kind heap (hold_at holds x) spot (variable_access variables x) o kept (f.owners.fit.relied (variable x) o e)
 
 -- What is relied on, in the form that the laws of owners take: no component is lent.
-abbrev as_reliance : Holds → Reliance
+abbrev pub as_reliance : Holds → Reliance
 as_reliance holds = record { holds = holds; outer = λ d. []; lent = [] }
 
 same_reliance : (holds : Holds) (p : Place) → hold_of (as_reliance holds) p ≡ hold_in none_spared holds p
@@ -376,6 +376,19 @@ pub create_fit : {types : List TypeForm} {variables : List VariableForm} {heap :
 create_fit {heap = heap} words cell items f =
     (record { owners = create_fits heap words cell (λ c e. cc e) f.owners items; nulls = f.nulls }, created_hand heap words cell f.owners items)
 
+-- What is relied on says no less than the same once a component is lent.
+lent_good : (holds : Holds) (o : Id) (c : ℕ) (p : Place) → is_as_good (hold_in none_spared holds p) (hold_of (with_lent o c (as_reliance holds)) p) ≡ true
+lent_good holds o c (variable x) = good_same (hold_at holds x)
+lent_good holds o c (component k d) = spared_good (is_lent (component o c ∷ []) k d)
+lent_good holds o c (elsewhere d x) = refl
+
+-- A new object, whose items were in hand as long as a component is lent, goes into that component.
+pub insert_fit : {types : List TypeForm} {variables : List VariableForm} {heap : List Object} {places : List Value} {holds : Holds} (words : ℕ) (cell : Cell Value) (o : Id) (object : Object) (c : ℕ) → object_at heap o ≡ Some object → object.listed ≡ true → component_access types object c ≡ Some cell.access → AreInHand heap (bare places) (hold_of (with_lent o c (as_reliance holds))) (λ d. access_of (kind_among (reached_components types cell.access) d)) 0 cell.values → Fit types variables none_spared heap places holds → Fit types variables none_spared (store (create heap words cell) (Names o) c (created heap words)) places holds
+insert_fit {types = types} {variables = variables} {heap = heap} {places = places} {holds = holds} words cell o object c found listed same items f =
+    let lent = weaken (hold_of (with_lent o c (as_reliance holds))) (lent_good holds o c) f.owners in
+    let kept = insertions_keep (kinds_of types variables) heap (bare places) (as_reliance holds) o c object.cell.access words cell lent (access_is heap o object found listed) same items in
+    record { owners = from_reliance holds kept; nulls = f.nulls }
+
 -- Of what is in hand no place is an owner.
 pub hand_is_unnamed : (types : List TypeForm) (variables : List VariableForm) (spared : Id → Bool) (heap : List Object) (places : List Value) (holds : Holds) (kind : Option ℕ) (o : Id) → Hand types variables spared heap places holds kind (Names o) → ((q : Place) → Borrows (hold_in spared holds q) → value_at heap (bare places) q ≡ Names o → ⊥) → IsUnnamed heap (bare places) (hold_in spared holds) o
 hand_is_unnamed types variables spared heap places holds kind o hand none = record {
@@ -403,7 +416,7 @@ back_fit {heap = heap} o x found f = record {
 }
 
 -- Behind the end of an object less is known of its access type's aliases, and as much of all else.
-behind_good : (variables : List VariableForm) (kind : Option ℕ) (holds : Holds) (x : ℕ) → is_as_good (hold_at holds x) (hold_at (behind_end variables kind holds) x) ≡ true
+pub behind_good : (variables : List VariableForm) (kind : Option ℕ) (holds : Holds) (x : ℕ) → is_as_good (hold_at holds x) (hold_at (behind_end variables kind holds) x) ≡ true
 behind_good variables None holds x = good_same (hold_at holds x)
 behind_good variables (Some t) holds x = forget_good variables t holds x
 
@@ -458,6 +471,33 @@ freed_unnamed {variables = variables} {spared = spared} {heap = heap} {places = 
     unborrowed of q (inr ne) a b =
         behind_borrows (variable_access variables x) o of f q (rw (set_others spared behind x hold.Null q ne) at a)
         (sym (put_reads heap (bare places) x Null q ne) ∙ b)
+
+-- Free (O.C): C is null then, its object has no owner, and no alias names it.
+pub component_unnamed : {types : List TypeForm} {variables : List VariableForm} {heap : List Object} {places : List Value} {holds : Holds} (o : Id) (object : Object) (c : ℕ) (p : Id) (kind : Option ℕ) → object_at heap o ≡ Some object → object.listed ≡ true → slice_get object.cell.values c ≡ Some (Names p) → IsOf (access_at heap) kind p → Fit types variables none_spared heap places holds → Fit types variables none_spared (store heap (Names o) c Null) places (behind_end variables kind holds) × IsUnnamed (store heap (Names o) c Null) (bare places) (hold_in none_spared (behind_end variables kind holds)) p
+component_unnamed {variables = variables} {heap = heap} {places = places} {holds = holds} o object c p kind found listed at of f = (
+  store_blank o object c Null found (λ k e. cc e) (behind_fit kind f),
+  record {
+    unowned = λ q a b. unowned q (same_place q (component o c)) a b;
+    unborrowed = λ q a b. unborrowed q (same_place q (component o c)) a b;
+  },
+)
+  where
+    names : value_at heap (bare places) (component o c) ≡ Names p
+    names = component_value heap (bare places) o object c (Names p) found listed at
+
+    before : (q : Place) → q ≢ component o c → value_at (store heap (Names o) c Null) (bare places) q ≡ Names p → value_at heap (bare places) q ≡ Names p
+    before q ne b = sym (changes.store_reads heap o object found c Null (bare places) q ne) ∙ b
+
+    cleared : value_at (store heap (Names o) c Null) (bare places) (component o c) ≡ Names p → ⊥
+    cleared b = let null : Null ≡ Names p = changes.store_value heap o object found c Null (bare places) p b in cc null
+
+    unowned : (q : Place) → (q ≡ component o c) ⊎ (q ≢ component o c) → Owns (hold_in none_spared (behind_end variables kind holds) q) → value_at (store heap (Names o) c Null) (bare places) q ≡ Names p → ⊥
+    unowned q (inl e) a b = cleared (rw e at b)
+    unowned q (inr ne) a b = ne (f.owners.fit.apart q (component o c) p (behind_owns variables none_spared kind holds q a) tt (before q ne b) names)
+
+    unborrowed : (q : Place) → (q ≡ component o c) ⊎ (q ≢ component o c) → Borrows (hold_in none_spared (behind_end variables kind holds) q) → value_at (store heap (Names o) c Null) (bare places) q ≡ Names p → ⊥
+    unborrowed q (inl e) a b = cleared (rw e at b)
+    unborrowed q (inr ne) a b = behind_borrows kind p of f q a (before q ne b)
 
 -- Components of other objects are spared, none of which names anything.
 respare : {types : List TypeForm} {variables : List VariableForm} {heap : List Object} {places : List Value} {holds : Holds} (spared to : Id → Bool) → ((o : Id) (c : ℕ) (k : Id) → component_in (object_at heap o) c ≡ Names k → to o ≡ spared o) → Fit types variables spared heap places holds → Fit types variables to heap places holds

@@ -5,7 +5,7 @@ use Rattle.std.specs.Prelude.{ℤ, Option, Some}
 use Rattle.std.specs.List.{All, AllPairs}
 use Rattle.ada_program.specs.declared.program.Program.{Program}
 use Rattle.ada_program.specs.Form.{DeclarationForm, StmtsForm, BranchesForm, HandlersForm}
-use Rattle.ada_program.specs.ProgramForm.{VariableForm}
+use Rattle.ada_program.specs.ProgramForm.{TypeForm, VariableForm}
 use Rattle.ada_flow.specs.Flow.{Holds, Outcome, goes, Around}
 use Rattle.ada_meaning.specs.declared.event.Why.{Why}
 use Rattle.ada_meaning.specs.Named.{State}
@@ -91,7 +91,7 @@ one_end : {o : Outcome} (mid other : Holds) (raising others : Option Holds) → 
 one_end mid other raising others a b = cc (a, b)
 
 mutual
-  one_way : {variables : List VariableForm} {around : Around} {outer place others : Place} {fs : StmtsForm} {from holds other : Holds} {way : List Turning} → Comes variables around outer fs from way place holds → Comes variables around outer fs from way others other → (place ≡ others) × (holds ≡ other)
+  one_way : {types : List TypeForm} {variables : List VariableForm} {around : Around} {outer place others : Place} {fs : StmtsForm} {from holds other : Holds} {way : List Turning} → Comes types variables around outer fs from way place holds → Comes types variables around outer fs from way others other → (place ≡ others) × (holds ≡ other)
   one_way here here = (refl, refl)
   one_way (behind mid is a) (behind mid' is' b) = let same : mid ≡ mid' = cc (is, is') in one_way (rw same at a) b
   one_way (in_branches a) (in_branches b) = one_way_by a b
@@ -99,16 +99,16 @@ mutual
   one_way (in_count mid is a) (in_count mid' is' b) = let same : mid ≡ mid' = cc (is, is') in one_way (rw same at a) b
   one_way (in_enclosed a) (in_enclosed b) = one_way_inside a b
 
-  one_way_by : {variables : List VariableForm} {around : Around} {outer place others : Place} {branches : BranchesForm} {from holds other : Holds} {way : List Turning} → ComesBy variables around outer branches from way place holds → ComesBy variables around outer branches from way others other → (place ≡ others) × (holds ≡ other)
+  one_way_by : {types : List TypeForm} {variables : List VariableForm} {around : Around} {outer place others : Place} {branches : BranchesForm} {from holds other : Holds} {way : List Turning} → ComesBy types variables around outer branches from way place holds → ComesBy types variables around outer branches from way others other → (place ≡ others) × (holds ≡ other)
   one_way_by (in_others a) (in_others b) = one_way a b
   one_way_by (in_this mid is a) (in_this mid' is' b) = let same : mid ≡ mid' = cc (is, is') in one_way (rw same at a) b
   one_way_by (in_next mid is a) (in_next mid' is' b) = let same : mid ≡ mid' = cc (is, is') in one_way_by (rw same at a) b
 
-  one_way_to : {variables : List VariableForm} {around : Around} {outer place others : Place} {hs : HandlersForm} {from holds other : Holds} {way : List Turning} → ComesTo variables around outer hs from way place holds → ComesTo variables around outer hs from way others other → (place ≡ others) × (holds ≡ other)
+  one_way_to : {types : List TypeForm} {variables : List VariableForm} {around : Around} {outer place others : Place} {hs : HandlersForm} {from holds other : Holds} {way : List Turning} → ComesTo types variables around outer hs from way place holds → ComesTo types variables around outer hs from way others other → (place ≡ others) × (holds ≡ other)
   one_way_to (to_this a) (to_this b) = one_way a b
   one_way_to (to_next a) (to_next b) = one_way_to a b
 
-  one_way_inside : {variables : List VariableForm} {around : Around} {outer place others : Place} {ds : List DeclarationForm} {fs : StmtsForm} {hs : HandlersForm} {from holds other : Holds} {way : List Turning} → ComesInside variables around outer ds fs hs from way place holds → ComesInside variables around outer ds fs hs from way others other → (place ≡ others) × (holds ≡ other)
+  one_way_inside : {types : List TypeForm} {variables : List VariableForm} {around : Around} {outer place others : Place} {ds : List DeclarationForm} {fs : StmtsForm} {hs : HandlersForm} {from holds other : Holds} {way : List Turning} → ComesInside types variables around outer ds fs hs from way place holds → ComesInside types variables around outer ds fs hs from way others other → (place ≡ others) × (holds ≡ other)
   one_way_inside (in_statements mid is a) (in_statements mid' is' b) = let same : mid ≡ mid' = cc (is, is') in one_way (rw same at a) b
   one_way_inside (in_handlers mid raised is at a) (in_handlers mid' raised' is' at' b) =
       let same : mid ≡ mid' = cc (is, is') in

@@ -6,13 +6,14 @@ use Rattle.std.specs.List.{slice_set}
 use Rattle.ada_program.specs.declared.program.Exception.{Exception}
 use Rattle.ada_program.specs.declared.program.Exception.TheVariants.{ConstraintError, StorageError, EndError}
 use Rattle.ada_program.specs.Form.{PathForm, ExpressionForm, ItemForm, null_item, item_of_path, item_of_value, RightForm, nothing, value_of, allocates, computes, assigns, StmtsForm, a_stmt, BranchesForm, HandlersForm, DeclarationForm}
-use Rattle.ada_program.specs.ProgramForm.{ComponentForm, VariableForm, ProgramForm}
-use Rattle.ada_program.specs.WellFormed.{reached_components, items_fit}
+use Rattle.ada_program.specs.ProgramForm.{ComponentForm, TypeForm, VariableForm, ProgramForm}
+use Rattle.ada_program.specs.declared.program.VariableKind.{VariableKind}
+use Rattle.ada_program.specs.WellFormed.{access_of, selectors_kind, reached_components, items_fit}
 use Rattle.ada_program.specs.Handling.{is_same, handler_of}
 use Rattle.ada_effects.specs.Effects.{expression_raises, links_raise, items_raise, condition_raises, unary_raises, binary_raises, right_raises, declaration_raises, stmts_raise, branches_raise, handlers_raise}
 use Rattle.ada_flow.specs.declared.rule.Hold.TheVariants as hold
 use Rattle.ada_flow.specs.declared.rule.Region.TheVariants.{Whole}
-use Rattle.ada_flow.specs.Flow.{Holds, hold_at, variable_access, Outcome, faults, goes, Use, uses_in, uses_in_links, uses_in_item, broken_among, without_values, moved_by_item, moved_by_items, gives, gives_component, clears, are_as_good, have_exit, branches_have_exit, handlers_have_exit, is_left, condition_flow, stmts_flow, branches_flow, handlers_flow, declaration_flow, collected, is_among, left, Around, in_loop}
+use Rattle.ada_flow.specs.Flow.{Holds, hold_at, variable_access, Outcome, faults, goes, Use, uses_in, uses_in_links, uses_in_item, named_by_item, broken_among, without_values, moved_by_items, passes_type, behind_end, gives, gives_component, clears, are_as_good, have_exit, branches_have_exit, handlers_have_exit, is_left, condition_flow, stmts_flow, branches_flow, handlers_flow, declaration_flow, collected, is_among, left, Around, in_loop}
 use Rattle.ada_meaning.specs.declared.state.Id.{Id}
 use Rattle.ada_meaning.specs.declared.state.Value.{Value}
 use Rattle.ada_meaning.specs.declared.state.Value.TheVariants.{Null, Names, Scalar}
@@ -23,7 +24,7 @@ use Rattle.ada_meaning.specs.declared.event.Cause.{Cause}
 use Rattle.ada_meaning.specs.declared.event.Cause.TheVariants.{Leaving, Freeing, Assigning, Undoing}
 use Rattle.ada_meaning.specs.declared.event.Halt.{Halt}
 use Rattle.ada_meaning.specs.declared.event.Halt.TheVariants.{Finished, Unhandled, Erroneous, Stuck, Memory}
-use Rattle.ada_meaning.specs.Frame.{Frame, Elaborates, Does, Decides, Repeats, Turns, Ranges, Counts, Exits, Handles, Closes, Leaves, Evaluates, Computes, Follows, TestsNull, Continues, Applies, AppliesAlone, Fills, Creates, Stores, Targets, StoresIn, Receives, Declares, Writes, Ends, GivesBack, Clears}
+use Rattle.ada_meaning.specs.Frame.{Frame, Elaborates, Does, Decides, Repeats, Turns, Ranges, Counts, Exits, Handles, Closes, Leaves, Evaluates, Computes, Follows, TestsNull, Continues, Applies, AppliesAlone, Fills, Creates, Stores, Targets, StoresIn, Receives, FreesIn, Declares, Writes, Ends, GivesBack, Clears, ClearsIn}
 use Rattle.ada_meaning.specs.Event.{Born, Finalized, Back, Followed, Left, Line, Quiet}
 use Rattle.ada_meaning.specs.State.{Activation, Owned, declared, collection, Item, Master}
 use Rattle.ada_meaning.specs.Heap.{finds}
@@ -99,15 +100,15 @@ Raised among w holds = (e : Exception) → among e ≡ true → To (w.raised e) 
 -- Flow comes to places from these statements on, from these branches on, or from these handlers on, before a control.
 abbrev pub From : Known → Around → Control → StmtsForm → Holds → Type 0
 From known around k fs holds =
-    (way : List Turning) (place : Control) (at : Holds) → Comes known.program.variables around k fs holds way place at → known.At place at
+    (way : List Turning) (place : Control) (at : Holds) → Comes known.program.types known.program.variables around k fs holds way place at → known.At place at
 
 abbrev pub FromBy : Known → Around → Control → BranchesForm → Holds → Type 0
 FromBy known around k branches holds =
-    (way : List Turning) (place : Control) (at : Holds) → ComesBy known.program.variables around k branches holds way place at → known.At place at
+    (way : List Turning) (place : Control) (at : Holds) → ComesBy known.program.types known.program.variables around k branches holds way place at → known.At place at
 
 abbrev pub FromTo : Known → Around → Control → HandlersForm → Holds → Type 0
 FromTo known around k hs holds =
-    (way : List Turning) (place : Control) (at : Holds) → ComesTo known.program.variables around k hs holds way place at → known.At place at
+    (way : List Turning) (place : Control) (at : Holds) → ComesTo known.program.types known.program.variables around k hs holds way place at → known.At place at
 
 -- What may leave a loop with this start, through blocks with collections of these types, does so with no less known.
 abbrev pub MayExit : List VariableForm → Option Holds → List ℕ → Holds → Type 0
@@ -125,27 +126,27 @@ OnReturn w = (holds : Holds) → w.returned holds
 abbrev pub Doing : Known → StmtsForm → Control → Ways → Holds → Type 0
 Doing known fs k w holds =
     (around : Around) × From known around k fs holds
-    × Goes (stmts_flow known.program.variables around fs holds) (To w.normal) (Raised (λ e. stmts_raise (is_same e) fs) w)
+    × Goes (stmts_flow known.program.types known.program.variables around fs holds) (To w.normal) (Raised (λ e. stmts_raise (is_same e) fs) w)
     × OnExit known.program.variables (have_exit fs) around w.exited × OnReturn w
 
 -- The same of branches, and of handlers.
 abbrev pub Choosing : Known → BranchesForm → Control → Ways → Holds → Type 0
 Choosing known branches k w holds =
     (around : Around) × FromBy known around k branches holds
-    × Goes (branches_flow known.program.variables around branches holds) (To w.normal) (Raised (λ e. branches_raise (is_same e) branches) w)
+    × Goes (branches_flow known.program.types known.program.variables around branches holds) (To w.normal) (Raised (λ e. branches_raise (is_same e) branches) w)
     × OnExit known.program.variables (branches_have_exit branches) around w.exited × OnReturn w
 
 abbrev pub Handling : Known → HandlersForm → Control → Ways → Holds → Type 0
 Handling known hs k w holds =
     (around : Around) × FromTo known around k hs holds
-    × Goes (handlers_flow known.program.variables around hs holds) (To w.normal) (Raised (λ e. handlers_raise (is_same e) hs) w)
+    × Goes (handlers_flow known.program.types known.program.variables around hs holds) (To w.normal) (Raised (λ e. handlers_raise (is_same e) hs) w)
     × OnExit known.program.variables (handlers_have_exit hs) around w.exited × OnReturn w
 
 -- A turn of a loop: it leads back to the start with no less known.
 abbrev pub TurnsTo : Known → StmtsForm → Control → Ways → (start mid : Holds) → Type 0
 TurnsTo known body k w start mid =
     From known (in_loop (Some start)) k body mid
-    × Goes (stmts_flow known.program.variables (in_loop (Some start)) body mid) (λ after. AsGood after start) (Raised (λ e. stmts_raise (is_same e) body) w)
+    × Goes (stmts_flow known.program.types known.program.variables (in_loop (Some start)) body mid) (λ after. AsGood after start) (Raised (λ e. stmts_raise (is_same e) body) w)
 
 -- The condition of a loop may raise an exception.
 abbrev pub condition_among : Option ExpressionForm → Exception → Bool
@@ -308,12 +309,16 @@ DeclaresTo known right rooms holds x k =
 abbrev pub component_among : RightForm → Exception → Bool
 component_among right e = is_same e ConstraintError || right_raises (is_same e) right
 
--- A component gets what is assigned.
-abbrev pub FillsIn : Known → RightForm → Rooms → Holds → Control → Type 0
-FillsIn known right rooms holds k =
+-- A path leads to what is found behind this value by these selectors, and names this component of it last.
+abbrev pub LeadsTo : List Object → List Value → Value → List ℕ → (c : ℕ) → PathForm → Type 0
+LeadsTo heap places w cs c path = (walk heap (place_at places path.root) (front path.selectors) ≡ walk heap w cs) × (final path.selectors ≡ Some c)
+
+-- A component gets what is assigned, to which a path leads.
+abbrev pub FillsIn : Known → RightForm → (leads : PathForm → Type 0) → Rooms → Holds → Control → Type 0
+FillsIn known right leads rooms holds k =
     (path : PathForm) × (cleared : Bool)
     × Goes (gives_component cleared path right holds) (RunsOn known k rooms) (Raised (component_among right) (ways known k rooms))
-    × Pairs cleared right (λ taken. IsOne taken.selectors) k
+    × Pairs cleared right (λ taken. IsOne taken.selectors) k × leads path
 
 -- An object that a component lies in is there.
 abbrev pub IsHolder : List Object → Value → Type 0
@@ -322,12 +327,12 @@ IsHolder heap (Names o) = IsThere heap o
 IsHolder heap (Scalar v) = ⊥
 
 -- What is evaluated is awaited by a variable, or by a component of an object that is there. Null that is awaited by a component is none of these.
-abbrev pub Takes : Known → List Object → RightForm → Control → Rooms → Holds → Type 0
-Takes known heap right [] rooms holds = ⊥
-Takes known heap right (Stores x ∷ k) rooms holds = GivesTo known right rooms holds x k
-Takes known heap right (Declares x ∷ k) rooms holds = DeclaresTo known right rooms holds x k
-Takes known heap right (StoresIn o c ∷ k) rooms holds = IsHolder heap o × FillsIn known right rooms holds k
-Takes known heap right (f ∷ k) rooms holds = ⊥
+abbrev pub Takes : Known → List Object → List Value → RightForm → Control → Rooms → Holds → Type 0
+Takes known heap places right [] rooms holds = ⊥
+Takes known heap places right (Stores x ∷ k) rooms holds = GivesTo known right rooms holds x k
+Takes known heap places right (Declares x ∷ k) rooms holds = DeclaresTo known right rooms holds x k
+Takes known heap places right (StoresIn o c ∷ k) rooms holds = IsHolder heap o × FillsIn known right (LeadsTo heap places o [] c) rooms holds k
+Takes known heap places right (f ∷ k) rooms holds = ⊥
 
 -- An object is there, and one of its components holds values of this access type, or Integers or Booleans.
 abbrev pub Accepts : Known → List Object → Value → (c : ℕ) → Option ℕ → Type 0
@@ -341,35 +346,36 @@ abbrev pub back_onto : List ItemForm → List ItemForm → List ItemForm
 back_onto [] todo = todo
 back_onto (d ∷ done) todo = back_onto done (d ∷ todo)
 
--- The variables that items move, newest first.
-abbrev pub moved_of : List ItemForm → List ℕ
-moved_of [] = []
-moved_of (d ∷ done) = moved_by_item d ++ moved_of done
+-- The paths that items name, newest first.
+abbrev pub named_of : List ItemForm → List PathForm
+named_of [] = []
+named_of (d ∷ done) = named_by_item d ++ named_of done
 
--- Items break no rule, behind others that move these variables; or newest first.
-abbrev pub ItemsKeep : Holds → (earlier : List ℕ) → List ItemForm → Type 0
-ItemsKeep holds earlier [] = Unit {0}
-ItemsKeep holds earlier (i ∷ is) = NoneBroken holds (uses_in_item earlier i) × ItemsKeep holds (moved_by_item i ++ earlier) is
+-- Items break no rule, behind others that name these paths; or newest first.
+abbrev pub ItemsKeep : (target : Option PathForm) → Holds → (earlier : List PathForm) → List ItemForm → Type 0
+ItemsKeep target holds earlier [] = Unit {0}
+ItemsKeep target holds earlier (i ∷ is) = NoneBroken holds (uses_in_item target earlier i) × ItemsKeep target holds (named_by_item i ++ earlier) is
 
-abbrev pub DoneKeep : Holds → List ItemForm → Type 0
-DoneKeep holds [] = Unit {0}
-DoneKeep holds (d ∷ done) = NoneBroken holds (uses_in_item (moved_of done) d) × DoneKeep holds done
+abbrev pub DoneKeep : (target : Option PathForm) → Holds → List ItemForm → Type 0
+DoneKeep target holds [] = Unit {0}
+DoneKeep target holds (d ∷ done) = NoneBroken holds (uses_in_item target (named_of done) d) × DoneKeep target holds done
 
--- The value of an item that is moved is that of its variable.
-abbrev pub FilledPath : List Value → List ℕ → (root : ℕ) → Value → Type 0
-FilledPath places [] x v = v ≡ place_at places x
-FilledPath places (c ∷ cs) x v = ⊥
-
-abbrev pub FilledBy : List Value → ItemForm → Value → Type 0
-FilledBy places null_item v = v ≡ Null
-FilledBy places (item_of_path path) v = FilledPath places path.selectors path.root v
-FilledBy places (item_of_value e) v = Unit {0}
+-- The value of an item that is a path is the one that the path leads to.
+abbrev pub FilledBy : List Object → List Value → ItemForm → Value → Type 0
+FilledBy heap places null_item v = v ≡ Null
+FilledBy heap places (item_of_path path) v = walk heap (place_at places path.root) path.selectors ≡ finds v
+FilledBy heap places (item_of_value e) v = Unit {0}
 
 -- The newest operands are the values of items, newest first.
-abbrev pub Filled : List Value → List ItemForm → List Value → Type 0
-Filled places [] operands = Unit {0}
-Filled places (d ∷ done) [] = ⊥
-Filled places (d ∷ done) (v ∷ vs) = FilledBy places d v × Filled places done vs
+abbrev pub Filled : List Object → List Value → List ItemForm → List Value → Type 0
+Filled heap places [] operands = Unit {0}
+Filled heap places (d ∷ done) [] = ⊥
+Filled heap places (d ∷ done) (v ∷ vs) = FilledBy heap places d v × Filled heap places done vs
+
+-- The path of the component that a new object goes to leads to that component.
+abbrev pub GoesInto : List Object → List Value → (target : Option PathForm) → Control → Type 0
+GoesInto heap places None k = Unit {0}
+GoesInto heap places (Some path) k = StoresTo k (λ x k'. ⊥) (λ o c k'. LeadsTo heap places o [] c path)
 
 -- What an allocator with all these items leads to.
 pub record Allocating (known : Known) (heap : List Object) (access : ℕ) (all : List ItemForm) (k : Control) (rooms : Rooms) (holds : Holds) : Type 0 where
@@ -386,10 +392,12 @@ pub record Allocating (known : Known) (heap : List Object) (access : ℕ) (all :
 -- Some items are evaluated, and these are left.
 pub record Filling (known : Known) (heap : List Object) (places : List Value) (access count : ℕ) (todo : List ItemForm) (k : Control) (operands : List Value) (rooms : Rooms) (holds : Holds) : Type 0 where
   pub done : List ItemForm
-  pub filled : Filled places done operands
+  pub target : Option PathForm
+  pub into : GoesInto heap places target k
+  pub filled : Filled heap places done operands
   pub counted : count ≡ length (back_onto done todo)
-  pub before : DoneKeep holds done
-  pub behind : ItemsKeep holds (moved_of done) todo
+  pub before : DoneKeep target holds done
+  pub behind : ItemsKeep target holds (named_of done) todo
   pub leads : Allocating known heap access (back_onto done todo) k rooms holds
 
 abbrev pub FillsTo : Known → List Object → List Value → List ItemForm → Control → (operands : List Value) → Rooms → Holds → Type 0
@@ -398,12 +406,33 @@ FillsTo known heap places todo (Creates access count ∷ k) operands rooms holds
 FillsTo known heap places todo (f ∷ k) operands rooms holds = ⊥
 
 -- A component is a target (5.2): the value before it is null, or gives access to its object.
-abbrev pub Targeting : Known → List Object → Value → RightForm → Control → Rooms → Holds → Type 0
-Targeting known heap v right k rooms holds = MayFollow heap v × MayRaise known true ConstraintError k rooms holds × FillsIn known right rooms holds k
+abbrev pub Targeting : Known → List Object → List Value → Value → (c : ℕ) → RightForm → Control → Rooms → Holds → Type 0
+Targeting known heap places v c right k rooms holds =
+    MayFollow heap v × MayRaise known true ConstraintError k rooms holds × FillsIn known right (LeadsTo heap places v [] c) rooms holds k
 
 abbrev pub Receiving : Known → List Object → Value → Control → Rooms → Holds → Type 0
 Receiving known heap v k rooms holds =
     MayFollow heap v × MayRaise known true ConstraintError k rooms holds × MayRaise known true EndError k rooms holds × RunsOn known k rooms holds
+
+-- What a value names, if it names anything, is of this kind.
+abbrev pub OfKind : List Object → Value → Option VariableKind → Type 0
+OfKind heap v kind = (o : Id) (object : Object) → v ≡ Names o → object_at heap o ≡ Some object → access_of kind ≡ Some object.cell.access
+
+-- No value that selectors follow behind one of this kind is of this access type, if there is one.
+abbrev pub PassesNone : List TypeForm → Option VariableKind → List ℕ → Option ℕ → Type 0
+PassesNone types kind cs None = Unit {0}
+PassesNone types kind cs (Some t) = passes_type types kind cs t ≡ false
+
+-- A component is to be freed (13.11.2) to which these selectors lead, and this one behind them: no value on the way is of its access type, whose
+-- aliases are lost then, and where an exception is raised.
+pub record Releasing (known : Known) (heap : List Object) (v : Value) (cs : List ℕ) (c : ℕ) (k : Control) (rooms : Rooms) (holds : Holds) : Type 0 where
+  pub from : Option VariableKind
+  pub access : Option ℕ
+  pub is_from : OfKind heap v from
+  pub passes : PassesNone known.program.types from (cs ++ c ∷ []) access
+  pub of_type : access_of (selectors_kind known.program.types from (cs ++ c ∷ [])) ≡ access
+  pub raises : MayRaise known true ConstraintError k rooms (behind_end known.program.variables access holds)
+  pub runs : RunsOn known k rooms (behind_end known.program.variables access holds)
 
 -- A condition is awaited: by branches, by a loop, by an exit.
 abbrev pub Deciding : Known → StmtsForm → BranchesForm → Control → Rooms → Holds → Type 0
@@ -477,10 +506,12 @@ pub record Freed (known : Known) (spared : Id → Bool) (heap : List Object) (pl
   pub fit : Fit known.program.types known.program.variables spared heap places holds
   pub rest : more rooms holds
 
--- What is behind an object under way, by what ends it: a Free, whose variable becomes null; or the leaving of a master, at the object's home.
+-- What is behind an object under way, by what ends it: a Free, whose variable or component becomes null; or the leaving of a master, at the object's
+-- home. A component counts as null already, and so does its object, which is another one.
 abbrev pub ClearsTo : Known → List Object → List Value → List Master → Control → Type 0
 ClearsTo known heap places masters [] = ⊥
 ClearsTo known heap places masters (Clears x ∷ k) = Freed known none_spared heap (slice_set places x Null) masters (RunsOn known k)
+ClearsTo known heap places masters (ClearsIn o c ∷ k) = IsHolder heap o × Freed known none_spared (store heap o c Null) places masters (RunsOn known k)
 ClearsTo known heap places masters (f ∷ k) = ⊥
 
 abbrev pub LeavesTo : Known → List Object → List Value → List Master → Control → Type 0
@@ -561,12 +592,12 @@ Clearing known (Scalar v) c k heap places masters = ⊥
 -- What is evaluated goes to a variable, or to a component; null to a component counts as stored already.
 abbrev pub EvaluatesTo : Known → RightForm → Control → List Object → List Value → List Master → Type 0
 EvaluatesTo known nothing (StoresIn o c ∷ k) heap places masters = Clearing known o c k heap places masters
-EvaluatesTo known right k heap places masters = Working known heap places masters (Takes known heap right k)
+EvaluatesTo known right k heap places masters = Working known heap places masters (Takes known heap places right k)
 
 -- The object of a component that is assigned to is found next; in the second half of a take pair it is known to be there.
 abbrev pub TargetsTo : Known → Value → (c : ℕ) → RightForm → Control → List Object → List Value → List Master → Type 0
 TargetsTo known v c right k heap places masters =
-    Working known heap places masters (Targeting known heap v right k) ⊎ ((right ≡ nothing) × Clearing known v c k heap places masters)
+    Working known heap places masters (Targeting known heap places v c right k) ⊎ ((right ≡ nothing) × Clearing known v c k heap places masters)
 
 -- A value goes into a component: what it was in hand counts as stored already; an Integer or a Boolean does not.
 abbrev pub StoringIn : Known → Value → (c : ℕ) → Value → Control → List Object → List Value → List Master → Type 0
@@ -578,21 +609,31 @@ StoringIn known o c v k heap places masters =
 abbrev pub WalksOn : List Object → List Value → PathForm → Value → List ℕ → Type 0
 WalksOn heap places path w cs = (walk heap (place_at places path.root) (front path.selectors) ≡ walk heap w (front cs)) × (final path.selectors ≡ final cs)
 
--- What a path is followed for: a value that is read; a component that is a target; or a value that is moved.
-abbrev pub FindsFor : Known → List Object → Control → Rooms → Holds → Type 0
-FindsFor known heap [] rooms holds = ⊥
-FindsFor known heap (Targets c right ∷ k) rooms holds = FillsIn known right rooms holds k
-FindsFor known heap (Receives c ∷ k) rooms holds = MayRaise known true EndError k rooms holds × RunsOn known k rooms holds
-FindsFor known heap (f ∷ k) rooms holds = ⊥
+-- What a path is followed for: a value that is read; a component that is a target, or is freed; a value that is moved; or an item's value.
+abbrev pub FindsFor : Known → List Object → List Value → Value → List ℕ → Control → Rooms → Holds → Type 0
+FindsFor known heap places w cs [] rooms holds = ⊥
+FindsFor known heap places w cs (Targets c right ∷ k) rooms holds =
+    MayRaise known true ConstraintError k rooms holds × FillsIn known right (LeadsTo heap places w cs c) rooms holds k
+FindsFor known heap places w cs (Receives c ∷ k) rooms holds =
+    MayRaise known true ConstraintError k rooms holds × MayRaise known true EndError k rooms holds × RunsOn known k rooms holds
+FindsFor known heap places w cs (FreesIn access c ∷ k) rooms holds = Releasing known heap w cs c k rooms holds
+FindsFor known heap places w cs (f ∷ k) rooms holds = ⊥
 
 abbrev pub MovesOn : Known → List Object → List Value → Value → List ℕ → Control → Rooms → Holds → Type 0
 MovesOn known heap places w [] k rooms holds = ⊥
-MovesOn known heap places w (c ∷ cs) k rooms holds = (path : PathForm) × WalksOn heap places path w (c ∷ cs) × Takes known heap (value_of path) k rooms holds
+MovesOn known heap places w (c ∷ cs) k rooms holds = (path : PathForm) × WalksOn heap places path w (c ∷ cs) × Takes known heap places (value_of path) k rooms holds
+
+abbrev pub FillsOn : Known → List Object → List Value → Value → (below : List Value) → List ℕ → Control → Rooms → Holds → Type 0
+FillsOn known heap places w below cs [] rooms holds = ⊥
+FillsOn known heap places w below cs (Fills items ∷ k) rooms holds = (v : Value) → walk heap w cs ≡ finds v → FillsTo known heap places items k (v ∷ below) rooms holds
+FillsOn known heap places w below cs (f ∷ k) rooms holds = ⊥
 
 abbrev pub FollowsFor : Known → List Object → List Value → Value → (below : List Value) → List ℕ → Control → Rooms → Holds → Type 0
 FollowsFor known heap places w below cs k rooms holds =
-    MayFollow heap w × MayRaise known true ConstraintError k rooms holds
-    × (Awaits known heap places below k rooms holds ⊎ (FindsFor known heap k rooms holds ⊎ MovesOn known heap places w cs k rooms holds))
+    MayFollow heap w
+    × (FindsFor known heap places w cs k rooms holds
+    ⊎ (MayRaise known true ConstraintError k rooms holds
+    × (Awaits known heap places below k rooms holds ⊎ (MovesOn known heap places w cs k rooms holds ⊎ FillsOn known heap places w below cs k rooms holds))))
 
 -- The path of the second half of a take pair is followed: it leads to an object that is there.
 abbrev pub HalfFollows : Known → Value → List ℕ → Control → List Object → List Value → List Master → Type 0
@@ -630,11 +671,14 @@ ReadyBy known (Stores x) k heap places operands masters = Resumes known heap (sl
 ReadyBy known (Targets c right) k heap places operands masters = TargetsTo known (first_or Null operands) c right k heap places masters
 ReadyBy known (StoresIn o c) k heap places operands masters = StoringIn known o c (first_or Null operands) k heap places masters
 ReadyBy known (Receives c) k heap places operands masters = Working known heap places masters (Receiving known heap (first_or Null operands) k)
+ReadyBy known (FreesIn access c) k heap places operands masters =
+    Working known heap places masters (λ rooms holds. MayFollow heap (first_or Null operands) × Releasing known heap (first_or Null operands) [] c k rooms holds)
 ReadyBy known (Declares x) k heap places operands masters = Working known heap (slice_set places x (first_or Null operands)) masters (RunsOn known k)
 ReadyBy known Writes k heap places operands masters = Working known heap places masters (RunsOn known k)
 ReadyBy known (Ends v) k heap places operands masters = EndingBy known v k heap places masters
 ReadyBy known (GivesBack v cause pool) k heap places operands masters = BackingBy known v cause pool k heap places masters
 ReadyBy known (Clears x) k heap places operands masters = Working known heap (slice_set places x Null) masters (RunsOn known k)
+ReadyBy known (ClearsIn o c) k heap places operands masters = Clearing known o c k heap places masters
 
 abbrev pub ReadyIn : Known → Mode → Control → List Object → (places operands : List Value) → List Master → Type 0
 ReadyIn known mode [] heap places operands masters = Stored None heap masters × NoMaster masters

@@ -40,6 +40,8 @@ pub mod Assigned
 pub mod Taken
 -- what the items of an allocator give
 pub mod Filled
+-- what is relied on while a new object is made
+pub mod Lendings
 -- allocators
 pub mod Allocators
 -- what is assigned
@@ -50,10 +52,12 @@ pub mod Frees
 pub mod Nestings
 -- components that are assigned to
 pub mod Targets
--- declarations and statements
-pub mod Statements
 -- what ends
 pub mod Endings
+-- what Free of a component does
+pub mod Releases
+-- declarations and statements
+pub mod Statements
 -- jumps on their way
 pub mod Jumps
 -- the first state
@@ -66,8 +70,14 @@ pub mod Runs
 pub mod Order
 -- nothing relies on Integers and Booleans
 pub mod Scalars
--- what the rules let through
+-- what the rules let through: what is moved
 pub mod Moves
+-- what items move
+pub mod ItemMoves
+-- what borrowers hold
+pub mod Borrowing
+-- what is freed
+pub mod Freed
 -- runs by their choices
 pub mod Choices
 -- programs that meet the premises, and that need the rules
@@ -80,6 +90,8 @@ pub mod ExampleTargets
 pub mod ExampleOwners
 -- the same with borrowers
 pub mod ExampleBorrowers
+-- the same with components that get new objects, or are freed
+pub mod ExampleFrees
 -- where a statement begins
 pub mod Agreeing
 -- the laws

@@ -31,24 +31,24 @@ module _ (known : Known) where
   abbrev pub Starting : Around → StmtForm → StmtsForm → Control → Ways → Holds → Type 0
   Starting around f fs k w holds =
       From known around k (a_stmt f fs) holds
-      × Goes (stmt_flow known.program.variables around (begins_pair f fs) f holds) (Doing known fs k w) (Raised (λ e. stmt_raises (is_same e) f) w)
+      × Goes (stmt_flow known.program.types known.program.variables around (begins_pair f fs) f holds) (Doing known fs k w) (Raised (λ e. stmt_raises (is_same e) f) w)
       × OnExit known.program.variables (has_exit f) around w.exited × OnReturn w
 
   -- Behind the first statement come the others, where it comes to its end.
   pub starts : (f : StmtForm) (fs : StmtsForm) (k : Control) (w : Ways) (holds : Holds) (d : Doing known (a_stmt f fs) k w holds) → Starting d.0 f fs k w holds
   starts f fs k w holds (around, from, g, exits', returns') = (
     from,
-    goes_with (stmt_flow known.program.variables around (begins_pair f fs) f holds) (λ h. Goes (stmts_flow known.program.variables around fs h) (To w.normal) (Raised (λ e. stmts_raise (is_same e) (a_stmt f fs)) w)) (Raised (λ e. stmts_raise (is_same e) (a_stmt f fs)) w) (Doing known fs k w) (Raised (λ e. stmt_raises (is_same e) f) w)
+    goes_with (stmt_flow known.program.types known.program.variables around (begins_pair f fs) f holds) (λ h. Goes (stmts_flow known.program.types known.program.variables around fs h) (To w.normal) (Raised (λ e. stmts_raise (is_same e) (a_stmt f fs)) w)) (Raised (λ e. stmts_raise (is_same e) (a_stmt f fs)) w) (Doing known fs k w) (Raised (λ e. stmt_raises (is_same e) f) w)
         (λ mid raising is more. (
           around,
           (λ way place at c. from (past ∷ way) place at (behind mid is c)),
-          goes_map (stmts_flow known.program.variables around fs mid) (To w.normal) (Raised (λ e. stmts_raise (is_same e) (a_stmt f fs)) w) (To w.normal) (Raised (λ e. stmts_raise (is_same e) fs) w)
+          goes_map (stmts_flow known.program.types known.program.variables around fs mid) (To w.normal) (Raised (λ e. stmts_raise (is_same e) (a_stmt f fs)) w) (To w.normal) (Raised (λ e. stmts_raise (is_same e) fs) w)
               (λ h m. m) (λ h r. raised_less (λ e. stmts_raise (is_same e) (a_stmt f fs)) (λ e. stmts_raise (is_same e) fs) w (λ e i. or_right (stmt_raises (is_same e) f) (stmts_raise (is_same e) fs) i) h r) more,
           (λ e. exits' (or_right (has_exit f) (have_exit fs) e)),
           returns',
         ))
         (λ normal h is r. raised_less (λ e. stmts_raise (is_same e) (a_stmt f fs)) (λ e. stmt_raises (is_same e) f) w (λ e i. or_left (stmt_raises (is_same e) f) (stmts_raise (is_same e) fs) i) h r)
-        (then_goes (stmt_flow known.program.variables around (begins_pair f fs) f holds) (stmts_flow known.program.variables around fs) (To w.normal) (Raised (λ e. stmts_raise (is_same e) (a_stmt f fs)) w) (raised_before (λ e. stmts_raise (is_same e) (a_stmt f fs)) w) g),
+        (then_goes (stmt_flow known.program.types known.program.variables around (begins_pair f fs) f holds) (stmts_flow known.program.types known.program.variables around fs) (To w.normal) (Raised (λ e. stmts_raise (is_same e) (a_stmt f fs)) w) (raised_before (λ e. stmts_raise (is_same e) (a_stmt f fs)) w) g),
     (λ e. exits' (or_left (has_exit f) (have_exit fs) e)),
     returns',
   )
@@ -62,17 +62,17 @@ module _ (known : Known) where
   branch_does e fs branches k w holds (around, from, g, out, returns') =
       let v = known.program.variables in
       let among : Exception → Bool = λ x. branches_raise (is_same x) (a_branch e fs branches) in
-      let both = computed_goes e holds _ (Raised among w) (goes_with (computed_flow e holds) (λ h. Goes (either_of (stmts_flow v around fs h) (branches_flow v around branches h)) (To w.normal) (Raised among w)) (Raised among w)
-      (λ h. ((raising : Option Holds) × (computed_flow e holds ≡ goes (Some h) raising)) × Goes (stmts_flow v around fs h) (To w.normal) (Raised among w) × Goes (branches_flow v around branches h) (To w.normal) (Raised among w)) (Raised among w)
-      (λ h raising is m. let two = either_goes (stmts_flow v around fs h) (branches_flow v around branches h) (To w.normal) (Raised among w) (to_before w.normal) (raised_before among w) m in ((raising, is), two.0, two.1))
+      let both = computed_goes e holds _ (Raised among w) (goes_with (computed_flow e holds) (λ h. Goes (either_of (stmts_flow known.program.types v around fs h) (branches_flow known.program.types v around branches h)) (To w.normal) (Raised among w)) (Raised among w)
+      (λ h. ((raising : Option Holds) × (computed_flow e holds ≡ goes (Some h) raising)) × Goes (stmts_flow known.program.types v around fs h) (To w.normal) (Raised among w) × Goes (branches_flow known.program.types v around branches h) (To w.normal) (Raised among w)) (Raised among w)
+      (λ h raising is m. let two = either_goes (stmts_flow known.program.types v around fs h) (branches_flow known.program.types v around branches h) (To w.normal) (Raised among w) (to_before w.normal) (raised_before among w) m in ((raising, is), two.0, two.1))
       (λ normal h is r. r)
-      (then_goes (computed_flow e holds) (λ h. either_of (stmts_flow v around fs h) (branches_flow v around branches h)) (To w.normal) (Raised among w) (raised_before among w) g)) in (
+      (then_goes (computed_flow e holds) (λ h. either_of (stmts_flow known.program.types v around fs h) (branches_flow known.program.types v around branches h)) (To w.normal) (Raised among w) (raised_before among w) g)) in (
         both.0,
         (λ may. both.2 may ConstraintError (or_left (expression_raises e || stmts_raise (is_same ConstraintError) fs) (branches_raise (is_same ConstraintError) branches) (or_left (expression_raises e) (stmts_raise (is_same ConstraintError) fs) may))),
         (
           around,
           (λ way place at c. from (into ∷ way) place at (in_this holds both.1.0.1 c)),
-          goes_map (stmts_flow v around fs holds) (To w.normal) (Raised among w) (To w.normal) (Raised (λ x. stmts_raise (is_same x) fs) w) (λ h m. m)
+          goes_map (stmts_flow known.program.types v around fs holds) (To w.normal) (Raised among w) (To w.normal) (Raised (λ x. stmts_raise (is_same x) fs) w) (λ h m. m)
               (λ h r. raised_less among (λ x. stmts_raise (is_same x) fs) w (λ x i. or_left ((is_same x ConstraintError && expression_raises e) || stmts_raise (is_same x) fs) (branches_raise (is_same x) branches) (or_right (is_same x ConstraintError && expression_raises e) (stmts_raise (is_same x) fs) i)) h r) both.1.1,
           (λ b. out (or_left (have_exit fs) (branches_have_exit branches) b)),
           returns',
@@ -80,7 +80,7 @@ module _ (known : Known) where
         (
           around,
           (λ way place at c. from (past ∷ way) place at (in_next holds both.1.0.1 c)),
-          goes_map (branches_flow v around branches holds) (To w.normal) (Raised among w) (To w.normal) (Raised (λ x. branches_raise (is_same x) branches) w) (λ h m. m)
+          goes_map (branches_flow known.program.types v around branches holds) (To w.normal) (Raised among w) (To w.normal) (Raised (λ x. branches_raise (is_same x) branches) w) (λ h m. m)
               (λ h r. raised_less among (λ x. branches_raise (is_same x) branches) w (λ x i. or_right ((is_same x ConstraintError && expression_raises e) || stmts_raise (is_same x) fs) (branches_raise (is_same x) branches) i) h r) both.1.2,
           (λ b. out (or_right (have_exit fs) (branches_have_exit branches) b)),
           returns',
@@ -92,7 +92,7 @@ module _ (known : Known) where
   chooses_from around branches fs k w holds (from, g, out, returns') = (
     around,
     (λ way place at c. from (into ∷ way) place at (in_branches c)),
-    goes_map (branches_flow known.program.variables around branches holds) (Doing known fs k w) (Raised (λ e. branches_raise (is_same e) branches) w) (To (Then fs k w).normal) (Raised (λ e. branches_raise (is_same e) branches) w) (to_here (Then fs k w).normal) (λ h r. r) g,
+    goes_map (branches_flow known.program.types known.program.variables around branches holds) (Doing known fs k w) (Raised (λ e. branches_raise (is_same e) branches) w) (To (Then fs k w).normal) (Raised (λ e. branches_raise (is_same e) branches) w) (to_here (Then fs k w).normal) (λ h r. r) g,
     out,
     returns',
   )
@@ -103,18 +103,18 @@ module _ (known : Known) where
       let v = known.program.variables in
       let first = opened_by_all v body holds in
       let among : Exception → Bool = λ x. stmt_raises (is_same x) (repeats condition body end_spot) in
-      let left = left_goes (is_left condition body) first (then_flow (condition_flow condition first) (λ hs. ends_turn first end_spot (stmts_flow v (in_loop (Some first)) body hs))) (Doing known fs k w) (Raised among w) g in (
+      let left = left_goes (is_left condition body) first (then_flow (condition_flow condition first) (λ hs. ends_turn first end_spot (stmts_flow known.program.types v (in_loop (Some first)) body hs))) (Doing known fs k w) (Raised among w) g in (
         first,
         all_good v body holds,
-        goes_with (condition_flow condition first) (λ h. Goes (ends_turn first end_spot (stmts_flow v (in_loop (Some first)) body h)) (λ after. Unit {0}) (Raised among w)) (Raised among w) (TurnsTo known body (Repeats condition body ∷ Does fs ∷ k) (Then fs k w) first) (Raised (condition_among condition) w)
+        goes_with (condition_flow condition first) (λ h. Goes (ends_turn first end_spot (stmts_flow known.program.types v (in_loop (Some first)) body h)) (λ after. Unit {0}) (Raised among w)) (Raised among w) (TurnsTo known body (Repeats condition body ∷ Does fs ∷ k) (Then fs k w) first) (Raised (condition_among condition) w)
             (λ mid raising is m. (
               (λ way place at c. from (into ∷ way) place at (in_body mid is c)),
-              goes_map (stmts_flow v (in_loop (Some first)) body mid) (λ after. AsGood after first) (Raised among w) (λ after. AsGood after first) (Raised (λ x. stmts_raise (is_same x) body) w) (λ h n. n)
+              goes_map (stmts_flow known.program.types v (in_loop (Some first)) body mid) (λ after. AsGood after first) (Raised among w) (λ after. AsGood after first) (Raised (λ x. stmts_raise (is_same x) body) w) (λ h n. n)
                   (λ h r. raised_less among (λ x. stmts_raise (is_same x) body) w (λ x i. or_right (condition_among condition x) (stmts_raise (is_same x) body) i) h r)
-                  (turn_goes first end_spot (stmts_flow v (in_loop (Some first)) body mid) (λ after. Unit {0}) (Raised among w) m),
+                  (turn_goes first end_spot (stmts_flow known.program.types v (in_loop (Some first)) body mid) (λ after. Unit {0}) (Raised among w) m),
             ))
             (λ normal h is r. raised_less among (condition_among condition) w (λ x i. or_left (condition_among condition x) (stmts_raise (is_same x) body) i) h r)
-            (then_goes (condition_flow condition first) (λ h. ends_turn first end_spot (stmts_flow v (in_loop (Some first)) body h)) (λ after. Unit {0}) (Raised among w) (raised_before among w) left.0),
+            (then_goes (condition_flow condition first) (λ h. ends_turn first end_spot (stmts_flow known.program.types v (in_loop (Some first)) body h)) (λ after. Unit {0}) (Raised among w) (raised_before among w) left.0),
         (λ e. to_here (Doing known fs k w) first (left.1 e)),
         returns',
       )
@@ -131,7 +131,7 @@ module _ (known : Known) where
   turn_runs condition body k w holds (start, good', turns, left, returns') t = (
     in_loop (Some start),
     t.0,
-    goes_map (stmts_flow known.program.variables (in_loop (Some start)) body start) (λ after. AsGood after start) (Raised (λ e. stmts_raise (is_same e) body) w) (To (Again condition body k w).normal) (Raised (λ e. stmts_raise (is_same e) body) w)
+    goes_map (stmts_flow known.program.types known.program.variables (in_loop (Some start)) body start) (λ after. AsGood after start) (Raised (λ e. stmts_raise (is_same e) body) w) (To (Again condition body k w).normal) (Raised (λ e. stmts_raise (is_same e) body) w)
         (λ after good. to_here (Again condition body k w).normal after (start, good, turns, left, returns')) (λ h r. r) t.1,
     (λ has_one holds may. exits_loop start w (left (exit_leaves condition body has_one)) holds may),
     returns',
@@ -142,8 +142,8 @@ module _ (known : Known) where
   counts_from around x low high body end_spot fs k w holds (from, g, out, returns') =
       let v = known.program.variables in
       let among : Exception → Bool = λ y. stmt_raises (is_same y) (counts x low high body end_spot) in
-      let stmt_loop : Holds → Outcome = λ hs. loop_flow None true end_spot (λ start h. stmts_flow v (in_loop start) body h) (counting_start v x body hs) in
-      let turn : Holds → Holds → Outcome = λ first h. ends_turn first end_spot (stmts_flow v (in_loop (Some first)) body h) in
+      let stmt_loop : Holds → Outcome = λ hs. loop_flow None true end_spot (λ start h. stmts_flow known.program.types v (in_loop start) body h) (counting_start v x body hs) in
+      let turn : Holds → Holds → Outcome = λ first h. ends_turn first end_spot (stmts_flow known.program.types v (in_loop (Some first)) body h) in
       goes_with (bounds_flow low high holds) (λ hs. Goes (stmt_loop hs) (Doing known fs k w) (Raised among w)) (Raised among w) (Counting known x body (Does fs ∷ k) (Then fs k w)) (Raised (λ e. is_same e ConstraintError && (expression_raises low || expression_raises high)) w)
       (λ hs raising is m.
       let first = counting_start v x body hs in
@@ -154,9 +154,9 @@ module _ (known : Known) where
         lost_here (opened_by_all v body hs) x,
         (λ next last. (
           (λ way place at c. from (counting next last ∷ way) place at (in_count hs is c)),
-          goes_map (stmts_flow v (in_loop (Some first)) body first) (λ after. AsGood after first) (Raised among w) (λ after. AsGood after first) (Raised (λ y. stmts_raise (is_same y) body) w) (λ h n. n)
+          goes_map (stmts_flow known.program.types v (in_loop (Some first)) body first) (λ after. AsGood after first) (Raised among w) (λ after. AsGood after first) (Raised (λ y. stmts_raise (is_same y) body) w) (λ h n. n)
               (λ h r. raised_less among (λ y. stmts_raise (is_same y) body) w (λ y i. or_right (is_same y ConstraintError && (expression_raises low || expression_raises high)) (stmts_raise (is_same y) body) i) h r)
-              (turn_goes first end_spot (stmts_flow v (in_loop (Some first)) body first) (λ after. Unit {0}) (Raised among w) turns.0),
+              (turn_goes first end_spot (stmts_flow known.program.types v (in_loop (Some first)) body first) (λ after. Unit {0}) (Raised among w) turns.0),
         )),
         to_here (Doing known fs k w) first (left.1 refl),
         returns',
@@ -172,7 +172,7 @@ module _ (known : Known) where
   count_runs x next last body k w holds (start, good', lost, turns, behind', returns') = (
     in_loop (Some start),
     (turns next last).0,
-    goes_map (stmts_flow known.program.variables (in_loop (Some start)) body start) (λ after. AsGood after start) (Raised (λ e. stmts_raise (is_same e) body) w) (To (Next x body k w).normal) (Raised (λ e. stmts_raise (is_same e) body) w)
+    goes_map (stmts_flow known.program.types known.program.variables (in_loop (Some start)) body start) (λ after. AsGood after start) (Raised (λ e. stmts_raise (is_same e) body) w) (To (Next x body k w).normal) (Raised (λ e. stmts_raise (is_same e) body) w)
         (λ after good. to_here (Next x body k w).normal after (start, good, lost, turns, behind', returns')) (λ h r. r) (turns next last).1,
     (λ has_one holds may. exits_loop start w behind' holds may),
     returns',
@@ -191,18 +191,18 @@ module _ (known : Known) where
   taken_from e (a_handler choices fs hs) k w holds (around, from, g, out, returns') none =
       let v = known.program.variables in
       let among : Exception → Bool = λ x. handlers_raise (is_same x) (a_handler choices fs hs) in
-      let two = either_goes (stmts_flow v around fs holds) (handlers_flow v around hs holds) (To w.normal) (Raised among w) (to_before w.normal) (raised_before among w) g in
+      let two = either_goes (stmts_flow known.program.types v around fs holds) (handlers_flow known.program.types v around hs holds) (To w.normal) (Raised among w) (to_before w.normal) (raised_before among w) g in
       pick (some_takes e choices) (
         around,
         (λ way place at c. from (into ∷ way) place at (to_this c)),
-        goes_map (stmts_flow v around fs holds) (To w.normal) (Raised among w) (To w.normal) (Raised (λ x. stmts_raise (is_same x) fs) w) (λ h m. m)
+        goes_map (stmts_flow known.program.types v around fs holds) (To w.normal) (Raised among w) (To w.normal) (Raised (λ x. stmts_raise (is_same x) fs) w) (λ h m. m)
             (λ h r. raised_less among (λ x. stmts_raise (is_same x) fs) w (λ x i. or_left (stmts_raise (is_same x) fs) (handlers_raise (is_same x) hs) i) h r) two.0,
         (λ b. out (or_left (have_exit fs) (handlers_have_exit hs) b)),
         returns',
       ) (λ past'. taken_from e hs k w holds (
         around,
         (λ way place at c. from (past ∷ way) place at (to_next c)),
-        goes_map (handlers_flow v around hs holds) (To w.normal) (Raised among w) (To w.normal) (Raised (λ x. handlers_raise (is_same x) hs) w) (λ h m. m)
+        goes_map (handlers_flow known.program.types v around hs holds) (To w.normal) (Raised among w) (To w.normal) (Raised (λ x. handlers_raise (is_same x) hs) w) (λ h m. m)
             (λ h r. raised_less among (λ x. handlers_raise (is_same x) hs) w (λ x i. or_right (stmts_raise (is_same x) fs) (handlers_raise (is_same x) hs) i) h r) two.1,
         (λ b. out (or_right (have_exit fs) (handlers_have_exit hs) b)),
         returns',
@@ -229,28 +229,28 @@ module _ (known : Known) where
 
   -- Declarations, the statements behind them, and their handlers, before a master is left.
   pub part_from : (inner : Around) (k : Control) (ds : List DeclarationForm) (fs : StmtsForm) (hs : HandlersForm) (o : Ways) (among : Exception → Bool) (holds : Holds) → PartRaises ds fs hs among
-      → ((way : List Turning) (place : Control) (at : Holds) → ComesInside known.program.variables inner k ds fs hs holds way place at → known.At place at)
-      → Goes (then_flow (declarations_flow known.program.variables ds holds) (λ at. handled (passes fs hs) (handlers_flow known.program.variables inner hs) (stmts_flow known.program.variables inner fs at))) (To o.normal) (Raised among o)
+      → ((way : List Turning) (place : Control) (at : Holds) → ComesInside known.program.types known.program.variables inner k ds fs hs holds way place at → known.At place at)
+      → Goes (then_flow (declarations_flow known.program.variables ds holds) (λ at. handled (passes fs hs) (handlers_flow known.program.types known.program.variables inner hs) (stmts_flow known.program.types known.program.variables inner fs at))) (To o.normal) (Raised among o)
       → OnExit known.program.variables (have_exit fs) inner o.exited → OnExit known.program.variables (handlers_have_exit hs) inner o.exited → OnReturn o
       → Elaborating known ds (Doing known fs (Handles hs ∷ Closes ∷ k) (Handled known hs (Closes ∷ k) o)) o holds
   part_from inner k ds fs hs o among holds p from g exits' exits'' returns' =
       let v = known.program.variables in
-      let part : Holds → Outcome = λ at. handled (passes fs hs) (handlers_flow v inner hs) (stmts_flow v inner fs at) in
+      let part : Holds → Outcome = λ at. handled (passes fs hs) (handlers_flow known.program.types v inner hs) (stmts_flow known.program.types v inner fs at) in
       elaborates_from ds holds (Doing known fs (Handles hs ∷ Closes ∷ k) (Handled known hs (Closes ∷ k) o)) among o p.by_declarations
       (goes_with (declarations_flow v ds holds) (λ at. Goes (part at) (To o.normal) (Raised among o)) (Raised among o) (Doing known fs (Handles hs ∷ Closes ∷ k) (Handled known hs (Closes ∷ k) o)) (Raised among o)
       (λ at raising declared m. (
         inner,
         (λ way place at' c. from (into ∷ way) place at' (in_statements at declared c)),
-        goes_with (stmts_flow v inner fs at) (To o.normal) (λ h. (passes fs hs ≡ true → Raised among o h) × Goes (handlers_flow v inner hs h) (To o.normal) (Raised among o)) (To (Handled known hs (Closes ∷ k) o).normal) (Raised (λ e. stmts_raise (is_same e) fs) (Handled known hs (Closes ∷ k) o))
+        goes_with (stmts_flow known.program.types v inner fs at) (To o.normal) (λ h. (passes fs hs ≡ true → Raised among o h) × Goes (handlers_flow known.program.types v inner hs h) (To o.normal) (Raised among o)) (To (Handled known hs (Closes ∷ k) o).normal) (Raised (λ e. stmts_raise (is_same e) fs) (Handled known hs (Closes ∷ k) o))
             (λ h r is n. to_here (To o.normal) h n)
             (λ normal raised is n. λ e i. to_here ((Handled known hs (Closes ∷ k) o).raised e) raised (taken_from e hs (Closes ∷ k) o raised (
               inner,
               (λ way place at' c. from (past ∷ way) place at' (in_handlers at raised declared is c)),
-              goes_map (handlers_flow v inner hs raised) (To o.normal) (Raised among o) (To o.normal) (Raised (λ x. handlers_raise (is_same x) hs) o) (λ h x. x) (λ h r. raised_less among (λ x. handlers_raise (is_same x) hs) o p.by_handlers h r) n.1,
+              goes_map (handlers_flow known.program.types v inner hs raised) (To o.normal) (Raised among o) (To o.normal) (Raised (λ x. handlers_raise (is_same x) hs) o) (λ h x. x) (λ h r. raised_less among (λ x. handlers_raise (is_same x) hs) o p.by_handlers h r) n.1,
               exits'',
               returns',
             ) (λ none. n.0 (raises_past fs hs e none i) e (p.by_statements e (raises_untaken fs hs e none i)))))
-            (handled_goes (passes fs hs) (handlers_flow v inner hs) (stmts_flow v inner fs at) (To o.normal) (Raised among o) (to_before o.normal) (raised_before among o) m),
+            (handled_goes (passes fs hs) (handlers_flow known.program.types v inner hs) (stmts_flow known.program.types v inner fs at) (To o.normal) (Raised among o) (to_before o.normal) (raised_before among o) m),
         exits',
         returns',
       ))
@@ -271,7 +271,7 @@ module _ (known : Known) where
       let inner = in_block (collected ds) around in
       let o : Ways = Outside v (collected ds) (Then fs k w) in
       let among : Exception → Bool = λ e. stmt_raises (is_same e) (encloses ds body hs) in
-      let flow : Outcome = then_flow (declarations_flow v ds holds) (λ at. handled (passes body hs) (handlers_flow v inner hs) (stmts_flow v inner body at)) in
+      let flow : Outcome = then_flow (declarations_flow v ds holds) (λ at. handled (passes body hs) (handlers_flow known.program.types v inner hs) (stmts_flow known.program.types v inner body at)) in
       part_from inner (Does fs ∷ k) ds body hs o among holds
       (record {
         by_declarations = λ e i. or_left (declarations_raise (is_same e) ds || stmts_raise (untaken hs (is_same e)) body) (handlers_raise (is_same e) hs) (or_left (declarations_raise (is_same e) ds) (stmts_raise (untaken hs (is_same e)) body) i);

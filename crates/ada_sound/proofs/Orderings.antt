@@ -130,7 +130,7 @@ mutual
   by_good : (variables : List VariableForm) (f : StmtForm) (holds : Holds) → AsGood holds (opened_by variables f holds)
   by_good variables skips holds = as_good holds
   by_good variables (assigns target right) holds = target_good variables target.selectors target.root holds
-  by_good variables (frees access variable) holds = as_good holds
+  by_good variables (frees access path) holds = as_good holds
   by_good variables (gets target) holds = as_good holds
   by_good variables (writes e) holds = as_good holds
   by_good variables (writes_text text) holds = as_good holds

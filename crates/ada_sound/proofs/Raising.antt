@@ -93,7 +93,7 @@ mutual
       let follows = path_raises target.selectors in
       or_map (among ConstraintError && follows) (right_raises among right) (more ConstraintError && follows) (right_raises more right)
       (λ i. and_first (among ConstraintError) follows (more ConstraintError) (m ConstraintError) i) (right_more among more m right) is
-  stmt_more (frees access variable) among more m is = is
+  stmt_more (frees access path) among more m is = and_first (among ConstraintError) (path_raises path.selectors) (more ConstraintError) (m ConstraintError) is
   stmt_more (gets target) among more m is =
       let follows = path_raises target.selectors in
       or_map (among EndError) (among ConstraintError && follows) (more EndError) (more ConstraintError && follows)

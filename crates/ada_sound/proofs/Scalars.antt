@@ -11,12 +11,12 @@ use Rattle.ada_program.specs.declared.program.VariableKind.{VariableKind}
 use Rattle.ada_program.specs.declared.program.VariableKind.TheVariants as variable
 use Rattle.ada_program.specs.Form.{PathForm, ExpressionForm, RightForm, computes, DeclarationForm, collects, declares, StmtForm, skips, assigns, frees, gets, writes, writes_text, chooses, repeats, counts, exits, returns, raises, encloses, StmtsForm, no_stmts, a_stmt, BranchesForm, otherwise, a_branch, HandlersForm, no_handlers, a_handler}
 use Rattle.ada_program.specs.ProgramForm.{TypeForm, VariableForm, program_form}
-use Rattle.ada_program.specs.WellFormed.{access_of, variable_kind, is_borrower, selectors_kind, right_fits, initial_fits, is_freed_by, statement_fits, stmts_fit, branches_fit, handlers_fit, IsWellFormed}
+use Rattle.ada_program.specs.WellFormed.{access_of, variable_kind, is_borrower, selectors_kind, path_access, right_fits, initial_fits, is_freed_by, statement_fits, stmts_fit, branches_fit, handlers_fit, IsWellFormed}
 use Rattle.ada_effects.specs.Effects.{expression_raises, passes}
 use Rattle.ada_flow.specs.declared.rule.Hold.{Hold}
 use Rattle.ada_flow.specs.declared.rule.Hold.TheVariants.{Null, Own, Alias, Lost}
 use Rattle.ada_flow.specs.declared.rule.Rule.TheVariants.{LoopState}
-use Rattle.ada_flow.specs.Flow.{Holds, hold_at, variable_access, join, join_option, Outcome, faults, goes, also_raises, then_flow, raising_if, ends_with, Use, uses_in, uses_in_right, uses_in_target, Breach, broken_among, unless_broken, using_paths, computed, left_by_move, without_value, without_values, moved_by_right, right_hold, evaluation_raises, gives, gives_path, without_alias, without_aliases, behind_end, freed, released, frees_path, gets_path, either_of, are_as_good, opened_hold, opened, opened_target, opened_by, opened_by_all, opened_by_branches, opened_by_handlers, ends_turn, left_with, is_left, condition_flow, loop_flow, collected, if_own, left, left_option, leaves_block, handled, Around, in_loop, in_block, exit_of, exit_flow, declaration_flow, declarations_flow, bounds_flow, counting_start, begins_pair, stmt_flow, stmts_flow, branches_flow, handlers_flow, variables_of}
+use Rattle.ada_flow.specs.Flow.{Holds, hold_at, variable_access, join, join_option, Outcome, faults, goes, also_raises, then_flow, raising_if, ends_with, Use, uses_in, uses_in_right, uses_in_target, Breach, broken_among, unless_broken, using_paths, computed, left_by_move, without_value, without_values, moved_by_right, right_hold, evaluation_raises, gives, gives_path, without_alias, without_aliases, behind_end, freed, released, passes_own, freed_behind, frees_path, gets_path, either_of, are_as_good, opened_hold, opened, opened_target, opened_by, opened_by_all, opened_by_branches, opened_by_handlers, ends_turn, left_with, is_left, condition_flow, loop_flow, collected, if_own, left, left_option, leaves_block, handled, Around, in_loop, in_block, exit_of, exit_flow, declaration_flow, declarations_flow, bounds_flow, counting_start, begins_pair, stmt_flow, stmts_flow, branches_flow, handlers_flow, variables_of}
 use Rattle.ada_sound.specs.Agreement.{Place, Turning, Comes, here, behind, in_branches, in_body, in_count, in_enclosed, ComesBy, in_others, in_this, in_next, ComesTo, to_this, to_next, ComesInside, in_statements, in_handlers, IsFlowAt}
 use Rattle.ada_sound.proofs.Values.{read_same, read_other, same_or_not}
 
@@ -114,12 +114,12 @@ module _ (types : List TypeForm) (variables : List VariableForm) (texts exceptio
   then_keeps (goes None raising) more k m = (tt, k.1)
   then_keeps (goes (Some holds) raising) more k m = raises_keeps raising (more holds) k.1 (m holds k.0)
 
+  unless_keeps : (b : Option Breach) (more : Outcome) → Keeps more → Keeps (unless_broken b more)
+  unless_keeps None more k = k
+  unless_keeps (Some breach) more k = tt
+
   using_keeps : (uses : List Use) (holds : Holds) (more : Outcome) → Keeps more → Keeps (using_paths uses holds more)
-  using_keeps uses holds more k = go (broken_among holds uses)
-    where
-      go : (b : Option Breach) → Keeps (unless_broken b more)
-      go None = k
-      go (Some breach) = tt
+  using_keeps uses holds more k = unless_keeps (broken_among holds uses) more k
 
   either_keeps : (a b : Outcome) → Keeps a → Keeps b → Keeps (either_of a b)
   either_keeps (faults spot rule) b k m = tt
@@ -138,7 +138,7 @@ module _ (types : List TypeForm) (variables : List VariableForm) (texts exceptio
   gives_keeps cleared x right holds fits s =
       let borrows = is_borrower variables x in
       let after = slice_set (without_values (moved_by_right borrows right) holds) x (right_hold borrows right holds) in
-      using_keeps (uses_in_right borrows cleared right) holds (ends_with (evaluation_raises right) holds after)
+      using_keeps (uses_in_right borrows cleared None right) holds (ends_with (evaluation_raises right) holds after)
       (ends_keep (evaluation_raises right) holds after s
       (set_keeps (without_values (moved_by_right borrows right) holds) x (right_hold borrows right holds)
       (right_lost borrows types variables (variable_kind variables x) right holds fits) (without_keeps (moved_by_right borrows right) holds s)))
@@ -146,7 +146,7 @@ module _ (types : List TypeForm) (variables : List VariableForm) (texts exceptio
   path_keeps : (cleared : Bool) (cs : List ℕ) (path : PathForm) (right : RightForm) (holds : Holds) → right_fits types variables (selectors_kind types (variable_kind variables path.root) cs) right ≡ true → Scalars holds → Keeps (gives_path variables cleared cs path right holds)
   path_keeps cleared [] path right holds fits s = gives_keeps cleared path.root right holds fits s
   path_keeps cleared (c ∷ cs) path right holds fits s =
-      using_keeps (uses_in_target path ++ uses_in_right false cleared right) holds (ends_with true holds (without_values (moved_by_right false right) holds))
+      using_keeps (uses_in_target path ++ uses_in_right false cleared (Some path) right) holds (ends_with true holds (without_values (moved_by_right false right) holds))
       (ends_keep true holds (without_values (moved_by_right false right) holds) s (without_keeps (moved_by_right false right) holds s))
 
   behind_end_keeps : (access : Option ℕ) (holds : Holds) → Scalars holds → Scalars (behind_end variables access holds)
@@ -164,10 +164,14 @@ module _ (types : List TypeForm) (variables : List VariableForm) (texts exceptio
   released_keeps x spot holds (Alias r) some s = tt
   released_keeps x spot holds Lost some s = tt
 
-  frees_keeps : (cs : List ℕ) (access : ℕ) (path : PathForm) (holds : Holds) → is_freed_by types access (access_of (selectors_kind types (variable_kind variables path.root) cs)) ≡ true → Scalars holds → Keeps (frees_path variables cs path holds)
+  frees_keeps : (cs : List ℕ) (access : ℕ) (path : PathForm) (holds : Holds) → is_freed_by types access (access_of (selectors_kind types (variable_kind variables path.root) cs)) ≡ true → Scalars holds → Keeps (frees_path types variables cs path holds)
   frees_keeps [] access path holds fits s =
       released_keeps path.root path.spot holds (hold_at holds path.root) (λ n. let freed : is_freed_by types access None ≡ true = rw n at fits in cc freed) s
-  frees_keeps (c ∷ cs) access path holds fits s = tt
+  frees_keeps (c ∷ cs) access path holds fits s =
+      let own = path_access types variables path in
+      let after = behind_end variables own holds in
+      unless_keeps (freed_behind (passes_own types variables path own) (hold_at holds path.root) path.spot) (ends_with true after after)
+      (ends_keep true after after (behind_end_keeps own holds s) (behind_end_keeps own holds s))
 
   gets_keeps : (cs : List ℕ) (path : PathForm) (holds : Holds) → Scalars holds → Keeps (gets_path cs path holds)
   gets_keeps [] path holds s = (set_keeps holds path.root Lost (λ n. refl) s, s)
@@ -274,21 +278,21 @@ module _ (types : List TypeForm) (variables : List VariableForm) (texts exceptio
 
   -- Statements.
   mutual
-    stmt_keeps : (around : Around) (inside cleared : Bool) (f : StmtForm) (holds : Holds) → statement_fits types variables texts exceptions inside f ≡ true → Scalars holds → Keeps (stmt_flow variables around cleared f holds)
+    stmt_keeps : (around : Around) (inside cleared : Bool) (f : StmtForm) (holds : Holds) → statement_fits types variables texts exceptions inside f ≡ true → Scalars holds → Keeps (stmt_flow types variables around cleared f holds)
     stmt_keeps around inside cleared skips holds fits s = (s, tt)
     stmt_keeps around inside cleared (assigns target right) holds fits s = path_keeps cleared target.selectors target right holds (and_parts _ _ fits).0 s
-    stmt_keeps around inside cleared (frees access path) holds fits s = frees_keeps path.selectors access path holds (and_parts _ _ (and_parts _ _ fits).0).1 s
+    stmt_keeps around inside cleared (frees access path) holds fits s = frees_keeps path.selectors access path holds (and_parts _ _ fits).0 s
     stmt_keeps around inside cleared (gets target) holds fits s = gets_keeps target.selectors target holds s
     stmt_keeps around inside cleared (writes e) holds fits s = computed_keeps e holds s
     stmt_keeps around inside cleared (writes_text text) holds fits s = (s, tt)
     stmt_keeps around inside cleared (chooses branches) holds fits s = branches_keep around inside branches holds fits s
     stmt_keeps around inside cleared (repeats condition fs end_spot) holds fits s =
-        loop_keeps condition (is_left condition fs) end_spot (λ start hs. stmts_flow variables (in_loop start) fs hs) (opened_by_all variables fs holds) (opens_all fs holds s)
+        loop_keeps condition (is_left condition fs) end_spot (λ start hs. stmts_flow types variables (in_loop start) fs hs) (opened_by_all variables fs holds) (opens_all fs holds s)
         (λ hs k. stmts_keep (in_loop (Some (opened_by_all variables fs holds))) true fs hs (and_parts _ _ fits).1 k)
     stmt_keeps around inside cleared (counts x low high fs end_spot) holds fits s =
         then_keeps (bounds_flow low high holds) _ (bounds_keep low high holds s)
         (λ hs k.
-        loop_keeps None true end_spot (λ start gs. stmts_flow variables (in_loop start) fs gs) (counting_start variables x fs hs) (counting_keeps x fs hs k)
+        loop_keeps None true end_spot (λ start gs. stmts_flow types variables (in_loop start) fs gs) (counting_start variables x fs hs) (counting_keeps x fs hs k)
         (λ gs m. stmts_keep (in_loop (Some (counting_start variables x fs hs))) true fs gs (and_parts _ _ fits).1 m))
     stmt_keeps around inside cleared (exits condition spot) holds fits s = exit_keeps around.start around.inside condition spot holds s
     stmt_keeps around inside cleared (returns spot) holds fits s = (tt, tt)
@@ -299,31 +303,31 @@ module _ (types : List TypeForm) (variables : List VariableForm) (texts exceptio
         block_keeps (collected ds) _
         (then_keeps (declarations_flow variables ds holds) _ (declarations_keep ds holds (and_parts _ _ more.0).1 s)
         (λ at k.
-        handled_keeps (passes fs hs) (handlers_flow variables (in_block (collected ds) around) hs) (stmts_flow variables (in_block (collected ds) around) fs at)
+        handled_keeps (passes fs hs) (handlers_flow types variables (in_block (collected ds) around) hs) (stmts_flow types variables (in_block (collected ds) around) fs at)
         (stmts_keep (in_block (collected ds) around) inside fs at more.1 k)
         (λ gs m. handlers_keep (in_block (collected ds) around) inside hs gs parts.1 m)))
 
-    stmts_keep : (around : Around) (inside : Bool) (fs : StmtsForm) (holds : Holds) → stmts_fit types variables texts exceptions inside fs ≡ true → Scalars holds → Keeps (stmts_flow variables around fs holds)
+    stmts_keep : (around : Around) (inside : Bool) (fs : StmtsForm) (holds : Holds) → stmts_fit types variables texts exceptions inside fs ≡ true → Scalars holds → Keeps (stmts_flow types variables around fs holds)
     stmts_keep around inside no_stmts holds fits s = (s, tt)
     stmts_keep around inside (a_stmt f fs) holds fits s =
         let parts = and_parts _ _ fits in
-        then_keeps (stmt_flow variables around (begins_pair f fs) f holds) (stmts_flow variables around fs)
+        then_keeps (stmt_flow types variables around (begins_pair f fs) f holds) (stmts_flow types variables around fs)
         (stmt_keeps around inside (begins_pair f fs) f holds parts.0 s) (λ hs k. stmts_keep around inside fs hs parts.1 k)
 
-    branches_keep : (around : Around) (inside : Bool) (branches : BranchesForm) (holds : Holds) → branches_fit types variables texts exceptions inside branches ≡ true → Scalars holds → Keeps (branches_flow variables around branches holds)
+    branches_keep : (around : Around) (inside : Bool) (branches : BranchesForm) (holds : Holds) → branches_fit types variables texts exceptions inside branches ≡ true → Scalars holds → Keeps (branches_flow types variables around branches holds)
     branches_keep around inside (otherwise fs) holds fits s = stmts_keep around inside fs holds fits s
     branches_keep around inside (a_branch e fs branches) holds fits s =
         let parts = and_parts _ _ fits in
         then_keeps (computed e holds) _ (computed_keeps e holds s)
         (λ hs k.
-        either_keeps (stmts_flow variables around fs hs) (branches_flow variables around branches hs)
+        either_keeps (stmts_flow types variables around fs hs) (branches_flow types variables around branches hs)
         (stmts_keep around inside fs hs (and_parts _ _ parts.0).1 k) (branches_keep around inside branches hs parts.1 k))
 
-    handlers_keep : (around : Around) (inside : Bool) (hs : HandlersForm) (holds : Holds) → handlers_fit types variables texts exceptions inside hs ≡ true → Scalars holds → Keeps (handlers_flow variables around hs holds)
+    handlers_keep : (around : Around) (inside : Bool) (hs : HandlersForm) (holds : Holds) → handlers_fit types variables texts exceptions inside hs ≡ true → Scalars holds → Keeps (handlers_flow types variables around hs holds)
     handlers_keep around inside no_handlers holds fits s = (tt, tt)
     handlers_keep around inside (a_handler choices fs hs) holds fits s =
         let parts = and_parts _ _ fits in
-        either_keeps (stmts_flow variables around fs holds) (handlers_flow variables around hs holds)
+        either_keeps (stmts_flow types variables around fs holds) (handlers_flow types variables around hs holds)
         (stmts_keep around inside fs holds (and_parts _ _ parts.0).1 s) (handlers_keep around inside hs holds parts.1 s)
 
   -- What holds behind a form that comes to its end.
@@ -335,7 +339,7 @@ module _ (types : List TypeForm) (variables : List VariableForm) (texts exceptio
 
   -- Wherever flow comes to.
   mutual
-    comes_keep : {around : Around} {outer place : Place} {fs : StmtsForm} {holds at : Holds} {way : List Turning} (inside : Bool) → stmts_fit types variables texts exceptions inside fs ≡ true → Scalars holds → Comes variables around outer fs holds way place at → Scalars at
+    comes_keep : {around : Around} {outer place : Place} {fs : StmtsForm} {holds at : Holds} {way : List Turning} (inside : Bool) → stmts_fit types variables texts exceptions inside fs ≡ true → Scalars holds → Comes types variables around outer fs holds way place at → Scalars at
     comes_keep inside fits s here = s
     comes_keep {around = around} inside fits s (behind {raising = raising} {f = f} {fs = fs} {holds = holds} mid is more) =
         let parts = and_parts _ _ fits in
@@ -352,18 +356,18 @@ module _ (types : List TypeForm) (variables : List VariableForm) (texts exceptio
         let others = and_parts _ _ parts.0 in
         inside_comes inside (and_parts _ _ others.0).1 others.1 parts.1 s more
 
-    branches_comes : {around : Around} {outer place : Place} {branches : BranchesForm} {holds at : Holds} {way : List Turning} (inside : Bool) → branches_fit types variables texts exceptions inside branches ≡ true → Scalars holds → ComesBy variables around outer branches holds way place at → Scalars at
+    branches_comes : {around : Around} {outer place : Place} {branches : BranchesForm} {holds at : Holds} {way : List Turning} (inside : Bool) → branches_fit types variables texts exceptions inside branches ≡ true → Scalars holds → ComesBy types variables around outer branches holds way place at → Scalars at
     branches_comes inside fits s (in_others more) = comes_keep inside fits s more
     branches_comes inside fits s (in_this {raising = raising} {e = e} {holds = holds} mid is more) =
         comes_keep inside (and_parts _ _ (and_parts _ _ fits).0).1 (normal_of _ mid raising is (computed_keeps e holds s)) more
     branches_comes inside fits s (in_next {raising = raising} {e = e} {holds = holds} mid is more) =
         branches_comes inside (and_parts _ _ fits).1 (normal_of _ mid raising is (computed_keeps e holds s)) more
 
-    handlers_comes : {around : Around} {outer place : Place} {hs : HandlersForm} {holds at : Holds} {way : List Turning} (inside : Bool) → handlers_fit types variables texts exceptions inside hs ≡ true → Scalars holds → ComesTo variables around outer hs holds way place at → Scalars at
+    handlers_comes : {around : Around} {outer place : Place} {hs : HandlersForm} {holds at : Holds} {way : List Turning} (inside : Bool) → handlers_fit types variables texts exceptions inside hs ≡ true → Scalars holds → ComesTo types variables around outer hs holds way place at → Scalars at
     handlers_comes inside fits s (to_this more) = comes_keep inside (and_parts _ _ (and_parts _ _ fits).0).1 s more
     handlers_comes inside fits s (to_next more) = handlers_comes inside (and_parts _ _ fits).1 s more
 
-    inside_comes : {around : Around} {outer place : Place} {ds : List DeclarationForm} {fs : StmtsForm} {hs : HandlersForm} {holds at : Holds} {way : List Turning} (inside : Bool) → list_all (initial_fits types variables) ds ≡ true → stmts_fit types variables texts exceptions inside fs ≡ true → handlers_fit types variables texts exceptions inside hs ≡ true → Scalars holds → ComesInside variables around outer ds fs hs holds way place at → Scalars at
+    inside_comes : {around : Around} {outer place : Place} {ds : List DeclarationForm} {fs : StmtsForm} {hs : HandlersForm} {holds at : Holds} {way : List Turning} (inside : Bool) → list_all (initial_fits types variables) ds ≡ true → stmts_fit types variables texts exceptions inside fs ≡ true → handlers_fit types variables texts exceptions inside hs ≡ true → Scalars holds → ComesInside types variables around outer ds fs hs holds way place at → Scalars at
     inside_comes inside initials statements handlers s (in_statements {raising = raising} {ds = ds} {holds = holds} mid is more) =
         comes_keep inside statements (normal_of _ mid raising is (declarations_keep ds holds initials s)) more
     inside_comes {around = around} inside initials statements handlers s (in_handlers {raising = raising} {normal = normal} {ds = ds} {body = body} {holds = holds} mid raised is at more) =

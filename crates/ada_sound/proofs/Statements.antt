@@ -28,10 +28,14 @@ use Rattle.ada_sound.proofs.Raising.{or_left, or_right, same_here}
 use Rattle.ada_sound.proofs.Leavings.{all_among}
 use Rattle.ada_sound.proofs.Targets.{component_begins, get_begins, half_begins}
 use Rattle.ada_sound.proofs.Frees.{free_fine}
+use Rattle.ada_sound.proofs.Releases.{free_begins}
 
 -- Which exceptions an assignment may raise, and which Get may.
 abbrev assign_among : List ℕ → RightForm → Exception → Bool
 assign_among cs right e = (is_same e ConstraintError && path_raises cs) || right_raises (is_same e) right
+
+abbrev free_among : List ℕ → Exception → Bool
+free_among cs e = is_same e ConstraintError && path_raises cs
 
 abbrev get_among : List ℕ → Exception → Bool
 get_among cs e = is_same e EndError || (is_same e ConstraintError && path_raises cs)
@@ -87,9 +91,9 @@ module _ (known : Known) where
   collects_more access ds fs hs k holds [] e = absurd e
   collects_more access ds fs hs k holds (types ∷ rooms) e = (e.0.1, e.1.0)
 
-  declares_more : (heap : List Object) (x : ℕ) (right : RightForm) (ds : List DeclarationForm) (fs : StmtsForm) (hs : HandlersForm) (k : Control) (holds : Holds) (rooms : Rooms) → RunsOn known (Elaborates (declares x right ∷ ds) fs hs ∷ k) rooms holds → Takes known heap right (Declares x ∷ Elaborates ds fs hs ∷ k) rooms holds
-  declares_more heap x right ds fs hs k holds [] e = absurd e
-  declares_more heap x right ds fs hs k holds (types ∷ rooms) e =
+  declares_more : (heap : List Object) (places : List Value) (x : ℕ) (right : RightForm) (ds : List DeclarationForm) (fs : StmtsForm) (hs : HandlersForm) (k : Control) (holds : Holds) (rooms : Rooms) → RunsOn known (Elaborates (declares x right ∷ ds) fs hs ∷ k) rooms holds → Takes known heap places right (Declares x ∷ Elaborates ds fs hs ∷ k) rooms holds
+  declares_more heap places x right ds fs hs k holds [] e = absurd e
+  declares_more heap places x right ds fs hs k holds (types ∷ rooms) e =
       let o = Outside known.program.variables types (ways known k rooms) in (
         false,
         goes_map (gives known.program.variables false x right holds) (Elaborating known ds (Doing known fs (Handles hs ∷ Closes ∷ k) (Handled known hs (Closes ∷ k) (Outside known.program.variables types (ways known k rooms)))) (Outside known.program.variables types (ways known k rooms)))
@@ -104,13 +108,13 @@ module _ (known : Known) where
 
   module _ (a : Activation Value) (rest : List (Activation Value)) (s : State) where
     -- Something is evaluated for a variable.
-    stores_ready : (right : RightForm) (x : ℕ) (k : Control) → Working known s.heap a.places s.masters (Takes known s.heap right (Stores x ∷ k)) → EvaluatesTo known right (Stores x ∷ k) s.heap a.places s.masters
+    stores_ready : (right : RightForm) (x : ℕ) (k : Control) → Working known s.heap a.places s.masters (Takes known s.heap a.places right (Stores x ∷ k)) → EvaluatesTo known right (Stores x ∷ k) s.heap a.places s.masters
     stores_ready nothing x k w = w
     stores_ready (value_of path) x k w = w
     stores_ready (allocates access items) x k w = w
     stores_ready (computes e) x k w = w
 
-    declares_ready : (right : RightForm) (x : ℕ) (k : Control) → Working known s.heap a.places s.masters (Takes known s.heap right (Declares x ∷ k)) → EvaluatesTo known right (Declares x ∷ k) s.heap a.places s.masters
+    declares_ready : (right : RightForm) (x : ℕ) (k : Control) → Working known s.heap a.places s.masters (Takes known s.heap a.places right (Declares x ∷ k)) → EvaluatesTo known right (Declares x ∷ k) s.heap a.places s.masters
     declares_ready nothing x k w = w
     declares_ready (value_of path) x k w = w
     declares_ready (allocates access items) x k w = w
@@ -133,7 +137,7 @@ module _ (known : Known) where
           ) tt
       declaration_fine (declares x right) ds w =
           ready_on known (Evaluates right ∷ Declares x ∷ Elaborates ds fs hs ∷ k) a rest s a.operands
-          (declares_ready right x (Elaborates ds fs hs ∷ k) (at_work w (declares_more s.heap x right ds fs hs k w.holds w.rooms w.rest)))
+          (declares_ready right x (Elaborates ds fs hs ∷ k) (at_work w (declares_more s.heap a.places x right ds fs hs k w.holds w.rooms w.rest)))
 
       pub declarations_fine : (ds : List DeclarationForm) → Working known s.heap a.places s.masters (RunsOn known (Elaborates ds fs hs ∷ k)) → Fine known s.heap s.masters (declarations_next named ds fs hs (running k a rest s))
       declarations_fine [] w = runs_on known (Does fs ∷ Handles hs ∷ Closes ∷ k) a rest s (at_work w (begins_more fs hs k w.holds w.rooms w.rest)) Quiet tt
@@ -161,9 +165,9 @@ module _ (known : Known) where
           pairs_component c cs target right fs k is,
         ))
 
-    frees_fine : (cs : List ℕ) (access : ℕ) (variable : PathForm) (fs : StmtsForm) (k : Control) (raised : Rooms → Holds → Type 0) → Working known s.heap a.places s.masters (λ rooms holds. Goes (frees_path known.program.variables cs variable holds) (RunsOn known (Does fs ∷ k) rooms) (raised rooms)) → Fine known s.heap s.masters (frees_next named cs access variable.root (running (Does fs ∷ k) a rest s))
-    frees_fine [] access variable fs k raised w = free_fine known a rest s access variable.root variable.spot fs k raised w
-    frees_fine (c ∷ cs) access variable fs k raised w = tt
+    frees_fine : (cs : List ℕ) (access : ℕ) (path : PathForm) (fs : StmtsForm) (k : Control) → path.selectors ≡ cs → Working known s.heap a.places s.masters (λ rooms holds. Goes (frees_path known.program.types known.program.variables cs path holds) (RunsOn known (Does fs ∷ k) rooms) (Raised (free_among cs) (ways known k rooms))) → Fine known s.heap s.masters (frees_next named cs access path.root (running (Does fs ∷ k) a rest s))
+    frees_fine [] access path fs k is w = free_fine known a rest s access path.root path.spot fs k (λ rooms. Raised (free_among []) (ways known k rooms)) w
+    frees_fine (c ∷ cs) access path fs k is w = free_begins known a rest s c cs access path fs k (free_among (c ∷ cs)) refl is w
 
     gets_fine : (cs : List ℕ) (target : PathForm) (input : List ℤ) (fs : StmtsForm) (k : Control) → target.selectors ≡ cs → Working known s.heap a.places s.masters (λ rooms holds. Goes (gets_path cs target holds) (RunsOn known (Does fs ∷ k) rooms) (Raised (get_among cs) (ways known k rooms))) → Fine known s.heap s.masters (gets_next named cs target.root input (running (Does fs ∷ k) a rest s))
     gets_fine (c ∷ cs) target input fs k is w =
@@ -261,7 +265,7 @@ module _ (known : Known) where
     stmt_fine : (around : Around) (f : StmtForm) (fs : StmtsForm) (k : Control) → Working known s.heap a.places s.masters (λ rooms holds. Starting known around f fs k (ways known k rooms) holds) → Fine known s.heap s.masters (stmt_next named f (running (Does fs ∷ k) a rest s))
     stmt_fine around skips fs k w = runs_on known (Does fs ∷ k) a rest s (at_work w w.rest.1.0) Quiet tt
     stmt_fine around (assigns target right) fs k w = assign_fine target.selectors target right fs k refl (at_work w w.rest.1)
-    stmt_fine around (frees access variable) fs k w = frees_fine variable.selectors access variable fs k (λ rooms h. Raised (λ e. false) (ways known k rooms) h) (at_work w w.rest.1)
+    stmt_fine around (frees access path) fs k w = frees_fine path.selectors access path fs k refl (at_work w w.rest.1)
     stmt_fine around (gets target) fs k w = gets_fine target.selectors target s.input fs k refl (at_work w w.rest.1)
     stmt_fine around (writes e) fs k w =
         let h = computed_goes e w.holds (RunsOn known (Does fs ∷ k) w.rooms) (Raised (λ x. is_same x ConstraintError && expression_raises e) (ways known k w.rooms)) w.rest.1 in

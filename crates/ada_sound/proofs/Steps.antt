@@ -11,7 +11,7 @@ use Rattle.ada_meaning.specs.declared.state.Value.{Value}
 use Rattle.ada_meaning.specs.declared.state.Value.TheVariants.{Null}
 use Rattle.ada_meaning.specs.declared.state.Mode.{Mode}
 use Rattle.ada_meaning.specs.declared.state.Mode.TheVariants.{Running, Raising, Exiting, Returning}
-use Rattle.ada_meaning.specs.Frame.{Frame, Elaborates, Does, Decides, Repeats, Turns, Ranges, Counts, Exits, Handles, Closes, Leaves, Evaluates, Computes, Follows, TestsNull, Continues, Applies, AppliesAlone, Fills, Creates, Stores, Targets, StoresIn, Receives, Declares, Writes, Ends, GivesBack, Clears}
+use Rattle.ada_meaning.specs.Frame.{Frame, Elaborates, Does, Decides, Repeats, Turns, Ranges, Counts, Exits, Handles, Closes, Leaves, Evaluates, Computes, Follows, TestsNull, Continues, Applies, AppliesAlone, Fills, Creates, Stores, Targets, StoresIn, Receives, FreesIn, Declares, Writes, Ends, GivesBack, Clears, ClearsIn}
 use Rattle.ada_meaning.specs.Event.{Quiet}
 use Rattle.ada_meaning.specs.State.{Activation}
 use Rattle.ada_meaning.specs.Step.{first_or, older, operands_of, frame_next, mode_next}
@@ -29,7 +29,8 @@ use Rattle.ada_sound.proofs.Expressions.{outcome_fine, null_test_fine, expressio
 use Rattle.ada_sound.proofs.Statements.{declarations_fine, repeats_fine, counts_fine, ranges_fine, decided_fine, turned_fine, exited_fine, stmts_fine}
 use Rattle.ada_sound.proofs.Allocators.{items_fine, creates_fine}
 use Rattle.ada_sound.proofs.Evaluations.{right_fine, follows_fine, stores_fine, declares_fine, writes_fine}
-use Rattle.ada_sound.proofs.Targets.{target_fine, store_fine, receive_fine}
+use Rattle.ada_sound.proofs.Releases.{free_in_fine}
+use Rattle.ada_sound.proofs.Targets.{target_fine, store_fine, receive_fine, clear_fine}
 use Rattle.ada_sound.proofs.Leavings.{HeldIn}
 use Rattle.ada_sound.proofs.Endings.{ends_fine, backs_fine, leave_fine}
 use Rattle.ada_sound.proofs.Jumps.{closes_fine, raising_fine, exiting_fine, returning_fine}
@@ -102,11 +103,13 @@ module _ (known : Known) where
     frame_fine (Targets c right) t held r = found_fine c right a.operands t r
     frame_fine (StoresIn o c) t held r = put_fine o c a.operands t r
     frame_fine (Receives c) t held r = receive_fine known k a rest s (first_or Null a.operands) (older a.operands) c r
+    frame_fine (FreesIn access c) t held r = free_in_fine known a rest s access c k (older a.operands) (first_or Null a.operands) r
     frame_fine (Declares x) t held r = declares_fine known k a rest s x (first_or Null a.operands) (older a.operands) r
     frame_fine Writes t held r = writes_fine known k a rest s (named.reads_integer (first_or Null a.operands)) (older a.operands) r
     frame_fine (Ends v) t held r = ends_fine known a rest s v k r
     frame_fine (GivesBack v cause pool) t held r = backs_fine known a rest s v cause pool k r
     frame_fine (Clears x) t held r = stores_fine known k a rest s x Null a.operands (inl r)
+    frame_fine (ClearsIn o c) t held r = clear_fine known k a rest s o c r
 
   mode_fine : (types : List TypeDefinition) (mode : Mode) (k : Control) (a : Activation Value) (rest : List (Activation Value)) (s : State) → (mode ≡ Running → RunsTyped known s.heap k a.operands) → HeldIn s.heap s.masters → ReadyIn known mode k s.heap a.places a.operands s.masters → Fine known s.heap s.masters (mode_next named types mode (record s { mode = mode; control = k; activations = a ∷ rest }))
   mode_fine types Running [] a rest s t held r = r

@@ -10,7 +10,7 @@ use Rattle.ada_meaning.specs.declared.state.Value.{Value}
 use Rattle.ada_meaning.specs.declared.state.Value.TheVariants.{Null, Names, Scalar}
 use Rattle.ada_meaning.specs.declared.state.Mode.{Mode}
 use Rattle.ada_meaning.specs.declared.state.Mode.TheVariants.{Running, Raising, Exiting, Returning}
-use Rattle.ada_meaning.specs.Frame.{Frame, Elaborates, Does, Decides, Repeats, Turns, Ranges, Counts, Exits, Handles, Closes, Leaves, Evaluates, Computes, Follows, TestsNull, Continues, Applies, AppliesAlone, Fills, Creates, Stores, Targets, StoresIn, Receives, Declares, Writes, Ends, GivesBack, Clears}
+use Rattle.ada_meaning.specs.Frame.{Frame, Elaborates, Does, Decides, Repeats, Turns, Ranges, Counts, Exits, Handles, Closes, Leaves, Evaluates, Computes, Follows, TestsNull, Continues, Applies, AppliesAlone, Fills, Creates, Stores, Targets, StoresIn, Receives, FreesIn, Declares, Writes, Ends, GivesBack, Clears, ClearsIn}
 use Rattle.ada_meaning.specs.State.{Master}
 use Rattle.ada_meaning.specs.Step.{first_or}
 use Rattle.ada_meaning.specs.Named.{Object, State, store}
@@ -104,11 +104,13 @@ module _ (known : Known) where
   frame_stored (Targets c right) k heap places operands ms r = target_stored (first_or Null operands) c right k heap places ms r
   frame_stored (StoresIn o c) k heap places operands ms r = put_stored o c (first_or Null operands) k heap places ms r
   frame_stored (Receives c) k heap places operands ms r = (None, r.stored)
+  frame_stored (FreesIn access c) k heap places operands ms r = (None, r.stored)
   frame_stored (Declares x) k heap places operands ms r = (None, r.stored)
   frame_stored Writes k heap places operands ms r = (None, r.stored)
   frame_stored (Ends v) k heap places operands ms r = value_stored v k heap places ms r
   frame_stored (GivesBack v cause pool) k heap places operands ms r = words_stored v cause pool k heap places ms r
   frame_stored (Clears x) k heap places operands ms r = (None, r.stored)
+  frame_stored (ClearsIn o c) k heap places operands ms r = clearing_stored o c k heap places ms r
 
   mode_stored : (mode : Mode) (k : Control) (heap : List Object) (places operands : List Value) (ms : List Master) → ReadyIn known mode k heap places operands ms → IsStored heap ms
   mode_stored Running [] heap places operands ms r = (None, r.0)

@@ -158,7 +158,7 @@ kept_by variables cleared x root c cs spot holds more raised g = go (is_borrower
         let h = value_gives variables cleared x root (c ∷ cs) spot holds more raised is g in
         ((cleared_is cleared (hold_at holds root) spot h.0).1, h.2 refl)
 
-pub kept_root : (known : Known) (k : Control) (heap : List Object) (places : List Value) (ms : List Master) (root c : ℕ) (cs : List ℕ) (spot : Spot) → (w : Working known heap places ms (Takes known heap (value_of (at_path root (c ∷ cs) spot)) k)) → (lost_by (hold_at w.holds root) spot ≡ None) × To ((ways known k w.rooms).raised ConstraintError) w.holds
+pub kept_root : (known : Known) (k : Control) (heap : List Object) (places : List Value) (ms : List Master) (root c : ℕ) (cs : List ℕ) (spot : Spot) → (w : Working known heap places ms (Takes known heap places (value_of (at_path root (c ∷ cs) spot)) k)) → (lost_by (hold_at w.holds root) spot ≡ None) × To ((ways known k w.rooms).raised ConstraintError) w.holds
 kept_root known [] heap places ms root c cs spot w = absurd (w.rest)
 kept_root known (Stores x ∷ k) heap places ms root c cs spot w =
     let h = kept_by known.program.variables w.rest.0 x root c cs spot w.holds (RunsOn known k w.rooms) (Raised (λ e. right_raises (is_same e) (value_of (at_path root (c ∷ cs) spot))) (ways known k w.rooms)) w.rest.1 in

@@ -1,6 +1,6 @@
 -- Components that are assigned to: their objects are found, and a value goes into them.
 
-use Rattle.std.proofs.Common.{◌≡◌, Bool, true, false, ℕ, List, [], ◌∷◌, ◌++◌, refl, sym, ◌∙◌, inl, inr}
+use Rattle.std.proofs.Common.{◌≡◌, Bool, true, false, ℕ, List, [], ◌∷◌, ◌++◌, refl, sym, ap, ◌∙◌, inl, inr}
 use Rattle.std.specs.Prelude.{ℤ, Option, Some, None}
 use Rattle.std.specs.List.{slice_get}
 use Rattle.ada_program.specs.declared.program.Exception.TheVariants.{ConstraintError, EndError}
@@ -30,7 +30,7 @@ use Rattle.ada_typed.proofs.Control as typed
 use Rattle.ada_sound.proofs.Fits.{MayFollow, component_access, place_at, root_follows, store_blank}
 use Rattle.ada_sound.proofs.Stored.{Stored, exists_out, stored_filled}
 use Rattle.ada_sound.proofs.Alters.{alters_set}
-use Rattle.ada_sound.proofs.Invariant.{Known, Control, Rooms, ReadyIn, Goes, Raised, RunsOn, NoneBroken, MayRaise, Pairs, IsOne, component_among, Doing, FillsIn, Receiving, Working, Half, HalfBy, Resumes, EvaluatesTo, TargetsTo, StoringIn, IsFollowed, Stepped, Fine, front, final, ways}
+use Rattle.ada_sound.proofs.Invariant.{Known, Control, Rooms, ReadyIn, Goes, Raised, RunsOn, NoneBroken, MayRaise, Pairs, IsOne, component_among, Doing, LeadsTo, FillsIn, Receiving, Working, Half, HalfBy, Resumes, Clearing, EvaluatesTo, TargetsTo, StoringIn, IsFollowed, Stepped, Fine, front, final, ways}
 use Rattle.ada_sound.proofs.Ready.{running, at_work, at_less, stays, runs_ready, resumes_ready, goes_ready, jumps_less}
 use Rattle.ada_sound.proofs.Followings.{first_kept, kept_apart}
 use Rattle.ada_sound.proofs.Outcomes.{using_goes, ends_goes}
@@ -40,7 +40,7 @@ use Rattle.ada_sound.proofs.Assigned.{kind_names, kind_blank, selected_of}
 use Rattle.ada_sound.proofs.Walks.{finds_fine, half_fine}
 
 -- The words of an object that is there are out.
-followed : {under : Option Id} {heap : List Object} {ms : List Master} (o : Id) → IsThere heap o → Stored under heap ms → IsFollowed (Names o) heap
+pub followed : {under : Option Id} {heap : List Object} {ms : List Master} (o : Id) → IsThere heap o → Stored under heap ms → IsFollowed (Names o) heap
 followed o (object, found, listed) stored =
     record { id = o; object = object; is = refl; found = found; out = exists_out o object found ((stored.sane o object found).listed_exists listed) stored }
 
@@ -60,9 +60,9 @@ blank_works {heap = heap} o object c v found none w = record {
 target_goes : (cleared : Bool) (path : PathForm) (right : RightForm) (holds : Holds) (more raised : Holds → Type 0) → Goes (gives_component cleared path right holds) more raised → (NoneBroken holds (uses_in_target path)) × more (without_values (moved_by_right false right) holds) × raised holds
 target_goes cleared path right holds more raised g =
     let after = without_values (moved_by_right false right) holds in
-    let u = using_goes (uses_in_target path ++ uses_in_right false cleared right) holds (ends_with true holds after) more raised g in
+    let u = using_goes (uses_in_target path ++ uses_in_right false cleared (Some path) right) holds (ends_with true holds after) more raised g in
     let n = ends_goes true holds after more raised u.1 in
-    ((kept_apart holds (uses_in_target path) (uses_in_right false cleared right) u.0).0, n.0, n.1 refl)
+    ((kept_apart holds (uses_in_target path) (uses_in_right false cleared (Some path) right) u.0).0, n.0, n.1 refl)
 
 -- Null leaves all that is known as it is.
 cleared_goes : (variables : List VariableForm) (cs : List ℕ) (d : ℕ) (ds : List ℕ) (path : PathForm) (holds : Holds) (more raised : Holds → Type 0) → cs ≡ d ∷ ds → Goes (gives_path variables false cs path nothing holds) more raised → more holds
@@ -79,13 +79,13 @@ module _ (known : Known) (a : Activation Value) (rest : List (Activation Value))
   component_begins cleared c cs target right fs k is w =
       let g = target_goes cleared target right w.holds (RunsOn known (Does fs ∷ k) w.rooms) (Raised (component_among right) (ways known k w.rooms)) w.rest.0 in
       finds_fine known a rest s a.operands (Targets (last_of c cs) right ∷ Does fs ∷ k) (before_last c cs) (place_at a.places target.root)
-      (at_work w (target, cleared, w.rest.0, w.rest.1)) (target_follows c cs target is w g.0) (λ may. g.2 ConstraintError refl)
+      (at_work w ((λ may. g.2 ConstraintError refl), (target, cleared, w.rest.0, w.rest.1, (ap (λ (ds : List ℕ). walk s.heap (place_at a.places target.root) (front ds)) is, ap final is)))) (target_follows c cs target is w g.0)
 
   -- So does a read into a component.
   pub get_begins : (c : ℕ) (cs : List ℕ) (target : PathForm) (fs : StmtsForm) (k : Control) → target.selectors ≡ c ∷ cs → Working known s.heap a.places s.masters (λ rooms holds. NoneBroken holds (uses_in_target target) × MayRaise known true ConstraintError (Does fs ∷ k) rooms holds × MayRaise known true EndError (Does fs ∷ k) rooms holds × RunsOn known (Does fs ∷ k) rooms holds) → Fine known s.heap s.masters (path_next named (before_last c cs) (place_at a.places target.root) (running (Receives (last_of c cs) ∷ Does fs ∷ k) a rest s))
   get_begins c cs target fs k is w =
       finds_fine known a rest s a.operands (Receives (last_of c cs) ∷ Does fs ∷ k) (before_last c cs) (place_at a.places target.root)
-      (at_work w (w.rest.2, w.rest.3)) (target_follows c cs target is w w.rest.0) w.rest.1
+      (at_work w (w.rest.1, w.rest.2, w.rest.3)) (target_follows c cs target is w w.rest.0)
 
   -- Behind the second half of a take pair come the other statements.
   cleared_runs : (o : Id) (c d : ℕ) (ds : List ℕ) (path : PathForm) (later : StmtsForm) (k : Control) → path.selectors ≡ d ∷ ds → Working known (store s.heap (Names o) c Null) a.places s.masters (RunsOn known (Does (a_stmt (assigns path nothing) later) ∷ k)) → Working known (store s.heap (Names o) c Null) a.places s.masters (RunsOn known (Does later ∷ k))
@@ -109,7 +109,7 @@ module _ (known : Known) (a : Activation Value) (rest : List (Activation Value))
 
 module _ (known : Known) (k : Control) (a : Activation Value) (rest : List (Activation Value)) (s : State) where
   -- What goes into the component of the object that was found is evaluated next: null counts as stored already.
-  evaluates : (right : RightForm) (o : Id) (object : Object) (c : ℕ) → object_at s.heap o ≡ Some object → object.listed ≡ true → Working known s.heap a.places s.masters (λ rooms holds. FillsIn known right rooms holds k) → EvaluatesTo known right (StoresIn (Names o) c ∷ k) s.heap a.places s.masters
+  evaluates : (right : RightForm) (o : Id) (object : Object) (c : ℕ) → object_at s.heap o ≡ Some object → object.listed ≡ true → Working known s.heap a.places s.masters (λ rooms holds. FillsIn known right (LeadsTo s.heap a.places (Names o) [] c) rooms holds k) → EvaluatesTo known right (StoresIn (Names o) c ∷ k) s.heap a.places s.masters
   evaluates nothing o object c found listed w =
       let g = target_goes w.rest.1 w.rest.0 nothing w.holds (RunsOn known k w.rooms) (Raised (component_among nothing) (ways known k w.rooms)) w.rest.2 in
       ((object, found, listed), blank_works {more = RunsOn known k} o object c Null found (λ p e. cc e) (at_work w g.1))
@@ -147,7 +147,7 @@ module _ (known : Known) (k : Control) (a : Activation Value) (rest : List (Acti
   stored_fine o object c v below None found listed stored r = tt
   stored_fine o object c v below (Some before) found listed stored r = put_fine s.input o object c v below found listed stored r
 
-  filled_fine : {under : Option Id} (o : Id) (there : IsThere s.heap o) (c : ℕ) (v : Value) (below : List Value) → Stored under s.heap s.masters → ReadyIn known Running k (store s.heap (Names o) c v) a.places below s.masters → Fine known s.heap s.masters (store_next named (Names o) c v (look s.heap (Names o)) (running k (record a { operands = below }) rest s))
+  pub filled_fine : {under : Option Id} (o : Id) (there : IsThere s.heap o) (c : ℕ) (v : Value) (below : List Value) → Stored under s.heap s.masters → ReadyIn known Running k (store s.heap (Names o) c v) a.places below s.masters → Fine known s.heap s.masters (store_next named (Names o) c v (look s.heap (Names o)) (running k (record a { operands = below }) rest s))
   filled_fine o (object, found, listed) c v below stored r =
       let looks : look s.heap (Names o) ≡ finds object.cell = rw (found, (stored.sane o object found).listed_exists listed) refl in
       rw looks (stored_fine o object c v below (slice_get object.cell.values c) found listed stored r)
@@ -180,6 +180,12 @@ module _ (known : Known) (k : Control) (a : Activation Value) (rest : List (Acti
       let r = w.rest.0 in
       filled_fine o (r.0, r.1, r.2) c v below w.stored (runs_ready known k (store s.heap (Names o) c v) a.places below s.masters (blank_works {more = RunsOn known k} o r.0 c v r.1 (stored_blank o r.0 c v below kinds r.1 r.3 fits computed) (at_work w w.rest.1)))
   store_fine (Scalar n) v below c kinds fits computed (inr w) = absurd w.rest.0
+
+  -- A component becomes null, which counts as stored already.
+  pub clear_fine : (o : Value) (c : ℕ) → Clearing known o c k s.heap a.places s.masters → Fine known s.heap s.masters (store_next named o c Null (look s.heap o) (running k a rest s))
+  clear_fine Null c h = absurd h
+  clear_fine (Names o) c h = filled_fine o h.0 c Null a.operands (stored_before s.heap s.masters (Names o) c Null h.1.stored) (runs_ready known k (store s.heap (Names o) c Null) a.places a.operands s.masters h.1)
+  clear_fine (Scalar n) c h = absurd h
 
   -- So does a number of the input, if there is one.
   received_fine : (o : Id) (object : Object) (c : ℕ) (below : List Value) (input : List ℤ) (t : Option Value) → object_at s.heap o ≡ Some object → object.listed ≡ true → Working known s.heap a.places s.masters (Receiving known s.heap (Names o) k) → Fine known s.heap s.masters (received_next named (Names o) c input t (running k (record a { operands = below }) rest s))

@@ -1,26 +1,34 @@
 -- Paths that are followed: one selector further, and to their end.
 
-use Rattle.std.proofs.Common.{◌≡◌, ℕ, Bool, true, false, List, [], ◌∷◌, refl, ap, ◌∙◌, inl, inr}
-use Rattle.std.specs.Prelude.{Option, Some, None}
+use Rattle.std.proofs.Common.{◌≡◌, ℕ, Bool, true, false, List, [], ◌∷◌, ◌++◌, refl, ap, ◌∙◌, inl, inr}
+use Rattle.std.specs.Prelude.{Option, Some, None, ◌||◌}
 use Rattle.std.specs.List.{slice_get}
 use Rattle.ada_program.specs.declared.program.Exception.TheVariants.{ConstraintError}
-use Rattle.ada_program.specs.Form.{PathForm, RightForm, nothing}
+use Rattle.ada_program.specs.declared.program.VariableKind.{VariableKind}
+use Rattle.ada_program.specs.Form.{PathForm, ItemForm, RightForm, nothing}
+use Rattle.ada_program.specs.ProgramForm.{TypeForm}
+use Rattle.ada_program.specs.WellFormed.{access_of, selected_kind, is_this}
+use Rattle.ada_flow.specs.Flow.{Holds, passes_type, behind_end}
 use Rattle.ada_meaning.specs.declared.state.Id.{Id}
 use Rattle.ada_meaning.specs.declared.state.Value.{Value}
 use Rattle.ada_meaning.specs.declared.state.Value.TheVariants.{Null, Names, Scalar}
 use Rattle.ada_meaning.specs.declared.state.Stage.{Stage}
 use Rattle.ada_meaning.specs.declared.state.Stage.TheVariants.{Building, Existing, Gone}
 use Rattle.ada_meaning.specs.declared.state.Mode.TheVariants.{Running, Raising}
-use Rattle.ada_meaning.specs.Frame.{Targets, Receives, Follows}
+use Rattle.ada_meaning.specs.Frame.{Targets, Receives, FreesIn, Follows, Fills}
 use Rattle.ada_meaning.specs.Event.{Followed, Quiet}
 use Rattle.ada_meaning.specs.Heap.{finds}
 use Rattle.ada_meaning.specs.State.{Activation, Master}
 use Rattle.ada_meaning.specs.Step.{raised, reading, component_next, path_next, before_last}
 use Rattle.ada_meaning.specs.Named.{Object, State, object_at, existing, seen, look, named}
+use Rattle.ada_owners.specs.Places.{access_at}
+use Rattle.ada_owners.specs.Reliance.{IsOf}
+use Rattle.ada_owners.proofs.Objects.{listed_at}
 use Rattle.ada_owners.specs.Walks.{then_found, value_found, behind, walk}
 use Rattle.ada_sound.proofs.Stored.{Stored, exists_out}
-use Rattle.ada_sound.proofs.Fits.{MayFollow, place_at, component_follows}
-use Rattle.ada_sound.proofs.Invariant.{Known, Control, MayRaise, Working, Clearing, FindsFor, WalksOn, HalfFollows, ReadyIn, Stepped, Fine, front, final}
+use Rattle.ada_sound.proofs.Fits.{Fit, MayFollow, none_spared, place_at, component_access, component_is, component_follows, behind_good}
+use Rattle.ada_sound.proofs.Orderings.{as_good_then}
+use Rattle.ada_sound.proofs.Invariant.{Known, Control, Rooms, To, MayRaise, Working, Clearing, PassesNone, FillsTo, FindsFor, FillsOn, WalksOn, HalfFollows, ReadyIn, Stepped, Fine, front, final, ways}
 use Rattle.ada_sound.proofs.Ready.{running, at_work, stays, jumps_less}
 use Rattle.ada_sound.proofs.Back.{stored_before}
 
@@ -116,26 +124,98 @@ module _ (known : Known) (k : Control) (a : Activation Value) (rest : List (Acti
       rw (p.names, p.looks, p.holds)
       (followed_fine p.o p.object cs p.w p.at (stage_out p.o p.object p.at p.there stored) (r p.w p.goes_on))
 
--- A target's object is found: it is there, or null.
-finds_ready : (known : Known) (k : Control) (heap : List Object) (places : List Value) (v : Value) (below : List Value) (ms : List Master) (w : Working known heap places ms (FindsFor known heap k)) → MayFollow heap v → MayRaise known true ConstraintError k w.rooms w.holds → ReadyIn known Running k heap places (v ∷ below) ms
-finds_ready known [] heap places v below ms w follows raise = absurd (w.rest)
-finds_ready known (Targets c right ∷ k) heap places v below ms w follows raise = inl (at_work w (follows, raise, w.rest))
-finds_ready known (Receives c ∷ k) heap places v below ms w follows raise = at_work w (follows, raise, w.rest.0, w.rest.1)
-finds_ready known (f ∷ k) heap places v below ms w follows raise = absurd (w.rest)
+-- What typing of the heap says of what is found behind a value.
+pub selected_access : (types : List TypeForm) (from : Option VariableKind) (object : Object) (c : ℕ) → access_of from ≡ Some object.cell.access → access_of (selected_kind types from c) ≡ component_access types object c
+selected_access types from object c e = rw e refl
+
+of_access : (heap : List Object) (kind : Option ℕ) (p : Id) (x : Object) → IsOf (access_at heap) kind p → object_at heap p ≡ Some x → kind ≡ Some x.cell.access
+of_access heap None p x of found = absurd of
+of_access heap (Some t) p x of found =
+    let there = listed_at heap p t of in
+    let at = there.found in
+    let same : there.object ≡ x = cc (at, found) in
+    let access = there.access in
+    cc (same, access)
+
+passes_behind : (types : List TypeForm) (from : Option VariableKind) (c : ℕ) (cs : List ℕ) (access : Option ℕ) → PassesNone types from (c ∷ cs) access → PassesNone types (selected_kind types from c) cs access
+passes_behind types from c cs None p = tt
+passes_behind types from c cs (Some t) p = neither (is_this t (access_of from)) (passes_type types (selected_kind types from c) cs t) p
+  where
+    neither : (a b : Bool) → a || b ≡ false → b ≡ false
+    neither true b e = absurd (cc e)
+    neither false b e = e
+
+-- Where an exception is raised before the component is freed, more is known than flow says.
+pub raises_less : (known : Known) (k : Control) (rooms : Rooms) (holds : Holds) (access : Option ℕ) → To ((ways known k rooms).raised ConstraintError) (behind_end known.program.variables access holds) → To ((ways known k rooms).raised ConstraintError) holds
+raises_less known k rooms holds access less =
+    let behind = behind_end known.program.variables access holds in
+    (less.0, as_good_then holds behind less.0 (behind_good known.program.variables access holds) less.1, less.2)
+
+module _ (known : Known) (heap : List Object) (places : List Value) where
+  -- What a path is followed for is known one selector on.
+  finds_next : (k : Control) (v : Value) (c : ℕ) (cs : List ℕ) (o : Id) (object : Object) (w : Value) (rooms : Rooms) (holds : Holds) → v ≡ Names o → object_at heap o ≡ Some object → object.listed ≡ true → object.stage ≡ Existing → slice_get object.cell.values c ≡ Some w → Fit known.program.types known.program.variables none_spared heap places holds → FindsFor known heap places v (c ∷ cs) k rooms holds → FindsFor known heap places w cs k rooms holds
+  finds_next [] v c cs o object w rooms holds is found listed exists at fit f = absurd f
+  finds_next (Targets d right ∷ k) v c cs o object w rooms holds is found listed exists at fit f =
+      let on : behind heap v c ≡ finds w = rw is (behind_is heap o object c w found exists at) in
+      let g = f.1 in
+      (f.0, (g.0, g.1, g.2, g.3, (g.4.0 ∙ walk_behind heap v c cs w on, g.4.1)))
+  finds_next (Receives d ∷ k) v c cs o object w rooms holds is found listed exists at fit f = f
+  finds_next (FreesIn access d ∷ k) v c cs o object w rooms holds is found listed exists at fit f =
+      let types = known.program.types in
+      let here = f.is_from o object is found in
+      record {
+        from = selected_kind types f.from c;
+        access = f.access;
+        is_from = λ p x names there. selected_access types f.from object c here ∙ of_access heap (component_access types object c) p x (component_is o object c w p refl found listed at names fit) there;
+        passes = passes_behind types f.from c (cs ++ d ∷ []) f.access f.passes;
+        of_type = f.of_type;
+        raises = f.raises;
+        runs = f.runs;
+      }
+  finds_next (g ∷ k) v c cs o object w rooms holds is found listed exists at fit f = absurd f
+
+  -- Null on the way raises Constraint_Error.
+  finds_raises : (k : Control) (v : Value) (cs : List ℕ) (rooms : Rooms) (holds : Holds) → FindsFor known heap places v cs k rooms holds → To ((ways known k rooms).raised ConstraintError) holds
+  finds_raises [] v cs rooms holds f = absurd f
+  finds_raises (Targets d right ∷ k) v cs rooms holds f = f.0 refl
+  finds_raises (Receives d ∷ k) v cs rooms holds f = f.0 refl
+  finds_raises (FreesIn access d ∷ k) v cs rooms holds f = raises_less known k rooms holds f.access (f.raises refl)
+  finds_raises (g ∷ k) v cs rooms holds f = absurd f
+
+  -- The object of a target, or of a component that is freed, is found: it is there, or null.
+  finds_ready : (k : Control) (v : Value) (below : List Value) (ms : List Master) (w : Working known heap places ms (FindsFor known heap places v [] k)) → MayFollow heap v → ReadyIn known Running k heap places (v ∷ below) ms
+  finds_ready [] v below ms w follows = absurd (w.rest)
+  finds_ready (Targets c right ∷ k) v below ms w follows = inl (at_work w (follows, w.rest.0, w.rest.1))
+  finds_ready (Receives c ∷ k) v below ms w follows = at_work w (follows, w.rest.0, w.rest.1, w.rest.2)
+  finds_ready (FreesIn access c ∷ k) v below ms w follows = at_work w (follows, w.rest)
+  finds_ready (f ∷ k) v below ms w follows = absurd (w.rest)
 
 module _ (known : Known) (a : Activation Value) (rest : List (Activation Value)) (s : State) (below : List Value) where
-  -- A target's path is followed.
-  pub finds_fine : (k : Control) (cs : List ℕ) (v : Value) (w : Working known s.heap a.places s.masters (FindsFor known s.heap k)) → MayFollow s.heap v → MayRaise known true ConstraintError k w.rooms w.holds → Fine known s.heap s.masters (path_next named cs v (running k (record a { operands = below }) rest s))
-  finds_fine k [] v w follows raise =
-      stays known Quiet (running k (record a { operands = v ∷ below }) rest s) (tt, finds_ready known k s.heap a.places v below s.masters w follows raise) tt
-  finds_fine k (c ∷ cs) v w follows raise =
+  -- The path of a target, or of a component that is freed, is followed.
+  pub finds_fine : (k : Control) (cs : List ℕ) (v : Value) (w : Working known s.heap a.places s.masters (FindsFor known s.heap a.places v cs k)) → MayFollow s.heap v → Fine known s.heap s.masters (path_next named cs v (running k (record a { operands = below }) rest s))
+  finds_fine k [] v w follows =
+      stays known Quiet (running k (record a { operands = v ∷ below }) rest s) (tt, finds_ready known s.heap a.places k v below s.masters w follows) tt
+  finds_fine k (c ∷ cs) v w follows =
       follow_fine known k a rest s below c cs v w.stored follows
-      (λ is. jumps_less known k (record a { operands = below }) rest s (Raising ConstraintError) (at_work w (raise refl)))
-      (λ o object u is found listed at. next cs u (component_follows o object c u refl found listed at w.fit))
+      (λ is. jumps_less known k (record a { operands = below }) rest s (Raising ConstraintError) (at_work w (finds_raises known s.heap a.places k v (c ∷ cs) w.rooms w.holds w.rest)))
+      (λ o object u is found listed at. next cs u (component_follows o object c u refl found listed at w.fit)
+      (finds_next known s.heap a.places k v c cs o object u w.rooms w.holds is found listed ((w.stored.sane o object found).listed_exists listed) at w.fit w.rest))
     where
-      next : (cs : List ℕ) (u : Value) → MayFollow s.heap u → ReadyIn known Running (behind_these cs k) s.heap a.places (u ∷ below) s.masters
-      next [] u there = finds_ready known k s.heap a.places u below s.masters w there raise
-      next (d ∷ ds) u there = inl (at_work w (there, raise, inr (inl w.rest)))
+      next : (ds : List ℕ) (u : Value) → MayFollow s.heap u → FindsFor known s.heap a.places u ds k w.rooms w.holds → ReadyIn known Running (behind_these ds k) s.heap a.places (u ∷ below) s.masters
+      next [] u there f = finds_ready known s.heap a.places k u below s.masters (at_work w f) there
+      next (d ∷ ds) u there f = inl (at_work w (there, inl f))
+
+  -- The path of an item is followed.
+  pub fills_fine : (items : List ItemForm) (k : Control) (c : ℕ) (cs : List ℕ) (v : Value) (w : Working known s.heap a.places s.masters (FillsOn known s.heap a.places v below (c ∷ cs) (Fills items ∷ k))) → MayFollow s.heap v → MayRaise known true ConstraintError (Fills items ∷ k) w.rooms w.holds → Fine known s.heap s.masters (path_next named (c ∷ cs) v (running (Fills items ∷ k) (record a { operands = below }) rest s))
+  fills_fine items k c cs v w follows raise =
+      follow_fine known (Fills items ∷ k) a rest s below c cs v w.stored follows
+      (λ is. jumps_less known (Fills items ∷ k) (record a { operands = below }) rest s (Raising ConstraintError) (at_work w (raise refl)))
+      (λ o object u is found listed at. next cs u (component_follows o object c u refl found listed at w.fit)
+      (λ x on. w.rest x (walk_behind s.heap v c cs u (rw is (behind_is s.heap o object c u found ((w.stored.sane o object found).listed_exists listed) at)) ∙ on)))
+    where
+      next : (ds : List ℕ) (u : Value) → MayFollow s.heap u → ((x : Value) → walk s.heap u ds ≡ finds x → FillsTo known s.heap a.places items k (x ∷ below) w.rooms w.holds) → ReadyIn known Running (behind_these ds (Fills items ∷ k)) s.heap a.places (u ∷ below) s.masters
+      next [] u there f = at_work w (f u refl)
+      next (d ∷ ds) u there f = inl (at_work w (there, inr (raise, inr (inr f))))
 
   -- Objects are stored before a component is cleared, too.
   clearing_stored : (o : Id) (c : ℕ) (k : Control) → Clearing known (Names o) c k s.heap a.places s.masters → Stored None s.heap s.masters

@@ -11,7 +11,7 @@ use Rattle.ada_program.specs.WellFormed.{access_of, reached_components, kind_amo
 use Rattle.ada_flow.specs.declared.rule.Hold.{Hold}
 use Rattle.ada_flow.specs.declared.rule.Hold.TheVariants as hold
 use Rattle.ada_flow.specs.declared.rule.Region.{Region}
-use Rattle.ada_flow.specs.Flow.{Holds, goes, hold_at, variable_access, declarations_flow, computed, bounds_flow, condition_flow, opened_by_all, counting_start, collected, Around, outermost, in_loop, in_block, begins_pair, stmt_flow, stmts_flow, first_holds, variables_of}
+use Rattle.ada_flow.specs.Flow.{Holds, goes, hold_at, variable_access, declarations_flow, computed, bounds_flow, condition_flow, opened_by_all, counting_start, collected, Around, outermost, in_loop, in_block, begins_pair, stmt_flow, stmts_flow, first_holds, types_of, variables_of}
 use Rattle.ada_meaning.specs.declared.state.Id.{Id}
 use Rattle.ada_meaning.specs.declared.state.Value.{Value}
 use Rattle.ada_meaning.specs.declared.state.Value.TheVariants.{Null, Names, Scalar}
@@ -72,69 +72,69 @@ pub data Turning : Type 0 where
 mutual
   -- Flow comes from statements, behind which there is another place, and from holds, inside of loops and blocks, on a way through them, to a
   -- place with these holds.
-  pub data Comes (variables : List VariableForm) : Around → (outer : Place) → StmtsForm → Holds → List Turning → Place → Holds → Type 0 where
-    here : {around : Around} {outer : Place} {fs : StmtsForm} {holds : Holds} → Comes variables around outer fs holds [] (frame.Does fs ∷ outer) holds
+  pub data Comes (types : List TypeForm) (variables : List VariableForm) : Around → (outer : Place) → StmtsForm → Holds → List Turning → Place → Holds → Type 0 where
+    here : {around : Around} {outer : Place} {fs : StmtsForm} {holds : Holds} → Comes types variables around outer fs holds [] (frame.Does fs ∷ outer) holds
     behind : {around : Around} {raising : Option Holds} {outer place : Place} {f : StmtForm} {fs : StmtsForm} {holds at : Holds} {way : List Turning}
-        (mid : Holds) → stmt_flow variables around (begins_pair f fs) f holds ≡ goes (Some mid) raising → Comes variables around outer fs mid way place at
-        → Comes variables around outer (a_stmt f fs) holds (past ∷ way) place at
+        (mid : Holds) → stmt_flow types variables around (begins_pair f fs) f holds ≡ goes (Some mid) raising → Comes types variables around outer fs mid way place at
+        → Comes types variables around outer (a_stmt f fs) holds (past ∷ way) place at
     in_branches : {around : Around} {outer place : Place} {branches : BranchesForm} {fs : StmtsForm} {holds at : Holds} {way : List Turning}
-        → ComesBy variables around (frame.Does fs ∷ outer) branches holds way place at
-        → Comes variables around outer (a_stmt (chooses branches) fs) holds (into ∷ way) place at
+        → ComesBy types variables around (frame.Does fs ∷ outer) branches holds way place at
+        → Comes types variables around outer (a_stmt (chooses branches) fs) holds (into ∷ way) place at
     in_body : {around : Around} {raising : Option Holds} {outer place : Place}
         {condition : Option ExpressionForm} {body fs : StmtsForm} {end_spot : Spot} {holds at : Holds} {way : List Turning}
         (mid : Holds) → condition_flow condition (opened_by_all variables body holds) ≡ goes (Some mid) raising
-        → Comes variables (in_loop (Some (opened_by_all variables body holds))) (frame.Repeats condition body ∷ frame.Does fs ∷ outer) body mid way place at
-        → Comes variables around outer (a_stmt (repeats condition body end_spot) fs) holds (into ∷ way) place at
+        → Comes types variables (in_loop (Some (opened_by_all variables body holds))) (frame.Repeats condition body ∷ frame.Does fs ∷ outer) body mid way place at
+        → Comes types variables around outer (a_stmt (repeats condition body end_spot) fs) holds (into ∷ way) place at
     in_count : {around : Around} {raising : Option Holds} {outer place : Place}
         {x : ℕ} {low high : ExpressionForm} {body fs : StmtsForm} {end_spot : Spot} {holds at : Holds} {next last : ℤ} {way : List Turning}
         (mid : Holds) → bounds_flow low high holds ≡ goes (Some mid) raising
-        → Comes variables (in_loop (Some (counting_start variables x body mid))) (frame.Counts x next last body ∷ frame.Does fs ∷ outer)
+        → Comes types variables (in_loop (Some (counting_start variables x body mid))) (frame.Counts x next last body ∷ frame.Does fs ∷ outer)
         body (counting_start variables x body mid) way place at
-        → Comes variables around outer (a_stmt (counts x low high body end_spot) fs) holds (counting next last ∷ way) place at
+        → Comes types variables around outer (a_stmt (counts x low high body end_spot) fs) holds (counting next last ∷ way) place at
     in_enclosed : {around : Around} {outer place : Place}
         {ds : List DeclarationForm} {body fs : StmtsForm} {hs : HandlersForm} {holds at : Holds} {way : List Turning}
-        → ComesInside variables (in_block (collected ds) around) (frame.Does fs ∷ outer) ds body hs holds way place at
-        → Comes variables around outer (a_stmt (encloses ds body hs) fs) holds (into ∷ way) place at
+        → ComesInside types variables (in_block (collected ds) around) (frame.Does fs ∷ outer) ds body hs holds way place at
+        → Comes types variables around outer (a_stmt (encloses ds body hs) fs) holds (into ∷ way) place at
 
   -- Flow comes to a place from the branches of an `if` on.
-  pub data ComesBy (variables : List VariableForm) : Around → (outer : Place) → BranchesForm → Holds → List Turning → Place → Holds → Type 0 where
+  pub data ComesBy (types : List TypeForm) (variables : List VariableForm) : Around → (outer : Place) → BranchesForm → Holds → List Turning → Place → Holds → Type 0 where
     in_others : {around : Around} {outer place : Place} {fs : StmtsForm} {holds at : Holds} {way : List Turning}
-        → Comes variables around outer fs holds way place at → ComesBy variables around outer (otherwise fs) holds (into ∷ way) place at
+        → Comes types variables around outer fs holds way place at → ComesBy types variables around outer (otherwise fs) holds (into ∷ way) place at
     in_this : {around : Around} {raising : Option Holds} {outer place : Place}
         {e : ExpressionForm} {fs : StmtsForm} {branches : BranchesForm} {holds at : Holds} {way : List Turning}
-        (mid : Holds) → computed e holds ≡ goes (Some mid) raising → Comes variables around outer fs mid way place at
-        → ComesBy variables around outer (a_branch e fs branches) holds (into ∷ way) place at
+        (mid : Holds) → computed e holds ≡ goes (Some mid) raising → Comes types variables around outer fs mid way place at
+        → ComesBy types variables around outer (a_branch e fs branches) holds (into ∷ way) place at
     in_next : {around : Around} {raising : Option Holds} {outer place : Place}
         {e : ExpressionForm} {fs : StmtsForm} {branches : BranchesForm} {holds at : Holds} {way : List Turning}
-        (mid : Holds) → computed e holds ≡ goes (Some mid) raising → ComesBy variables around outer branches mid way place at
-        → ComesBy variables around outer (a_branch e fs branches) holds (past ∷ way) place at
+        (mid : Holds) → computed e holds ≡ goes (Some mid) raising → ComesBy types variables around outer branches mid way place at
+        → ComesBy types variables around outer (a_branch e fs branches) holds (past ∷ way) place at
 
   -- Flow comes to a place from handlers on, which begin with these holds (11.4).
-  pub data ComesTo (variables : List VariableForm) : Around → (outer : Place) → HandlersForm → Holds → List Turning → Place → Holds → Type 0 where
+  pub data ComesTo (types : List TypeForm) (variables : List VariableForm) : Around → (outer : Place) → HandlersForm → Holds → List Turning → Place → Holds → Type 0 where
     to_this : {around : Around} {outer place : Place} {choices : List Choice} {fs : StmtsForm} {hs : HandlersForm} {holds at : Holds} {way : List Turning}
-        → Comes variables around outer fs holds way place at → ComesTo variables around outer (a_handler choices fs hs) holds (into ∷ way) place at
+        → Comes types variables around outer fs holds way place at → ComesTo types variables around outer (a_handler choices fs hs) holds (into ∷ way) place at
     to_next : {around : Around} {outer place : Place} {choices : List Choice} {fs : StmtsForm} {hs : HandlersForm} {holds at : Holds} {way : List Turning}
-        → ComesTo variables around outer hs holds way place at → ComesTo variables around outer (a_handler choices fs hs) holds (past ∷ way) place at
+        → ComesTo types variables around outer hs holds way place at → ComesTo types variables around outer (a_handler choices fs hs) holds (past ∷ way) place at
 
   -- Flow comes to a place from the declarations of a master on: into its statements, or, from where these raise an exception, into their handlers.
-  pub data ComesInside (variables : List VariableForm)
+  pub data ComesInside (types : List TypeForm) (variables : List VariableForm)
       : Around → (outer : Place) → List DeclarationForm → StmtsForm → HandlersForm → Holds → List Turning → Place → Holds → Type 0 where
     in_statements : {around : Around} {raising : Option Holds} {outer place : Place}
         {ds : List DeclarationForm} {body : StmtsForm} {hs : HandlersForm} {holds at : Holds} {way : List Turning}
         (mid : Holds) → declarations_flow variables ds holds ≡ goes (Some mid) raising
-        → Comes variables around (frame.Handles hs ∷ frame.Closes ∷ outer) body mid way place at
-        → ComesInside variables around outer ds body hs holds (into ∷ way) place at
+        → Comes types variables around (frame.Handles hs ∷ frame.Closes ∷ outer) body mid way place at
+        → ComesInside types variables around outer ds body hs holds (into ∷ way) place at
     in_handlers : {around : Around} {raising normal : Option Holds} {outer place : Place}
         {ds : List DeclarationForm} {body : StmtsForm} {hs : HandlersForm} {holds at : Holds} {way : List Turning}
         (mid raised : Holds) → declarations_flow variables ds holds ≡ goes (Some mid) raising
-        → stmts_flow variables around body mid ≡ goes normal (Some raised)
-        → ComesTo variables around (frame.Closes ∷ outer) hs raised way place at
-        → ComesInside variables around outer ds body hs holds (past ∷ way) place at
+        → stmts_flow types variables around body mid ≡ goes normal (Some raised)
+        → ComesTo types variables around (frame.Closes ∷ outer) hs raised way place at
+        → ComesInside types variables around outer ds body hs holds (past ∷ way) place at
 
 -- The holds that flow gives at a place, on this way from the program's declarations.
 abbrev pub IsFlowAt : (program : Program) (way : List Turning) (place : Place) (holds : Holds) → Type 0
 IsFlowAt program way place holds =
-    ComesInside (variables_of program) outermost [] (declaration_forms program) (stmt_forms program) (handler_forms program) (first_holds program)
+    ComesInside (types_of program) (variables_of program) outermost [] (declaration_forms program) (stmt_forms program) (handler_forms program) (first_holds program)
     way place holds
 
 -- A way leads to one place, and flow says one thing there.

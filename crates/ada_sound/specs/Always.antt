@@ -9,7 +9,7 @@ use Rattle.ada_program.specs.Form.{declaration_forms, stmt_forms, handler_forms}
 use Rattle.ada_program.specs.ProgramForm.{program_form}
 use Rattle.ada_program.specs.WellFormed.{IsWellFormed}
 use Rattle.ada_program.specs.Nested.{CollectionsNest}
-use Rattle.ada_flow.specs.Flow.{Holds, goes, faults, outermost, declarations_flow, stmts_flow, handlers_flow, first_holds, program_flow, variables_of, ObeysRules}
+use Rattle.ada_flow.specs.Flow.{Holds, goes, faults, outermost, declarations_flow, stmts_flow, handlers_flow, first_holds, program_flow, types_of, variables_of, ObeysRules}
 use Rattle.ada_meaning.specs.declared.state.Id.{Id}
 use Rattle.ada_meaning.specs.declared.event.Halt.{Halt}
 use Rattle.ada_meaning.specs.declared.event.Halt.TheVariants.{Finished, Erroneous}
@@ -129,8 +129,8 @@ abbrev pub IsFineAtEnds : Holds → Program → Type 0
 IsFineAtEnds holds program =
     (before within normal raising : Option Holds)
     × (declarations_flow (variables_of program) (declaration_forms program) (first_holds program) ≡ goes (Some holds) before)
-    × (stmts_flow (variables_of program) outermost (stmt_forms program) holds ≡ goes (Some holds) within)
-    × (handlers_flow (variables_of program) outermost (handler_forms program) holds ≡ goes normal raising)
+    × (stmts_flow (types_of program) (variables_of program) outermost (stmt_forms program) holds ≡ goes (Some holds) within)
+    × (handlers_flow (types_of program) (variables_of program) outermost (handler_forms program) holds ≡ goes normal raising)
 
 -- A run of the program comes to this end.
 abbrev pub HaltsSomewhere : Halt → Program → Type 0

@@ -10,5 +10,7 @@ pub mod Examples
 pub mod OwnerExamples
 -- the same where others borrow
 pub mod BorrowerExamples
+-- the same where components get new objects, or are freed
+pub mod FreeExamples
 -- what the rules let through
 pub mod Owners

@@ -1,42 +1,42 @@
--- What the rules let through: only owners are freed and moved, and they own nothing after; a component is moved by a take pair alone; and borrowers
--- take part in none of that.
+-- What the rules let through: only owners are freed and moved, and they own nothing after; a component is moved by a take pair, or into the new
+-- object that it gets; what is freed lies on no way to it; and borrowers take part in none of that.
 
-use Rattle.std.specs.Prelude.{◌≡◌, ◌≢◌, ◌⊎◌, ℕ, Bool, true, false, List, [], ◌∷◌, Option, Some}
+use Rattle.std.specs.Prelude.{◌≡◌, ◌≢◌, ◌⊎◌, ℕ, Bool, true, false, List, [], ◌∷◌, ◌++◌, Option, Some}
 use Rattle.std.specs.List.{slice_get}
-use Rattle.ada_program.specs.Form.{PathForm, ItemForm, item_of_path, RightForm, nothing, value_of, allocates, StmtForm, assigns, frees, StmtsForm, a_stmt}
+use Rattle.ada_program.specs.Form.{PathForm, ItemForm, item_of_path, RightForm, nothing, value_of, allocates, StmtForm, assigns, frees, StmtsForm, a_stmt, declares}
 use Rattle.ada_flow.specs.declared.rule.Hold.TheVariants.{Own, Alias, Lost}
 use Rattle.ada_flow.specs.declared.rule.Region.{Region}
 use Rattle.ada_flow.specs.declared.rule.Rule.TheVariants.{LostValue}
-use Rattle.ada_program.specs.ProgramForm.{VariableForm}
-use Rattle.ada_program.specs.WellFormed.{names_borrower, lends_to}
-use Rattle.ada_flow.specs.Flow.{Holds, faults, goes, hold_at, variable_access, Around, begins_pair, stmt_flow, stmts_flow}
+use Rattle.ada_program.specs.ProgramForm.{TypeForm, VariableForm}
+use Rattle.ada_program.specs.WellFormed.{access_of, variable_kind, selectors_kind, path_access, is_borrower, names_borrower, lends_to}
+use Rattle.ada_flow.specs.Flow.{Holds, faults, goes, hold_at, variable_access, Around, begins_pair, stmt_flow, stmts_flow, declaration_flow}
 use Rattle.ada_sound.specs.Agreement.{IsOwner}
 
 -- A statement, the first of a take pair or not, breaks no rule from these holds.
-abbrev pub IsLetThrough : List VariableForm → StmtForm → Holds → Type 0
-IsLetThrough variables f holds =
-    (around : Around) × (cleared : Bool) × (normal raising : Option Holds) × (stmt_flow variables around cleared f holds ≡ goes normal raising)
+abbrev pub IsLetThrough : List TypeForm → List VariableForm → StmtForm → Holds → Type 0
+IsLetThrough types variables f holds =
+    (around : Around) × (cleared : Bool) × (normal raising : Option Holds) × (stmt_flow types variables around cleared f holds ≡ goes normal raising)
 
 -- It comes to its end with these.
-abbrev pub EndsWith : List VariableForm → StmtForm → (holds after : Holds) → Type 0
-EndsWith variables f holds after =
-    (around : Around) × (cleared : Bool) × (raising : Option Holds) × (stmt_flow variables around cleared f holds ≡ goes (Some after) raising)
+abbrev pub EndsWith : List TypeForm → List VariableForm → StmtForm → (holds after : Holds) → Type 0
+EndsWith types variables f holds after =
+    (around : Around) × (cleared : Bool) × (raising : Option Holds) × (stmt_flow types variables around cleared f holds ≡ goes (Some after) raising)
 
 -- It raises an exception with these.
-abbrev pub RaisesWith : List VariableForm → StmtForm → (holds raised : Holds) → Type 0
-RaisesWith variables f holds raised =
-    (around : Around) × (cleared : Bool) × (normal : Option Holds) × (stmt_flow variables around cleared f holds ≡ goes normal (Some raised))
+abbrev pub RaisesWith : List TypeForm → List VariableForm → StmtForm → (holds raised : Holds) → Type 0
+RaisesWith types variables f holds raised =
+    (around : Around) × (cleared : Bool) × (normal : Option Holds) × (stmt_flow types variables around cleared f holds ≡ goes normal (Some raised))
 
 -- Statements break no rule from these holds.
-abbrev pub AreLetThrough : List VariableForm → StmtsForm → Holds → Type 0
-AreLetThrough variables fs holds =
-    (around : Around) × (normal raising : Option Holds) × (stmts_flow variables around fs holds ≡ goes normal raising)
+abbrev pub AreLetThrough : List TypeForm → List VariableForm → StmtsForm → Holds → Type 0
+AreLetThrough types variables fs holds =
+    (around : Around) × (normal raising : Option Holds) × (stmts_flow types variables around fs holds ≡ goes normal raising)
 
 -- A variable owns nothing.
 abbrev pub OwnsNothing : Holds → ℕ → Type 0
 OwnsNothing holds x = (r : Region) → hold_at holds x ≢ Own r
 
--- A path is a variable, or a component.
+-- A path is a variable, and no component.
 abbrev pub IsVariable : PathForm → Type 0
 IsVariable path = path.selectors ≡ []
 
@@ -44,63 +44,88 @@ IsVariable path = path.selectors ≡ []
 abbrev pub IsElsewhere : (target : PathForm) (x : ℕ) → Type 0
 IsElsewhere target x = IsVariable target → x ≢ target.root
 
+-- Two paths are one.
+abbrev pub IsSamePath : PathForm → PathForm → Type 0
+IsSamePath p q = (p.root ≡ q.root) × (p.selectors ≡ q.selectors)
+
 -- Free (X) (13.11.2).
 abbrev pub OnlyOwnersAreFreed : Type 0
 OnlyOwnersAreFreed =
-    (variables : List VariableForm) (access : ℕ) (variable : PathForm) (holds : Holds)
-    → IsLetThrough variables (frees access variable) holds → IsOwner (hold_at holds variable.root)
+    (types : List TypeForm) (variables : List VariableForm) (access : ℕ) (path : PathForm) (holds : Holds) → IsVariable path
+    → IsLetThrough types variables (frees access path) holds → IsOwner (hold_at holds path.root)
 
 -- A variable that was freed owns nothing.
 abbrev pub FreedOwnsNothing : Type 0
 FreedOwnsNothing =
-    (variables : List VariableForm) (access : ℕ) (variable : PathForm) (holds after : Holds)
-    → EndsWith variables (frees access variable) holds after → OwnsNothing after variable.root
+    (types : List TypeForm) (variables : List VariableForm) (access : ℕ) (path : PathForm) (holds after : Holds) → IsVariable path
+    → EndsWith types variables (frees access path) holds after → OwnsNothing after path.root
 
--- Behind Free (X) no variable of X's own access type holds an alias: the object that it named may be gone.
+-- Behind Free (P) no variable of P's own access type holds an alias: the object that it named may be gone.
 abbrev pub FreeLeavesNoAlias : Type 0
 FreeLeavesNoAlias =
-    (variables : List VariableForm) (access t : ℕ) (variable : PathForm) (holds after : Holds)
-    → EndsWith variables (frees access variable) holds after → variable_access variables variable.root ≡ Some t
+    (types : List TypeForm) (variables : List VariableForm) (access t : ℕ) (path : PathForm) (holds after : Holds)
+    → EndsWith types variables (frees access path) holds after → path_access types variables path ≡ Some t
     → (x : ℕ) → variable_access variables x ≡ Some t → (r : Region) → hold_at after x ≢ Alias r
+
+-- Nor where Free (P.C) raises an exception: there as little is said as behind it.
+abbrev pub RaisedFreeLeavesNoAlias : Type 0
+RaisedFreeLeavesNoAlias =
+    (types : List TypeForm) (variables : List VariableForm) (access t : ℕ) (path : PathForm) (holds raised : Holds)
+    → RaisesWith types variables (frees access path) holds raised → path_access types variables path ≡ Some t
+    → (x : ℕ) → variable_access variables x ≡ Some t → (r : Region) → hold_at raised x ≢ Alias r
+
+-- Free (P.C): no value that the path follows, of its variable or of a component in front, is of the access type of what is freed.
+abbrev pub FreedLiesOffItsWay : Type 0
+FreedLiesOffItsWay =
+    (types : List TypeForm) (variables : List VariableForm) (access t c : ℕ) (path : PathForm) (before behind : List ℕ) (holds : Holds)
+    → IsLetThrough types variables (frees access path) holds → path_access types variables path ≡ Some t → path.selectors ≡ before ++ c ∷ behind
+    → access_of (selectors_kind types (variable_kind variables path.root) before) ≢ Some t
+
+-- What is found behind a lost value is not freed: that is a fault at the path.
+abbrev pub LostIsNotFreedBehind : Type 0
+LostIsNotFreedBehind =
+    (types : List TypeForm) (variables : List VariableForm) (around : Around) (cleared : Bool) (access : ℕ) (path : PathForm) (holds : Holds)
+    → hold_at holds path.root ≡ Lost → stmt_flow types variables around cleared (frees access path) holds ≡ faults path.spot LostValue
 
 -- P := Y (5.2), where P is no borrower.
 abbrev pub OnlyOwnersAreMoved : Type 0
 OnlyOwnersAreMoved =
-    (variables : List VariableForm) (target path : PathForm) (holds : Holds) → names_borrower variables target ≡ false → IsVariable path
-    → IsLetThrough variables (assigns target (value_of path)) holds → IsOwner (hold_at holds path.root)
+    (types : List TypeForm) (variables : List VariableForm) (target path : PathForm) (holds : Holds) → names_borrower variables target ≡ false → IsVariable path
+    → IsLetThrough types variables (assigns target (value_of path)) holds → IsOwner (hold_at holds path.root)
 
 -- A variable whose value was moved owns nothing.
 abbrev pub MovedOwnsNothing : Type 0
 MovedOwnsNothing =
-    (variables : List VariableForm) (target path : PathForm) (holds after : Holds) → names_borrower variables target ≡ false
-    → IsVariable path → IsElsewhere target path.root → EndsWith variables (assigns target (value_of path)) holds after → OwnsNothing after path.root
+    (types : List TypeForm) (variables : List VariableForm) (target path : PathForm) (holds after : Holds) → names_borrower variables target ≡ false
+    → IsVariable path → IsElsewhere target path.root → EndsWith types variables (assigns target (value_of path)) holds after → OwnsNothing after path.root
 
--- P := new T'(.., Y, ..) (4.8): what an item moves is a variable, and an owner.
+-- P := new T'(.., Y, ..) (4.8): what an item moves is a variable that owns it, or the component that the assignment goes to.
 abbrev pub OnlyOwnersAreItems : Type 0
 OnlyOwnersAreItems =
-    (variables : List VariableForm) (target path : PathForm) (access i : ℕ) (items : List ItemForm) (holds : Holds)
+    (types : List TypeForm) (variables : List VariableForm) (target path : PathForm) (access i : ℕ) (items : List ItemForm) (holds : Holds)
     → slice_get items i ≡ Some (item_of_path path)
-    → IsLetThrough variables (assigns target (allocates access items)) holds → IsVariable path × IsOwner (hold_at holds path.root)
+    → IsLetThrough types variables (assigns target (allocates access items)) holds
+    → (IsVariable path × IsOwner (hold_at holds path.root)) ⊎ ((target.selectors ≢ []) × IsSamePath target path)
 
--- Two items move two variables.
+-- Two items move two paths.
 abbrev pub ItemsMoveApart : Type 0
 ItemsMoveApart =
-    (variables : List VariableForm) (target path other : PathForm) (access i k : ℕ) (items : List ItemForm) (holds : Holds) → i ≢ k
+    (types : List TypeForm) (variables : List VariableForm) (target path other : PathForm) (access i k : ℕ) (items : List ItemForm) (holds : Holds) → i ≢ k
     → slice_get items i ≡ Some (item_of_path path) → slice_get items k ≡ Some (item_of_path other)
-    → IsLetThrough variables (assigns target (allocates access items)) holds → path.root ≢ other.root
+    → IsLetThrough types variables (assigns target (allocates access items)) holds → IsSamePath path other → ⊥
 
 -- A variable that an item moved owns nothing where the allocator comes to its end.
 abbrev pub ItemsOwnNothing : Type 0
 ItemsOwnNothing =
-    (variables : List VariableForm) (target path : PathForm) (access i : ℕ) (items : List ItemForm) (holds after : Holds)
-    → slice_get items i ≡ Some (item_of_path path)
-    → IsElsewhere target path.root → EndsWith variables (assigns target (allocates access items)) holds after → OwnsNothing after path.root
+    (types : List TypeForm) (variables : List VariableForm) (target path : PathForm) (access i : ℕ) (items : List ItemForm) (holds after : Holds)
+    → IsVariable path → slice_get items i ≡ Some (item_of_path path)
+    → IsElsewhere target path.root → EndsWith types variables (assigns target (allocates access items)) holds after → OwnsNothing after path.root
 
 -- Where the allocator raises an exception, each variable is what it was.
 abbrev pub ItemsStayWhereRaised : Type 0
 ItemsStayWhereRaised =
-    (variables : List VariableForm) (target : PathForm) (access : ℕ) (items : List ItemForm) (holds raised : Holds)
-    → RaisesWith variables (assigns target (allocates access items)) holds raised → raised ≡ holds
+    (types : List TypeForm) (variables : List VariableForm) (target : PathForm) (access : ℕ) (items : List ItemForm) (holds raised : Holds)
+    → RaisesWith types variables (assigns target (allocates access items)) holds raised → raised ≡ holds
 
 -- The statement behind `T := P.C;` is `P.C := null;`; T is another variable than the one that P begins with, or a component, and then P is
 -- that variable alone. So the statement changes nothing on the way to P.C.
@@ -115,9 +140,9 @@ pub record IsTakePair (target path : PathForm) (behind : StmtsForm) : Type 0 whe
 -- What is moved out of a component, to what is no borrower, is moved by the first statement of a take pair.
 abbrev pub OnlyPairsTake : Type 0
 OnlyPairsTake =
-    (variables : List VariableForm) (target path : PathForm) (behind : StmtsForm) (holds : Holds) → names_borrower variables target ≡ false
+    (types : List TypeForm) (variables : List VariableForm) (target path : PathForm) (behind : StmtsForm) (holds : Holds) → names_borrower variables target ≡ false
     → path.selectors ≢ []
-    → AreLetThrough variables (a_stmt (assigns target (value_of path)) behind) holds
+    → AreLetThrough types variables (a_stmt (assigns target (value_of path)) behind) holds
     → begins_pair (assigns target (value_of path)) behind ≡ true
 
 -- The first statement of a take pair is one.
@@ -128,19 +153,32 @@ PairsAreTakePairs =
 -- B := null, or B := P (3.10, 5.2), where B is a borrower: a statement that suits it moves nothing, so each other variable holds what it did.
 abbrev pub BorrowersMoveNothing : Type 0
 BorrowersMoveNothing =
-    (variables : List VariableForm) (target : PathForm) (right : RightForm) (holds after : Holds) → names_borrower variables target ≡ true
-    → lends_to variables true right ≡ true → EndsWith variables (assigns target right) holds after
+    (types : List TypeForm) (variables : List VariableForm) (target : PathForm) (right : RightForm) (holds after : Holds) → names_borrower variables target ≡ true
+    → lends_to variables true right ≡ true → EndsWith types variables (assigns target right) holds after
     → (x : ℕ) → x ≢ target.root → hold_at after x ≡ hold_at holds x
 
 -- Behind it the borrower owns nothing.
 abbrev pub BorrowersOwnNothing : Type 0
 BorrowersOwnNothing =
-    (variables : List VariableForm) (target : PathForm) (right : RightForm) (holds after : Holds) → names_borrower variables target ≡ true
-    → lends_to variables true right ≡ true → EndsWith variables (assigns target right) holds after → OwnsNothing after target.root
+    (types : List TypeForm) (variables : List VariableForm) (target : PathForm) (right : RightForm) (holds after : Holds) → names_borrower variables target ≡ true
+    → lends_to variables true right ≡ true → EndsWith types variables (assigns target right) holds after → OwnsNothing after target.root
 
 -- What is lost is not borrowed, nor what is found behind it (4.1): that is a fault at the path.
 abbrev pub LostIsNotBorrowed : Type 0
 LostIsNotBorrowed =
-    (variables : List VariableForm) (around : Around) (cleared : Bool) (target path : PathForm) (holds : Holds)
+    (types : List TypeForm) (variables : List VariableForm) (around : Around) (cleared : Bool) (target path : PathForm) (holds : Holds)
     → names_borrower variables target ≡ true → hold_at holds path.root ≡ Lost
-    → stmt_flow variables around cleared (assigns target (value_of path)) holds ≡ faults path.spot LostValue
+    → stmt_flow types variables around cleared (assigns target (value_of path)) holds ≡ faults path.spot LostValue
+
+-- B : access T := P; (3.3.1, 3.10): a declaration that suits a borrower moves nothing, so each other variable holds what it did.
+abbrev pub DeclaredBorrowersMoveNothing : Type 0
+DeclaredBorrowersMoveNothing =
+    (variables : List VariableForm) (b : ℕ) (right : RightForm) (holds after : Holds) (raising : Option Holds) → is_borrower variables b ≡ true
+    → lends_to variables true right ≡ true → declaration_flow variables (declares b right) holds ≡ goes (Some after) raising
+    → (x : ℕ) → x ≢ b → hold_at after x ≡ hold_at holds x
+
+-- Behind it the borrower owns nothing.
+abbrev pub DeclaredBorrowersOwnNothing : Type 0
+DeclaredBorrowersOwnNothing =
+    (variables : List VariableForm) (b : ℕ) (right : RightForm) (holds after : Holds) (raising : Option Holds) → is_borrower variables b ≡ true
+    → lends_to variables true right ≡ true → declaration_flow variables (declares b right) holds ≡ goes (Some after) raising → OwnsNothing after b

@@ -4,7 +4,7 @@ ghost use Rattle.std.specs.Prelude.{◌≡◌, [], ◌∷◌};
 ghost use Rattle.ada_program.specs.declared.program.Program.{Program};
 ghost use Rattle.ada_program.specs.Form.{stmt_forms, handler_forms};
 ghost use Rattle.ada_flow.specs.declared.rule.Hold.TheVariants.{Null};
-ghost use Rattle.ada_flow.specs.declared.rule.Rule.TheVariants.{LostValue, TakePair, LoopState};
+ghost use Rattle.ada_flow.specs.declared.rule.Rule.TheVariants.{LostValue, TakePair, LoopState, UnsafePath};
 ghost use Rattle.ada_program.specs.declared.program.Exception.TheVariants.{ConstraintError};
 ghost use Rattle.ada_meaning.specs.declared.event.Halt.TheVariants.{Unhandled, Erroneous};
 ghost use Rattle.ada_meaning.specs.declared.event.Why.{Why};
@@ -15,6 +15,7 @@ ghost use Rattle.ada_sound.specs.Always as always;
 ghost use Rattle.ada_sound.specs.Always.{IsChecked, NeverErroneous, AgreesWithFlow, EndsClean, ReachesStatement, FinishesAfter, HaltsSomewhere};
 ghost use Rattle.ada_sound.specs.Examples as examples;
 ghost use Rattle.ada_sound.specs.BorrowerExamples as borrower_examples;
+ghost use Rattle.ada_sound.specs.FreeExamples as free_examples;
 ghost use Rattle.ada_sound.specs.OwnerExamples as owner_examples;
 ghost use Rattle.ada_sound.specs.Owners as owners;
 
@@ -110,9 +111,17 @@ pub fn only_owners_are_freed()
 {}
 
 /// Behind a Free that the rules let through no variable of the same access type relies on the value of another (13.11.2):
-/// whoever borrowed the object that is gone follows it no more.
+/// whoever borrowed the object that is gone follows it no more. Where Free raises an exception, as little is said.
 pub fn free_leaves_no_alias()
-    ensures { owners.FreeLeavesNoAlias }
+    ensures behind { owners.FreeLeavesNoAlias }
+    ensures where_raised { owners.RaisedFreeLeavesNoAlias }
+{}
+
+/// The rules let a component be freed only where the path to it follows no value of the component's own access type, and
+/// begins with none that is lost: so what is freed is no object on the way, and the component is there to become null.
+pub fn frees_lie_off_the_way()
+    ensures own_type { owners.FreedLiesOffItsWay }
+    ensures lost_is_refused { owners.LostIsNotFreedBehind }
 {}
 
 /// The rules let an assignment move only what its right side owns, or null (5.2); the right side owns nothing after. An
@@ -122,8 +131,8 @@ pub fn only_owners_are_moved()
     ensures nothing_after { owners.MovedOwnsNothing }
 {}
 
-/// The rules let an allocator move variables alone that own what they name, or hold null, and each once (4.8). They own
-/// nothing after; where it raises an exception, they are what they were.
+/// The rules let an allocator move what a variable owns, or null, and what the component holds that the new object goes
+/// to, each once (4.8). The variables own nothing after; where it raises an exception, they are what they were.
 pub fn only_owners_are_items()
     ensures owner { owners.OnlyOwnersAreItems }
     ensures once { owners.ItemsMoveApart }
@@ -131,18 +140,21 @@ pub fn only_owners_are_items()
     ensures unchanged_where_raised { owners.ItemsStayWhereRaised }
 {}
 
-/// The rules let a statement move a value out of a component only where the next statement sets that component to null,
+/// The rules let an assignment of a component's value move it only where the next statement sets that component to null,
 /// and where the target is not on the way to it (5.2).
 pub fn only_pairs_take()
     ensures pair { owners.OnlyPairsTake }
     ensures is_one { owners.PairsAreTakePairs }
 {}
 
-/// A borrower takes part in no ownership (3.10). An assignment to it leaves what each other variable holds as it was; it
-/// owns nothing of what it gets; and the rules let it borrow nothing that is lost, or is found behind what is lost.
+/// A borrower takes part in no ownership (3.10). An assignment to it, and its declaration, leave what each other variable
+/// holds as it was; it owns nothing of what it gets; and the rules let it borrow nothing that is lost, or is found behind
+/// what is lost.
 pub fn borrowers_only_borrow()
     ensures moves_nothing { owners.BorrowersMoveNothing }
     ensures owns_nothing { owners.BorrowersOwnNothing }
+    ensures moves_nothing_declared { owners.DeclaredBorrowersMoveNothing }
+    ensures owns_nothing_declared { owners.DeclaredBorrowersOwnNothing }
     ensures lost_is_refused { owners.LostIsNotBorrowed }
 {}
 
@@ -158,7 +170,10 @@ pub fn borrowers_only_borrow()
 /// `for` loop that reads numbers until there is none. And one that reads a number into a component of an object, adds to
 /// it in a loop, and writes what the component then holds. And one that makes a list, each new node of which owns the one
 /// before it, takes its tail by take pairs, and frees it node by node. And one whose borrower walks such a list, which
-/// keeps its owners.
+/// keeps its owners. And one whose borrower is null where a loop begins that gives it a value. And one that puts two nodes
+/// into a list behind its first one: each of them takes what the component held that it goes to, and so a borrower meets
+/// the newer one before the older one. And one that frees a component, whose access type is not the one on the way to it:
+/// the component is null then, and to free it once more has no effect.
 pub fn premises_are_met()
     ensures begins { (program : Program) × IsChecked program × ReachesStatement program }
     ensures finishes { (program : Program) × IsChecked program × FinishesAfter examples.example_events program }
@@ -187,6 +202,15 @@ pub fn premises_are_met()
     ensures walks { (program : Program) × (stmt_forms program ≡ borrower_examples.walking_stmts)
         × borrower_examples.HasBorrower program
         × IsChecked program × FinishesAfter borrower_examples.walking_events program }
+    ensures borrows_in_loop { (program : Program)
+        × (stmt_forms program ≡ free_examples.lending_stmts) × borrower_examples.HasBorrower program
+        × IsChecked program × FinishesAfter free_examples.lending_events program }
+    ensures inserts { (program : Program)
+        × (stmt_forms program ≡ free_examples.inserting_stmts) × borrower_examples.HasBorrower program
+        × IsChecked program × FinishesAfter free_examples.inserting_events program }
+    ensures frees_components { (program : Program)
+        × (stmt_forms program ≡ free_examples.freeing_stmts)
+        × IsChecked program × FinishesAfter free_examples.freeing_events program }
 {}
 
 /// The rules are needed. Of programs that are well formed and whose collections nest, one that breaks the rules follows
@@ -198,10 +222,14 @@ pub fn premises_are_met()
 /// Behind a block its collections are gone, also where an exit leaves it: of a program whose outer variable names an
 /// object of one of them, that object is followed there. To assign to a component follows the value before it (4.1, 5.2):
 /// a lost one would reach into an object that is gone. A value is moved out of a component by a take pair: else both name
-/// an object that only one of them frees. And two items of an allocator move two variables: else two components name one
+/// an object that only one of them frees. And two items of an allocator move two paths: else two components name one
 /// object, which ends twice. Behind Free a borrower of the same access type is lost: else it follows the object that is
 /// gone. And the target of a take pair is not on the way to what is taken: else the statement that is to clear the
-/// component clears another one, and a borrower that still names the object takes the value out of it once more.
+/// component clears another one, and a borrower that still names the object takes the value out of it once more. The path
+/// of a component to be freed does not pass the component's own access type: else it may free the object in which that
+/// component lies, which is gone where the component is to become null. And of components an item moves the one alone
+/// that the new object goes to: else two of them name one object, which one gives to a variable that frees it, and the
+/// other one is followed.
 ///
 /// So are the other premises. A variable relies on values of its own access type alone: of a program that is not well
 /// formed, one of another type names what goes with a block. And components name what lasts as long as their objects: of
@@ -240,6 +268,13 @@ pub fn rules_are_needed()
         × borrower_examples.HasBorrower program
         × always.Breaks TakePair program
         × always.HaltsAfter borrower_examples.overtaking_events (Erroneous FollowsGone) program }
+    ensures passes { (program : Program)
+        × (stmt_forms program ≡ free_examples.passing_stmts) × borrower_examples.HasBorrower program
+        × always.Breaks UnsafePath program
+        × always.HaltsAfter free_examples.passing_events (Erroneous FollowsGone) program }
+    ensures doubles { (program : Program) × (stmt_forms program ≡ free_examples.doubling_stmts)
+        × always.Breaks TakePair program
+        × always.HaltsAfter free_examples.doubling_events (Erroneous FollowsGone) program }
     ensures nests { (program : Program) × (stmt_forms program ≡ owner_examples.outlasting_stmts)
         × always.IsIllNested program × always.HaltsAfter owner_examples.outlasting_events (Erroneous FollowsGone) program }
 {}

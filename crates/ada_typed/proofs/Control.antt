@@ -85,11 +85,13 @@ abbrev mutual
   Fits p cells kinds (frame.Targets c right ∷ k) = (ks : List VariableKind) × (access : TypeNo) × (kind : VariableKind) × (kinds ≡ variable.Access access ∷ ks) × (selected_kind p.types (Some (variable.Access access)) c ≡ Some kind) × (kind_takes p.types p.variables kind right ≡ true) × Fits p cells ks k
   Fits p cells kinds (frame.StoresIn object c ∷ k) = (ks : List VariableKind) × (access : TypeNo) × (kind : VariableKind) × (kinds ≡ kind ∷ ks) × IsName object × IsAccess cells access.0 object × (selected_kind p.types (Some (variable.Access access)) c ≡ Some kind) × Fits p cells ks k
   Fits p cells kinds (frame.Receives c ∷ k) = (ks : List VariableKind) × (access : TypeNo) × (kinds ≡ variable.Access access ∷ ks) × (selected_kind p.types (Some (variable.Access access)) c ≡ Some variable.Integer) × Fits p cells ks k
+  Fits p cells kinds (frame.FreesIn access c ∷ k) = (ks : List VariableKind) × (holder : TypeNo) × (own : TypeNo) × (kinds ≡ variable.Access holder ∷ ks) × (selected_kind p.types (Some (variable.Access holder)) c ≡ Some (variable.Access own)) × Fits p cells ks k
   Fits p cells kinds (frame.Declares x ∷ k) = (ks : List VariableKind) × (kind : VariableKind) × (kinds ≡ kind ∷ ks) × (variable_kind p.variables x ≡ Some kind) × Fits p cells ks k
   Fits p cells kinds (frame.Writes ∷ k) = (ks : List VariableKind) × (kinds ≡ variable.Integer ∷ ks) × Fits p cells ks k
   Fits p cells kinds (frame.Ends v ∷ k) = IsName v × Fits p cells kinds k
   Fits p cells kinds (frame.GivesBack v cause pool ∷ k) = IsName v × Fits p cells kinds k
   Fits p cells kinds (frame.Clears x ∷ k) = (access : TypeNo) × (variable_kind p.variables x ≡ Some (variable.Access access)) × Fits p cells kinds k
+  Fits p cells kinds (frame.ClearsIn object c ∷ k) = (holder : TypeNo) × (own : TypeNo) × IsName object × IsAccess cells holder.0 object × (selected_kind p.types (Some (variable.Access holder)) c ≡ Some (variable.Access own)) × Fits p cells kinds k
 
   -- There is a loop; behind it, what is left to do fits where no operand is there (5.7).
   pub Lands : ProgramForm → Cells → List (Frame Value) → Type 0
@@ -128,11 +130,13 @@ depth (frame.Stores x ∷ k) = depth k
 depth (frame.Targets c right ∷ k) = depth k
 depth (frame.StoresIn object c ∷ k) = depth k
 depth (frame.Receives c ∷ k) = depth k
+depth (frame.FreesIn access c ∷ k) = depth k
 depth (frame.Declares x ∷ k) = depth k
 depth (frame.Writes ∷ k) = depth k
 depth (frame.Ends v ∷ k) = depth k
 depth (frame.GivesBack v cause pool ∷ k) = depth k
 depth (frame.Clears x ∷ k) = depth k
+depth (frame.ClearsIn object c ∷ k) = depth k
 
 pub depth_behind : (f : Frame Value) (k : List (Frame Value)) → depth k ≤ depth (f ∷ k)
 depth_behind (frame.Elaborates ds fs hs) k = omega arith
@@ -159,11 +163,13 @@ depth_behind (frame.Stores x) k = omega arith
 depth_behind (frame.Targets c right) k = omega arith
 depth_behind (frame.StoresIn object c) k = omega arith
 depth_behind (frame.Receives c) k = omega arith
+depth_behind (frame.FreesIn access c) k = omega arith
 depth_behind (frame.Declares x) k = omega arith
 depth_behind frame.Writes k = omega arith
 depth_behind (frame.Ends v) k = omega arith
 depth_behind (frame.GivesBack v cause pool) k = omega arith
 depth_behind (frame.Clears x) k = omega arith
+depth_behind (frame.ClearsIn object c) k = omega arith
 
 -- A state whose values have their kinds, and no jump is on its way.
 pub record Ready (p : ProgramForm) (kinds : List VariableKind) (s : State) : Type 0 where
@@ -219,11 +225,13 @@ module _ (p : ProgramForm) where
   catches cells (frame.Targets c right ∷ k) kinds fits = catches cells k fits.0 fits.6
   catches cells (frame.StoresIn object c ∷ k) kinds fits = catches cells k fits.0 fits.7
   catches cells (frame.Receives c ∷ k) kinds fits = catches cells k fits.0 fits.4
+  catches cells (frame.FreesIn access c ∷ k) kinds fits = catches cells k fits.0 fits.5
   catches cells (frame.Declares x ∷ k) kinds fits = catches cells k fits.0 fits.4
   catches cells (frame.Writes ∷ k) kinds fits = catches cells k fits.0 fits.2
   catches cells (frame.Ends v ∷ k) kinds fits = catches cells k kinds fits.1
   catches cells (frame.GivesBack v cause pool ∷ k) kinds fits = catches cells k kinds fits.1
   catches cells (frame.Clears x ∷ k) kinds fits = catches cells k kinds fits.2
+  catches cells (frame.ClearsIn object c ∷ k) kinds fits = catches cells k kinds fits.5
 
   -- So it is behind each frame that it passes.
   pub catches_behind : (cells : Cells) (o : Option HandlersForm) (k : List (Frame Value)) → AtHandlers p o (Lands p cells k) (Fits p cells [] k) (Catches p cells k) → Catches p cells k

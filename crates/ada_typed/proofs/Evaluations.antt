@@ -15,7 +15,7 @@ use Rattle.ada_program.specs.declared.program.VariableKind.{VariableKind}
 use Rattle.ada_program.specs.declared.program.VariableKind.TheVariants as variable
 use Rattle.ada_program.specs.Form.{ExpressionForm, integer, boolean, reads, is_null, applied_to, chained, LinksForm, no_more_links, a_link, ItemForm, null_item, item_of_path, item_of_value, RightForm, nothing, value_of, allocates, computes}
 use Rattle.ada_program.specs.ProgramForm.{TypeForm, ComponentForm, VariableForm, ProgramForm}
-use Rattle.ada_program.specs.WellFormed.{reached_components, held_kind, component_kind, kind_among, selected_kind, selectors_kind, variable_kind, path_kind, path_access, access_of, scalar_of, is_this, names_variable, type_of, chain_type, unary_type, binary_type, item_fits, items_fit, is_filled, kind_takes}
+use Rattle.ada_program.specs.WellFormed.{reached_components, held_kind, component_kind, kind_among, selected_kind, selectors_kind, variable_kind, path_kind, access_of, scalar_of, is_this, type_of, chain_type, unary_type, binary_type, item_fits, items_fit, is_filled, kind_takes}
 use Rattle.ada_values.specs.declared.value.Value.TheVariants as scalar
 use Rattle.ada_values.specs.declared.operator.BinaryOperator.{BinaryOperator}
 use Rattle.ada_values.specs.declared.fault.OperatorFault.{OperatorFault}
@@ -308,7 +308,7 @@ module _ (p : ProgramForm) where
   item_fine (component.Access access) null_item s kinds ready is fits = running (variable.Access access ∷ kinds) (ready_push kinds s (variable.Access access) Null ready tt) fits
   item_fine (component.Access access) (item_of_path path) s kinds ready is fits =
       root_fine (variable_kind p.variables path.root) path.selectors path.root (variable.Access access) s kinds ready refl
-      (this_kind (path_kind p.types p.variables path) access (and_right (names_variable path) (is_this access.0 (path_access p.types p.variables path)) is)) fits
+      (this_kind (path_kind p.types p.variables path) access is) fits
   item_fine (component.Access access) (item_of_value e) s kinds ready is fits = absurd (cc)
 
   pub items_fine : (items : List ItemForm) (cs : List ComponentForm) (s : State) (kinds : List VariableKind) → Ready p kinds s → items_fit p.types p.variables cs items ≡ true → Fits p (cells_of s.heap) (onto cs kinds) s.control → Fine p (items_next named items s)

@@ -56,11 +56,13 @@ module _ (p : ProgramForm) (cells after : Cells) (stay : StayDesignated cells af
     fits_later (frame.Targets c right ∷ k) kinds h = (h.0, h.1, h.2, h.3, h.4, h.5, fits_later k h.0 h.6)
     fits_later (frame.StoresIn object c ∷ k) kinds h = (h.0, h.1, h.2, h.3, h.4, access_later cells after stay h.1.0 object h.5, h.6, fits_later k h.0 h.7)
     fits_later (frame.Receives c ∷ k) kinds h = (h.0, h.1, h.2, h.3, fits_later k h.0 h.4)
+    fits_later (frame.FreesIn access c ∷ k) kinds h = (h.0, h.1, h.2, h.3, h.4, fits_later k h.0 h.5)
     fits_later (frame.Declares x ∷ k) kinds h = (h.0, h.1, h.2, h.3, fits_later k h.0 h.4)
     fits_later (frame.Writes ∷ k) kinds h = (h.0, h.1, fits_later k h.0 h.2)
     fits_later (frame.Ends v ∷ k) kinds h = (h.0, fits_later k kinds h.1)
     fits_later (frame.GivesBack v cause pool ∷ k) kinds h = (h.0, fits_later k kinds h.1)
     fits_later (frame.Clears x ∷ k) kinds h = (h.0, h.1, fits_later k kinds h.2)
+    fits_later (frame.ClearsIn object c ∷ k) kinds h = (h.0, h.1, h.2, access_later cells after stay h.0.0 object h.3, h.4, fits_later k kinds h.5)
 
     lands_later : (k : List (Frame Value)) → Lands p cells k → Lands p after k
     lands_later [] h = h

@@ -10,6 +10,8 @@ pub mod Later
 pub mod Evaluations
 -- components that are assigned to
 pub mod Targets
+-- variables and components that are freed
+pub mod Frees
 -- each step leads from typed states to typed states
 pub mod Steps
 -- so no run is stuck

@@ -3,7 +3,6 @@
 use Rattle.ada_typed.specs.Holding.{Cells, HasKind, cells_of}
 use Rattle.ada_typed.specs.Stuck.{EndsByTheLanguage}
 use Rattle.std.proofs.Common.{◌≡◌, ℕ, zero, suc, ◌+◌, ◌<◌, ◌≤◌, ◌==◌, ◌&&◌, not, if◌then◌else◌, Bool, true, false, ℤ, ◌+ℤ◌, pos, int_le, List, [], ◌∷◌, length, map, Option, Some, None, arith, refl, sym, ap, ◌∙◌, subst}
-use Rattle.std.proofs.lemmas.Bool.{eqb-true}
 use Rattle.std.specs.List.{slice_get, slice_index_or, list_all}
 use Rattle.ada_program.specs.declared.program.ScalarType.TheVariants.{Integer, Boolean}
 use Rattle.ada_program.specs.declared.program.TypeDefinition.{TypeDefinition}
@@ -14,7 +13,7 @@ use Rattle.ada_program.specs.Form.{ExpressionForm, RightForm, StmtForm, skips, a
 use Rattle.ada_program.specs.Handling.{some_takes, handler_of}
 use Rattle.ada_program.specs.ProgramForm.{VariableForm, ProgramForm}
 use Rattle.ada_program.specs.Typed.{words_of}
-use Rattle.ada_program.specs.WellFormed.{selectors_kind, variable_kind, path_access, access_of, scalar_of, names_variable, is_type, type_of, kind_takes, right_fits, names_borrower, lends_to, is_borrower, path_kind, is_freed_by, collections_first, collection_fits, initial_fits, declarations_fit, has_type, condition_fits, has_statement, choice_fits, statement_fits, stmts_fit, branches_fit, handlers_fit, names_before}
+use Rattle.ada_program.specs.WellFormed.{selectors_kind, variable_kind, path_access, access_of, scalar_of, is_type, type_of, kind_takes, right_fits, names_borrower, lends_to, is_borrower, path_kind, is_freed_by, collections_first, collection_fits, initial_fits, declarations_fit, has_type, condition_fits, has_statement, choice_fits, statement_fits, stmts_fit, branches_fit, handlers_fit, names_before}
 use Rattle.ada_values.specs.declared.value.Value.TheVariants as scalar
 use Rattle.ada_meaning.specs.declared.state.Id.{Id}
 use Rattle.ada_meaning.specs.declared.state.Value.{Value}
@@ -34,12 +33,13 @@ use Rattle.ada_meaning.specs.Frame.{Frame, is_master, is_loop, Landing, passes_o
 use Rattle.ada_meaning.specs.Frame as frame
 use Rattle.ada_meaning.specs.State.{Owned, declared, collection, Item, Master, home_of}
 use Rattle.ada_meaning.specs.Heap.{Cell, on_gone, finds}
-use Rattle.ada_meaning.specs.Step.{halts, moves, at, older, shorter, popped, jumping, put, held, newest, new_next, free_next, end_next, given_back, back_next, before_last, last_of, assign_next, frees_next, branches_next, decided_next, turn_next, repeats_next, turned_next, count_turn_next, ranges_next, gets_next, exit_next, exited_next, stmt_next, stmts_next, line_next, declarations_next, members_next, item_leave_next, master_leave_next, leave_next, frame_next, landed, pass_next, running_next, jump_next, mode_next, end_of}
+use Rattle.ada_meaning.specs.Step.{halts, moves, at, older, shorter, popped, jumping, put, held, newest, new_next, end_next, given_back, back_next, before_last, last_of, assign_next, frees_next, branches_next, decided_next, turn_next, repeats_next, turned_next, count_turn_next, ranges_next, gets_next, exit_next, exited_next, stmt_next, stmts_next, line_next, declarations_next, members_next, item_leave_next, master_leave_next, leave_next, frame_next, landed, pass_next, running_next, jump_next, mode_next, end_of}
 use Rattle.ada_meaning.specs.Named.{an_integer, Object, State, next, named, look, lent, lent_by, seen, existing, on_object, parted, finished, returned, reads_integer, reads_boolean, unary_given, binary_given, members, members_of}
 use Rattle.ada_typed.proofs.Evaluations.{Fine, cells_on, length_shorter, ready_kinds, ready_at, ready_pop, newest_of, held_of, put_in, ready_owning, ready_heap, fits_heap, jumped, raises, root_fine, path_fine, null_test_fine, expression_fine, links_fine, outcome_fine, items_fine, new_fine, right_fine}
 use Rattle.ada_typed.proofs.Values.{kind_of, active_none}
 use Rattle.ada_typed.proofs.Operators.{and_left, and_right, typed, unary_gives, binary_gives}
 use Rattle.ada_typed.proofs.Targets.{split_kind, target_fine, store_fine, receive_fine}
+use Rattle.ada_typed.proofs.Frees.{free_fine, free_in_fine}
 use Rattle.ada_typed.proofs.Control.{onto, IsName, AtLoop, WhereInside, handlers_in, AtHandlers, FitsBehind, Fits, Lands, Catches, depth, depth_behind, Ready, Jumps, Goes, Typed, running, on_jump, catches, catches_behind}
 
 -- What is picked of a collection is a name.
@@ -52,29 +52,7 @@ picked : (ids : List Id) (vs : List Value) (i : ℕ) → map Names ids ≡ vs �
 picked ids vs i is lt = subst (λ (ws : List Value). IsName (slice_index_or ws i Null)) is (picked_name ids i (omega (arith, ap length is)))
 
 module _ (p : ProgramForm) where
-  -- Free (13.11.2), and what it leads to.
-  free_found : (stage : Stage) (access x : ℕ) (o : Id) (type : TypeNo) (object : Object) (s : State) (kinds : List VariableKind) → Ready p kinds s → variable_kind p.variables x ≡ Some (variable.Access type) → Fits p (cells_of s.heap) kinds s.control → Fine p (free_next named access x (Names o) (existing object stage) s)
-  free_found Gone access x o type object s kinds ready is fits = tt
-  free_found Building access x o type object s kinds ready is fits =
-      let heap = on_object parted s.heap (Names o) in
-      let same : cells_of heap ≡ cells_of s.heap = cells_on parted s.heap (Names o) (λ y. refl) in
-      let other = ready_heap p kinds s heap same ready in
-      running kinds (record { filled = other.filled; active = other.active; runs = other.runs; deep = other.deep }) (tt, (tt, (type, is, fits_heap p kinds s s.control heap same fits)))
-  free_found Existing access x o type object s kinds ready is fits =
-      let heap = on_object parted s.heap (Names o) in
-      let same : cells_of heap ≡ cells_of s.heap = cells_on parted s.heap (Names o) (λ y. refl) in
-      let other = ready_heap p kinds s heap same ready in
-      running kinds (record { filled = other.filled; active = other.active; runs = other.runs; deep = other.deep }) (tt, (tt, (type, is, fits_heap p kinds s s.control heap same fits)))
-
-  free_seen : (at_o : Option Object) (access x : ℕ) (o : Id) (type : TypeNo) (s : State) (kinds : List VariableKind) → Ready p kinds s → variable_kind p.variables x ≡ Some (variable.Access type) → Fits p (cells_of s.heap) kinds s.control → Fine p (free_next named access x (Names o) (seen at_o) s)
-  free_seen None access x o type s kinds ready is fits = tt
-  free_seen (Some object) access x o type s kinds ready is fits = free_found object.stage access x o type object s kinds ready is fits
-
-  free_fine : (v : Value) (access x : ℕ) (type : TypeNo) (s : State) (kinds : List VariableKind) → Ready p kinds s → HasKind (cells_of s.heap) (variable.Access type) v → variable_kind p.variables x ≡ Some (variable.Access type) → Fits p (cells_of s.heap) kinds s.control → Fine p (free_next named access x v (look s.heap v) s)
-  free_fine Null access x type s kinds ready has is fits = running kinds ready fits
-  free_fine (Names o) access x type s kinds ready has is fits = free_seen (slice_get s.heap o.0) access x o type s kinds ready is fits
-  free_fine (Scalar v) access x type s kinds ready has is fits = absurd has
-
+  -- What a Free leads to (13.11.2).
   end_stage : (stage : Stage) (o : Id) (object : Object) (s : State) (kinds : List VariableKind) → Ready p kinds s → Fits p (cells_of s.heap) kinds s.control → Fine p (end_next named (Names o) (existing object stage) s)
   end_stage Gone o object s kinds ready fits = tt
   end_stage Building o object s kinds ready fits =
@@ -136,11 +114,15 @@ module _ (p : ProgramForm) where
       let own = right_kind (variable_kind p.variables x) p.variables right is in
       running kinds (ready_at p kinds s (frame.Evaluates right ∷ frame.Stores x ∷ s.control) ready ready.deep) (own.0, own.2, (kinds, own.0, refl, own.1, fits))
 
-  frees_fine : (cs : List ℕ) (access x : ℕ) (s : State) (kinds : List VariableKind) → Ready p kinds s → (length cs == 0) ≡ true → is_freed_by p.types access (access_of (selectors_kind p.types (variable_kind p.variables x) cs)) ≡ true → Fits p (cells_of s.heap) kinds s.control → Fine p (frees_next named cs access x s)
-  frees_fine (c ∷ cs) access x s kinds ready short is fits = let never : length (c ∷ cs) ≡ 0 = eqb-true (length (c ∷ cs)) 0 short in absurd (omega (arith, never))
-  frees_fine [] access x s kinds ready short is fits =
+  frees_fine : (cs : List ℕ) (access x : ℕ) (s : State) (kinds : List VariableKind) → Ready p kinds s → is_freed_by p.types access (access_of (selectors_kind p.types (variable_kind p.variables x) cs)) ≡ true → Fits p (cells_of s.heap) kinds s.control → Fine p (frees_next named cs access x s)
+  frees_fine (c ∷ cs) access x s kinds ready is fits =
+      let own = freed_kind (selectors_kind p.types (variable_kind p.variables x) (c ∷ cs)) access is in
+      let parts = split_kind p.types (variable_kind p.variables x) c cs (variable.Access own.0) own.1 in
+      let found = at (frame.FreesIn access (last_of c cs) ∷ s.control) s in
+      root_fine p (variable_kind p.variables x) (before_last c cs) x (variable.Access parts.0) found kinds (ready_at p kinds s found.control ready ready.deep) refl parts.1 (kinds, parts.0, own.0, refl, parts.2, fits)
+  frees_fine [] access x s kinds ready is fits =
       let own = freed_kind (variable_kind p.variables x) access is in
-      free_fine (held named s x) access x own.0 s kinds ready (held_of p kinds s x (variable.Access own.0) ready own.1) own.1 fits
+      free_fine p (held named s x) access x own.0 s kinds ready (held_of p kinds s x (variable.Access own.0) ready own.1) own.1 fits
 
   -- Branches (5.3).
   branches_fine : (branches : BranchesForm) (inside : Bool) (s : State) → Ready p [] s → branches_fit p.types p.variables p.texts p.exceptions inside branches ≡ true → WhereInside inside (Lands p (cells_of s.heap) s.control) → Fits p (cells_of s.heap) [] s.control → Fine p (branches_next named branches s)
@@ -242,10 +224,8 @@ module _ (p : ProgramForm) where
       let lending = lends_to p.variables (names_borrower p.variables target) right in
       assign_fine target.selectors target.root right s [] ready (and_left fitting lending is) fits
   stmt_fine (frees access path) inside s ready is lands fits =
-      let whole = names_variable path in
       let freed = is_freed_by p.types access (path_access p.types p.variables path) in
-      let former = and_left (whole && freed) (not (names_borrower p.variables path)) is in
-      frees_fine path.selectors access path.root s [] ready (and_left whole freed former) (and_right whole freed former) fits
+      frees_fine path.selectors access path.root s [] ready (and_left freed (not (names_borrower p.variables path)) is) fits
   stmt_fine (gets target) inside s ready is lands fits =
       gets_fine target.selectors target.root s.input s ready is fits
   stmt_fine (writes e) inside s ready is lands fits =
@@ -419,6 +399,9 @@ module _ (p : ProgramForm) where
   frame_fine types (frame.Receives c) s kinds ready deep fits =
       let taken = ready_kinds p kinds (variable.Access fits.1 ∷ fits.0) s fits.2 ready in
       receive_fine p (newest named s) fits.1 c (popped s) fits.0 (ready_pop p (variable.Access fits.1) fits.0 s taken) (newest_of p (variable.Access fits.1) fits.0 s taken) fits.3 fits.4
+  frame_fine types (frame.FreesIn access c) s kinds ready deep fits =
+      let taken = ready_kinds p kinds (variable.Access fits.1 ∷ fits.0) s fits.3 ready in
+      free_in_fine p (newest named s) access fits.1 fits.2 c (popped s) fits.0 (ready_pop p (variable.Access fits.1) fits.0 s taken) (newest_of p (variable.Access fits.1) fits.0 s taken) fits.4 fits.5
   frame_fine types (frame.Declares x) s kinds ready deep fits =
       let taken = ready_kinds p kinds (fits.1 ∷ fits.0) s fits.2 ready in
       running fits.0 (ready_owning p fits.0 (put x (newest named s) (popped s)) (declared x) (put_in p fits.0 (popped s) x fits.1 (newest named s) (ready_pop p fits.1 fits.0 s taken) fits.3 (newest_of p fits.1 fits.0 s taken))) fits.4
@@ -428,6 +411,7 @@ module _ (p : ProgramForm) where
   frame_fine types (frame.Ends v) s kinds ready deep fits = end_fine v s kinds fits.0 ready fits.1
   frame_fine types (frame.GivesBack v cause pool) s kinds ready deep fits = back_fine v cause pool s kinds fits.0 ready fits.1
   frame_fine types (frame.Clears x) s kinds ready deep fits = running kinds (put_in p kinds s x (variable.Access fits.0) Null ready fits.1 tt) fits.2
+  frame_fine types (frame.ClearsIn object c) s kinds ready deep fits = store_fine p object fits.0 c Null (variable.Access fits.1) s kinds fits.2 ready fits.3 fits.4 tt fits.5
 
   running_fine : (types : List TypeDefinition) (k : List (Frame Value)) (s : State) (kinds : List VariableKind) → s.control ≡ k → Ready p kinds s → Fits p (cells_of s.heap) kinds k → Fine p (running_next named types k s)
   running_fine types [] s kinds is ready fits = tt
@@ -461,11 +445,13 @@ module _ (p : ProgramForm) where
   master_deep (frame.Targets c right) k is = absurd (cc)
   master_deep (frame.StoresIn object c) k is = absurd (cc)
   master_deep (frame.Receives c) k is = absurd (cc)
+  master_deep (frame.FreesIn access c) k is = absurd (cc)
   master_deep (frame.Declares x) k is = absurd (cc)
   master_deep frame.Writes k is = absurd (cc)
   master_deep (frame.Ends v) k is = absurd (cc)
   master_deep (frame.GivesBack v cause pool) k is = absurd (cc)
   master_deep (frame.Clears x) k is = absurd (cc)
+  master_deep (frame.ClearsIn object c) k is = absurd (cc)
 
   -- Where an exception lands at a frame, by the handlers that are there.
   abbrev lands_by : Exception → Option HandlersForm → Landing
@@ -497,11 +483,13 @@ module _ (p : ProgramForm) where
   landing_comes e (frame.Targets c right) = refl
   landing_comes e (frame.StoresIn object c) = refl
   landing_comes e (frame.Receives c) = refl
+  landing_comes e (frame.FreesIn access c) = refl
   landing_comes e (frame.Declares x) = refl
   landing_comes e frame.Writes = refl
   landing_comes e (frame.Ends v) = refl
   landing_comes e (frame.GivesBack v cause pool) = refl
   landing_comes e (frame.Clears x) = refl
+  landing_comes e (frame.ClearsIn object c) = refl
 
   -- A jump that is left waiting while a master is left.
   waits : (cells : Cells) (mode : Mode) (f : Frame Value) (k : List (Frame Value)) → is_loop f ≡ false → Goes p cells mode (f ∷ k) → FitsBehind mode (Fits p cells [] k) (Lands p cells k) (Catches p cells k)

@@ -85,15 +85,14 @@ module _ (p : ProgramForm) where
       stored_at o access c v kind object s kinds (store s.heap (Names o) c v) ready has is leads fitting fits
       (ap cells_of found ∙ map-set (λ (x : Object). x.cell) s.heap o.0 (filled c v object))
 
-  -- The component is there.
-  component_there : (o : Id) (access : TypeNo) (c : ℕ) (kind : VariableKind) (object : Object) (s : State) (kinds : List VariableKind) → Ready p kinds s → Designates (cells_of s.heap) access.0 o → slice_get s.heap o.0 ≡ Some object → selected_kind p.types (Some (variable.Access access)) c ≡ Some kind → (v : Value) × (slice_get object.cell.values c ≡ Some v)
+  -- The component is there, and what it holds is of its kind.
+  pub component_there : (o : Id) (access : TypeNo) (c : ℕ) (kind : VariableKind) (object : Object) (s : State) (kinds : List VariableKind) → Ready p kinds s → Designates (cells_of s.heap) access.0 o → slice_get s.heap o.0 ≡ Some object → selected_kind p.types (Some (variable.Access access)) c ≡ Some kind → (v : Value) × (slice_get object.cell.values c ≡ Some v) × HasKind (cells_of s.heap) kind v
   component_there o access c kind object s kinds ready has is leads =
       let cells = cells_of s.heap in
       let own = filled_at p.types cells cells o.0 object.cell ready.filled (cell_at s.heap o.0 object is) in
       let reached : reached_components p.types access.0 ≡ Some own.0 = ap (reached_components p.types) (sym (own_access s.heap o access.0 object has is)) ∙ own.1 in
       let here : component_kind (slice_get own.0 c) ≡ Some kind = sym (ap (λ (found : Option (List ComponentForm)). kind_among found c) reached) ∙ leads in
-      let held = component_held cells own.0 object.cell.values c kind own.2 here in
-      (held.0, held.1)
+      component_held cells own.0 object.cell.values c kind own.2 here
 
   stored_fine : (o : Id) (access : TypeNo) (c : ℕ) (v : Value) (kind : VariableKind) (object : Object) (s : State) (kinds : List VariableKind) → Ready p kinds s → Designates (cells_of s.heap) access.0 o → slice_get s.heap o.0 ≡ Some object → selected_kind p.types (Some (variable.Access access)) c ≡ Some kind → HasKind (cells_of s.heap) kind v → Fits p (cells_of s.heap) kinds s.control → Fine p (stored_next named (Names o) c v (slice_get object.cell.values c) s)
   stored_fine o access c v kind object s kinds ready has is leads fitting fits =

@@ -13,7 +13,7 @@ use Rattle.ada_program.specs.Form.{declaration_forms, stmt_forms, handler_forms}
 use Rattle.ada_program.specs.declared.program.Program.{Program}
 use Rattle.ada_tree.specs.Statements.{UnitTree, IsTextOf}
 use Rattle.ada_program.specs.ProgramForm.{ProgramForm, variable_form, program_form}
-use Rattle.ada_flow.specs.Flow.{Outcome, faults, goes, Holds, then_flow, handled, outermost, stmts_flow, handlers_flow, declarations_flow, variables_of, program_flow, ObeysRules}
+use Rattle.ada_flow.specs.Flow.{Outcome, faults, goes, Holds, then_flow, handled, outermost, stmts_flow, handlers_flow, declarations_flow, types_of, variables_of, program_flow, ObeysRules}
 use Rattle.ada_effects.specs.Effects.{passes}
 use Rattle.ada_flow.specs.Told.{judgement}
 use Rattle.ada_parser.specs.declared.fault.SyntaxFault.{SyntaxFault}
@@ -75,12 +75,12 @@ one_resolution tokens tree source t u a b = ap resolution (same_tree tokens tree
 abbrev pub flow_by : ProgramForm → Outcome
 flow_by p =
     then_flow (declarations_flow p.variables p.declarations (replicate (length p.variables) Lost))
-    (λ at. handled (passes p.statements p.handlers) (handlers_flow p.variables outermost p.handlers) (stmts_flow p.variables outermost p.statements at))
+    (λ at. handled (passes p.statements p.handlers) (handlers_flow p.types p.variables outermost p.handlers) (stmts_flow p.types p.variables outermost p.statements at))
 
 flow_is : (p : Program) → program_flow p ≡ flow_by (program_form p)
 flow_is p =
     ap (λ (n : ℕ). then_flow (declarations_flow (variables_of p) (declaration_forms p) (replicate n Lost))
-    (λ at. handled (passes (stmt_forms p) (handler_forms p)) (handlers_flow (variables_of p) outermost (handler_forms p)) (stmts_flow (variables_of p) outermost (stmt_forms p) at)))
+    (λ at. handled (passes (stmt_forms p) (handler_forms p)) (handlers_flow (types_of p) (variables_of p) outermost (handler_forms p)) (stmts_flow (types_of p) (variables_of p) outermost (stmt_forms p) at)))
     (sym (length-map p.variables.items variable_form))
 
 same_judgement : (p q : Program) → program_form p ≡ program_form q → judgement (program_flow p) ≡ judgement (program_flow q)

@@ -95,5 +95,6 @@ fn rule_text(rule: Rule) -> &'static str
         Rule::AliasMoved => rules::ALIAS_MOVED,
         Rule::TakePair => rules::TAKE_PAIR,
         Rule::LoopState => rules::LOOP_STATE,
+        Rule::UnsafePath => rules::UNSAFE_PATH,
     }
 }

@@ -54,8 +54,11 @@ pub const LOST_VALUE: &str = "S1 lost-value";
 /// A variable is moved or freed whose object another variable owns.
 pub const ALIAS_MOVED: &str = "S2 alias-moved";
 
-/// A value is moved out of a component that the next statement does not set to null.
+/// A value is moved out of a component that keeps it: neither the next statement nor the assignment itself overwrites it.
 pub const TAKE_PAIR: &str = "S3 take-pair";
 
 /// At the end of a loop's body, or at an exit, less is known of a variable than at the loop's start.
 pub const LOOP_STATE: &str = "S5 loop-state";
+
+/// A component is freed whose path follows a value of the component's own access type.
+pub const UNSAFE_PATH: &str = "S6 unsafe-path";

@@ -7,63 +7,64 @@ use Rattle.ada_effects.specs.Effects.{passes}
 use Rattle.ada_program.specs.declared.program.Handler.{Handler}
 use Rattle.ada_program.specs.declared.program.Stmt.{Stmt}
 use Rattle.ada_program.specs.Form.{StmtForm, StmtsForm, ExpressionForm, HandlersForm, a_handler, DeclarationForm, encloses, encloses_form, condition_form, declaration_form, handlers_form, stmt_form, stmts_form}
-use Rattle.ada_program.specs.ProgramForm.{VariableForm, variable_form}
+use Rattle.ada_program.specs.ProgramForm.{TypeForm, VariableForm}
 use Rattle.ada_flow.specs.declared.fault.FlowFault.{FlowFault}
 use Rattle.ada_flow.specs.declared.fault.FlowFault.TheVariants.{Broken, NoMemory}
 use Rattle.ada_flow.specs.Flow.{Holds, goes, Around, join_option, left_option, stmt_flow, stmts_flow, handlers_flow, unless_worse, condition_flow, loop_flow, in_loop, in_block, collected, declarations_flow}
-use Rattle.ada_flow.specs.Told.{Noted, emptied, ending, end_handled, around_of, breach_of, held, joined_end, noted, noted_behind, noted_for, start_in, type_number, variables_in}
+use Rattle.ada_flow.specs.Told.{Noted, emptied, ending, end_handled, around_of, breach_of, held, joined_end, noted, noted_behind, noted_for, start_in, type_number, types_in, variables_in}
 use Rattle.ada_flow.proofs.Noted.{End, handlers_end, turn_returns, turn_stops, block_declares_badly, block_breaks, block_handles}
 use Rattle.ada_flow.proofs.+flowing.Goals as goal
 use Rattle.ada_flow.proofs.+flowing.Goals.{repetition::turn-in-Some+in_ok-unless_worse, repetition::turn-in_default}
 
 -- a handler joins those before it
-handler_step : (so_far joined end : Option Holds) (n k : Noted) (variables : List VariableForm) (around : Around) (handlers : List Handler) (i : ℕ) (one : Handler) (statements : List Stmt) (raising copied : Holds) (all : End) →
+handler_step : (so_far joined end : Option Holds) (n k : Noted) (types : List TypeForm) (variables : List VariableForm) (around : Around) (handlers : List Handler) (i : ℕ) (one : Handler) (statements : List Stmt) (raising copied : Holds) (all : End) →
     i < length handlers → one ≡ get_or handlers i one → statements ≡ one.statements.items → copied ≡ raising →
-    ending n (stmts_flow variables around (stmts_form statements) copied) ≡ Ok (end, k) → joined ≡ join_option so_far end →
-    joined_end so_far (ending n (handlers_flow variables around (handlers_form (drop i handlers)) raising)) ≡ all →
-    joined_end joined (ending k (handlers_flow variables around (handlers_form (drop (i + 1) handlers)) raising)) ≡ all
-handler_step so_far joined end n k variables around handlers i one statements raising copied all inside item same copy ends joins before =
+    ending n (stmts_flow types variables around (stmts_form statements) copied) ≡ Ok (end, k) → joined ≡ join_option so_far end →
+    joined_end so_far (ending n (handlers_flow types variables around (handlers_form (drop i handlers)) raising)) ≡ all →
+    joined_end joined (ending k (handlers_flow types variables around (handlers_form (drop (i + 1) handlers)) raising)) ≡ all
+handler_step so_far joined end n k types variables around handlers i one statements raising copied all inside item same copy ends joins before =
     let left = handlers_form (drop (i + 1) handlers) in
     let step : handlers_form (drop i handlers) ≡ a_handler one.choices.items (stmts_form one.statements.items) left =
     at_drop_more handlers_form handlers i one inside ∙ ap (λ (h : Handler). handlers_form (h ∷ drop (i + 1) handlers)) (sym item) in
-    let own : ending n (stmts_flow variables around (stmts_form one.statements.items) raising) ≡ Ok (end, k) =
-    subst (λ (ss : List Stmt). ending n (stmts_flow variables around (stmts_form ss) raising) ≡ Ok (end, k)) same
-    (subst (λ (hs : Holds). ending n (stmts_flow variables around (stmts_form statements) hs) ≡ Ok (end, k)) copy ends) in
-    ap (λ (j : Option Holds). joined_end j (ending k (handlers_flow variables around left raising))) joins
-    ∙ sym (handlers_end so_far n k variables around one.choices.items (stmts_form one.statements.items) left raising end own)
-    ∙ sym (ap (λ (hs : HandlersForm). joined_end so_far (ending n (handlers_flow variables around hs raising))) step)
+    let own : ending n (stmts_flow types variables around (stmts_form one.statements.items) raising) ≡ Ok (end, k) =
+    subst (λ (ss : List Stmt). ending n (stmts_flow types variables around (stmts_form ss) raising) ≡ Ok (end, k)) same
+    (subst (λ (hs : Holds). ending n (stmts_flow types variables around (stmts_form statements) hs) ≡ Ok (end, k)) copy ends) in
+    ap (λ (j : Option Holds). joined_end j (ending k (handlers_flow types variables around left raising))) joins
+    ∙ sym (handlers_end so_far n k types variables around one.choices.items (stmts_form one.statements.items) left raising end own)
+    ∙ sym (ap (λ (hs : HandlersForm). joined_end so_far (ending n (handlers_flow types variables around hs raising))) step)
     ∙ before
 
 pub blocks::handlers-handlers-preserved : goal.blocks::handlers-handlers-preserved
 blocks::handlers-handlers-preserved t c =
     handler_step (held c.handlers.joined) (held c.join_ends-joined.result) (held c.in_ok-end.end) (noted c.handlers.raised) (noted c.statements.new.raised)
-    (variables_in c.args.around.now) (around_of c.args.around.now) c.args.handlers.now c.handlers.handler-index c.handler-item.result c.deref.result.now
+    (types_in c.args.around.now) (variables_in c.args.around.now) (around_of c.args.around.now) c.args.handlers.now c.handlers.handler-index c.handler-item.result c.deref.result.now
     c.args.raising.now.holds.items c.in_ok-copy.field-0.holds.items
-    (ending (noted c.args.raised.now) (handlers_flow (variables_in c.args.around.now) (around_of c.args.around.now) (handlers_form c.args.handlers.now) c.args.raising.now.holds.items))
+    (ending (noted c.args.raised.now) (handlers_flow (types_in c.args.around.now) (variables_in c.args.around.now) (around_of c.args.around.now) (handlers_form c.args.handlers.now) c.args.raising.now.holds.items))
     c.handlers-test.true c.handler-item.is c.deref.ensures.value c.in_ok-copy.ensures c.in_ok-end.ensures c.join_ends-joined.ensures c.handlers.invariant
 
 -- one turn, where it leads back and where it doesn't
-turned : (leaves : Bool) (n m k : Noted) (condition : Option ExpressionForm) (spot : Spot) (variables : List VariableForm) (fs : StmtsForm) (start : Holds) (end : Option Holds) →
-    ending n (condition_flow condition start) ≡ Ok (Some start, m) → ending m (stmts_flow variables (in_loop (Some start)) fs start) ≡ Ok (end, k) →
+turned : (leaves : Bool) (n m k : Noted) (condition : Option ExpressionForm) (spot : Spot) (types : List TypeForm) (variables : List VariableForm) (fs : StmtsForm) (start : Holds) (end : Option Holds) →
+    ending n (condition_flow condition start) ≡ Ok (Some start, m) → ending m (stmts_flow types variables (in_loop (Some start)) fs start) ≡ Ok (end, k) →
     IfSome end (λ after. unless_worse start after spot (goes (Some after) None) ≡ goes (Some after) None) →
-    ending n (loop_flow condition leaves spot (λ place hs. stmts_flow variables (in_loop place) fs hs) start) ≡ Ok ((if leaves then Some start else None), k)
-turned leaves n m k condition spot variables fs start None tests turns keeps = turn_stops leaves n m k condition spot variables fs start tests turns
-turned leaves n m k condition spot variables fs start (Some after) tests turns keeps = turn_returns leaves n m k condition spot variables fs start after tests turns keeps
+    ending n (loop_flow condition leaves spot (λ place hs. stmts_flow types variables (in_loop place) fs hs) start) ≡ Ok ((if leaves then Some start else None), k)
+turned leaves n m k condition spot types variables fs start None tests turns keeps = turn_stops leaves n m k condition spot types variables fs start tests turns
+turned leaves n m k condition spot types variables fs start (Some after) tests turns keeps = turn_returns leaves n m k condition spot types variables fs start after tests turns keeps
 
 -- the same of what the code keeps
-turned_in : (leaves b : Bool) (n m k : Noted) (condition : Option ExpressionForm) (spot : Spot) (variables vs : List VariableForm) (place : Around) (fs : StmtsForm) (start placed copied : Holds) (end : Option Holds) →
-    leaves ≡ b → placed ≡ start → copied ≡ start → vs ≡ variables → place ≡ in_loop (Some placed) →
-    ending n (condition_flow condition start) ≡ Ok (Some start, m) → ending m (stmts_flow vs place fs copied) ≡ Ok (end, k) →
+turned_in : (leaves b : Bool) (n m k : Noted) (condition : Option ExpressionForm) (spot : Spot) (types ts : List TypeForm) (variables vs : List VariableForm) (place : Around) (fs : StmtsForm) (start placed copied : Holds) (end : Option Holds) →
+    leaves ≡ b → placed ≡ start → copied ≡ start → ts ≡ types → vs ≡ variables → place ≡ in_loop (Some placed) →
+    ending n (condition_flow condition start) ≡ Ok (Some start, m) → ending m (stmts_flow ts vs place fs copied) ≡ Ok (end, k) →
     IfSome end (λ after. unless_worse start after spot (goes (Some after) None) ≡ goes (Some after) None) →
-    ending n (loop_flow condition leaves spot (λ place hs. stmts_flow variables (in_loop place) fs hs) start) ≡ Ok ((if b then Some start else None), k)
-turned_in leaves b n m k condition spot variables vs place fs start placed copied end leaves_is placed_is copied_is vs_is place_is tests turns keeps =
+    ending n (loop_flow condition leaves spot (λ place hs. stmts_flow types variables (in_loop place) fs hs) start) ≡ Ok ((if b then Some start else None), k)
+turned_in leaves b n m k condition spot types ts variables vs place fs start placed copied end leaves_is placed_is copied_is ts_is vs_is place_is tests turns keeps =
     let at_start : place ≡ in_loop (Some start) = place_is ∙ ap (λ (d : Holds). in_loop (Some d)) placed_is in
-    let second : ending m (stmts_flow variables (in_loop (Some start)) fs start) ≡ Ok (end, k) =
-    subst (λ (v : List VariableForm). ending m (stmts_flow v (in_loop (Some start)) fs start) ≡ Ok (end, k)) vs_is
-    (subst (λ (p : Around). ending m (stmts_flow vs p fs start) ≡ Ok (end, k)) at_start
-    (subst (λ (d : Holds). ending m (stmts_flow vs place fs d) ≡ Ok (end, k)) copied_is turns)) in
-    subst (λ (l : Bool). ending n (loop_flow condition leaves spot (λ place hs. stmts_flow variables (in_loop place) fs hs) start) ≡ Ok ((if l then Some start else None), k)) leaves_is
-    (turned leaves n m k condition spot variables fs start end tests second keeps)
+    let second : ending m (stmts_flow types variables (in_loop (Some start)) fs start) ≡ Ok (end, k) =
+    subst (λ (t : List TypeForm). ending m (stmts_flow t variables (in_loop (Some start)) fs start) ≡ Ok (end, k)) ts_is
+    (subst (λ (v : List VariableForm). ending m (stmts_flow ts v (in_loop (Some start)) fs start) ≡ Ok (end, k)) vs_is
+    (subst (λ (p : Around). ending m (stmts_flow ts vs p fs start) ≡ Ok (end, k)) at_start
+    (subst (λ (d : Holds). ending m (stmts_flow ts vs place fs d) ≡ Ok (end, k)) copied_is turns))) in
+    subst (λ (l : Bool). ending n (loop_flow condition leaves spot (λ place hs. stmts_flow types variables (in_loop place) fs hs) start) ≡ Ok ((if l then Some start else None), k)) leaves_is
+    (turned leaves n m k condition spot types variables fs start end tests second keeps)
 
 keeps_start : (start first after seen : Holds) (spot : Spot) → first ≡ start → seen ≡ after → unless_worse first seen spot (goes (Some seen) None) ≡ goes (Some seen) None →
     unless_worse start after spot (goes (Some after) None) ≡ goes (Some after) None
@@ -79,9 +80,9 @@ repetition::turn-returns-then-leaves t c =
       | repetition::turn-in_default w ↦ rw w.in_default.is tt
     ] in
     turned_in c.args.leaves true (noted c.args.raised.now) (noted c.compute_condition.new.raised) (noted c.statements.new.raised) (condition_form c.args.condition.now) c.args.end
-    (map variable_form c.args.variables.now) (variables_in c.in_loop-around.result) (around_of c.in_loop-around.result) (stmts_form c.args.body.now)
+    (types_in c.args.around.now) (types_in c.in_loop-within.result) (variables_in c.args.around.now) (variables_in c.in_loop-within.result) (around_of c.in_loop-within.result) (stmts_form c.args.body.now)
     c.args.start.holds.items c.holds.result.now c.in_ok-copy.field-0.holds.items (held c.in_ok-after.field-0)
-    c.if-leaves.true c.holds.ensures c.in_ok-copy.ensures c.in_loop-around.ensures.variables c.in_loop-around.ensures.place
+    c.if-leaves.true c.holds.ensures c.in_ok-copy.ensures c.in_loop-within.ensures.types c.in_loop-within.ensures.variables c.in_loop-within.ensures.place
     c.in_ok-compute_condition.ensures c.in_ok-after.ensures keeps
 
 pub repetition::turn-returns-else-leaves : goal.repetition::turn-returns-else-leaves
@@ -92,9 +93,9 @@ repetition::turn-returns-else-leaves t c =
       | repetition::turn-in_default w ↦ rw w.in_default.is tt
     ] in
     turned_in c.args.leaves false (noted c.args.raised.now) (noted c.compute_condition.new.raised) (noted c.statements.new.raised) (condition_form c.args.condition.now) c.args.end
-    (map variable_form c.args.variables.now) (variables_in c.in_loop-around.result) (around_of c.in_loop-around.result) (stmts_form c.args.body.now)
+    (types_in c.args.around.now) (types_in c.in_loop-within.result) (variables_in c.args.around.now) (variables_in c.in_loop-within.result) (around_of c.in_loop-within.result) (stmts_form c.args.body.now)
     c.args.start.holds.items c.holds.result.now c.in_ok-copy.field-0.holds.items (held c.in_ok-after.field-0)
-    c.if-leaves.false c.holds.ensures c.in_ok-copy.ensures c.in_loop-around.ensures.variables c.in_loop-around.ensures.place
+    c.if-leaves.false c.holds.ensures c.in_ok-copy.ensures c.in_loop-within.ensures.types c.in_loop-within.ensures.variables c.in_loop-within.ensures.place
     c.in_ok-compute_condition.ensures c.in_ok-after.ensures keeps
 
 -- how the declarations of a block end
@@ -105,67 +106,67 @@ declared n own variables ds ds' holds end own_is ds_is ends =
     (subst (λ (xs : List DeclarationForm). ending own (declarations_flow variables xs holds) ≡ end) ds_is ends)
 
 -- and its statements
-inner_ends : (m inner : Noted) (variables : List VariableForm) (around within : Around) (types : List ℕ) (fs fs' : StmtsForm) (hs hs' : HandlersForm) (at : Holds) (end : End) →
-    within ≡ in_block types around → inner ≡ noted_for m hs' → hs' ≡ hs → fs' ≡ fs →
-    ending inner (stmts_flow variables within fs' at) ≡ end → ending (noted_for m hs) (stmts_flow variables (in_block types around) fs at) ≡ end
-inner_ends m inner variables around within types fs fs' hs hs' at end within_is inner_is hs_is fs_is ends =
-    subst (λ (o : Noted). ending o (stmts_flow variables (in_block types around) fs at) ≡ end) (inner_is ∙ ap (noted_for m) hs_is)
-    (subst (λ (p : Around). ending inner (stmts_flow variables p fs at) ≡ end) within_is
-    (subst (λ (f : StmtsForm). ending inner (stmts_flow variables within f at) ≡ end) fs_is ends))
+inner_ends : (m inner : Noted) (types : List TypeForm) (variables : List VariableForm) (around within : Around) (collections : List ℕ) (fs fs' : StmtsForm) (hs hs' : HandlersForm) (at : Holds) (end : End) →
+    within ≡ in_block collections around → inner ≡ noted_for m hs' → hs' ≡ hs → fs' ≡ fs →
+    ending inner (stmts_flow types variables within fs' at) ≡ end → ending (noted_for m hs) (stmts_flow types variables (in_block collections around) fs at) ≡ end
+inner_ends m inner types variables around within collections fs fs' hs hs' at end within_is inner_is hs_is fs_is ends =
+    subst (λ (o : Noted). ending o (stmts_flow types variables (in_block collections around) fs at) ≡ end) (inner_is ∙ ap (noted_for m) hs_is)
+    (subst (λ (p : Around). ending inner (stmts_flow types variables p fs at) ≡ end) within_is
+    (subst (λ (f : StmtsForm). ending inner (stmts_flow types variables within f at) ≡ end) fs_is ends))
 
 -- where a block's statements stand
 abbrev stands : Option Holds → List ℕ → Around
 stands start inside = record { start = start; inside = inside }
 
-stands_in : (types inside : List ℕ) (around : Around) → inside ≡ types ++ around.inside → stands around.start inside ≡ in_block types around
-stands_in types inside around e = ap (stands around.start) e
+stands_in : (collections inside : List ℕ) (around : Around) → inside ≡ collections ++ around.inside → stands around.start inside ≡ in_block collections around
+stands_in collections inside around e = ap (stands around.start) e
 
 -- its declarations break a rule
-declares_badly : (fault : FlowFault) (n own : Noted) (variables : List VariableForm) (cleared : Bool) (around : Around) (f : StmtForm) (ds ds' : List DeclarationForm) (fs : StmtsForm) (hs : HandlersForm) (holds : Holds) →
+declares_badly : (fault : FlowFault) (n own : Noted) (types : List TypeForm) (variables : List VariableForm) (cleared : Bool) (around : Around) (f : StmtForm) (ds ds' : List DeclarationForm) (fs : StmtsForm) (hs : HandlersForm) (holds : Holds) →
     f ≡ encloses ds fs hs → own ≡ emptied n → ds' ≡ ds →
     IfSome (breach_of fault) (λ breach. ending own (declarations_flow variables ds' holds) ≡ Err breach) →
-    IfSome (breach_of fault) (λ breach. ending n (stmt_flow variables around cleared f holds) ≡ Err breach)
-declares_badly NoMemory n own variables cleared around f ds ds' fs hs holds form own_is ds_is breaks = tt
-declares_badly (Broken spot rule) n own variables cleared around f ds ds' fs hs holds form own_is ds_is breaks =
-    subst (λ (g : StmtForm). ending n (stmt_flow variables around cleared g holds) ≡ Err (spot, rule)) (sym form)
-    (block_declares_badly n variables around cleared ds fs hs holds (spot, rule) (declared n own variables ds ds' holds (Err (spot, rule)) own_is ds_is breaks))
+    IfSome (breach_of fault) (λ breach. ending n (stmt_flow types variables around cleared f holds) ≡ Err breach)
+declares_badly NoMemory n own types variables cleared around f ds ds' fs hs holds form own_is ds_is breaks = tt
+declares_badly (Broken spot rule) n own types variables cleared around f ds ds' fs hs holds form own_is ds_is breaks =
+    subst (λ (g : StmtForm). ending n (stmt_flow types variables around cleared g holds) ≡ Err (spot, rule)) (sym form)
+    (block_declares_badly n types variables around cleared ds fs hs holds (spot, rule) (declared n own variables ds ds' holds (Err (spot, rule)) own_is ds_is breaks))
 
 -- its statements do
-inner_breaks : (fault : FlowFault) (n own m inner : Noted) (variables : List VariableForm) (cleared : Bool) (around within : Around) (types : List ℕ) (f : StmtForm) (ds ds' : List DeclarationForm) (fs fs' : StmtsForm) (hs hs' : HandlersForm) (holds at : Holds) →
-    f ≡ encloses ds fs hs → types ≡ collected ds → own ≡ emptied n → ds' ≡ ds →
+inner_breaks : (fault : FlowFault) (n own m inner : Noted) (types : List TypeForm) (variables : List VariableForm) (cleared : Bool) (around within : Around) (collections : List ℕ) (f : StmtForm) (ds ds' : List DeclarationForm) (fs fs' : StmtsForm) (hs hs' : HandlersForm) (holds at : Holds) →
+    f ≡ encloses ds fs hs → collections ≡ collected ds → own ≡ emptied n → ds' ≡ ds →
     ending own (declarations_flow variables ds' holds) ≡ Ok (Some at, m) →
-    within ≡ in_block types around → inner ≡ noted_for m hs' → hs' ≡ hs → fs' ≡ fs →
-    IfSome (breach_of fault) (λ breach. ending inner (stmts_flow variables within fs' at) ≡ Err breach) →
-    IfSome (breach_of fault) (λ breach. ending n (stmt_flow variables around cleared f holds) ≡ Err breach)
-inner_breaks NoMemory n own m inner variables cleared around within types f ds ds' fs fs' hs hs' holds at form types_is own_is ds_is declares within_is inner_is hs_is fs_is breaks = tt
-inner_breaks (Broken spot rule) n own m inner variables cleared around within types f ds ds' fs fs' hs hs' holds at form types_is own_is ds_is declares within_is inner_is hs_is fs_is breaks =
-    subst (λ (g : StmtForm). ending n (stmt_flow variables around cleared g holds) ≡ Err (spot, rule)) (sym form)
-    (block_breaks n m variables around cleared types ds fs hs holds at (spot, rule) types_is
+    within ≡ in_block collections around → inner ≡ noted_for m hs' → hs' ≡ hs → fs' ≡ fs →
+    IfSome (breach_of fault) (λ breach. ending inner (stmts_flow types variables within fs' at) ≡ Err breach) →
+    IfSome (breach_of fault) (λ breach. ending n (stmt_flow types variables around cleared f holds) ≡ Err breach)
+inner_breaks NoMemory n own m inner types variables cleared around within collections f ds ds' fs fs' hs hs' holds at form collections_are own_is ds_is declares within_is inner_is hs_is fs_is breaks = tt
+inner_breaks (Broken spot rule) n own m inner types variables cleared around within collections f ds ds' fs fs' hs hs' holds at form collections_are own_is ds_is declares within_is inner_is hs_is fs_is breaks =
+    subst (λ (g : StmtForm). ending n (stmt_flow types variables around cleared g holds) ≡ Err (spot, rule)) (sym form)
+    (block_breaks n m types variables around cleared collections ds fs hs holds at (spot, rule) collections_are
     (declared n own variables ds ds' holds (Ok (Some at, m)) own_is ds_is declares)
-    (inner_ends m inner variables around within types fs fs' hs hs' at (Err (spot, rule)) within_is inner_is hs_is fs_is breaks))
+    (inner_ends m inner types variables around within collections fs fs' hs hs' at (Err (spot, rule)) within_is inner_is hs_is fs_is breaks))
 
 -- and where nothing does
-block_is_left : (n own m inner k l raised : Noted) (variables : List VariableForm) (cleared : Bool) (around within : Around) (types behind left : List ℕ) (f : StmtForm) (ds ds' : List DeclarationForm) (fs fs' fs'' : StmtsForm) (hs hs' hs'' : HandlersForm) (holds at : Holds) (normal end leaves : Option Holds) →
-    f ≡ encloses ds fs hs → types ≡ collected ds → own ≡ emptied n → ds' ≡ ds →
+block_is_left : (n own m inner k l raised : Noted) (types : List TypeForm) (variables : List VariableForm) (cleared : Bool) (around within : Around) (collections behind left : List ℕ) (f : StmtForm) (ds ds' : List DeclarationForm) (fs fs' fs'' : StmtsForm) (hs hs' hs'' : HandlersForm) (holds at : Holds) (normal end leaves : Option Holds) →
+    f ≡ encloses ds fs hs → collections ≡ collected ds → own ≡ emptied n → ds' ≡ ds →
     ending own (declarations_flow variables ds' holds) ≡ Ok (Some at, m) →
-    within ≡ in_block types around → inner ≡ noted_for m hs' → hs' ≡ hs → fs' ≡ fs →
-    ending inner (stmts_flow variables within fs' at) ≡ Ok (normal, k) →
-    fs'' ≡ fs → hs'' ≡ hs → end_handled m (passes fs'' hs'') (handlers_flow variables within hs'') normal k ≡ Ok (end, l) →
-    behind ≡ types → raised ≡ noted_behind n variables behind l → left ≡ types → leaves ≡ left_option variables left end →
-    ending n (stmt_flow variables around cleared f holds) ≡ Ok (leaves, raised)
-block_is_left n own m inner k l raised variables cleared around within types behind left f ds ds' fs fs' fs'' hs hs' hs'' holds at normal end leaves form types_is own_is ds_is declares within_is inner_is hs_is fs_is ends fs_is' hs_is' handles behind_is raised_is left_is leaves_is =
-    let handlers_end : end_handled m (passes fs hs) (handlers_flow variables (in_block types around) hs) normal k ≡ Ok (end, l) =
-    subst (λ (p : Around). end_handled m (passes fs hs) (handlers_flow variables p hs) normal k ≡ Ok (end, l)) within_is
-    (subst (λ (h : HandlersForm). end_handled m (passes fs h) (handlers_flow variables within h) normal k ≡ Ok (end, l)) hs_is'
-    (subst (λ (g : StmtsForm). end_handled m (passes g hs'') (handlers_flow variables within hs'') normal k ≡ Ok (end, l)) fs_is' handles)) in
-    let raised_so : raised ≡ noted_behind n variables types l = raised_is ∙ ap (λ (ts : List ℕ). noted_behind n variables ts l) behind_is in
-    let leaves_so : leaves ≡ left_option variables types end = leaves_is ∙ ap (λ (ts : List ℕ). left_option variables ts end) left_is in
-    subst (λ (x : Option Holds). ending n (stmt_flow variables around cleared f holds) ≡ Ok (x, raised)) (sym leaves_so)
-    (subst (λ (x : Noted). ending n (stmt_flow variables around cleared f holds) ≡ Ok (left_option variables types end, x)) (sym raised_so)
-    (subst (λ (g : StmtForm). ending n (stmt_flow variables around cleared g holds) ≡ Ok (left_option variables types end, noted_behind n variables types l)) (sym form)
-    (block_handles n m k variables around cleared types ds fs hs holds at normal (Ok (end, l)) types_is
+    within ≡ in_block collections around → inner ≡ noted_for m hs' → hs' ≡ hs → fs' ≡ fs →
+    ending inner (stmts_flow types variables within fs' at) ≡ Ok (normal, k) →
+    fs'' ≡ fs → hs'' ≡ hs → end_handled m (passes fs'' hs'') (handlers_flow types variables within hs'') normal k ≡ Ok (end, l) →
+    behind ≡ collections → raised ≡ noted_behind n variables behind l → left ≡ collections → leaves ≡ left_option variables left end →
+    ending n (stmt_flow types variables around cleared f holds) ≡ Ok (leaves, raised)
+block_is_left n own m inner k l raised types variables cleared around within collections behind left f ds ds' fs fs' fs'' hs hs' hs'' holds at normal end leaves form collections_are own_is ds_is declares within_is inner_is hs_is fs_is ends fs_is' hs_is' handles behind_is raised_is left_is leaves_is =
+    let handlers_end : end_handled m (passes fs hs) (handlers_flow types variables (in_block collections around) hs) normal k ≡ Ok (end, l) =
+    subst (λ (p : Around). end_handled m (passes fs hs) (handlers_flow types variables p hs) normal k ≡ Ok (end, l)) within_is
+    (subst (λ (h : HandlersForm). end_handled m (passes fs h) (handlers_flow types variables within h) normal k ≡ Ok (end, l)) hs_is'
+    (subst (λ (g : StmtsForm). end_handled m (passes g hs'') (handlers_flow types variables within hs'') normal k ≡ Ok (end, l)) fs_is' handles)) in
+    let raised_so : raised ≡ noted_behind n variables collections l = raised_is ∙ ap (λ (ts : List ℕ). noted_behind n variables ts l) behind_is in
+    let leaves_so : leaves ≡ left_option variables collections end = leaves_is ∙ ap (λ (ts : List ℕ). left_option variables ts end) left_is in
+    subst (λ (x : Option Holds). ending n (stmt_flow types variables around cleared f holds) ≡ Ok (x, raised)) (sym leaves_so)
+    (subst (λ (x : Noted). ending n (stmt_flow types variables around cleared f holds) ≡ Ok (left_option variables collections end, x)) (sym raised_so)
+    (subst (λ (g : StmtForm). ending n (stmt_flow types variables around cleared g holds) ≡ Ok (left_option variables collections end, noted_behind n variables collections l)) (sym form)
+    (block_handles n m k types variables around cleared collections ds fs hs holds at normal (Ok (end, l)) collections_are
     (declared n own variables ds ds' holds (Ok (Some at, m)) own_is ds_is declares)
-    (inner_ends m inner variables around within types fs fs' hs hs' at (Ok (normal, k)) within_is inner_is hs_is fs_is ends)
+    (inner_ends m inner types variables around within collections fs fs' hs hs' at (Ok (normal, k)) within_is inner_is hs_is fs_is ends)
     handlers_end)))
 
 pub statements::statement-returns-in_err-declare-in-Block :
@@ -174,7 +175,7 @@ statements::statement-returns-in_err-declare-in-Block t c =
     let form : stmt_form c.args.statement.now ≡ encloses (map declaration_form c.in-Block.declarations.items) (stmts_form c.in-Block.statements.items) (handlers_form c.in-Block.handlers.items) =
     ap stmt_form c.in-Block.is ∙ encloses_form c.in-Block.declarations c.in-Block.statements c.in-Block.handlers in
     let p = err_from_is_err_and c.from_residual-in_err-declare-in-Block.result c.from_residual-in_err-declare-in-Block.ensures.1 in
-    rw (p.1, p.2) (declares_badly c.in_err-declare-in-Block.field-0.0 (noted c.args.raised.now) (noted c.emptied-own.result) (variables_in c.args.around.now) c.args.cleared (around_of c.args.around.now) (stmt_form c.args.statement.now)
+    rw (p.1, p.2) (declares_badly c.in_err-declare-in-Block.field-0.0 (noted c.args.raised.now) (noted c.emptied-own.result) (types_in c.args.around.now) (variables_in c.args.around.now) c.args.cleared (around_of c.args.around.now) (stmt_form c.args.statement.now)
     (map declaration_form c.in-Block.declarations.items) (map declaration_form c.deref-in-Block-4.result.now) (stmts_form c.in-Block.statements.items) (handlers_form c.in-Block.handlers.items)
     c.args.known.holds.items form c.emptied-own.ensures (ap (map declaration_form) c.deref-in-Block-4.ensures.value) c.in_err-declare-in-Block.ensures)
 
@@ -183,16 +184,16 @@ pub statements::statement-returns-in_err-end-in-Block :
 statements::statement-returns-in_err-end-in-Block t c =
     let form : stmt_form c.args.statement.now ≡ encloses (map declaration_form c.in-Block.declarations.items) (stmts_form c.in-Block.statements.items) (handlers_form c.in-Block.handlers.items) =
     ap stmt_form c.in-Block.is ∙ encloses_form c.in-Block.declarations c.in-Block.statements c.in-Block.handlers in
-    let types_is : map type_number c.in_ok-types-in-Block.types.items ≡ collected (map declaration_form c.in-Block.declarations.items) =
+    let collections_are : map type_number c.in_ok-types-in-Block.types.items ≡ collected (map declaration_form c.in-Block.declarations.items) =
     c.in_ok-types-in-Block.ensures ∙ ap collected (ap (map declaration_form) c.deref-in-Block.ensures.value) in
     let inside_is : map type_number c.deref-in-Block-3.result.now ≡ map type_number c.in_ok-types-in-Block.types.items ++ map type_number c.args.around.now.inside.now =
     ap (map type_number) c.deref-in-Block-3.ensures.value ∙ c.in_ok-inside-in-Block.ensures ∙ ap (λ (ts : List ℕ). ts ++ map type_number c.args.around.now.inside.now) (ap (map type_number) c.deref-in-Block-2.ensures.value) in
     let p = err_from_is_err_and c.from_residual-in_err-end-in-Block.result c.from_residual-in_err-end-in-Block.ensures.1 in
-    rw (p.1, p.2) (inner_breaks c.in_err-end-in-Block.field-0.0 (noted c.args.raised.now) (noted c.emptied-own.result) (noted c.declare.new.raised) (noted c.with_handlers-inner.result) (variables_in c.args.around.now) c.args.cleared (around_of c.args.around.now)
+    rw (p.1, p.2) (inner_breaks c.in_err-end-in-Block.field-0.0 (noted c.args.raised.now) (noted c.emptied-own.result) (noted c.declare.new.raised) (noted c.with_handlers-inner.result) (types_in c.args.around.now) (variables_in c.args.around.now) c.args.cleared (around_of c.args.around.now)
     (stands (start_in c.args.around.now) (map type_number c.deref-in-Block-3.result.now)) (map type_number c.in_ok-types-in-Block.types.items) (stmt_form c.args.statement.now)
     (map declaration_form c.in-Block.declarations.items) (map declaration_form c.deref-in-Block-4.result.now) (stmts_form c.in-Block.statements.items) (stmts_form c.deref-in-Block-6.result.now)
     (handlers_form c.in-Block.handlers.items) (handlers_form c.deref-in-Block-5.result.now) c.args.known.holds.items c.declare.new.known.holds.items
-    form types_is c.emptied-own.ensures (ap (map declaration_form) c.deref-in-Block-4.ensures.value) c.in_ok-declare-in-Block.ensures
+    form collections_are c.emptied-own.ensures (ap (map declaration_form) c.deref-in-Block-4.ensures.value) c.in_ok-declare-in-Block.ensures
     (stands_in (map type_number c.in_ok-types-in-Block.types.items) (map type_number c.deref-in-Block-3.result.now) (around_of c.args.around.now) inside_is)
     c.with_handlers-inner.ensures (ap handlers_form c.deref-in-Block-5.ensures.value) (ap stmts_form c.deref-in-Block-6.ensures.value) c.in_err-end-in-Block.ensures)
 
@@ -200,12 +201,12 @@ pub statements::statement-returns-in-Block : goal.statements::statement-returns-
 statements::statement-returns-in-Block t c =
     let form : stmt_form c.args.statement.now ≡ encloses (map declaration_form c.in-Block.declarations.items) (stmts_form c.in-Block.statements.items) (handlers_form c.in-Block.handlers.items) =
     ap stmt_form c.in-Block.is ∙ encloses_form c.in-Block.declarations c.in-Block.statements c.in-Block.handlers in
-    let types_is : map type_number c.in_ok-types-in-Block.types.items ≡ collected (map declaration_form c.in-Block.declarations.items) =
+    let collections_are : map type_number c.in_ok-types-in-Block.types.items ≡ collected (map declaration_form c.in-Block.declarations.items) =
     c.in_ok-types-in-Block.ensures ∙ ap collected (ap (map declaration_form) c.deref-in-Block.ensures.value) in
     let inside_is : map type_number c.deref-in-Block-3.result.now ≡ map type_number c.in_ok-types-in-Block.types.items ++ map type_number c.args.around.now.inside.now =
     ap (map type_number) c.deref-in-Block-3.ensures.value ∙ c.in_ok-inside-in-Block.ensures ∙ ap (λ (ts : List ℕ). ts ++ map type_number c.args.around.now.inside.now) (ap (map type_number) c.deref-in-Block-2.ensures.value) in
     block_is_left (noted c.args.raised.now) (noted c.emptied-own.result) (noted c.declare.new.raised) (noted c.with_handlers-inner.result) (noted c.statements-in-Block.new.raised) (noted c.handled.new.raised) (noted c.add_behind.new.self)
-    (variables_in c.args.around.now) c.args.cleared (around_of c.args.around.now)
+    (types_in c.args.around.now) (variables_in c.args.around.now) c.args.cleared (around_of c.args.around.now)
     (stands (start_in c.args.around.now) (map type_number c.deref-in-Block-3.result.now)) (map type_number c.in_ok-types-in-Block.types.items)
     (map type_number c.deref-in-Block-9.result.now) (map type_number c.deref-in-Block-10.result.now) (stmt_form c.args.statement.now)
     (map declaration_form c.in-Block.declarations.items) (map declaration_form c.deref-in-Block-4.result.now)
@@ -213,7 +214,7 @@ statements::statement-returns-in-Block t c =
     (handlers_form c.in-Block.handlers.items) (handlers_form c.deref-in-Block-5.result.now) (handlers_form c.deref-in-Block-7.result.now)
     c.args.known.holds.items c.declare.new.known.holds.items
     (held c.in_ok-end-in-Block.end) (held c.in_ok-end-in-Block-2.end) (held c.in_ok-leave_end-in-Block.field-0)
-    form types_is c.emptied-own.ensures (ap (map declaration_form) c.deref-in-Block-4.ensures.value) c.in_ok-declare-in-Block.ensures
+    form collections_are c.emptied-own.ensures (ap (map declaration_form) c.deref-in-Block-4.ensures.value) c.in_ok-declare-in-Block.ensures
     (stands_in (map type_number c.in_ok-types-in-Block.types.items) (map type_number c.deref-in-Block-3.result.now) (around_of c.args.around.now) inside_is)
     c.with_handlers-inner.ensures (ap handlers_form c.deref-in-Block-5.ensures.value) (ap stmts_form c.deref-in-Block-6.ensures.value) c.in_ok-end-in-Block.ensures
     (ap stmts_form c.deref-in-Block-8.ensures.value) (ap handlers_form c.deref-in-Block-7.ensures.value) c.in_ok-end-in-Block-2.ensures

@@ -143,10 +143,7 @@ module _ (types more : List TypeForm) (variables others : List VariableForm) (ts
   item_stays (component.Boolean initial) (item_of_path path) h = absurd (cc h)
   item_stays (component.Boolean initial) (item_of_value e) h = has_type_stays Boolean e h
   item_stays (component.Access t) null_item h = refl
-  item_stays (component.Access t) (item_of_path path) h =
-      both_parts (fits.names_variable path) (fits.is_this t.0 (fits.path_access more others path))
-      (first_part (fits.names_variable path) (fits.is_this t.0 (fits.path_access types variables path)) h)
-      (moved_stays path t.0 (second_part (fits.names_variable path) (fits.is_this t.0 (fits.path_access types variables path)) h))
+  item_stays (component.Access t) (item_of_path path) h = moved_stays path t.0 h
   item_stays (component.Access t) (item_of_value e) h = absurd (cc h)
 
   items_stay : (cs : List ComponentForm) (items : List ItemForm) → fits.items_fit types variables cs items ≡ true → fits.items_fit more others cs items ≡ true
@@ -214,8 +211,7 @@ module _ (types more : List TypeForm) (variables others : List VariableForm) (ts
   item_owns_stays (component.Integer initial) (item_of_path path) h o = absurd (cc h)
   item_owns_stays (component.Boolean initial) (item_of_path path) h o = absurd (cc h)
   item_owns_stays (component.Access t) (item_of_path path) h o =
-      let same = moved_owns path t.0 (second_part (fits.names_variable path) (fits.is_this t.0 (fits.path_access types variables path)) h) in
-      ap (λ (b : Bool). not b) same ∙ o
+      ap (λ (b : Bool). not b) (moved_owns path t.0 h) ∙ o
 
   items_own_stay : (cs : List ComponentForm) (items : List ItemForm) → fits.items_fit types variables cs items ≡ true → list_all (fits.item_owns variables) items ≡ true → list_all (fits.item_owns others) items ≡ true
   items_own_stay cs [] h o = refl
@@ -354,14 +350,11 @@ module _ (types more : List TypeForm) (variables others : List VariableForm) (ts
       statement_stays inside skips h = refl
       statement_stays inside (assigns target s) h = assigned_stays target s h
       statement_stays inside (frees access path) h =
-          let whole = fits.names_variable path in
           let freed : Bool = fits.is_freed_by types access (fits.path_access types variables path) in
           let owns = not (fits.names_borrower variables path) in
-          let front : (whole && freed) ≡ true = first_part (whole && freed) owns h in
-          let own : freed ≡ true = second_part whole freed front in
-          both_parts (whole && fits.is_freed_by more access (fits.path_access more others path)) (not (fits.names_borrower others path))
-          (both_parts whole (fits.is_freed_by more access (fits.path_access more others path)) (first_part whole freed front) (freed_stays access path own))
-          (freed_owns access path own (second_part (whole && freed) owns h))
+          let own : freed ≡ true = first_part freed owns h in
+          both_parts (fits.is_freed_by more access (fits.path_access more others path)) (not (fits.names_borrower others path))
+          (freed_stays access path own) (freed_owns access path own (second_part freed owns h))
       statement_stays inside (gets target) h = integer_at (fits.path_kind types variables target) (fits.path_kind more others target) (λ k e. path_stays target k e) h
       statement_stays inside (writes e) h = has_type_stays Integer e h
       statement_stays inside (writes_text text) h =

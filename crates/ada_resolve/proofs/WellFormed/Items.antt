@@ -77,8 +77,7 @@ value_fits types variables (kind.Boolean initial) (boolean_value e) spot f q = i
 value_fits types variables (kind.Access t) null_value spot f q = refl
 value_fits types variables (kind.Access t) (access_value path u) spot f q =
     let same : t.0 ≡ u.0 = eqb-true t.0 u.0 (quiet_unless (eqb t.0 u.0) spot WrongType q.0) in
-    both_parts (fits.names_variable path) (fits.is_this t.0 (fits.path_access types variables path)) (quiet_unless (fits.names_variable path) spot NotInProfile q.1.0)
-    (rw f (eq-eqb u.0 t.0 (sym same)))
+    rw f (eq-eqb u.0 t.0 (sym same))
 value_fits types variables k unknown spot f q = absurd f
 value_fits types variables (kind.Access t) m spot f q = absurd q.0
 value_fits types variables k m spot f q = absurd q
@@ -88,7 +87,7 @@ value_owns : (types : List TypeForm) (variables : List VariableForm) (k : Compon
 value_owns types variables (kind.Integer initial) (access_value path t) spot f q = absurd q
 value_owns types variables (kind.Boolean initial) (access_value path t) spot f q = absurd q
 value_owns types variables (kind.Access u) (access_value path t) spot f q =
-    ap (λ (b : Bool). not b) (quiet_if (fits.names_borrower variables path) spot WrongType q.1.1)
+    ap (λ (b : Bool). not b) (quiet_if (fits.names_borrower variables path) spot WrongType q.1)
 value_owns types variables k null_value spot f q = refl
 value_owns types variables k (integer_value e) spot f q = refl
 value_owns types variables k (boolean_value e) spot f q = refl

@@ -54,8 +54,7 @@ item_is_before types variables (component.Integer initial) (item_of_value e) h =
 item_is_before types variables (component.Boolean initial) (item_of_path path) h = absurd (cc h)
 item_is_before types variables (component.Boolean initial) (item_of_value e) h = type_before types variables Boolean e h
 item_is_before types variables (component.Access t) (item_of_path path) h =
-    moved_before types variables path t.0 (fits.path_kind types variables path) refl
-    (second_part (fits.names_variable path) (fits.is_this t.0 (fits.path_access types variables path)) h)
+    moved_before types variables path t.0 (fits.path_kind types variables path) refl h
 item_is_before types variables (component.Access t) (item_of_value e) h = absurd (cc h)
 
 items_are_before : (types : List TypeForm) (variables : List VariableForm) (cs : List ComponentForm) (items : List ItemForm) → fits.items_fit types variables cs items ≡ true → list_all (fits.item_before (length variables)) items ≡ true

@@ -73,10 +73,9 @@ freed_of (Some t) e = eq-eqb t t refl
 freeing_fits : (k : Known) (texts : List (List ℕ)) (inside : Bool) (access : TypeNo) (m : Meant) (spot : Spot) → fits.is_access k.types access.0 ≡ true → MeantFits k.types k.variables m → Quiet (freed_wanted k.variables access m spot) → FormFits k texts inside (freeing access m)
 freeing_fits k texts inside access (access_value path t) spot a h q =
     let same : t.0 ≡ access.0 = eqb-true t.0 access.0 (quiet_unless (eqb t.0 access.0) spot WrongType q.0) in (
-      both_parts (fits.names_variable path && fits.is_freed_by k.types access.0 (fits.path_access k.types k.variables path)) (not (names_borrower k.variables path))
-          (both_parts (fits.names_variable path) (fits.is_freed_by k.types access.0 (fits.path_access k.types k.variables path)) (quiet_unless (fits.names_variable path) spot NotInProfile q.1.0)
-          (rw (h, same) (freed_of (fits.designated_type k.types access.0) a)))
-          (ap (λ (b : Bool). not b) (quiet_if (names_borrower k.variables path) spot WrongType q.1.1)),
+      both_parts (fits.is_freed_by k.types access.0 (fits.path_access k.types k.variables path)) (not (names_borrower k.variables path))
+          (rw (h, same) (freed_of (fits.designated_type k.types access.0) a))
+          (ap (λ (b : Bool). not b) (quiet_if (names_borrower k.variables path) spot WrongType q.1)),
       refl,
     )
 freeing_fits k texts inside access m spot a h q = tt

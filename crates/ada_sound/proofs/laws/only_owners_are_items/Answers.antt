@@ -1,5 +1,5 @@
 -- By what each item moves, behind the items before it.
-use Rattle.ada_sound.proofs.Moves as moves
+use Rattle.ada_sound.proofs.ItemMoves as moves
 use Rattle.ada_sound.proofs.laws.only_owners_are_items.Goals as goal
 
 pub returns-clause-owner : goal.returns-clause-owner

@@ -1,9 +1,10 @@
--- By thirteen programs and their runs.
+-- By fifteen programs and their runs.
 use Rattle.ada_sound.proofs.Example as example
 use Rattle.ada_sound.proofs.ExampleBlocks as blocks
 use Rattle.ada_sound.proofs.ExampleTargets as targets
 use Rattle.ada_sound.proofs.ExampleOwners as owners
 use Rattle.ada_sound.proofs.ExampleBorrowers as borrowers
+use Rattle.ada_sound.proofs.ExampleFrees as frees
 use Rattle.ada_sound.proofs.laws.premises_are_met.Goals as goal
 
 pub returns-clause-begins : goal.returns-clause-begins
@@ -44,3 +45,12 @@ returns-clause-owns c = (owners.owning, owners.owning_form, owners.owning_accept
 
 pub returns-clause-walks : goal.returns-clause-walks
 returns-clause-walks c = (borrowers.walking, borrowers.walking_form, borrowers.walking_borrows, borrowers.walking_accepted, borrowers.walks)
+
+pub returns-clause-borrows_in_loop : goal.returns-clause-borrows_in_loop
+returns-clause-borrows_in_loop c = (frees.lending, frees.lending_form, frees.lending_borrows, frees.lending_accepted, frees.lends)
+
+pub returns-clause-inserts : goal.returns-clause-inserts
+returns-clause-inserts c = (frees.insertion, frees.insertion_form, frees.insertion_borrows, frees.insertion_accepted, frees.inserts)
+
+pub returns-clause-frees_components : goal.returns-clause-frees_components
+returns-clause-frees_components c = (frees.freeing, frees.freeing_form, frees.freeing_accepted, frees.frees_components)

@@ -1,9 +1,10 @@
--- By fifteen programs and their runs.
+-- By seventeen programs and their runs.
 use Rattle.ada_sound.proofs.Example as example
 use Rattle.ada_sound.proofs.ExampleBlocks as blocks
 use Rattle.ada_sound.proofs.ExampleTargets as targets
 use Rattle.ada_sound.proofs.ExampleOwners as owners
 use Rattle.ada_sound.proofs.ExampleBorrowers as borrowers
+use Rattle.ada_sound.proofs.ExampleFrees as frees
 use Rattle.ada_sound.proofs.laws.rules_are_needed.Goals as goal
 
 pub returns-clause-follows : goal.returns-clause-follows
@@ -60,6 +61,12 @@ returns-clause-overtakes c = (
   borrowers.overtaking_breaks,
   borrowers.overtakes,
 )
+
+pub returns-clause-passes : goal.returns-clause-passes
+returns-clause-passes c = (frees.passing, frees.passing_form, frees.passing_borrows, frees.passing_breaks, frees.passes)
+
+pub returns-clause-doubles : goal.returns-clause-doubles
+returns-clause-doubles c = (frees.doubling, frees.doubling_form, frees.doubling_breaks, frees.doubles)
 
 pub returns-clause-nests : goal.returns-clause-nests
 returns-clause-nests c = (owners.outlasting, owners.outlasting_form, owners.outlasting_ill_nested, owners.outlasts)

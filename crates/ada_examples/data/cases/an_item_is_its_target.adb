@@ -1,0 +1,11 @@
+with Ada.Text_IO; with Ada.Unchecked_Deallocation;
+procedure Main is
+type Node; type Link is access Node;
+type Node is record Value : Integer := 0; Next : Link; end record;
+procedure Free is new Ada.Unchecked_Deallocation (Node, Link);
+A : Link := new Node'(1, null); B : access Node := A;
+begin
+A.Next := new Node'(2, A.Next);
+A.Next := new Node'(3, A.all.Next);
+while B /= null loop Ada.Text_IO.Put_Line (Integer'Image (B.Value)); B := B.Next; end loop;
+end Main;

@@ -1,0 +1,10 @@
+with Ada.Text_IO; with Ada.Unchecked_Deallocation;
+procedure Main is
+type Node; type Link is access Node;
+type Node is record Value : Integer := 0; Next : Link; Last : Link; end record;
+procedure Free is new Ada.Unchecked_Deallocation (Node, Link);
+A : Link := new Node'(1, null, null); B : access Node := A;
+begin
+A.Next := new Node'(2, A.Next, A);
+Ada.Text_IO.Put_Line (Integer'Image (B.Next.Last.Value));
+end Main;

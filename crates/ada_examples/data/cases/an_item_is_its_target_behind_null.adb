@@ -1,0 +1,12 @@
+with Ada.Text_IO; with Ada.Unchecked_Deallocation;
+procedure Main is
+type Node; type Link is access Node;
+type Node is record Value : Integer := 0; Next : Link; end record;
+procedure Free is new Ada.Unchecked_Deallocation (Node, Link);
+A : Link;
+begin
+begin
+A.Next := new Node'(2, A.Next);
+exception when Constraint_Error => Ada.Text_IO.Put_Line ("null");
+end;
+end Main;

@@ -1,0 +1,236 @@
+//! Free (13.11.2): of what a variable, or a component of an object, gives access to.
+
+ghost use Rattle.std.specs.Prelude.{◌≡◌, ℕ, OnOk};
+ghost use Rattle.ada_program.specs.Form.{path_form};
+ghost use Rattle.ada_meaning.specs.Event.{Quiet};
+ghost use Rattle.ada_meaning.specs.Step as step;
+ghost use Rattle.ada_meaning.specs.Named.{named, look};
+ghost use Rattle.ada_interpreter.specs.Process.{frame_of, state_of, passed, replaced, Turns, IsTurn, releasing};
+
+use crate::frame::Frame;
+use crate::process::Process;
+use crate::turn::{QUIET, Turn};
+use ada_meaning::{Cause, Event, Exception, Halt, Id, Value, Why};
+use ada_program::program::ComponentNo;
+use ada_program::{Path, TypeNo, VariableNo};
+use std::alloc::AllocError;
+
+impl<'a> Process<'a> {
+    /// A Free: of a variable, or of a component, whose object is found first.
+    pub(crate) fn free(
+        &mut self,
+        access: TypeNo,
+        path: &'a Path,
+        rest: Frame<'a>,
+    ) -> Result<Turn, AllocError>
+        ensures { let s = replaced (frame_of rest.entry) (state_of self.old) in
+            let form = path_form path.now in
+            Turns (step.frees_next named form.selectors access.0 form.root s)
+            (state_of self.old) result (state_of self.new) }
+    {
+        match path.selectors.as_slice().split_last() {
+            None => self.free_variable(access, path.root, rest),
+            Some((last, before)) => self.find(
+                path.root,
+                before,
+                Frame::FreesIn {
+                    access,
+                    component: *last,
+                },
+                rest,
+            ),
+        }
+    }
+
+    /// Free (X): null has no effect; else the object leaves its collection, and is to end.
+    fn free_variable(
+        &mut self,
+        access: TypeNo,
+        variable: VariableNo,
+        rest: Frame<'a>,
+    ) -> Result<Turn, AllocError>
+        ensures { let s = replaced (frame_of rest.entry) (state_of self.old) in
+            let v = step.held named s variable.0 in
+            Turns (step.free_next named access.0 variable.0 v (look s.heap v) s)
+            (state_of self.old) result (state_of self.new) }
+    {
+        match self.held(variable) {
+            Value::Null => {
+                self.replace(rest)?;
+                Ok(QUIET)
+            }
+            Value::Scalar(_) => Ok(Turn::Halts(Halt::Stuck)),
+            Value::Names(object) => self.free_object(object, variable, rest),
+        }
+    }
+
+    /// The object that a variable names is to end, and the variable is to become null; twice is erroneous.
+    fn free_object(
+        &mut self,
+        object: Id,
+        variable: VariableNo,
+        rest: Frame<'a>,
+    ) -> Result<Turn, AllocError>
+        ensures { let s = replaced (frame_of rest.entry) (state_of self.old) in
+            let v = Value.Names object in
+            (access : ℕ) → Turns (step.free_next named access variable.0 v (look s.heap v) s)
+            (state_of self.old) result (state_of self.new) }
+    {
+        match self.objects.existing(object) {
+            None => Ok(Turn::Halts(Halt::Erroneous(Why::EndsTwice))),
+            Some(_) => {
+                self.replace(rest)?;
+                self.push(Frame::Clears(variable))?;
+                self.release(Value::Names(object))?;
+                Ok(QUIET)
+            }
+        }
+    }
+
+    /// Free (P.C): the newest operand gives access to the object of the component. Null raises Constraint_Error.
+    pub(crate) fn free_in(
+        &mut self,
+        access: TypeNo,
+        component: ComponentNo,
+    ) -> Result<Turn, AllocError>
+        ensures { let s = passed (state_of self.old) in
+            let v = step.newest named s in
+            Turns (step.free_in_next named access.0 v component.0 (look s.heap v) (step.popped s))
+            (state_of self.old) result (state_of self.new) }
+    {
+        match self.newest() {
+            Value::Null => {
+                self.pass();
+                self.raise(Exception::ConstraintError);
+                Ok(QUIET)
+            }
+            Value::Scalar(_) => Ok(Turn::Halts(Halt::Stuck)),
+            Value::Names(holder) => self.free_in_object(holder, component),
+        }
+    }
+
+    /// A component of the object of a name is freed: to follow one that is gone is erroneous.
+    fn free_in_object(&mut self, holder: Id, component: ComponentNo) -> Result<Turn, AllocError>
+        ensures { let s = step.popped (passed (state_of self.old)) in
+            let v = Value.Names holder in
+            (access : ℕ) → Turns (step.free_in_next named access v component.0 (look s.heap v) s)
+            (state_of self.old) result (state_of self.new) }
+    {
+        let Some(cell) = self.objects.existing(holder) else {
+            return Ok(Turn::Halts(Halt::Erroneous(Why::FollowsGone)));
+        };
+        match cell.values.get(component.0) {
+            None => Ok(Turn::Halts(Halt::Stuck)),
+            Some(value) => {
+                let value = *value;
+                self.free_component(holder, component, value)
+            }
+        }
+    }
+
+    /// What a component holds is freed: null has no effect.
+    fn free_component(
+        &mut self,
+        holder: Id,
+        component: ComponentNo,
+        value: Value,
+    ) -> Result<Turn, AllocError>
+        ensures { let s = step.popped (passed (state_of self.old)) in
+            let o = Value.Names holder in
+            let found = look s.heap value in
+            (access : ℕ) → Turns (step.freed_next named access o component.0 value found s)
+            (state_of self.old) result (state_of self.new) }
+    {
+        match value {
+            Value::Null => {
+                self.pass();
+                self.pop();
+                Ok(Turn::Moves(Event::Followed { object: holder }))
+            }
+            Value::Scalar(_) => Ok(Turn::Halts(Halt::Stuck)),
+            Value::Names(object) => self.free_component_object(holder, component, object),
+        }
+    }
+
+    /// The object that a component names is to end, and the component is to become null; twice is erroneous.
+    fn free_component_object(
+        &mut self,
+        holder: Id,
+        component: ComponentNo,
+        object: Id,
+    ) -> Result<Turn, AllocError>
+        ensures { let s = step.popped (passed (state_of self.old)) in
+            let o = Value.Names holder in
+            let v = Value.Names object in
+            (access : ℕ) → Turns (step.freed_next named access o component.0 v (look s.heap v) s)
+            (state_of self.old) result (state_of self.new) }
+    {
+        let Some(_) = self.objects.existing(object) else {
+            return Ok(Turn::Halts(Halt::Erroneous(Why::EndsTwice)));
+        };
+        let clears = Frame::ClearsIn {
+            object: Value::Names(holder),
+            component,
+        };
+        self.pop();
+        self.replace(clears)?;
+        self.release(Value::Names(object))?;
+        Ok(Turn::Moves(Event::Followed { object: holder }))
+    }
+
+    /// An object is to end by a Free.
+    fn release(&mut self, value: Value) -> Result<(), AllocError>
+        ensures { OnOk result (state_of self.new ≡ releasing value (state_of self.old)) }
+    {
+        let number = self.next;
+        let Some(next) = number.checked_add(1) else {
+            return Err(AllocError);
+        };
+        self.dispose(value, Cause::Freeing { number })?;
+        self.next = next;
+        Ok(())
+    }
+
+    /// A variable becomes null: the end of a Free.
+    pub(crate) fn clear(&mut self, variable: VariableNo) -> Turn
+        ensures { let s = state_of self.old in
+            IsTurn (step.moves Quiet (step.put variable.0 Value.Null (passed s)))
+            s result (state_of self.new) }
+    {
+        self.pass();
+        self.put(variable, Value::Null);
+        QUIET
+    }
+
+    /// A component of an object becomes null: the end of a Free. To store in an object that is gone is erroneous.
+    pub(crate) fn clear_in(&mut self, object: Value, component: ComponentNo) -> Turn
+        ensures { let s = passed (state_of self.old) in
+            IsTurn (step.store_next named object component.0 Value.Null (look s.heap object) s)
+            (state_of self.old) result (state_of self.new) }
+    {
+        match object {
+            Value::Names(object) => self.clear_in_object(object, component),
+            _ => Turn::Halts(Halt::Stuck),
+        }
+    }
+
+    /// A component of the object of a name becomes null.
+    fn clear_in_object(&mut self, object: Id, component: ComponentNo) -> Turn
+        ensures { let s = passed (state_of self.old) in
+            let v = Value.Names object in
+            IsTurn (step.store_next named v component.0 Value.Null (look s.heap v) s)
+            (state_of self.old) result (state_of self.new) }
+    {
+        let Some(cell) = self.objects.existing(object) else {
+            return Turn::Halts(Halt::Erroneous(Why::FollowsGone));
+        };
+        match cell.values.get(component.0) {
+            None => Turn::Halts(Halt::Stuck),
+            Some(_) => {
+                self.pass();
+                self.objects.store(object, component, Value::Null);
+                Turn::Moves(Event::Followed { object })
+            }
+        }
+    }
+}

@@ -1,0 +1,174 @@
+-- Free (P.C): the object of the component is found, what the component names is to end, and the component becomes null.
+
+use Rattle.std.proofs.Common.{◌≡◌, ◌≢◌, ℕ, Bool, true, false, List, [], ◌∷◌, ◌++◌, refl, sym, ap, ◌∙◌, inl}
+use Rattle.std.proofs.lemmas.Bool.{eq-eqb}
+use Rattle.std.specs.Prelude.{Option, Some, None}
+use Rattle.std.specs.List.{slice_get}
+use Rattle.ada_text.specs.declared.spot.Spot.{Spot}
+use Rattle.ada_program.specs.declared.program.Exception.{Exception}
+use Rattle.ada_program.specs.declared.program.Exception.TheVariants.{ConstraintError}
+use Rattle.ada_program.specs.declared.program.VariableKind.{VariableKind}
+use Rattle.ada_program.specs.Form.{PathForm, StmtsForm}
+use Rattle.ada_program.specs.ProgramForm.{TypeForm, VariableForm}
+use Rattle.ada_program.specs.WellFormed.{access_of, variable_kind, selectors_kind, path_access, is_this}
+use Rattle.ada_flow.specs.declared.rule.Hold.{Hold}
+use Rattle.ada_flow.specs.declared.rule.Hold.TheVariants as hold
+use Rattle.ada_flow.specs.Flow.{Holds, hold_at, Breach, lost_by, unless_broken, ends_with, behind_end, passes_own, freed_behind, released_behind, frees_path}
+use Rattle.ada_meaning.specs.declared.state.Id.{Id}
+use Rattle.ada_meaning.specs.declared.state.Value.{Value}
+use Rattle.ada_meaning.specs.declared.state.Value.TheVariants.{Null, Names, Scalar}
+use Rattle.ada_meaning.specs.declared.state.Mode.TheVariants.{Raising}
+use Rattle.ada_meaning.specs.Event.{Followed}
+use Rattle.ada_meaning.specs.Frame.{Does, FreesIn}
+use Rattle.ada_meaning.specs.State.{Activation}
+use Rattle.ada_meaning.specs.Step.{before_last, last_of, path_next, freed_next, free_component_next, free_in_next}
+use Rattle.ada_meaning.specs.Named.{Object, State, object_at, look, named, parted}
+use Rattle.ada_owners.specs.Keeping.{IsThere}
+use Rattle.ada_owners.specs.Places.{access_at}
+use Rattle.ada_owners.specs.Reliance.{IsOf}
+use Rattle.ada_owners.proofs.Objects.{listed_at}
+use Rattle.ada_sound.proofs.Fits.{MayFollow, place_at, component_access, root_follows, component_is, behind_fit, component_unnamed, part_fit}
+use Rattle.ada_sound.proofs.Objects.{set_here}
+use Rattle.ada_sound.proofs.Stored.{stored_part}
+use Rattle.ada_sound.proofs.Alters.{alters_set}
+use Rattle.ada_sound.proofs.Invariant.{Known, Control, Goes, Raised, RunsOn, PassesNone, Releasing, Working, Stepped, Fine, ways}
+use Rattle.ada_sound.proofs.Ready.{running, at_work, stays, runs_ready, jumps_less}
+use Rattle.ada_sound.proofs.Outcomes.{ends_goes}
+use Rattle.ada_sound.proofs.Taken.{root_access}
+use Rattle.ada_sound.proofs.Walks.{selected_access, raises_less, finds_fine}
+use Rattle.ada_sound.proofs.Targets.{followed}
+use Rattle.ada_sound.proofs.Endings.{stored_elsewhere}
+
+-- The selectors of a path but the last one, and that one, are all.
+front_last : (c : ℕ) (cs : List ℕ) → before_last c cs ++ last_of c cs ∷ [] ≡ c ∷ cs
+front_last c [] = refl
+front_last c (d ∷ ds) = ap (λ (es : List ℕ). c ∷ es) (front_last d ds)
+
+-- What flow says of a component that is freed: its path follows nothing lost, and passes its own type nowhere.
+released_goes : (types : List TypeForm) (variables : List VariableForm) (path : PathForm) (holds : Holds) (access : Option ℕ) (more raised : Holds → Type 0) → Goes (released_behind types variables path holds access) more raised → (freed_behind (passes_own types variables path access) (hold_at holds path.root) path.spot ≡ None) × more (behind_end variables access holds) × raised (behind_end variables access holds)
+released_goes types variables path holds access more raised g = go (freed_behind (passes_own types variables path access) (hold_at holds path.root) path.spot) refl g
+  where
+    after : Holds
+    after = behind_end variables access holds
+
+    go : (o : Option Breach) → freed_behind (passes_own types variables path access) (hold_at holds path.root) path.spot ≡ o → Goes (unless_broken o (ends_with true (behind_end variables access holds) (behind_end variables access holds))) more raised → (freed_behind (passes_own types variables path access) (hold_at holds path.root) path.spot ≡ None) × more (behind_end variables access holds) × raised (behind_end variables access holds)
+    go None is m =
+        let n = ends_goes true (behind_end variables access holds) (behind_end variables access holds) more raised m in
+        (is, n.0, n.1 refl)
+    go (Some breach) is m = absurd m
+
+freed_kept : (b : Bool) (h : Hold) (spot : Spot) → freed_behind b h spot ≡ None → (lost_by h spot ≡ None) × (b ≡ false)
+freed_kept false h spot e = (e, refl)
+freed_kept true hold.Null spot e = absurd (cc e)
+freed_kept true (hold.Own r) spot e = absurd (cc e)
+freed_kept true (hold.Alias r) spot e = absurd (cc e)
+freed_kept true hold.Lost spot e = absurd (cc e)
+
+passes_none : (types : List TypeForm) (variables : List VariableForm) (path : PathForm) (cs : List ℕ) (access : Option ℕ) → path.selectors ≡ cs → passes_own types variables path access ≡ false → PassesNone types (variable_kind variables path.root) cs access
+passes_none types variables path cs None is e = tt
+passes_none types variables path cs (Some t) is e = rw is at e
+
+module _ (known : Known) (a : Activation Value) (rest : List (Activation Value)) (s : State) where
+  -- A Free of a component begins: its object is found first.
+  pub free_begins : (c : ℕ) (cs : List ℕ) (access : ℕ) (path : PathForm) (fs : StmtsForm) (k : Control) (among : Exception → Bool) → among ConstraintError ≡ true → path.selectors ≡ c ∷ cs → Working known s.heap a.places s.masters (λ rooms holds. Goes (frees_path known.program.types known.program.variables (c ∷ cs) path holds) (RunsOn known (Does fs ∷ k) rooms) (Raised among (ways known k rooms))) → Fine known s.heap s.masters (path_next named (before_last c cs) (place_at a.places path.root) (running (FreesIn access (last_of c cs) ∷ Does fs ∷ k) a rest s))
+  free_begins c cs access path fs k among may is w =
+      let types = known.program.types in
+      let variables = known.program.variables in
+      let own = path_access types variables path in
+      let g = released_goes types variables path w.holds own (RunsOn known (Does fs ∷ k) w.rooms) (Raised among (ways known k w.rooms)) w.rest in
+      let kept = freed_kept (passes_own types variables path own) (hold_at w.holds path.root) path.spot g.0 in
+      let all : path.selectors ≡ before_last c cs ++ last_of c cs ∷ [] = is ∙ sym (front_last c cs) in
+      finds_fine known a rest s a.operands (FreesIn access (last_of c cs) ∷ Does fs ∷ k) (before_last c cs) (place_at a.places path.root)
+      (at_work w (record {
+        from = variable_kind variables path.root;
+        access = own;
+        is_from = λ o object names found. root_access w.fit path.root path.spot o object kept.0 names found;
+        passes = passes_none types variables path (before_last c cs ++ last_of c cs ∷ []) own all kept.1;
+        of_type = ap (λ (ds : List ℕ). access_of (selectors_kind types (variable_kind variables path.root) ds)) (sym all);
+        raises = λ e. g.2 ConstraintError may;
+        runs = g.1;
+      }))
+      (root_follows path.root path.spot kept.0 w.fit)
+
+  module _ (access c : ℕ) (k : Control) (below : List Value) where
+    -- The component is null: nothing happens.
+    null_freed : (o : Id) → IsThere s.heap o → Working known s.heap a.places s.masters (Releasing known s.heap (Names o) [] c k) → Stepped known s.heap (Followed (Names o)) (running k (record a { operands = below }) rest s)
+    null_freed o there w =
+        stays known (Followed (Names o)) (running k (record a { operands = below }) rest s)
+        (tt, runs_ready known k s.heap a.places below s.masters (record { rooms = w.rooms; holds = behind_end known.program.variables w.rest.access w.holds; stored = w.stored; roomed = w.roomed; fit = behind_fit w.rest.access w.fit; rest = w.rest.runs }))
+        (followed o there w.stored)
+
+    -- What the component names has the component's access type, and is another object than its own.
+    named_type : (o : Id) (object : Object) (p : Id) → object_at s.heap o ≡ Some object → object.listed ≡ true → slice_get object.cell.values c ≡ Some (Names p) → (w : Working known s.heap a.places s.masters (Releasing known s.heap (Names o) [] c k)) → IsOf (access_at s.heap) w.rest.access p
+    named_type o object p found listed at w =
+        let here = w.rest.is_from o object refl found in
+        let same : component_access known.program.types object c ≡ w.rest.access = sym (selected_access known.program.types w.rest.from object c here) ∙ w.rest.of_type in
+        rw same at (component_is o object c (Names p) p refl found listed at refl w.fit)
+
+    other_type : (u : ℕ) (from : Option VariableKind) (t : ℕ) → access_of from ≡ Some u → PassesNone known.program.types from (c ∷ []) (Some t) → u ≢ t
+    other_type u from t here passes same =
+        let one : is_this t (Some u) ≡ true = eq-eqb u t same in
+        cc (rw here at passes, one)
+
+    ends_next : (o : Id) (object : Object) (p : Id) (t : ℕ) → object_at s.heap o ≡ Some object → object.listed ≡ true → slice_get object.cell.values c ≡ Some (Names p) → (w : Working known s.heap a.places s.masters (Releasing known s.heap (Names o) [] c k)) → w.rest.access ≡ Some t → access_at s.heap p ≡ Some t → Fine known s.heap s.masters (freed_next named access (Names o) c (Names p) (look s.heap (Names p)) (running k (record a { operands = below }) rest s))
+    ends_next o object p t found listed at w is_t of_t =
+        let there = listed_at s.heap p t of_t in
+        let exists = (w.stored.sane p there.object there.found).listed_exists there.listed in
+        let apart : o ≢ p = λ same. (
+        let one : object ≡ there.object = let f = there.found in cc (rw same at found, f) in
+        other_type object.cell.access w.rest.from t (w.rest.is_from o object refl found) (rw is_t at w.rest.passes) (ap (λ (x : Object). x.cell.access) one ∙ there.access)
+        ) in
+        let unnamed = component_unnamed o object c p (Some t) found listed at of_t w.fit in
+        let elsewhere = stored_elsewhere s.heap o object c p there.object (parted there.object) found there.found apart in
+        let after = part_fit p there.object elsewhere.1 unnamed.1 unnamed.0 in
+        let runs = rw is_t at w.rest.runs in
+        rw (there.found, exists) (rw there.found (record {
+          ready = (
+            tt,
+            record {
+              object = parted there.object;
+              found = set_here s.heap p.0 there.object (parted there.object) there.found;
+              exists = exists;
+              parted = refl;
+              stored = stored_part p there.object there.found w.stored;
+              rest = (
+                refl,
+                refl,
+                (
+                  (object, elsewhere.0, listed),
+                  record {
+                    rooms = w.rooms;
+                    holds = behind_end known.program.variables (Some t) w.holds;
+                    roomed = w.roomed;
+                    fit = rw elsewhere.2 after;
+                    rest = runs;
+                  },
+                ),
+              );
+            },
+          );
+          alters = alters_set s.heap (Followed (Names o)) p there.object (parted there.object) there.found (refl, refl, refl) (λ h. h) (λ h. inl h);
+          says = followed o (object, found, listed) w.stored;
+        }))
+
+    object_freed : (o : Id) (object : Object) (p : Id) → object_at s.heap o ≡ Some object → object.listed ≡ true → slice_get object.cell.values c ≡ Some (Names p) → (w : Working known s.heap a.places s.masters (Releasing known s.heap (Names o) [] c k)) → Fine known s.heap s.masters (freed_next named access (Names o) c (Names p) (look s.heap (Names p)) (running k (record a { operands = below }) rest s))
+    object_freed o object p found listed at w = by w.rest.access refl (named_type o object p found listed at w)
+      where
+        by : (kind : Option ℕ) → w.rest.access ≡ kind → IsOf (access_at s.heap) kind p → Fine known s.heap s.masters (freed_next named access (Names o) c (Names p) (look s.heap (Names p)) (running k (record a { operands = below }) rest s))
+        by None is of = absurd of
+        by (Some t) is of = ends_next o object p t found listed at w is of
+
+    component_freed : (o : Id) (object : Object) (held : Option Value) → slice_get object.cell.values c ≡ held → object_at s.heap o ≡ Some object → object.listed ≡ true → Working known s.heap a.places s.masters (Releasing known s.heap (Names o) [] c k) → Fine known s.heap s.masters (free_component_next named access (Names o) c held (running k (record a { operands = below }) rest s))
+    component_freed o object None at found listed w = tt
+    component_freed o object (Some Null) at found listed w = null_freed o (object, found, listed) w
+    component_freed o object (Some (Names p)) at found listed w = object_freed o object p found listed at w
+    component_freed o object (Some (Scalar n)) at found listed w = tt
+
+    -- The object of the component is there, or null raises Constraint_Error.
+    pub free_in_fine : (v : Value) → (w : Working known s.heap a.places s.masters (λ rooms holds. MayFollow s.heap v × Releasing known s.heap v [] c k rooms holds)) → Fine known s.heap s.masters (free_in_next named access v c (look s.heap v) (running k (record a { operands = below }) rest s))
+    free_in_fine Null w = jumps_less known k (record a { operands = below }) rest s (Raising ConstraintError) (at_work w (raises_less known k w.rooms w.holds w.rest.1.access (w.rest.1.raises refl)))
+    free_in_fine (Names o) w =
+        let there : IsThere s.heap o = w.rest.0 in
+        rw (there.1, (w.stored.sane o there.0 there.1).listed_exists there.2)
+        (component_freed o there.0 (slice_get there.0.cell.values c) refl there.1 there.2 (at_work w w.rest.1))
+    free_in_fine (Scalar n) w = tt
