@@ -106,11 +106,6 @@ unfoldable mutual
   uses_in_links no_more_links = []
   uses_in_links (a_link operator e links) = uses_in e ++ uses_in_links links
 
--- Is a number among these?
-abbrev pub is_one_of : List ℕ → ℕ → Bool
-is_one_of [] x = false
-is_one_of (y ∷ ys) x = (y == x) || is_one_of ys x
-
 -- The variable that a path is, where it is no component.
 abbrev pub variable_of : List ℕ → (root : ℕ) → List ℕ
 variable_of [] x = x ∷ []

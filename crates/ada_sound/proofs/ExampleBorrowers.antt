@@ -18,7 +18,7 @@ use Rattle.ada_meaning.specs.declared.event.Why.TheVariants.{FollowsGone}
 use Rattle.ada_meaning.specs.Named.{next}
 use Rattle.ada_meaning.specs.Run.{grants, takes}
 use Rattle.ada_sound.specs.Always.{IsChecked, FinishesAfter, Breaks, HaltsAfter}
-use Rattle.ada_sound.specs.BorrowerExamples.{HasBorrower, walking_stmts, walking_events, dangling_stmts, dangling_events, overtaking_stmts, overtaking_events}
+use Rattle.ada_sound.specs.BorrowerExamples.{HasBorrower, walking_stmts, walking_events, lending_stmts, lending_events, dangling_stmts, dangling_events, overtaking_stmts, overtaking_events}
 use Rattle.ada_sound.proofs.Choices.{halts_after, accepted_by, breaks_by}
 use Rattle.ada_sound.proofs.Example.{steps, vec, heap, spot, link, declarations}
 use Rattle.ada_sound.proofs.ExampleOwners.{node_types, whole, part, clears, moves as gives, frees, pushing}
@@ -78,6 +78,27 @@ unfolding next expression_form
 walks =
     halts_after walking walking_stmts no_handlers walking_form refl []
     (steps 17 ++ grants true ∷ steps 7 ++ grants true ∷ steps 37 ++ takes 0 ∷ steps 2 ++ takes 0 ∷ steps 4) walking_events Finished refl refl refl
+
+-- Head := new Node'(1, Head); while B = null loop B := Head; end loop; Put_Line (Integer'Image (B.Value));
+abbrev pub lending : Program
+lending =
+    program_with
+    (pushing 1 ∷ stmt.Loop (Some (NullTest (whole 2) true)) (vec (b_is_head ∷ []) (omega arith)) spot ∷ stmt.PutImage (Reads (part 2 0)) ∷ []) (omega arith)
+
+pub lending_form : stmt_forms lending ≡ lending_stmts
+lending_form = simp (statement_rules, expression_rules)
+
+pub lending_borrows : HasBorrower lending
+lending_borrows = refl
+
+pub lending_accepted : IsChecked lending
+unfolding expression_form uses_in
+lending_accepted = accepted_by lending lending_stmts no_handlers lending_form refl _ _ refl refl refl
+
+-- One turn.
+pub lends : FinishesAfter lending_events lending
+unfolding next expression_form
+lends = halts_after lending lending_stmts no_handlers lending_form refl [] (steps 17 ++ grants true ∷ steps 23 ++ takes 0 ∷ steps 4) lending_events Finished refl refl refl
 
 -- Head := new Node'(1, Head); B := Head; Free (Head); Put_Line (Integer'Image (B.Value));
 abbrev pub dangling : Program

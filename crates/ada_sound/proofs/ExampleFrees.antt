@@ -2,8 +2,8 @@
 -- break one of the rules, with runs of them.
 
 use Rattle.std.proofs.Common.{◌≡◌, ◌≤◌, ℕ, true, List, [], ◌∷◌, ◌++◌, length, refl, arith}
-use Rattle.std.specs.Prelude.{Some, None, pos}
-use Rattle.ada_program.specs.declared.program.Expression.{Integer, Path as Reads, NullTest}
+use Rattle.std.specs.Prelude.{None, pos}
+use Rattle.ada_program.specs.declared.program.Expression.{Integer, Path as Reads}
 use Rattle.ada_program.specs.declared.program.Item.{Item}
 use Rattle.ada_program.specs.declared.program.Item.TheVariants as item
 use Rattle.ada_program.specs.declared.program.Right.TheVariants as right
@@ -24,7 +24,7 @@ use Rattle.ada_meaning.specs.Named.{next}
 use Rattle.ada_meaning.specs.Run.{grants, takes}
 use Rattle.ada_sound.specs.Always.{IsChecked, FinishesAfter, Breaks, HaltsAfter}
 use Rattle.ada_sound.specs.BorrowerExamples.{HasBorrower}
-use Rattle.ada_sound.specs.FreeExamples.{inserting_stmts, inserting_events, lending_stmts, lending_events, freeing_stmts, freeing_events, passing_stmts, passing_events, doubling_stmts, doubling_events}
+use Rattle.ada_sound.specs.FreeExamples.{inserting_stmts, inserting_events, freeing_stmts, freeing_events, passing_stmts, passing_events, doubling_stmts, doubling_events}
 use Rattle.ada_sound.proofs.Choices.{halts_after, accepted_by, breaks_by}
 use Rattle.ada_sound.proofs.Example.{steps, vec, spot, link}
 use Rattle.ada_sound.proofs.ExampleOwners.{record_of, access_to, an_integer, an_access, of_access, path, whole, part, clears, moves as gives, pushing}
@@ -64,27 +64,6 @@ inserts =
     halts_after insertion inserting_stmts no_handlers insertion_form refl []
     (steps 17 ++ grants true ∷ steps 8 ++ grants true ∷ steps 8 ++ grants true ∷ steps 48 ++ takes 0 ∷ steps 2 ++ takes 0 ∷ steps 2 ++ takes 0 ∷ steps 4)
     inserting_events Finished refl refl refl
-
--- Head := new Node'(1, Head); while B = null loop B := Head; end loop; Put_Line (Integer'Image (B.Value));
-abbrev pub lending : Program
-lending =
-    program_with
-    (pushing 1 ∷ stmt.Loop (Some (NullTest (whole 2) true)) (vec (b_is_head ∷ []) (omega arith)) spot ∷ stmt.PutImage (Reads (part 2 0)) ∷ []) (omega arith)
-
-pub lending_form : stmt_forms lending ≡ lending_stmts
-lending_form = simp (statement_rules, expression_rules)
-
-pub lending_borrows : HasBorrower lending
-lending_borrows = refl
-
-pub lending_accepted : IsChecked lending
-unfolding expression_form uses_in
-lending_accepted = accepted_by lending lending_stmts no_handlers lending_form refl _ _ refl refl refl
-
--- One turn.
-pub lends : FinishesAfter lending_events lending
-unfolding next expression_form
-lends = halts_after lending lending_stmts no_handlers lending_form refl [] (steps 17 ++ grants true ∷ steps 23 ++ takes 0 ∷ steps 4) lending_events Finished refl refl refl
 
 -- type Leaf is record Value : Integer; end record; type Leaf_Link is access Leaf;
 -- type Node is record Value : Integer; Down : Leaf_Link; end record; type Link is access Node; Head : Link; Item : Leaf_Link;

@@ -14,7 +14,8 @@ use Rattle.ada_program.specs.ProgramForm.{ComponentForm, TypeForm, VariableForm}
 use Rattle.ada_program.specs.WellFormed.{access_of, held_kind, component_kind, kind_among, reached_components, item_fits, items_fit}
 use Rattle.ada_flow.specs.declared.rule.Hold.{Hold}
 use Rattle.ada_flow.specs.declared.rule.Hold.TheVariants as hold
-use Rattle.ada_flow.specs.Flow.{Holds, hold_at, moves_it, moves_again, is_one_of, variable_of, moved_by_item, same_selectors, same_path, is_named, is_target, item_move, named_by_item, uses_in_item, moved_by, taken_by, moved_behind, broken_in, left_by_move, without_value, without_values, moved_by_items}
+use Rattle.ada_program.specs.Nested.{is_one_of}
+use Rattle.ada_flow.specs.Flow.{Holds, hold_at, moves_it, moves_again, variable_of, moved_by_item, same_selectors, same_path, is_named, is_target, item_move, named_by_item, uses_in_item, moved_by, taken_by, moved_behind, broken_in, left_by_move, without_value, without_values, moved_by_items}
 use Rattle.ada_meaning.specs.declared.state.Id.{Id}
 use Rattle.ada_meaning.specs.declared.state.Value.{Value}
 use Rattle.ada_meaning.specs.declared.state.Value.TheVariants.{Null, Names}
@@ -203,10 +204,10 @@ pub record Moves (heap : List Object) (places : List Value) (holds : Holds) (tar
   pub of_moved : (x : ℕ) → place ≡ variable x → moved ≡ x ∷ []
 
 -- What is among numbers, and among paths.
-first_one : (x : ℕ) (xs : List ℕ) → is_one_of (x ∷ xs) x ≡ true
+pub first_one : (x : ℕ) (xs : List ℕ) → is_one_of (x ∷ xs) x ≡ true
 first_one x xs = rw (eq-eqb x x refl) refl
 
-later_one : (xs ys : List ℕ) (x : ℕ) → is_one_of ys x ≡ true → is_one_of (xs ++ ys) x ≡ true
+pub later_one : (xs ys : List ℕ) (x : ℕ) → is_one_of ys x ≡ true → is_one_of (xs ++ ys) x ≡ true
 later_one [] ys x e = e
 later_one (y ∷ xs) ys x e = or_right (y == x) (is_one_of (xs ++ ys) x) (later_one xs ys x e)
 

@@ -6,13 +6,15 @@ use Rattle.std.specs.List.{slice_get}
 use Rattle.std.proofs.lemmas.Bool.{and_parts, eqb-true, eq-eqb}
 use Rattle.ada_program.specs.Form.{PathForm, ItemForm, item_of_path, allocates}
 use Rattle.ada_program.specs.WellFormed.{names_borrower}
-use Rattle.ada_flow.specs.Flow.{Holds, hold_at, moves_it, moves_again, is_one_of, variable_of, moved_by_item, uses_in_item, uses_in_items, is_named, is_target, named_by_item, moved_behind, broken_in, moved_by_items, same_selectors, same_path}
+use Rattle.ada_program.specs.Nested.{is_one_of}
+use Rattle.ada_flow.specs.Flow.{Holds, hold_at, moves_it, moves_again, variable_of, moved_by_item, uses_in_item, uses_in_items, is_named, is_target, named_by_item, moved_behind, broken_in, moved_by_items, same_selectors, same_path}
 use Rattle.ada_sound.specs.Agreement.{IsOwner}
 use Rattle.ada_sound.specs.Owners.{IsVariable, IsSamePath, OnlyOwnersAreItems, ItemsMoveApart, ItemsOwnNothing, ItemsStayWhereRaised}
 use Rattle.ada_sound.proofs.Invariant.{NoneBroken}
 use Rattle.ada_sound.proofs.Followings.{first_kept, kept_apart}
 use Rattle.ada_sound.proofs.Taken.{cleared_is, selectors_are}
-use Rattle.ada_sound.proofs.Moves.{target_at, assigns_by, moved_owner, ends_nothing, one_here}
+use Rattle.ada_sound.proofs.Moves.{target_at, assigns_by, moved_owner, ends_nothing}
+use Rattle.ada_sound.proofs.Filled.{first_one, later_one}
 
 -- Items: what one moves is a variable, or the component that the assignment goes to; and no item before it names that path.
 
@@ -104,23 +106,15 @@ items_apart holds target earlier (item ∷ items) (suc i) (suc k) path other ne 
 
 -- A variable that an item moves is one of those that the assignment moves.
 variable_here : (cs : List ℕ) (x : ℕ) (rest : List ℕ) → cs ≡ [] → is_one_of (variable_of cs x ++ rest) x ≡ true
-variable_here [] x rest is = one_here x rest
+variable_here [] x rest is = first_one x rest
 variable_here (c ∷ cs) x rest is = absurd (cc is)
-
-one_later : (ys zs : List ℕ) (x : ℕ) → is_one_of zs x ≡ true → is_one_of (ys ++ zs) x ≡ true
-one_later [] zs x e = e
-one_later (y ∷ ys) zs x e = go (y == x) (one_later ys zs x e)
-  where
-    go : (b : Bool) → is_one_of (ys ++ zs) x ≡ true → (b || is_one_of (ys ++ zs) x) ≡ true
-    go true later = refl
-    go false later = later
 
 item_moved : (items : List ItemForm) (i : ℕ) (path : PathForm) → slice_get items i ≡ Some (item_of_path path) → path.selectors ≡ [] → is_one_of (moved_by_items items) path.root ≡ true
 item_moved [] i path found is = absurd (cc found)
 item_moved (item ∷ items) zero path found is =
     let same : item ≡ item_of_path path = cc found in
     rw same (variable_here path.selectors path.root (moved_by_items items) is)
-item_moved (item ∷ items) (suc i) path found is = one_later (moved_by_item item) (moved_by_items items) path.root (item_moved items i path found is)
+item_moved (item ∷ items) (suc i) path found is = later_one (moved_by_item item) (moved_by_items items) path.root (item_moved items i path found is)
 
 pub only_owners_are_items : OnlyOwnersAreItems
 only_owners_are_items types variables target path access i items holds found kept =

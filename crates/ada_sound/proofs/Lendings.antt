@@ -8,7 +8,8 @@ use Rattle.std.specs.List.{slice_get}
 use Rattle.ada_program.specs.Form.{PathForm}
 use Rattle.ada_flow.specs.declared.rule.Hold.{Hold}
 use Rattle.ada_flow.specs.declared.rule.Hold.TheVariants as hold
-use Rattle.ada_flow.specs.Flow.{Holds, hold_at, is_one_of, is_target, without_values}
+use Rattle.ada_program.specs.Nested.{is_one_of}
+use Rattle.ada_flow.specs.Flow.{Holds, hold_at, is_target, without_values}
 use Rattle.ada_meaning.specs.declared.state.Id.{Id}
 use Rattle.ada_meaning.specs.declared.state.Value.{Value}
 use Rattle.ada_meaning.specs.declared.state.Value.TheVariants.{Names}

@@ -11,9 +11,11 @@ use Rattle.ada_program.specs.WellFormed.{is_borrower, names_borrower}
 use Rattle.ada_flow.specs.declared.rule.Hold.{Hold}
 use Rattle.ada_flow.specs.declared.rule.Hold.TheVariants as hold
 use Rattle.ada_flow.specs.declared.rule.Region.{Region}
-use Rattle.ada_flow.specs.Flow.{Holds, hold_at, Outcome, faults, goes, then_flow, raising_if, ends_with, Use, moves_it, is_one_of, variable_of, uses_in_right, uses_in_target, Breach, moved_by, moved_behind, broken_among, unless_broken, using_paths, left_by_move, without_value, without_values, moved_by_right, right_hold, evaluation_raises, gives_path, same_selectors, same_path, leaves_path, clears, begins_pair}
+use Rattle.ada_program.specs.Nested.{is_one_of}
+use Rattle.ada_flow.specs.Flow.{Holds, hold_at, Outcome, faults, goes, then_flow, raising_if, ends_with, Use, moves_it, variable_of, uses_in_right, uses_in_target, Breach, moved_by, moved_behind, broken_among, unless_broken, using_paths, left_by_move, without_value, without_values, moved_by_right, right_hold, evaluation_raises, gives_path, same_selectors, same_path, leaves_path, clears, begins_pair}
 use Rattle.ada_sound.specs.Agreement.{IsOwner}
 use Rattle.ada_sound.specs.Owners.{OwnsNothing, IsElsewhere, OnlyOwnersAreMoved, MovedOwnsNothing, OnlyPairsTake, PairsAreTakePairs}
+use Rattle.ada_sound.proofs.Filled.{first_one}
 use Rattle.ada_sound.proofs.Values.{read_same, read_other, same_or_not}
 use Rattle.ada_sound.proofs.Invariant.{NoneBroken}
 use Rattle.ada_sound.proofs.Followings.{first_kept, kept_apart}
@@ -152,11 +154,8 @@ ends_nothing variables borrows cleared target right holds after raising x is oth
     let same : assigned borrows target.selectors target.root right holds ≡ after = cc (all.ends) in
     rw (← same) (assigned_nothing borrows target target.selectors right holds x refl other moved)
 
-pub one_here : (x : ℕ) (rest : List ℕ) → is_one_of (x ∷ rest) x ≡ true
-one_here x rest = rw (eq-eqb x x refl) refl
-
 variable_one : (cs : List ℕ) (x : ℕ) → cs ≡ [] → is_one_of (variable_of cs x) x ≡ true
-variable_one [] x is = one_here x []
+variable_one [] x is = first_one x []
 variable_one (c ∷ cs) x is = absurd (cc is)
 
 pub moved_owns_nothing : MovedOwnsNothing

@@ -47,6 +47,19 @@ walking_events =
     ∷ Left 0
     ∷ []
 
+-- Head := new Node'(1, Head); while B = null loop B := Head; end loop; Put_Line (Integer'Image (B.Value));
+abbrev pub lending_stmts : StmtsForm
+lending_stmts = pushing 1 (a_stmt (repeats (Some (is_null true (example_path 2 []))) (a_stmt b_is_head no_stmts) example_spot) (a_stmt (writes (value_at 2)) no_stmts))
+
+-- One turn; then B names the node, which goes with its collection.
+abbrev pub lending_events : List Event
+lending_events =
+    Followed (Names (record { 0 = 0 }))
+    ∷ Line (Image (pos 1))
+    ∷ Back (Names (record { 0 = 0 })) 1 1 0 None (Leaving 0 0)
+    ∷ Left 0
+    ∷ []
+
 -- Head := new Node'(1, Head); B := Head; Free (Head); Put_Line (Integer'Image (B.Value));
 abbrev pub dangling_stmts : StmtsForm
 dangling_stmts = pushing 1 (a_stmt b_is_head (a_stmt (frees 1 (example_path 0 [])) (a_stmt (writes (value_at 2)) no_stmts)))

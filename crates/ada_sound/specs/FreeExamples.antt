@@ -1,7 +1,7 @@
 -- The statements and the events of the programs by which the laws show how a component takes part in an allocator that assigns to it, and how one
 -- is freed.
 
-use Rattle.std.specs.Prelude.{ℕ, List, [], ◌∷◌, ◌++◌, None, Some, true, false, pos}
+use Rattle.std.specs.Prelude.{ℕ, List, [], ◌∷◌, ◌++◌, None, Some, false, pos}
 use Rattle.std.proofs.Math.ListN.{replicate}
 use Rattle.ada_program.specs.Form.{integer, reads, is_null, nothing, null_item, item_of_path, item_of_value, value_of, allocates, StmtForm, assigns, frees, writes, repeats, StmtsForm, no_stmts, a_stmt}
 use Rattle.ada_meaning.specs.declared.state.Value.TheVariants.{Names}
@@ -43,19 +43,6 @@ inserting_events =
     ∷ Followed (Names (record { 0 = 1 }))
     ∷ Back (Names (record { 0 = 2 })) 1 3 0 None (Leaving 0 0)
     ∷ Back (Names (record { 0 = 1 })) 1 2 0 None (Leaving 0 0)
-    ∷ Back (Names (record { 0 = 0 })) 1 1 0 None (Leaving 0 0)
-    ∷ Left 0
-    ∷ []
-
--- Head := new Node'(1, Head); while B = null loop B := Head; end loop; Put_Line (Integer'Image (B.Value));
-abbrev pub lending_stmts : StmtsForm
-lending_stmts = pushing 1 (a_stmt (repeats (Some (is_null true (example_path 2 []))) (a_stmt b_is_head no_stmts) example_spot) (a_stmt (writes (value_at 2)) no_stmts))
-
--- One turn; then B names the node, which goes with its collection.
-abbrev pub lending_events : List Event
-lending_events =
-    Followed (Names (record { 0 = 0 }))
-    ∷ Line (Image (pos 1))
     ∷ Back (Names (record { 0 = 0 })) 1 1 0 None (Leaving 0 0)
     ∷ Left 0
     ∷ []

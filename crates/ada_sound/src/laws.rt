@@ -203,8 +203,8 @@ pub fn premises_are_met()
         × borrower_examples.HasBorrower program
         × IsChecked program × FinishesAfter borrower_examples.walking_events program }
     ensures borrows_in_loop { (program : Program)
-        × (stmt_forms program ≡ free_examples.lending_stmts) × borrower_examples.HasBorrower program
-        × IsChecked program × FinishesAfter free_examples.lending_events program }
+        × (stmt_forms program ≡ borrower_examples.lending_stmts) × borrower_examples.HasBorrower program
+        × IsChecked program × FinishesAfter borrower_examples.lending_events program }
     ensures inserts { (program : Program)
         × (stmt_forms program ≡ free_examples.inserting_stmts) × borrower_examples.HasBorrower program
         × IsChecked program × FinishesAfter free_examples.inserting_events program }

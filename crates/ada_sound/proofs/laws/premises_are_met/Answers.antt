@@ -47,7 +47,7 @@ pub returns-clause-walks : goal.returns-clause-walks
 returns-clause-walks c = (borrowers.walking, borrowers.walking_form, borrowers.walking_borrows, borrowers.walking_accepted, borrowers.walks)
 
 pub returns-clause-borrows_in_loop : goal.returns-clause-borrows_in_loop
-returns-clause-borrows_in_loop c = (frees.lending, frees.lending_form, frees.lending_borrows, frees.lending_accepted, frees.lends)
+returns-clause-borrows_in_loop c = (borrowers.lending, borrowers.lending_form, borrowers.lending_borrows, borrowers.lending_accepted, borrowers.lends)
 
 pub returns-clause-inserts : goal.returns-clause-inserts
 returns-clause-inserts c = (frees.insertion, frees.insertion_form, frees.insertion_borrows, frees.insertion_accepted, frees.inserts)
