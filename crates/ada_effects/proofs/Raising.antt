@@ -6,7 +6,7 @@ use Rattle.std.proofs.Math.Path.{fun_ext}
 use Rattle.ada_effects.specs.Effects.{untaken, passes, path_raises, expression_raises, items_raise, condition_raises, right_raises, declaration_raises, declarations_raise, stmt_raises, stmts_raise, branches_raise, handlers_raise}
 use Rattle.ada_program.specs.declared.program.Exception.{Exception}
 use Rattle.ada_program.specs.declared.program.Exception.TheVariants.{ConstraintError, StorageError, EndError}
-use Rattle.ada_program.specs.Form.{RightForm, nothing, value_of, allocates, computes, DeclarationForm, collects, declares, StmtForm, skips, assigns, frees, gets, writes, writes_text, chooses, repeats, counts, exits, returns, raises, encloses, StmtsForm, no_stmts, a_stmt, BranchesForm, otherwise, a_branch, HandlersForm, no_handlers, a_handler}
+use Rattle.ada_program.specs.Form.{RightForm, nothing, value_of, allocates, allocates_default, computes, DeclarationForm, collects, declares, StmtForm, skips, assigns, frees, gets, writes, writes_text, chooses, repeats, counts, exits, returns, raises, encloses, StmtsForm, no_stmts, a_stmt, BranchesForm, otherwise, a_branch, HandlersForm, no_handlers, a_handler}
 use Rattle.ada_program.specs.Handling.{is_same, is_taken}
 use Rattle.ada_effects.specs.Laws as laws
 use Rattle.ada_effects.specs.Taken.{outside, with_handlers, have_others}
@@ -52,6 +52,7 @@ right_stays p q w (value_of path) h = checked p q w (path_raises path.selectors)
 right_stays p q w (allocates access items) h =
     either (p StorageError) (p ConstraintError && items_raise items) (q StorageError) (q ConstraintError && items_raise items)
     (w StorageError) (checked p q w (items_raise items)) h
+right_stays p q w (allocates_default access) h = w StorageError h
 right_stays p q w (computes e) h = checked p q w (expression_raises e) h
 
 declaration_stays : (p q : Exception → Bool) → Within p q → (d : DeclarationForm) → declaration_raises p d ≡ true → declaration_raises q d ≡ true
@@ -136,6 +137,7 @@ right_has_one p nothing h = cc
 right_has_one p (value_of path) h = one_checked p (path_raises path.selectors) h
 right_has_one p (allocates access items) h =
     one_of p (λ r. r StorageError) (λ r. r ConstraintError && items_raise items) (itself p StorageError) (one_checked p (items_raise items)) h
+right_has_one p (allocates_default access) h = itself p StorageError h
 right_has_one p (computes e) h = one_checked p (expression_raises e) h
 
 declaration_has_one : (p : Exception → Bool) (d : DeclarationForm) → declaration_raises p d ≡ true → One p (λ r. declaration_raises r d)

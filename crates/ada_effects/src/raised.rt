@@ -3,7 +3,7 @@
 ghost use Rattle.std.specs.Prelude.{◌≡◌, ◌||◌, map, OnOk, IfOk};
 ghost use Rattle.ada_effects.specs.Effects as rules;
 ghost use Rattle.ada_effects.specs.Taken.{set_of, outside};
-ghost use Rattle.ada_program.specs.declared.program.Exception.TheVariants.{ConstraintError};
+ghost use Rattle.ada_program.specs.declared.program.Exception.TheVariants.{ConstraintError, StorageError};
 ghost use Rattle.ada_program.specs.Form.{StmtsForm, right_form, declaration_form, stmt_form, stmts_form, branches_form, handlers_form};
 
 use crate::expressions::{condition_raises, expression_raises, items_raise, path_raises};
@@ -34,11 +34,19 @@ fn right_raises(right: &Right, taken: &Taken) -> bool
         Right::Null => false,
         Right::Path(path) => constraint_error_leaves(taken) && path_raises(path),
         Right::Allocator { access: _, items } => {
-            !taken.contains(Exception::StorageError)
-                || constraint_error_leaves(taken) && items_raise(items)
+            storage_error_leaves(taken) || constraint_error_leaves(taken) && items_raise(items)
         }
+        Right::Default(_) => storage_error_leaves(taken),
         Right::Value(expression) => constraint_error_leaves(taken) && expression_raises(expression),
     }
+}
+
+/// Whether Storage_Error is outside the set.
+#[tactic(auto, using(std::proofs::lemmas::Grind::common_steps, crate::proofs::Sets::is_outside))]
+fn storage_error_leaves(taken: &Taken) -> bool
+    ensures { result ≡ outside (set_of taken.now) StorageError }
+{
+    !taken.contains(Exception::StorageError)
 }
 
 /// Whether Constraint_Error is outside the set.

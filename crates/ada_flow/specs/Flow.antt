@@ -6,7 +6,7 @@ use Rattle.std.proofs.Math.ListN.{replicate}
 use Rattle.ada_text.specs.declared.spot.Spot.{Spot}
 use Rattle.ada_program.specs.declared.program.Program.{Program}
 use Rattle.ada_program.specs.declared.program.VariableKind.{VariableKind}
-use Rattle.ada_program.specs.Form.{PathForm, ExpressionForm, integer, boolean, reads, is_null, applied_to, chained, LinksForm, no_more_links, a_link, ItemForm, null_item, item_of_path, item_of_value, RightForm, nothing, value_of, allocates, computes, StmtForm, skips, assigns, frees, gets, writes, writes_text, chooses, repeats, counts, exits, returns, raises, encloses, StmtsForm, no_stmts, a_stmt, BranchesForm, otherwise, a_branch, HandlersForm, no_handlers, a_handler, DeclarationForm, collects, declares, declaration_forms, stmt_forms, handler_forms}
+use Rattle.ada_program.specs.Form.{PathForm, ExpressionForm, integer, boolean, reads, is_null, applied_to, chained, LinksForm, no_more_links, a_link, ItemForm, null_item, item_of_path, item_of_value, RightForm, nothing, value_of, allocates, allocates_default, computes, StmtForm, skips, assigns, frees, gets, writes, writes_text, chooses, repeats, counts, exits, returns, raises, encloses, StmtsForm, no_stmts, a_stmt, BranchesForm, otherwise, a_branch, HandlersForm, no_handlers, a_handler, DeclarationForm, collects, declares, declaration_forms, stmt_forms, handler_forms}
 use Rattle.ada_program.specs.ProgramForm.{TypeForm, type_form, VariableForm, variable_form}
 use Rattle.ada_program.specs.WellFormed.{access_of, variable_kind, selected_kind, path_access, is_this, is_borrower}
 use Rattle.ada_effects.specs.Effects.{expression_raises, path_raises, passes}
@@ -169,6 +169,7 @@ abbrev pub uses_in_right : (borrows cleared : Bool) → (target : Option PathFor
 uses_in_right borrows cleared target nothing = []
 uses_in_right borrows cleared target (value_of path) = value_use borrows cleared path ∷ []
 uses_in_right borrows cleared target (allocates access items) = uses_in_items target [] items
+uses_in_right borrows cleared target (allocates_default access) = []
 uses_in_right borrows cleared target (computes e) = uses_in e
 
 -- The path of a target is followed up to the object in which its component lies (5.2); a variable is not.
@@ -288,6 +289,7 @@ abbrev pub moved_by_right : (borrows : Bool) → RightForm → List ℕ
 moved_by_right borrows nothing = []
 moved_by_right borrows (value_of path) = moved_by_value borrows path
 moved_by_right borrows (allocates access items) = moved_by_items items
+moved_by_right borrows (allocates_default access) = []
 moved_by_right borrows (computes e) = []
 
 -- What the value of a path is relied on for: a variable's own hold; a component owns its value, which is null where the variable is.
@@ -314,6 +316,7 @@ abbrev pub right_hold : (borrows : Bool) → RightForm → Holds → Hold
 right_hold borrows nothing holds = Null
 right_hold borrows (value_of path) holds = given_hold borrows path.selectors (hold_at holds path.root)
 right_hold borrows (allocates access items) holds = Own Whole
+right_hold borrows (allocates_default access) holds = Own Whole
 right_hold borrows (computes e) holds = Lost
 
 -- Whether an assignment may raise an exception where it evaluates what is assigned: there may be no storage.
@@ -321,6 +324,7 @@ abbrev pub evaluation_raises : RightForm → Bool
 evaluation_raises nothing = false
 evaluation_raises (value_of path) = path_raises path.selectors
 evaluation_raises (allocates access items) = true
+evaluation_raises (allocates_default access) = true
 evaluation_raises (computes e) = expression_raises e
 
 -- After a variable, a borrower or not, gets a value (3.3.1, 5.2): what was moved goes there.

@@ -65,7 +65,7 @@ fn broken_in_right(
         broken result ≡ rules.broken_among holds.now uses }
 {
     match value {
-        Right::Null => None,
+        Right::Null | Right::Default(_) => None,
         Right::Path(path) => leftmost(broken_in_value(holds, borrows, cleared, path), None),
         Right::Allocator { access: _, items } => broken_in_items(holds, target, items),
         Right::Value(expression) => broken_in(holds, expression),
@@ -224,7 +224,7 @@ pub(crate) fn right_hold(holds: &[Hold], borrows: bool, value: &Right) -> Hold
     match value {
         Right::Null => Hold::Null,
         Right::Path(path) => given_hold(borrows, path, hold_of(holds, path.root)),
-        Right::Allocator { .. } => Hold::Own(Region::Whole),
+        Right::Allocator { .. } | Right::Default(_) => Hold::Own(Region::Whole),
         Right::Value(_) => Hold::Lost,
     }
 }
@@ -267,7 +267,7 @@ pub(crate) fn evaluation_raises(value: &Right) -> bool
     match value {
         Right::Null => false,
         Right::Path(path) => !path.selectors.is_empty(),
-        Right::Allocator { .. } => true,
+        Right::Allocator { .. } | Right::Default(_) => true,
         Right::Value(expression) => expression_raises(expression),
     }
 }
@@ -280,7 +280,7 @@ pub(crate) fn lose_moved(known: &mut Known, borrows: bool, value: &Right)
     match value {
         Right::Path(path) if !borrows => lose_path(known, path),
         Right::Allocator { access: _, items } => lose_items(known, items),
-        Right::Null | Right::Path(_) | Right::Value(_) => {}
+        Right::Null | Right::Path(_) | Right::Default(_) | Right::Value(_) => {}
     }
 }
 

@@ -36,7 +36,7 @@ fn takes(target: &Path, value: &Right, behind: &[Stmt]) -> bool
 {
     match value {
         Right::Path(path) => leaves_path(target, path) && clears(path, behind),
-        Right::Null | Right::Allocator { .. } | Right::Value(_) => false,
+        Right::Null | Right::Allocator { .. } | Right::Default(_) | Right::Value(_) => false,
     }
 }
 

@@ -1,7 +1,8 @@
-//! Allocators: their items are evaluated, a pool is asked, and the new object exists or Storage_Error is raised.
+//! Allocators: their items are evaluated, or what the components hold at first is taken; then a pool is asked, and the
+//! new object exists or Storage_Error is raised.
 
 ghost use Rattle.std.specs.Prelude.{◌≡◌, map, OnOk};
-ghost use Rattle.ada_program.specs.Form.{item_form};
+ghost use Rattle.ada_program.specs.Form.{item_form, allocates_default};
 ghost use Rattle.ada_meaning.specs.Frame as frame;
 ghost use Rattle.ada_meaning.specs.Step as step;
 ghost use Rattle.ada_meaning.specs.State.{counted};
@@ -12,8 +13,9 @@ use crate::frame::Frame;
 use crate::objects::{Cell, Home};
 use crate::process::Process;
 use crate::turn::{Allocation, QUIET, Turn};
+use crate::values::initial_value;
 use ada_meaning::{Exception, Value};
-use ada_program::program::Item;
+use ada_program::program::{ComponentKind, Item};
 use ada_program::{Program, TypeNo};
 use std::alloc::AllocError;
 
@@ -51,6 +53,39 @@ impl<'a> Process<'a> {
                 Ok(QUIET)
             }
         }
+    }
+
+    /// An allocator without items (4.8): what the components of its object hold at first is kept, in their order (3.3.1),
+    /// before the object is asked for.
+    pub(crate) fn initialize(
+        &mut self,
+        program: &Program,
+        access: TypeNo,
+    ) -> Result<Turn, AllocError>
+        ensures { let s = state_of self.old in let types = program.now.types.items in
+            Turns (step.right_next named types (allocates_default access.0) (passed s))
+            s result (state_of self.new) }
+    {
+        self.replace(Frame::Creates {
+            access,
+            count: program.words(access),
+        })?;
+        if let Some(components) = program.components(access) {
+            self.keep_initial_values(components)?;
+        }
+        Ok(QUIET)
+    }
+
+    /// What components hold at first is kept, in their order (3.3.1).
+    fn keep_initial_values(&mut self, components: &[ComponentKind]) -> Result<(), AllocError>
+        ensures { let s = state_of self.old in
+            let values = map (step.initial_value named) components.now in
+            OnOk result (state_of self.new ≡ step.set_operands (step.in_front values (step.operands s)) s) }
+    {
+        for component in components {
+            self.keep(initial_value(*component))?;
+        }
+        Ok(())
     }
 
     /// A pool is asked for the object of an allocator, whose items are evaluated (4.8). Where its type has no open

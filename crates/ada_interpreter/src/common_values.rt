@@ -1,7 +1,8 @@
 //! Common steps of expressions: values that are given without anybody being told or asked.
 
-ghost use Rattle.std.specs.Prelude.{◌≡◌};
+ghost use Rattle.std.specs.Prelude.{◌≡◌, List};
 ghost use Rattle.std.specs.Option.{option_copied};
+ghost use Rattle.ada_program.specs.declared.program.TypeDefinition.{TypeDefinition};
 ghost use Rattle.ada_program.specs.Form.{initial_form, path_form, expression_form};
 ghost use Rattle.ada_meaning.specs.Step as step;
 ghost use Rattle.ada_meaning.specs.Named.{named, binary_given};
@@ -21,7 +22,8 @@ impl<'a> Process<'a> {
     /// What is assigned (5.2): a variable, or the value of an expression.
     pub(crate) fn evaluate_next(&mut self, right: Option<&'a Right>) -> Result<bool, AllocError>
         ensures { let s = passed (state_of self.old) in
-            MayMove (step.right_next named (initial_form (option_copied right.entry)) s) self.old result self.new }
+            let form = initial_form (option_copied right.entry) in
+            (types : List TypeDefinition) → MayMove (step.right_next named types form s) self.old result self.new }
     {
         match right {
             Some(Right::Value(expression)) => {

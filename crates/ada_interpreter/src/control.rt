@@ -85,7 +85,7 @@ impl<'a> Process<'a> {
             }
             Frame::Closes => self.close(),
             Frame::Leaves(mode) => self.leave(mode),
-            Frame::Evaluates(right) => self.evaluate(right),
+            Frame::Evaluates(right) => self.evaluate(program, right),
             Frame::Computes(expression) => self.compute(expression),
             Frame::Follows(selectors) => self.follow(selectors),
             Frame::TestsNull { equal } => self.test_null(equal),

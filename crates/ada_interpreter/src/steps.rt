@@ -16,7 +16,7 @@ use crate::process::Process;
 use crate::turn::{QUIET, Turn};
 use ada_meaning::{Event, Halt, Line, Mode, Value};
 use ada_program::program::{Declaration, Handler, Right};
-use ada_program::{Stmt, VariableNo};
+use ada_program::{Program, Stmt, VariableNo};
 use ada_values::Value as Scalar;
 use std::alloc::AllocError;
 
@@ -204,9 +204,13 @@ impl<'a> Process<'a> {
     }
 
     /// What is assigned is evaluated (4.1, 4.8); null where nothing is written.
-    pub(crate) fn evaluate(&mut self, right: Option<&'a Right>) -> Result<Turn, AllocError>
-        ensures { let s = state_of self.old in
-            Turns (step.right_next named (initial_form (option_copied right.entry)) (passed s))
+    pub(crate) fn evaluate(
+        &mut self,
+        program: &Program,
+        right: Option<&'a Right>,
+    ) -> Result<Turn, AllocError>
+        ensures { let s = state_of self.old in let form = initial_form (option_copied right.entry) in
+            Turns (step.right_next named program.now.types.items form (passed s))
             s result (state_of self.new) }
     {
         match right {
@@ -214,14 +218,14 @@ impl<'a> Process<'a> {
                 self.give(Value::Null)?;
                 Ok(QUIET)
             }
-            Some(right) => self.value(right),
+            Some(right) => self.value(program, right),
         }
     }
 
     /// A right side is evaluated (4.1, 4.8): the items of an allocator before its object is asked for.
-    fn value(&mut self, right: &'a Right) -> Result<Turn, AllocError>
+    fn value(&mut self, program: &Program, right: &'a Right) -> Result<Turn, AllocError>
         ensures { let s = state_of self.old in
-            Turns (step.right_next named (right_form right.now) (passed s))
+            Turns (step.right_next named program.now.types.items (right_form right.now) (passed s))
             s result (state_of self.new) }
     {
         match right {
@@ -240,6 +244,7 @@ impl<'a> Process<'a> {
                 )?;
                 Ok(QUIET)
             }
+            Right::Default(access) => self.initialize(program, *access),
             Right::Value(expression) => {
                 self.replace(Frame::Computes(expression))?;
                 Ok(QUIET)

@@ -2,9 +2,11 @@
 
 ghost use Rattle.std.specs.Prelude.{◌≡◌};
 ghost use Rattle.std.specs.List.{slice_index_or, slice_set};
-ghost use Rattle.ada_meaning.specs.Named.{reads_boolean, reads_integer};
+ghost use Rattle.ada_meaning.specs.Step.{initial_value};
+ghost use Rattle.ada_meaning.specs.Named.{named, reads_boolean, reads_integer};
 
 use ada_meaning::Value;
+use ada_program::program::ComponentKind;
 use ada_values::Value as Scalar;
 
 /// The value at a number; null, if there is none.
@@ -24,6 +26,17 @@ pub(crate) fn set_value(values: &mut [Value], i: usize, value: Value)
 {
     if i < values.len() {
         values[i] = value;
+    }
+}
+
+/// What a component holds at first where no value is given (3.3.1, 3.8): null, if it holds access values.
+pub(crate) fn initial_value(kind: ComponentKind) -> Value
+    ensures { result ≡ initial_value named kind }
+{
+    match kind {
+        ComponentKind::Integer { initial } => Value::Scalar(Scalar::Integer(initial)),
+        ComponentKind::Boolean { initial } => Value::Scalar(Scalar::Boolean(initial)),
+        ComponentKind::Access(_) => Value::Null,
     }
 }
 

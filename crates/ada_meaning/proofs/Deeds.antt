@@ -4,7 +4,7 @@ use Rattle.std.proofs.Common.{◌≡◌, ℕ, ℤ, int_le, ◌==◌, Bool, true,
 use Rattle.std.specs.List.{slice_get, slice_set, slice_index_or}
 use Rattle.ada_program.specs.declared.program.Program.{Program}
 use Rattle.ada_program.specs.declared.program.TypeDefinition.{TypeDefinition}
-use Rattle.ada_program.specs.Form.{ExpressionForm, integer, boolean, reads, is_null, applied_to, chained, LinksForm, no_more_links, a_link, ItemForm, null_item, item_of_path, item_of_value, RightForm, nothing, value_of, allocates, computes, StmtForm, skips, assigns, frees, gets, writes, writes_text, chooses, repeats, counts, exits, raises, encloses, StmtsForm, no_stmts, a_stmt, BranchesForm, otherwise, a_branch, HandlersForm, DeclarationForm, collects, declares}
+use Rattle.ada_program.specs.Form.{ExpressionForm, integer, boolean, reads, is_null, applied_to, chained, LinksForm, no_more_links, a_link, ItemForm, null_item, item_of_path, item_of_value, RightForm, nothing, value_of, allocates, allocates_default, computes, StmtForm, skips, assigns, frees, gets, writes, writes_text, chooses, repeats, counts, exits, raises, encloses, StmtsForm, no_stmts, a_stmt, BranchesForm, otherwise, a_branch, HandlersForm, DeclarationForm, collects, declares}
 use Rattle.ada_program.specs.Form as form
 use Rattle.ada_program.specs.Typed.{words_of}
 use Rattle.ada_values.specs.declared.operator.BinaryOperator.{BinaryOperator}
@@ -114,11 +114,12 @@ new_does : (access count words : ℕ) (home : Option ℕ) (s : State) → Does s
 new_does access count words None s = same refl refl
 new_does access count words (Some item) s = answered_does access count item words s
 
-right_does : (right : RightForm) (s : State) → Does s.heap (right_next named right s)
-right_does nothing s = same refl refl
-right_does (value_of path) s = path_does path.selectors (held named s path.root) s
-right_does (allocates access items) s = same refl refl
-right_does (computes e) s = same refl refl
+right_does : (types : List TypeDefinition) (right : RightForm) (s : State) → Does s.heap (right_next named types right s)
+right_does types nothing s = same refl refl
+right_does types (value_of path) s = path_does path.selectors (held named s path.root) s
+right_does types (allocates access items) s = same refl refl
+right_does types (allocates_default access) s = same refl refl
+right_does types (computes e) s = same refl refl
 
 -- Free, and what it leads to.
 free_does : (access x : ℕ) (v : Value) (found : Found (Cell Value)) (s : State) → Does s.heap (free_next named access x v found s)
@@ -316,7 +317,7 @@ frame_does types frame.Exits s = exited_does (reads_boolean (newest named s)) (p
 frame_does types (frame.Handles hs) s = same refl refl
 frame_does types frame.Closes s = same refl refl
 frame_does types (frame.Leaves mode) s = leave_does mode s.masters s
-frame_does types (frame.Evaluates right) s = right_does right s
+frame_does types (frame.Evaluates right) s = right_does types right s
 frame_does types (frame.Computes e) s = expression_does e s
 frame_does types (frame.Follows cs) s = path_does cs (newest named s) (popped s)
 frame_does types (frame.TestsNull equal) s = null_test_does equal (reads_null (newest named s)) (popped s)

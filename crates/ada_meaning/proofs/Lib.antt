@@ -6,6 +6,8 @@ pub mod Weight
 pub mod Deeds
 -- objects over any run
 pub mod Lives
+-- what objects of allocators without items hold when they come to be
+pub mod Defaults
 -- where a statement begins
 pub mod Beginnings
 -- what the law of the innermost master refuses

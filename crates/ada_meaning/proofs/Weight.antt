@@ -4,7 +4,7 @@ use Rattle.std.proofs.Common.{◌≡◌, ◌≢◌, ℕ, ℤ, ◌+◌, ◌<◌, 
 use Rattle.std.specs.List.{slice_get, slice_index_or}
 use Rattle.ada_program.specs.declared.program.Program.{Program}
 use Rattle.ada_program.specs.declared.program.TypeDefinition.{TypeDefinition}
-use Rattle.ada_program.specs.Form.{ExpressionForm, integer, boolean, reads, is_null, applied_to, chained, LinksForm, no_more_links, a_link, ItemForm, null_item, item_of_path, item_of_value, RightForm, nothing, value_of, allocates, computes, StmtForm, skips, assigns, frees, gets, writes, writes_text, chooses, repeats, counts, exits, returns, raises, encloses, StmtsForm, no_stmts, a_stmt, BranchesForm, otherwise, a_branch, HandlersForm, DeclarationForm, collects, declares}
+use Rattle.ada_program.specs.Form.{ExpressionForm, integer, boolean, reads, is_null, applied_to, chained, LinksForm, no_more_links, a_link, ItemForm, null_item, item_of_path, item_of_value, RightForm, nothing, value_of, allocates, allocates_default, computes, StmtForm, skips, assigns, frees, gets, writes, writes_text, chooses, repeats, counts, exits, returns, raises, encloses, StmtsForm, no_stmts, a_stmt, BranchesForm, otherwise, a_branch, HandlersForm, DeclarationForm, collects, declares}
 use Rattle.ada_program.specs.Handling.{handler_of}
 use Rattle.ada_program.specs.Typed.{words_of}
 use Rattle.ada_values.specs.declared.operator.BinaryOperator.{BinaryOperator}
@@ -75,6 +75,7 @@ some_right : (right : RightForm) → 1 ≤ right_weight right
 some_right nothing = omega arith
 some_right (value_of path) = omega arith
 some_right (allocates access items) = omega arith
+some_right (allocates_default access) = omega arith
 some_right (computes e) = omega arith
 
 -- What an exception passes weighs no more than what runs, and than what an exit passes.
@@ -207,11 +208,12 @@ new_lightens : (access count words : ℕ) (home : Option ℕ) (s : State) (w : �
 new_lightens access count words None s w h = omega (arith, h, passed_run s.control)
 new_lightens access count words (Some item) s w h = answered_lightens access count item words s w h
 
-right_lightens : (right : RightForm) (s : State) (w : ℕ) → load (running s) + right_weight right ≤ w → Lightens (right_next named right (running s)) w
-right_lightens nothing s w h = omega (arith, h)
-right_lightens (value_of path) s w h = path_lightens path.selectors (held named s path.root) s w (omega (arith, h))
-right_lightens (allocates access items) s w h = omega (arith, h)
-right_lightens (computes e) s w h = omega (arith, h)
+right_lightens : (types : List TypeDefinition) (right : RightForm) (s : State) (w : ℕ) → load (running s) + right_weight right ≤ w → Lightens (right_next named types right (running s)) w
+right_lightens types nothing s w h = omega (arith, h)
+right_lightens types (value_of path) s w h = path_lightens path.selectors (held named s path.root) s w (omega (arith, h))
+right_lightens types (allocates access items) s w h = omega (arith, h)
+right_lightens types (allocates_default access) s w h = omega (arith, h)
+right_lightens types (computes e) s w h = omega (arith, h)
 
 -- The end of an object.
 end_lightens : (v : Value) (found : Found (Cell Value)) (s : State) (w : ℕ) → load (running s) + 1 ≤ w → Lightens (end_next named v found (running s)) w
@@ -375,7 +377,7 @@ frame_lightens types frame.Exits s w b h = exited_lightens (reads_boolean (newes
 frame_lightens types (frame.Handles hs) s w b h = omega (arith, h)
 frame_lightens types frame.Closes s w b h = omega (arith, h)
 frame_lightens types (frame.Leaves mode) s w b h = leave_lightens mode s.masters s w refl (omega (arith, h))
-frame_lightens types (frame.Evaluates right) s w b h = right_lightens right s w (omega (arith, h))
+frame_lightens types (frame.Evaluates right) s w b h = right_lightens types right s w (omega (arith, h))
 frame_lightens types (frame.Computes e) s w b h = expression_lightens e s w (omega (arith, h))
 frame_lightens types (frame.Follows cs) s w b h = path_lightens cs (newest named s) (popped s) w (omega (arith, h))
 frame_lightens types (frame.TestsNull equal) s w b h = null_test_lightens equal (reads_null (newest named s)) (popped s) w (omega (arith, h))

@@ -2,7 +2,7 @@
 
 use Rattle.std.specs.Prelude.{◌≡◌, ◌≢◌, ℕ, Bool, true, false, ◌||◌, ◌+◌, ◌<◌, ◌≤◌, if◌then◌else◌, List, [], ◌∷◌, length, Option, Some, None}
 use Rattle.ada_program.specs.declared.program.Program.{Program}
-use Rattle.ada_program.specs.Form.{PathForm, ExpressionForm, integer, boolean, reads, is_null, applied_to, chained, LinksForm, no_more_links, a_link, ItemForm, null_item, item_of_path, item_of_value, RightForm, nothing, value_of, allocates, computes, a_stmt, BranchesForm, otherwise, a_branch, DeclarationForm, collects, declares}
+use Rattle.ada_program.specs.Form.{PathForm, ExpressionForm, integer, boolean, reads, is_null, applied_to, chained, LinksForm, no_more_links, a_link, ItemForm, null_item, item_of_path, item_of_value, RightForm, nothing, value_of, allocates, allocates_default, computes, a_stmt, BranchesForm, otherwise, a_branch, DeclarationForm, collects, declares}
 use Rattle.ada_meaning.specs.declared.event.Halt.TheVariants.{Memory}
 use Rattle.ada_meaning.specs.declared.state.Value.{Value}
 use Rattle.ada_meaning.specs.declared.state.Mode.{Mode}
@@ -49,6 +49,7 @@ abbrev pub right_weight : RightForm → ℕ
 right_weight nothing = 1
 right_weight (value_of path) = path_weight path
 right_weight (allocates access items) = 5 + items_weight items
+right_weight (allocates_default access) = 5
 right_weight (computes e) = 1 + expression_weight e
 
 -- The conditions of an `if`, up to the first statement behind them.

@@ -20,6 +20,8 @@ pub mod Chosen
 pub mod Law
 -- laws of names and objects over any run (4.8, 7.6.1, 13.11.2)
 pub mod Life
+-- what objects of allocators without items hold when they come to be (4.8)
+pub mod Defaults
 -- where a statement begins (5.1)
 pub mod Beginning
 -- every run ends

@@ -1,14 +1,16 @@
 -- The small steps: what a state does next, form by form in the order of the manual. They are generic in what a value is and in the heap.
 
-use Rattle.std.specs.Prelude.{ℕ, ◌+◌, ◌==◌, ℤ, pos, ◌+ℤ◌, int_le, Bool, true, false, not, if◌then◌else◌, List, [], ◌∷◌, length, take, drop, reverse, Option, Some, None, Result, Ok, Err}
+use Rattle.std.specs.Prelude.{ℕ, ◌+◌, ◌==◌, ℤ, pos, ◌+ℤ◌, int_le, Bool, true, false, not, if◌then◌else◌, List, [], ◌∷◌, length, map, take, drop, reverse, Option, Some, None, Result, Ok, Err}
 use Rattle.std.specs.List.{slice_get, slice_index_or, slice_set}
 use Rattle.ada_values.specs.declared.operator.BinaryOperator.{BinaryOperator}
 use Rattle.ada_values.specs.declared.operator.BinaryOperator.TheVariants as binary
 use Rattle.ada_values.specs.declared.fault.OperatorFault.{OperatorFault}
 use Rattle.ada_values.specs.declared.fault.OperatorFault.TheVariants.{Overflow, DivisionByZero, WrongType}
+use Rattle.ada_program.specs.declared.program.ComponentKind.{ComponentKind}
+use Rattle.ada_program.specs.declared.program.ComponentKind.TheVariants as component
 use Rattle.ada_program.specs.declared.program.TypeDefinition.{TypeDefinition}
-use Rattle.ada_program.specs.Form.{ExpressionForm, integer, boolean, reads, is_null, applied_to, chained, LinksForm, no_more_links, a_link, ItemForm, null_item, item_of_path, item_of_value, RightForm, nothing, value_of, allocates, computes, StmtForm, skips, assigns, frees, gets, writes, writes_text, chooses, repeats, counts, exits, returns, raises, encloses, StmtsForm, no_stmts, a_stmt, BranchesForm, otherwise, a_branch, HandlersForm, DeclarationForm, collects, declares}
-use Rattle.ada_program.specs.Typed.{words_of}
+use Rattle.ada_program.specs.Form.{ExpressionForm, integer, boolean, reads, is_null, applied_to, chained, LinksForm, no_more_links, a_link, ItemForm, null_item, item_of_path, item_of_value, RightForm, nothing, value_of, allocates, allocates_default, computes, StmtForm, skips, assigns, frees, gets, writes, writes_text, chooses, repeats, counts, exits, returns, raises, encloses, StmtsForm, no_stmts, a_stmt, BranchesForm, otherwise, a_branch, HandlersForm, DeclarationForm, collects, declares}
+use Rattle.ada_program.specs.Typed.{reached_of, words_of}
 use Rattle.ada_meaning.specs.declared.state.Mode.{Mode}
 use Rattle.ada_meaning.specs.declared.state.Mode.TheVariants.{Running, Raising, Exiting, Returning}
 use Rattle.ada_meaning.specs.declared.event.Cause.{Cause}
@@ -138,6 +140,11 @@ abbrev pub last_of : ℕ → List ℕ → ℕ
 last_of c [] = c
 last_of c (d ∷ cs) = last_of d cs
 
+-- Values in front of others, in the order in which they were computed: the newest first.
+abbrev pub in_front : {V : Type 0} → List V → List V → List V
+in_front [] older = older
+in_front (v ∷ vs) older = in_front vs (v ∷ older)
+
 -- How a run ends where nothing is left to do, or to pass: an exit always has a loop.
 abbrev pub end_of : Mode → Halt
 end_of Running = Finished
@@ -248,12 +255,29 @@ module _ {V H : Type 0} (ops : Ops V H) where
   new_next access count words None s = moves Quiet (raised StorageError s)
   new_next access count words (Some item) s = asks (Allocate (pool_of access) 0 words) (answered access count item words s)
 
+  -- What a component holds at first where no value is given (3.3.1, 3.8): null, if it holds access values.
+  abbrev pub initial_value : ComponentKind → V
+  initial_value (component.Integer initial) = ops.integer initial
+  initial_value (component.Boolean initial) = ops.boolean initial
+  initial_value (component.Access access) = ops.null
+
+  -- What the components of an object hold at first, in order.
+  abbrev pub initial_values : Option (List ComponentKind) → List V
+  initial_values None = []
+  initial_values (Some kinds) = map initial_value kinds
+
+  -- What the components of an object hold at first is kept for the allocator (4.8).
+  abbrev pub initialized : List TypeDefinition → (access : ℕ) → State V H → State V H
+  initialized types access s = set_operands (in_front (initial_values (reached_of types access)) (operands s)) s
+
   -- What is assigned (5.2).
-  abbrev pub right_next : RightForm → State V H → Next V H
-  right_next nothing s = moves Quiet (computed ops.null s)
-  right_next (value_of path) s = path_next path.selectors (held s path.root) s
-  right_next (allocates access items) s = moves Quiet (at (frame.Fills items ∷ frame.Creates access (length items) ∷ s.control) s)
-  right_next (computes e) s = moves Quiet (at (frame.Computes e ∷ s.control) s)
+  abbrev pub right_next : List TypeDefinition → RightForm → State V H → Next V H
+  right_next types nothing s = moves Quiet (computed ops.null s)
+  right_next types (value_of path) s = path_next path.selectors (held s path.root) s
+  right_next types (allocates access items) s = moves Quiet (at (frame.Fills items ∷ frame.Creates access (length items) ∷ s.control) s)
+  right_next types (allocates_default access) s =
+      moves Quiet (at (frame.Creates access (words_of types access) ∷ s.control) (initialized types access s))
+  right_next types (computes e) s = moves Quiet (at (frame.Computes e ∷ s.control) s)
 
   -- A Free of an object begins (13.11.2): it leaves its collection, is to cease to exist, its words are to go back to the pool of the access type,
   -- and then what held its name becomes null.
@@ -472,7 +496,7 @@ module _ {V H : Type 0} (ops : Ops V H) where
   frame_next types (frame.Handles hs) s = moves Quiet s
   frame_next types frame.Closes s = moves Quiet (at (frame.Leaves Running ∷ s.control) s)
   frame_next types (frame.Leaves mode) s = leave_next mode s.masters s
-  frame_next types (frame.Evaluates right) s = right_next right s
+  frame_next types (frame.Evaluates right) s = right_next types right s
   frame_next types (frame.Computes e) s = expression_next e s
   frame_next types (frame.Follows cs) s = path_next cs (newest s) (popped s)
   frame_next types (frame.TestsNull equal) s = null_test_next equal (ops.reads_null (newest s)) (popped s)

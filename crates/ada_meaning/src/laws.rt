@@ -1,6 +1,7 @@
 //! Laws of any run of any program, by the definitions alone.
 
 ghost use Rattle.ada_meaning.specs.Beginning.{StatementsBegin};
+ghost use Rattle.ada_meaning.specs.Defaults.{MakesByDefault};
 ghost use Rattle.ada_meaning.specs.Life.{NamesAreUsedOnce, GoneForEver, BackOnce};
 ghost use Rattle.ada_meaning.specs.Ending.{StepsMakeLighter, StatesGoOn, StatementsEnd};
 
@@ -38,4 +39,9 @@ pub fn back_once()
 /// `begins` says where a statement begins: no jump is on its way, and a statement is first of what is left to do.
 pub fn statements_begin()
     ensures { StatementsBegin }
+{}
+
+/// The object of an allocator without items holds, component by component, what the declarations of its type say (4.8, 3.3.1).
+pub fn makes_by_default()
+    ensures { MakesByDefault }
 {}

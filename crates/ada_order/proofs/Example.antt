@@ -13,6 +13,8 @@ use Rattle.ada_program.specs.declared.program.Stmt.{Stmt}
 use Rattle.ada_program.specs.declared.program.Stmt as stmt
 use Rattle.ada_program.specs.declared.program.Path.{Path}
 use Rattle.ada_program.specs.declared.program.ComponentKind.TheVariants as component
+use Rattle.ada_program.specs.declared.program.Part.{Part}
+use Rattle.ada_program.specs.declared.program.PartKind.TheVariants as part
 use Rattle.ada_program.specs.declared.program.TypeDefinition.{TypeDefinition}
 use Rattle.ada_program.specs.declared.program.TypeDefinition.TheVariants as definition
 use Rattle.ada_program.specs.declared.program.Declaration.{Declaration}
@@ -49,8 +51,11 @@ spot = record { line = 1; column = 1 }
 abbrev access_type : TypeDefinition
 access_type = definition.Access no_name (record { 0 = 0 })
 
+abbrev value : List Part
+value = record { name = no_name; kind = part.Elementary (component.Integer (pos 0)); first = record { 0 = 0 } } ∷ []
+
 abbrev types : List TypeDefinition
-types = definition.Record no_name (vec (record { name = no_name; kind = component.Integer (pos 0) } ∷ []) (omega arith)) ∷ access_type ∷ access_type ∷ access_type ∷ []
+types = definition.Record no_name (vec value (omega arith)) (vec (component.Integer (pos 0) ∷ []) (omega arith)) ∷ access_type ∷ access_type ∷ access_type ∷ []
 
 -- X : A; Y : B; Z : C;
 abbrev of_type : ℕ → Variable

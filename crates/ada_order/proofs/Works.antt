@@ -4,7 +4,7 @@ use Rattle.std.proofs.Common.{◌≡◌, ℕ, ℤ, ◌==◌, Bool, true, false, 
 use Rattle.std.specs.Prelude.{int_le}
 use Rattle.std.specs.List.{slice_get}
 use Rattle.ada_program.specs.declared.program.TypeDefinition.{TypeDefinition}
-use Rattle.ada_program.specs.Form.{ExpressionForm, integer, boolean, reads, is_null, applied_to, chained, LinksForm, no_more_links, a_link, ItemForm, null_item, item_of_path, item_of_value, RightForm, nothing, value_of, allocates, computes, StmtForm, skips, assigns, frees, gets, writes, writes_text, chooses, repeats, counts, exits, raises, encloses, StmtsForm, no_stmts, a_stmt, BranchesForm, otherwise, a_branch, HandlersForm, DeclarationForm, collects, declares}
+use Rattle.ada_program.specs.Form.{ExpressionForm, integer, boolean, reads, is_null, applied_to, chained, LinksForm, no_more_links, a_link, ItemForm, null_item, item_of_path, item_of_value, RightForm, nothing, value_of, allocates, allocates_default, computes, StmtForm, skips, assigns, frees, gets, writes, writes_text, chooses, repeats, counts, exits, raises, encloses, StmtsForm, no_stmts, a_stmt, BranchesForm, otherwise, a_branch, HandlersForm, DeclarationForm, collects, declares}
 use Rattle.ada_program.specs.Form as form
 use Rattle.ada_program.specs.Typed.{words_of}
 use Rattle.ada_values.specs.declared.operator.BinaryOperator.{BinaryOperator}
@@ -96,11 +96,12 @@ new_works : (access count words : ℕ) (home : Option ℕ) (s : State) → Plain
 new_works access count words None s p = stays refl p refl refl
 new_works access count words (Some item) s p = λ granted. answered_works access count item words s granted p
 
-right_works : (right : RightForm) (s : State) → Plain s.control → Works s (right_next named right s)
-right_works nothing s p = stays refl p refl refl
-right_works (value_of path) s p = path_works path.selectors (held named s path.root) s p
-right_works (allocates access items) s p = stays refl (tt, (tt, p)) refl refl
-right_works (computes e) s p = stays refl (tt, p) refl refl
+right_works : (types : List TypeDefinition) (right : RightForm) (s : State) → Plain s.control → Works s (right_next named types right s)
+right_works types nothing s p = stays refl p refl refl
+right_works types (value_of path) s p = path_works path.selectors (held named s path.root) s p
+right_works types (allocates access items) s p = stays refl (tt, (tt, p)) refl refl
+right_works types (allocates_default access) s p = stays refl (tt, p) refl refl
+right_works types (computes e) s p = stays refl (tt, p) refl refl
 
 -- Free, and what it leads to.
 free_works : (access x : ℕ) (v : Value) (found : Found (Cell Value)) (s : State) → Plain s.control → Works s (free_next named access x v found s)
@@ -291,7 +292,7 @@ frame_works types frame.Exits s is p = exited_works (reads_boolean (newest named
 frame_works types (frame.Handles hs) s is p = stays refl p refl refl
 frame_works types frame.Closes s is p = stays refl (tt, p) refl refl
 frame_works types (frame.Leaves mode) s is p = absurd is
-frame_works types (frame.Evaluates right) s is p = right_works right s p
+frame_works types (frame.Evaluates right) s is p = right_works types right s p
 frame_works types (frame.Computes e) s is p = expression_works e s p
 frame_works types (frame.Follows cs) s is p = path_works cs (newest named s) (popped s) p
 frame_works types (frame.TestsNull equal) s is p = null_test_works equal (reads_null (newest named s)) (popped s) p

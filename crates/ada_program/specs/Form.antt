@@ -58,11 +58,13 @@ pub data ItemForm : Type 0 where
   item_of_path : PathForm → ItemForm
   item_of_value : ExpressionForm → ItemForm
 
--- What is assigned (5.2): null, the access value that a path names, a new object of an access type (4.8), or an expression.
+-- What is assigned (5.2): null, the access value that a path names, a new object of an access type (4.8) with items for its components, or with
+-- what they hold at first (3.3.1), or an expression.
 pub data RightForm : Type 0 where
   nothing : RightForm
   value_of : PathForm → RightForm
   allocates : (access : ℕ) → List ItemForm → RightForm
+  allocates_default : (access : ℕ) → RightForm
   computes : ExpressionForm → RightForm
 
 -- A declaration (3.11): its elaboration creates the collection of an access type (7.6.1), or a variable with its initial value (3.3.1).
@@ -144,6 +146,7 @@ abbrev pub right_form : Right → RightForm
 right_form right.Null = nothing
 right_form (right.Path path) = value_of (path_form path)
 right_form (right.Allocator access items) = allocates access.0 (map item_form items.items)
+right_form (right.Default access) = allocates_default access.0
 right_form (right.Value e) = computes (expression_form e)
 
 -- What is assigned where no initial value is written: null (3.10).

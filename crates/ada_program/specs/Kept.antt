@@ -4,7 +4,6 @@ use Rattle.std.specs.Prelude.{ℕ, Bool, List, map, Option, String}
 use Rattle.std.specs.Global.{Global}
 use Rattle.std.specs.String.{string_bytes}
 use Rattle.ada_program.specs.declared.program.Branch.{Branch}
-use Rattle.ada_program.specs.declared.program.Component.{Component}
 use Rattle.ada_program.specs.declared.program.ComponentKind.{ComponentKind}
 use Rattle.ada_program.specs.declared.program.Declaration.{Declaration}
 use Rattle.ada_program.specs.declared.program.Expression.{Expression}
@@ -20,7 +19,7 @@ use Rattle.ada_program.specs.declared.program.TypeDefinition.{TypeDefinition}
 use Rattle.ada_program.specs.declared.program.Variable.{Variable}
 use Rattle.ada_program.specs.declared.program.VariableKind.{VariableKind}
 use Rattle.ada_program.specs.Form.{path_form, expression_form, links_form, item_form, right_form, condition_form, declaration_form, StmtsForm, stmt_form, stmts_form, branches_form, handlers_form}
-use Rattle.ada_program.specs.ProgramForm.{TypeForm, component_form, type_form, VariableForm, variable_form, program_form}
+use Rattle.ada_program.specs.ProgramForm.{TypeForm, type_form, VariableForm, variable_form, program_form}
 use Rattle.ada_program.specs.WellFormed as fits
 use Rattle.ada_program.specs.WellFormed.{Creation}
 
@@ -77,9 +76,9 @@ item_fits types variables kind i =
     fits.item_fits (types_in types) (variables_in variables) kind (item_form i)
 
 -- Whether there is one item for each component, in order (4.3.1).
-abbrev pub items_fit : List TypeDefinition → List Variable → List Component → List Item → Bool
+abbrev pub items_fit : List TypeDefinition → List Variable → List ComponentKind → List Item → Bool
 items_fit types variables components items =
-    fits.items_fit (types_in types) (variables_in variables) (map component_form components) (map item_form items)
+    fits.items_fit (types_in types) (variables_in variables) components (map item_form items)
 
 -- Whether the items are those of an object that an access type's values designate (4.8).
 abbrev pub is_filled : List TypeDefinition → List Variable → ℕ → List Item → Bool

@@ -5,7 +5,7 @@ use Rattle.std.specs.List.{list_all}
 use Rattle.ada_program.specs.declared.program.ComponentKind.{ComponentKind}
 use Rattle.ada_program.specs.declared.program.ComponentKind.TheVariants as component
 use Rattle.ada_program.specs.Form.{DeclarationForm, collects, declares, StmtForm, skips, assigns, frees, gets, writes, writes_text, chooses, repeats, counts, exits, returns, raises, encloses, StmtsForm, no_stmts, a_stmt, BranchesForm, otherwise, a_branch, HandlersForm, no_handlers, a_handler}
-use Rattle.ada_program.specs.ProgramForm.{ComponentForm, TypeForm, ProgramForm}
+use Rattle.ada_program.specs.ProgramForm.{TypeForm, ProgramForm}
 use Rattle.ada_program.specs.WellFormed.{reached_components}
 
 -- The access types whose collections declarations create (7.6.1).
@@ -25,14 +25,10 @@ kind_is_open there (component.Integer initial) = true
 kind_is_open there (component.Boolean initial) = true
 kind_is_open there (component.Access access) = is_one_of there access.0
 
--- So does each component.
-abbrev pub component_is_open : (there : List ℕ) → ComponentForm → Bool
-component_is_open there c = kind_is_open there c.kind
-
 -- So does each component of an object, if the type is an access type.
-abbrev pub are_open : (there : List ℕ) → Option (List ComponentForm) → Bool
+abbrev pub are_open : (there : List ℕ) → Option (List ComponentKind) → Bool
 are_open there None = true
-are_open there (Some components) = list_all (component_is_open there) components
+are_open there (Some components) = list_all (kind_is_open there) components
 
 -- The collection of an access type is created in a part, where these are open around it, and those of the part with them: it is not open around
 -- it already, and what the components of its objects name lies in collections that are open then.

@@ -2,8 +2,9 @@
 
 use Rattle.std.specs.Prelude.{ℕ, Bool, List, map}
 use Rattle.std.specs.String.{string_bytes}
-use Rattle.ada_program.specs.declared.program.Component.{Component}
 use Rattle.ada_program.specs.declared.program.ComponentKind.{ComponentKind}
+use Rattle.ada_program.specs.declared.program.Part.{Part}
+use Rattle.ada_program.specs.declared.program.PartKind.{PartKind}
 use Rattle.ada_program.specs.declared.program.Variable.{Variable}
 use Rattle.ada_program.specs.declared.program.VariableKind.{VariableKind}
 use Rattle.ada_program.specs.declared.program.Program.{Program}
@@ -11,14 +12,16 @@ use Rattle.ada_program.specs.declared.program.TypeDefinition.{TypeDefinition}
 use Rattle.ada_program.specs.declared.program.TypeDefinition.TheVariants as definition
 use Rattle.ada_program.specs.Form.{StmtsForm, HandlersForm, DeclarationForm, declaration_forms, stmt_forms, handler_forms}
 
--- A component of a record type: its name, and what it holds (3.8).
-pub record ComponentForm : Type 0 where
+-- A component of a record type as it is declared: its name, what it is, and the number of its first elementary component in the record type (3.8).
+pub record PartForm : Type 0 where
   pub name : List ℕ
-  pub kind : ComponentKind
+  pub kind : PartKind
+  pub first : ℕ
 
--- A type (3.2.1): a record type and its components in order, or an access type and the type that it designates.
+-- A type (3.2.1): a record type, its components as they are declared and its elementary components at any depth, each in order; or an access type
+-- and the type that it designates.
 pub data TypeForm : Type 0 where
-  record_of : List ℕ → List ComponentForm → TypeForm
+  record_of : List ℕ → (parts : List PartForm) → (components : List ComponentKind) → TypeForm
   access_to : List ℕ → ℕ → TypeForm
 
 -- A variable: its name, what it holds (3.3.1), and whether it is a borrower: one of an anonymous access type (3.10).
@@ -37,13 +40,13 @@ pub record ProgramForm : Type 0 where
   pub statements : StmtsForm
   pub handlers : HandlersForm
 
--- A component, as the program keeps it.
-abbrev pub component_form : Component → ComponentForm
-component_form c = record { name = string_bytes c.name; kind = c.kind }
+-- A declared component, as the program keeps it.
+abbrev pub part_form : Part → PartForm
+part_form p = record { name = string_bytes p.name; kind = p.kind; first = p.first.0 }
 
 -- A type, as the program keeps it.
 abbrev pub type_form : TypeDefinition → TypeForm
-type_form (definition.Record name components) = record_of (string_bytes name) (map component_form components.items)
+type_form (definition.Record name parts components) = record_of (string_bytes name) (map part_form parts.items) components.items
 type_form (definition.Access name designated) = access_to (string_bytes name) designated.0
 
 -- A variable, as the program keeps it.

@@ -2,41 +2,41 @@
 
 use Rattle.std.specs.Prelude.{ℕ, List, length, Option, Some, None}
 use Rattle.std.specs.List.{slice_get}
-use Rattle.ada_program.specs.declared.program.Component.{Component}
+use Rattle.ada_program.specs.declared.program.ComponentKind.{ComponentKind}
 use Rattle.ada_program.specs.declared.program.TypeDefinition.{TypeDefinition}
 use Rattle.ada_program.specs.declared.program.TypeDefinition.TheVariants as definition
 
 -- The record type that a type designates (3.10): none, if it is no access type.
 abbrev pub designated_by : Option TypeDefinition → Option ℕ
 designated_by None = None
-designated_by (Some (definition.Record name components)) = None
+designated_by (Some (definition.Record name parts components)) = None
 designated_by (Some (definition.Access name designated)) = Some designated.0
 
 -- The type that the access type of a number designates (3.10).
 abbrev pub designated_of : List TypeDefinition → ℕ → Option ℕ
 designated_of types t = designated_by (slice_get types t)
 
--- The components of a record type, in order (3.8): none, if it is no record type.
-abbrev pub components_by : Option TypeDefinition → Option (List Component)
+-- The elementary components of a record type, in order (3.8): none, if it is no record type.
+abbrev pub components_by : Option TypeDefinition → Option (List ComponentKind)
 components_by None = None
-components_by (Some (definition.Record name components)) = Some components.items
+components_by (Some (definition.Record name parts components)) = Some components.items
 components_by (Some (definition.Access name designated)) = None
 
 -- The components of the record type of a number (3.8).
-abbrev pub components_of : List TypeDefinition → ℕ → Option (List Component)
+abbrev pub components_of : List TypeDefinition → ℕ → Option (List ComponentKind)
 components_of types t = components_by (slice_get types t)
 
 -- The components of the objects that an access type's values name.
-abbrev pub reached_by : List TypeDefinition → Option ℕ → Option (List Component)
+abbrev pub reached_by : List TypeDefinition → Option ℕ → Option (List ComponentKind)
 reached_by types None = None
 reached_by types (Some t) = components_of types t
 
 -- The components of the objects that the values of an access type designate.
-abbrev pub reached_of : List TypeDefinition → ℕ → Option (List Component)
+abbrev pub reached_of : List TypeDefinition → ℕ → Option (List ComponentKind)
 reached_of types access = reached_by types (designated_of types access)
 
 -- How many words an object takes that an access type's values name: one for each component (13.11).
-abbrev pub count_of : Option (List Component) → ℕ
+abbrev pub count_of : Option (List ComponentKind) → ℕ
 count_of None = 0
 count_of (Some components) = length components
 

@@ -16,36 +16,36 @@ use Rattle.ada_program.specs.declared.program.VariableKind.{VariableKind}
 use Rattle.ada_program.specs.declared.program.VariableKind.TheVariants as variable
 use Rattle.ada_program.specs.declared.program.ScalarType.{ScalarType}
 use Rattle.ada_program.specs.declared.program.ScalarType.TheVariants.{Integer, Boolean}
-use Rattle.ada_program.specs.Form.{PathForm, ExpressionForm, integer, boolean, reads, is_null, applied_to, chained, LinksForm, no_more_links, a_link, ItemForm, null_item, item_of_path, item_of_value, RightForm, nothing, value_of, allocates, computes, StmtForm, skips, assigns, frees, gets, writes, writes_text, chooses, repeats, counts, exits, returns, raises, encloses, StmtsForm, no_stmts, a_stmt, BranchesForm, otherwise, a_branch, HandlersForm, no_handlers, a_handler, DeclarationForm, collects, declares}
-use Rattle.ada_program.specs.ProgramForm.{ComponentForm, TypeForm, record_of, access_to, VariableForm, ProgramForm}
+use Rattle.ada_program.specs.Form.{PathForm, ExpressionForm, integer, boolean, reads, is_null, applied_to, chained, LinksForm, no_more_links, a_link, ItemForm, null_item, item_of_path, item_of_value, RightForm, nothing, value_of, allocates, allocates_default, computes, StmtForm, skips, assigns, frees, gets, writes, writes_text, chooses, repeats, counts, exits, returns, raises, encloses, StmtsForm, no_stmts, a_stmt, BranchesForm, otherwise, a_branch, HandlersForm, no_handlers, a_handler, DeclarationForm, collects, declares}
+use Rattle.ada_program.specs.ProgramForm.{TypeForm, record_of, access_to, VariableForm, ProgramForm}
 
 -- The type that an access type designates (3.10): none, if it is no access type.
 abbrev pub designated_in : Option TypeForm → Option ℕ
 designated_in None = None
-designated_in (Some (record_of name components)) = None
+designated_in (Some (record_of name parts components)) = None
 designated_in (Some (access_to name designated)) = Some designated
 
 -- The type that the access type of a number designates (3.10).
 abbrev pub designated_type : List TypeForm → ℕ → Option ℕ
 designated_type types t = designated_in (slice_get types t)
 
--- The components of a record type, in order (3.8): none, if it is no record type.
-abbrev pub components_in : Option TypeForm → Option (List ComponentForm)
+-- The elementary components of a record type, in order (3.8): none, if it is no record type.
+abbrev pub components_in : Option TypeForm → Option (List ComponentKind)
 components_in None = None
-components_in (Some (record_of name components)) = Some components
+components_in (Some (record_of name parts components)) = Some components
 components_in (Some (access_to name designated)) = None
 
 -- The components of the record type of a number (3.8).
-abbrev pub record_components : List TypeForm → ℕ → Option (List ComponentForm)
+abbrev pub record_components : List TypeForm → ℕ → Option (List ComponentKind)
 record_components types t = components_in (slice_get types t)
 
 -- The components of the objects that an access type's values designate (3.10).
-abbrev pub components_reached : List TypeForm → Option ℕ → Option (List ComponentForm)
+abbrev pub components_reached : List TypeForm → Option ℕ → Option (List ComponentKind)
 components_reached types None = None
 components_reached types (Some t) = record_components types t
 
 -- The components of the objects that the values of the access type of a number designate (3.10).
-abbrev pub reached_components : List TypeForm → ℕ → Option (List ComponentForm)
+abbrev pub reached_components : List TypeForm → ℕ → Option (List ComponentKind)
 reached_components types access = components_reached types (designated_type types access)
 
 -- Whether a number is that of an access type.
@@ -56,19 +56,15 @@ is_access types t = is_some (designated_type types t)
 abbrev pub is_record : List TypeForm → ℕ → Bool
 is_record types t = is_some (record_components types t)
 
--- A component is an Integer or a Boolean, or of an access type (3.6, 3.8).
+-- An elementary component is an Integer or a Boolean, or of an access type (3.6, 3.8).
 abbrev pub kind_fits : List TypeForm → ComponentKind → Bool
 kind_fits types (component.Integer initial) = true
 kind_fits types (component.Boolean initial) = true
 kind_fits types (component.Access access) = is_access types access.0
 
--- A component's kind fits (3.6, 3.8).
-abbrev pub component_fits : List TypeForm → ComponentForm → Bool
-component_fits types c = kind_fits types c.kind
-
 -- A type has such components, or designates a record type (3.10).
 abbrev pub type_fits : List TypeForm → TypeForm → Bool
-type_fits types (record_of name components) = list_all (component_fits types) components
+type_fits types (record_of name parts components) = list_all (kind_fits types) components
 type_fits types (access_to name designated) = is_record types designated
 
 -- A variable is an Integer or a Boolean, or of an access type (3.3.1).
@@ -163,7 +159,7 @@ is_collection access (of_variable x) = false
 -- Each access type, from a number on, has one collection (7.6.1).
 abbrev pub has_collections : List Creation → ℕ → List TypeForm → Bool
 has_collections cs t [] = true
-has_collections cs t (record_of name components ∷ types) = has_collections cs (t + 1) types
+has_collections cs t (record_of name parts components ∷ types) = has_collections cs (t + 1) types
 has_collections cs t (access_to name designated ∷ types) = (count_by (is_collection t) cs == 1) && has_collections cs (t + 1) types
 
 -- What a variable holds (3.3.1).
@@ -205,12 +201,12 @@ held_kind (component.Boolean initial) = variable.Boolean
 held_kind (component.Access access) = variable.Access access
 
 -- What a component holds, where it is there.
-abbrev pub component_kind : Option ComponentForm → Option VariableKind
+abbrev pub component_kind : Option ComponentKind → Option VariableKind
 component_kind None = None
-component_kind (Some c) = Some (held_kind c.kind)
+component_kind (Some kind) = Some (held_kind kind)
 
 -- What the component of a number holds in its record type.
-abbrev pub kind_among : Option (List ComponentForm) → ℕ → Option VariableKind
+abbrev pub kind_among : Option (List ComponentKind) → ℕ → Option VariableKind
 kind_among None c = None
 kind_among (Some components) c = component_kind (slice_get components c)
 
@@ -334,15 +330,15 @@ item_fits types variables (component.Access access) null_item = true
 item_fits types variables (component.Access access) (item_of_path path) = is_this access.0 (path_access types variables path)
 item_fits types variables (component.Access access) (item_of_value e) = false
 
--- There is one item for each component, in order (4.3.1).
-abbrev pub items_fit : List TypeForm → List VariableForm → List ComponentForm → List ItemForm → Bool
+-- There is one item for each elementary component, in order (4.3.1).
+abbrev pub items_fit : List TypeForm → List VariableForm → List ComponentKind → List ItemForm → Bool
 items_fit types variables [] [] = true
 items_fit types variables [] (i ∷ items) = false
-items_fit types variables (c ∷ components) [] = false
-items_fit types variables (c ∷ components) (i ∷ items) = item_fits types variables c.kind i && items_fit types variables components items
+items_fit types variables (kind ∷ components) [] = false
+items_fit types variables (kind ∷ components) (i ∷ items) = item_fits types variables kind i && items_fit types variables components items
 
 -- There is such a record type, and the items are those of an object of it (4.8).
-abbrev pub is_filled : List TypeForm → List VariableForm → Option (List ComponentForm) → List ItemForm → Bool
+abbrev pub is_filled : List TypeForm → List VariableForm → Option (List ComponentKind) → List ItemForm → Bool
 is_filled types variables None items = false
 is_filled types variables (Some components) items = items_fit types variables components items
 
@@ -351,6 +347,7 @@ abbrev pub access_fits : List TypeForm → List VariableForm → ℕ → RightFo
 access_fits types variables access nothing = true
 access_fits types variables access (value_of path) = is_this access (path_access types variables path)
 access_fits types variables access (allocates t items) = (t == access) && is_filled types variables (reached_components types access) items
+access_fits types variables access (allocates_default t) = (t == access) && is_some (reached_components types access)
 access_fits types variables access (computes e) = false
 
 -- What is assigned where an Integer or a Boolean is held (5.2): an expression of that type.
@@ -358,6 +355,7 @@ abbrev pub scalar_fits : List TypeForm → List VariableForm → ScalarType → 
 scalar_fits types variables type nothing = false
 scalar_fits types variables type (value_of path) = false
 scalar_fits types variables type (allocates t items) = false
+scalar_fits types variables type (allocates_default t) = false
 scalar_fits types variables type (computes e) = has_type types variables type e
 
 -- What is assigned fits what is held there (5.2).
@@ -387,6 +385,7 @@ abbrev pub lends_to : List VariableForm → (borrows : Bool) → RightForm → B
 lends_to variables borrows nothing = true
 lends_to variables borrows (value_of path) = borrows || not (names_borrower variables path)
 lends_to variables borrows (allocates access items) = not borrows && list_all (item_owns variables) items
+lends_to variables borrows (allocates_default access) = not borrows
 lends_to variables borrows (computes e) = true
 
 abbrev mutual
@@ -415,6 +414,7 @@ abbrev pub names_before : ℕ → RightForm → Bool
 names_before x nothing = true
 names_before x (value_of path) = nat_lt path.root x
 names_before x (allocates t items) = list_all (item_before x) items
+names_before x (allocates_default t) = true
 names_before x (computes e) = expression_before x e
 
 -- An initial value names what is declared before, and is one that could be assigned (3.3.1).

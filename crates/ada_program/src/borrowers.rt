@@ -34,6 +34,7 @@ pub(crate) fn lends_to(variables: &[Variable], borrows: bool, value: &Right) -> 
         Right::Null | Right::Value(_) => true,
         Right::Path(path) => borrows || !names_borrower(variables, path),
         Right::Allocator { access: _, items } => !borrows && items_own(variables, items),
+        Right::Default(_) => !borrows,
     }
 }
 

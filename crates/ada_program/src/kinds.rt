@@ -2,12 +2,12 @@
 
 ghost use Rattle.std.specs.Prelude.{◌≡◌};
 ghost use Rattle.std.specs.List.{list_all};
-ghost use Rattle.ada_program.specs.ProgramForm.{component_form, type_form, variable_form};
+ghost use Rattle.ada_program.specs.ProgramForm.{type_form, variable_form};
 ghost use Rattle.ada_program.specs.Kept.{types_in};
 ghost use Rattle.ada_program.specs.WellFormed as fits;
 
 use crate::lookup::{is_access, is_record};
-use crate::program::{Component, ComponentKind, TypeDefinition, Variable, VariableKind};
+use crate::program::{ComponentKind, TypeDefinition, Variable, VariableKind};
 
 /// Whether each component and each designated type is of the right kind (3.8, 3.10).
 pub(crate) fn types_fit(types: &[TypeDefinition]) -> bool
@@ -24,6 +24,7 @@ fn type_fits(types: &[TypeDefinition], definition: &TypeDefinition) -> bool
     match definition {
         TypeDefinition::Record {
             name: _,
+            parts: _,
             components,
         } => components_fit(types, components),
         TypeDefinition::Access {
@@ -34,13 +35,10 @@ fn type_fits(types: &[TypeDefinition], definition: &TypeDefinition) -> bool
 }
 
 /// Whether each component fits.
-fn components_fit(types: &[TypeDefinition], components: &[Component]) -> bool
-    ensures { result ≡ list_all (λ c. fits.component_fits (types_in types.now) (component_form c))
-        components.now }
+fn components_fit(types: &[TypeDefinition], components: &[ComponentKind]) -> bool
+    ensures { result ≡ list_all (fits.kind_fits (types_in types.now)) components.now }
 {
-    components
-        .iter()
-        .all(|component| kind_fits(types, component.kind))
+    components.iter().all(|kind| kind_fits(types, *kind))
 }
 
 /// Whether a component is an Integer or a Boolean, or of an access type (3.8).

@@ -2,14 +2,11 @@
 
 ghost use Rattle.std.specs.Prelude.{◌≡◌, map, option_map, option_copied};
 ghost use Rattle.ada_program.specs.Form.{path_form};
-ghost use Rattle.ada_program.specs.ProgramForm.{component_form};
 ghost use Rattle.ada_program.specs.Kept as kept;
 ghost use Rattle.ada_program.specs.Kept.{types_in, variables_in};
 ghost use Rattle.ada_program.specs.WellFormed as fits;
 
-use crate::program::{
-    Component, ComponentKind, Path, ScalarType, TypeDefinition, Variable, VariableKind,
-};
+use crate::program::{ComponentKind, Path, ScalarType, TypeDefinition, Variable, VariableKind};
 
 /// The type that an access type designates (3.10): none, if it is no access type.
 pub(crate) fn designated_type(types: &[TypeDefinition], number: usize) -> Option<usize>
@@ -47,14 +44,14 @@ pub(crate) fn is_record(types: &[TypeDefinition], number: usize) -> bool
 pub(crate) fn reached_components<'p>(
     types: &'p [TypeDefinition],
     access: usize,
-) -> Option<&'p [Component]>
-    ensures { option_map (map component_form) (option_copied result)
-        ≡ fits.reached_components (types_in types.now) access }
+) -> Option<&'p [ComponentKind]>
+    ensures { option_copied result ≡ fits.reached_components (types_in types.now) access }
 {
     match types.get(designated_type(types, access)?) {
         Some(
             TypeDefinition::Record {
                 name: _,
+                parts: _,
                 components,
             },
         ) => Some(components),
@@ -114,7 +111,7 @@ pub fn selected_kind(
 {
     let components = reached_components(types, access_of(kind)?)?;
     match components.get(component) {
-        Some(component) => Some(held_kind(component.kind)),
+        Some(kind) => Some(held_kind(*kind)),
         None => None,
     }
 }

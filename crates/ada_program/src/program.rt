@@ -19,7 +19,7 @@ pub struct TextNo(pub usize);
 #[derive(Clone, Copy, Debug, PartialEq, Eq)]
 pub struct ExceptionNo(pub usize);
 
-/// The number of a component in its record type, from 0.
+/// The number of an elementary component in its record type, from 0: components that are records count by their own.
 #[derive(Clone, Copy, Debug, PartialEq, Eq)]
 pub struct ComponentNo(pub usize);
 
@@ -42,10 +42,13 @@ pub struct Program {
 /// A type that the program declares.
 #[derive(Drop)]
 pub enum TypeDefinition {
-    /// A record type, its components in order (3.8).
+    /// A record type (3.8).
     Record {
         name: String,
-        components: Vec<Component>,
+        /// Its components as they are declared, in order.
+        parts: Vec<Part>,
+        /// Its elementary components at any depth, in order.
+        components: Vec<ComponentKind>,
     },
     /// An access type and the record type that it designates (3.10).
     Access {
@@ -54,14 +57,24 @@ pub enum TypeDefinition {
     },
 }
 
-/// A component of a record type.
+/// A component of a record type, as it is declared.
 #[derive(Drop)]
-pub struct Component {
+pub struct Part {
     pub name: String,
-    pub kind: ComponentKind,
+    pub kind: PartKind,
+    /// The number of its first elementary component in the record type: that of the next one, where it has none.
+    pub first: ComponentNo,
 }
 
-/// What a component holds, and what it holds at first where no value is given.
+/// What a declared component is.
+#[derive(Clone, Copy, Debug, PartialEq, Eq)]
+pub enum PartKind {
+    Elementary(ComponentKind),
+    /// A record, of a type that is declared before.
+    Record(TypeNo),
+}
+
+/// What an elementary component holds, and what it holds at first where no value is given.
 #[derive(Clone, Copy, Debug, PartialEq, Eq)]
 pub enum ComponentKind {
     Integer { initial: i32 },
@@ -208,6 +221,8 @@ pub enum Right {
     Path(Path),
     /// A new object of the type that the access type designates; its items in the order of the components (4.8).
     Allocator { access: TypeNo, items: Vec<Item> },
+    /// Such an object, whose components hold what they hold at first where no value is given (4.8, 3.3.1).
+    Default(TypeNo),
     /// An Integer or a Boolean (4.4).
     Value(Expression),
 }
@@ -266,13 +281,13 @@ pub struct Path {
 }
 
 impl Program {
-    ghost use Rattle.std.specs.Prelude.{◌≡◌};
-    ghost use Rattle.ada_program.specs.Typed.{words_of};
+    ghost use Rattle.std.specs.Prelude.{◌≡◌, option_copied};
+    ghost use Rattle.ada_program.specs.Typed.{reached_of, words_of};
 
-    /// How many words an object takes that the access type's values name: one for each of its components.
-    /// 0, if the type is no access type.
-    pub fn words(&self, access: TypeNo) -> usize
-        ensures { result ≡ words_of self.now.types.items access.0 }
+    /// The elementary components of the objects that the access type's values name, in order.
+    /// None, if the type is no access type to a record type.
+    pub fn components(&self, access: TypeNo) -> Option<&[ComponentKind]>
+        ensures { option_copied result ≡ reached_of self.now.types.items access.0 }
     {
         match self.types.get(access.0) {
             Some(
@@ -284,12 +299,24 @@ impl Program {
                 Some(
                     TypeDefinition::Record {
                         name: _,
+                        parts: _,
                         components,
                     },
-                ) => components.len(),
-                _ => 0,
+                ) => Some(components),
+                _ => None,
             },
-            _ => 0,
+            _ => None,
+        }
+    }
+
+    /// How many words an object takes that the access type's values name: one for each of its components.
+    /// 0, if the type is no access type.
+    pub fn words(&self, access: TypeNo) -> usize
+        ensures { result ≡ words_of self.now.types.items access.0 }
+    {
+        match self.components(access) {
+            Some(components) => components.len(),
+            None => 0,
         }
     }
 }

@@ -8,7 +8,7 @@ ghost use Rattle.ada_program.specs.WellFormed as fits;
 
 use crate::lookup::{is_this, path_access, reached_components};
 use crate::program::{
-    Component, ComponentKind, Expression, Item, Link, Right, ScalarType, TypeDefinition, Variable,
+    ComponentKind, Expression, Item, Link, Right, ScalarType, TypeDefinition, Variable,
     VariableKind,
 };
 use crate::typing::has_type;
@@ -41,7 +41,7 @@ fn scalar_fits(
 {
     match value {
         Right::Value(expression) => has_type(types, variables, wanted, expression),
-        Right::Null | Right::Path(_) | Right::Allocator { .. } => false,
+        Right::Null | Right::Path(_) | Right::Allocator { .. } | Right::Default(_) => false,
     }
 }
 
@@ -61,6 +61,8 @@ fn access_fits(
             access: created,
             items,
         } => created.0 == access && is_filled(types, variables, access, items),
+        Right::Default(created) => created.0 == access
+            && reached_components(types, access).is_some(),
         Right::Value(_) => false,
     }
 }
@@ -84,21 +86,21 @@ fn is_filled(
 fn items_fit(
     types: &[TypeDefinition],
     variables: &[Variable],
-    components: &[Component],
+    components: &[ComponentKind],
     items: &[Item],
 ) -> bool
     ensures { result ≡ kept.items_fit types.now variables.now components.now items.now }
 {
-    for (at, component) in components.iter().enumerate() {
-        let filled = match items.get(at) {
+    for (at, item) in items.iter().enumerate() {
+        let fills = match components.get(at) {
             None => false,
-            Some(item) => item_fits(types, variables, component.kind, item),
+            Some(kind) => item_fits(types, variables, *kind, item),
         };
-        if !filled {
+        if !fills {
             return false;
         }
     }
-    items.len() <= components.len()
+    components.len() <= items.len()
 }
 
 /// Whether an item is a value of a component.
@@ -142,7 +144,7 @@ pub(crate) fn names_before(number: usize, value: &Right) -> bool
     ensures { result ≡ fits.names_before number (right_form value.now) }
 {
     match value {
-        Right::Null => true,
+        Right::Null | Right::Default(_) => true,
         Right::Path(path) => path.root.0 < number,
         Right::Allocator { access: _, items } => items_before(number, items),
         Right::Value(expression) => expression_before(number, expression),

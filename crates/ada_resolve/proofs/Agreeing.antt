@@ -24,7 +24,7 @@ use Rattle.ada_resolve.proofs.WellFormed.Remarks.{Quiet, quiet_if}
 -- what the name of a declared entity is bound to
 abbrev pub bound_to : Entity → Option Meaning
 bound_to (entity.Incomplete t) = Some (an_incomplete_type t.0)
-bound_to (entity.Record t) = Some (a_type t.0)
+bound_to (entity.Record t size) = Some (a_type t.0)
 bound_to (entity.Access t) = Some (a_type t.0)
 bound_to (entity.Number n) = Some (a_number n)
 bound_to (entity.Exception (exception.Declared n)) = Some (an_exception n.0)
@@ -98,7 +98,7 @@ EntityRead p text (entity.Exception exception.EndError) = ⊥
 EntityRead p text (entity.Exception (exception.Declared n)) = IsBound p text (an_exception n.0)
 EntityRead p text entity.Procedure = Unit {0}
 EntityRead p text (entity.Incomplete t) = IsBound p text (an_incomplete_type t.0)
-EntityRead p text (entity.Record t) = IsBound p text (a_type t.0)
+EntityRead p text (entity.Record t size) = IsBound p text (a_type t.0)
 EntityRead p text (entity.Access t) = IsBound p text (a_type t.0)
 EntityRead p text (entity.Instance t) = IsBound p text (an_instance t.0)
 EntityRead p text (entity.Variable x kind) = IsBound p text (a_variable x.0)
@@ -148,7 +148,7 @@ bound_so p text a b same is = is ∙ sym same
 
 declared_read : (p : Context) (text : List ℕ) (e : Entity) (m : Meaning) → bound_to e ≡ Some m → meaning_at p.place text ≡ Some m → EntityRead p text e
 declared_read p text (entity.Incomplete t) m same is = bound_so p text (an_incomplete_type t.0) m same is
-declared_read p text (entity.Record t) m same is = bound_so p text (a_type t.0) m same is
+declared_read p text (entity.Record t size) m same is = bound_so p text (a_type t.0) m same is
 declared_read p text (entity.Access t) m same is = bound_so p text (a_type t.0) m same is
 declared_read p text (entity.Number n) m same is = bound_so p text (a_number n) m same is
 declared_read p text (entity.Exception (exception.Declared n)) m same is = bound_so p text (an_exception n.0) m same is
@@ -182,7 +182,7 @@ parameter_is : (e : Entity) (x : ℕ) → bound_to e ≡ Some (a_parameter x) �
 parameter_is (entity.Parameter n) x same = (n, refl)
 parameter_is (entity.Variable n kind) x same = absurd (cc same)
 parameter_is (entity.Incomplete t) x same = absurd (cc same)
-parameter_is (entity.Record t) x same = absurd (cc same)
+parameter_is (entity.Record t size) x same = absurd (cc same)
 parameter_is (entity.Access t) x same = absurd (cc same)
 parameter_is (entity.Number n) x same = absurd (cc same)
 parameter_is (entity.Exception (exception.Declared n)) x same = absurd (cc same)

@@ -1,7 +1,7 @@
 -- A declarative part is read as it is written: its types, its names and its objects.
 
 use Rattle.std.proofs.Common.{◌≡◌, ◌∙◌, ℕ, ◌+◌, ◌≤◌, Bool, true, false, cond, ◌||◌, List, [], ◌∷◌, ◌++◌, length, length-append, append_assoc, refl, sym, ap, subst, arith, eqb, eq-eqb}
-use Rattle.std.specs.Prelude.{Option, Some, None, bytes_eq, map, ◌==◌}
+use Rattle.std.specs.Prelude.{Option, Some, None, bytes_eq, ◌==◌}
 use Rattle.std.specs.List.{slice_get, slice_set, list_all}
 use Rattle.std.proofs.lemmas.List.{append-nil, length-set}
 use Rattle.std.proofs.lemmas.Bool.{ne_eqb, both_ways}
@@ -26,7 +26,7 @@ use Rattle.ada_resolve.specs.Known.{Known, Named, named, declared, new_name_rema
 use Rattle.ada_resolve.specs.Types.{completed_type, defined, number_of, record_found, access_defined, aspect_remark, new_unless}
 use Rattle.ada_resolve.specs.Exceptions.{next_exception}
 use Rattle.ada_resolve.specs.Statics.{static_value}
-use Rattle.ada_resolve.specs.Records.{component_meant, components_written, record_type_remark, record_type_known}
+use Rattle.ada_resolve.specs.Records.{components_written, composition_of, record_type_remark, record_type_known}
 use Rattle.ada_resolve.specs.Instances.{freed_found, generic_remark, is_collected, instance_of, with_elaborated}
 use Rattle.ada_resolve.specs.Objects.{missing_collections, ends_types, after_types, next_variable, object_remark, variable_created, object_created, object_known, kind_of, object_type_found, initial_found, initial_source}
 use Rattle.ada_resolve.specs.Resolution.{gives, At, known_at, declaration_remark, declaration_known, declarations_told}
@@ -36,10 +36,10 @@ use Rattle.ada_resolve.proofs.WellFormed.Remarks.{Quiet, quiet_unless}
 use Rattle.ada_resolve.proofs.WellFormed.Borrowers.{lent_of, borrower_is}
 use Rattle.ada_resolve.proofs.WellFormed.Names.{named_entered, same_text}
 use Rattle.ada_resolve.proofs.WellFormed.Tables.{get_last}
-use Rattle.ada_resolve.proofs.Standing.{Sound, Complete, Grows, Keeps, complete_grows, longer, declaration_sound, declaration_keeps, ended_sound, declarations_done, declarations_keep, IsSlot, new_slot, slot_of, old_name, defined_there}
+use Rattle.ada_resolve.proofs.Standing.{Sound, Complete, Grows, Keeps, complete_grows, record_settled, longer, declaration_sound, declaration_keeps, ended_sound, declarations_done, declarations_keep, IsSlot, new_slot, slot_of, old_name, defined_there}
 use Rattle.ada_resolve.proofs.Agreeing.{bound_to, Stands, Agrees, Ahead, Readable, stands_entered, agrees_same, not_predefined}
 use Rattle.ada_resolve.proofs.Keeping.{Lasts, lasts_ahead, lasts_on}
-use Rattle.ada_resolve.proofs.Written.{Legible, static_read, components_read, all_apart, FoundRecord, record_read, designated_read, FoundAccess, access_read, generic_read, object_read, object_kind}
+use Rattle.ada_resolve.proofs.Written.{Legible, static_read, all_read, all_laid, all_apart, FoundRecord, record_read, designated_read, FoundAccess, access_read, generic_read, object_read, object_kind}
 use Rattle.ada_resolve.proofs.Lent.{borrower_read}
 use Rattle.ada_resolve.proofs.Others.{others_of}
 
@@ -118,7 +118,7 @@ completed_place k place w c text t is = by_name (named text k.here.names) refl (
   where
     by_entity : (e : Entity) → named text k.here.names ≡ Some e → bound_to e ≡ Some (an_incomplete_type t) → ⊥
     by_entity (entity.Incomplete u) there so = c text u there
-    by_entity (entity.Record u) there so = cc so
+    by_entity (entity.Record u size) there so = cc so
     by_entity (entity.Access u) there so = cc so
     by_entity (entity.Number n) there so = cc so
     by_entity (entity.Exception (exception.Declared n)) there so = cc so
@@ -478,17 +478,20 @@ access_type_read k m p spot name designated aspect w lasts slot fit none r =
     (none, r.r.0, last, designated_read p name.text designated.text t r.r.0 fit last (w.lasts.type_names r.r.0 designated.text r.found.0) r.found.1)
 
 -- `type T is record .. end record;`
-record_type_read : (k m : Known) (p : Context) (spot : Spot) (name : Ident) (definition : RecordTree) → Legible k p → Lasts m p → IsSlot k name.text (completed_type k name) → m ≡ record_type_known k name definition → Quiet (record_type_remark k spot name definition) → IsTypeRead p (record_type spot name definition) (number_of (completed_type k name) k.types).0
-record_type_read k m p spot name definition w lasts slot is q =
+record_type_read : (k m : Known) (p : Context) (spot : Spot) (name : Ident) (definition : RecordTree) → Legible k p → Sound m → Lasts m p → IsSlot k name.text (completed_type k name) → m ≡ record_type_known k name definition → Quiet (record_type_remark k spot name definition) → IsTypeRead p (record_type spot name definition) (number_of (completed_type k name) k.types).0
+record_type_read k m p spot name definition w sound lasts slot is q =
     let c = completed_type k name in
+    let cs = components_written definition in
+    let made = composition_of k cs in
     let n = number_of c k.types in
-    let cs = map (component_meant k) (components_written definition) in
-    let form = record_of name.text cs in
+    let form = record_of name.text made.parts made.kinds in
+    let e = entity.Record n made.size in
     let there : slice_get m.types n.0 ≡ Some form = ap (λ (v : Known). slice_get v.types n.0) is ∙ defined_there k name.text c form w.sound slot in
     let on : bytes_eq name.text name.text ≡ true = same_text name.text name.text refl in
-    let mine : named name.text m.here.names ≡ Some (entity.Record n) =
-    ap (λ (v : Known). named name.text v.here.names) is ∙ (named_entered k.here.names name.text name.text (entity.Record n) ∙ ap (λ (b : Bool). cond b (Some (entity.Record n)) (named name.text k.here.names)) on) in
-    (cs, lasts.records name.text n form mine there, components_read k p [] 0 (components_written definition) w q.1.1, all_apart k (components_written definition) q.1.1)
+    let mine : named name.text m.here.names ≡ Some e =
+    ap (λ (v : Known). named name.text v.here.names) is ∙ (named_entered k.here.names name.text name.text e ∙ ap (λ (b : Bool). cond b (Some e) (named name.text k.here.names)) on) in
+    let last = lasts.settled n.0 form there (record_settled m name.text n made.size sound mine) in
+    (made.parts, made.kinds, last, all_read k p cs w q.1.1, all_apart k cs q.1.1, all_laid k p cs w)
 
 -- `procedure Free is new Ada.Unchecked_Deallocation (T, A);`
 record Freed (k m : Known) (p : Context) (name object access : Ident) : Type 0 where
@@ -533,7 +536,7 @@ part_read p no_declarations at after s w none c ahead fit e =
 part_read p (a_declaration (incomplete_type spot name) ds) at after s w none c ahead fit e =
     let next = next_of (incomplete_type spot name) ds at after s e in
     let place = with_incomplete_type name p.place in
-    let form = record_of name.text [] in
+    let form = record_of name.text [] [] in
     let agrees : Agrees next.then.0 place = subst (λ u. Agrees u place) (sym next.is)
     (agrees_declared at.0 p.place name (entity.Incomplete (record { 0 = length at.0.types })) (an_incomplete_type p.place.types) (at.0.types ++ form ∷ []) at.0.variables at.0.exceptions at.0.here.elaborated
     (p.place.types + 1) p.place.variables p.place.exceptions (ap (λ (n : ℕ). Some (an_incomplete_type n)) (sym w.types)) (one_longer at.0.types form p.place.types w.types) w.variables w.exceptions w) in
@@ -561,14 +564,15 @@ part_read p (a_declaration (record_type spot name definition) ds) at after s w n
     let next = next_of d ds at after s e in
     let k = at.0 in
     let completes = completed_type k name in
+    let made = composition_of k (components_written definition) in
     let slot = slot_of k name spot next.quiet.1.0 in
     let place = type_place completes name p.place in
     let agrees : Agrees next.then.0 place = subst (λ u. Agrees u place) (sym next.is)
-    (agrees_type k p.place name completes (record_of name.text (map (component_meant k) (components_written definition))) (entity.Record (number_of completes k.types)) refl w) in
+    (agrees_type k p.place name completes (record_of name.text made.parts made.kinds) (entity.Record (number_of completes k.types) made.size) refl w) in
     let on = part_read (read_at place p) ds next.then after next.sound agrees (ap (λ (v : Known). no_variable_yet v) next.is ∙ none) c (ahead_at after.0 p place ahead) fit next.rest in
     let legible = legible_at k after.0 p s w (declarations_keep (a_declaration d ds) at after s e) ahead in
     let lasts = lasts_on next.then.0 after.0 p next.sound next.to_end (lasts_ahead after.0 p ahead) in
-    let own = record_type_read k next.then.0 p spot name definition legible lasts slot next.is next.quiet in
+    let own = record_type_read k next.then.0 p spot name definition legible next.sound lasts slot next.is next.quiet in
     plain_first k next.then.0 after.0 p (read_at place p) d ds (ap (λ (v : Known). v.here.elaborated) next.is) on
     (λ made m. type_first k p name completes d ds on.forms on.end made spot w slot next.quiet.1.0 refl own m)
 part_read p (a_declaration (constant_declaration name value) ds) at after s w none c ahead fit e =

@@ -9,10 +9,11 @@ use Rattle.ada_tree.specs.Names.{Ident}
 use Rattle.ada_tree.specs.Expressions.{ExpressionTree, ItemsTree, no_more_items, an_item}
 use Rattle.ada_program.specs.declared.program.ComponentKind.{ComponentKind}
 use Rattle.ada_program.specs.Form.{ItemForm}
-use Rattle.ada_program.specs.ProgramForm.{ComponentForm, VariableForm}
+use Rattle.ada_program.specs.ProgramForm.{PartForm, VariableForm}
 use Rattle.ada_resolve.specs.declared.fault.NameRule.TheVariants.{WrongType}
 use Rattle.ada_resolve.specs.Expressions.{expression_meant}
 use Rattle.ada_resolve.specs.Items.{Filling, component_for, is_filled, item_meant, item_spot, for_remark, is_alike, item_remark, filled_for, after_item, items_remark, after_items, first_filling, names_component, item_or_null, filling_of}
+use Rattle.ada_resolve.specs.declared.components.KnownComponent.{KnownComponent}
 use Rattle.ada_resolve.specs.Known.{Known}
 use Rattle.ada_resolve.specs.Paths.{Meant}
 use Rattle.ada_resolve.specs.Reading.{how_many}
@@ -40,7 +41,7 @@ same_length [] c i = refl
 same_length (s ∷ slots) zero i = refl
 same_length (s ∷ slots) (suc c) i = let h = same_length slots c i in omega arith
 
-none_filled : (cs : List ComponentForm) → (length (replicate (length cs) (let none : Option ItemForm = None in none)) ≡ length cs) × (filled_count (replicate (length cs) None) ≡ 0)
+none_filled : (cs : List PartForm) → (length (replicate (length cs) (let none : Option ItemForm = None in none)) ≡ length cs) × (filled_count (replicate (length cs) None) ≡ 0)
 none_filled [] = (refl, refl)
 none_filled (c ∷ cs) = let h = none_filled cs in (omega (arith, h.0), h.1)
 
@@ -50,11 +51,11 @@ all_filled (None ∷ slots) all = absurd (cc all)
 all_filled (Some i ∷ slots) all = let h = all_filled slots all in omega (arith, h)
 
 -- before an item there is a slot for each component, and as many have their items as come before it
-record Counted (cs : List ComponentForm) (filling : Filling) : Type 0 where
+record Counted (cs : List PartForm) (filling : Filling) : Type 0 where
   long : length filling.slots ≡ length cs
   filled : filled_count filling.slots ≡ filling.count
 
-filled_counted : (variables : List VariableForm) (cs : List ComponentForm) (filling : Filling) (label : Option Ident) (value : ExpressionTree) (m : Meant) (alike : Bool) (o : Option (ℕ × ComponentKind)) → IsComponentOf cs 0 o → Quiet (for_remark variables o filling label value m) → Counted cs filling → Counted cs (filled_for o filling alike (item_meant m)) × ((filled_for o filling alike (item_meant m)).count ≡ filling.count + 1)
+filled_counted : (variables : List VariableForm) (cs : List PartForm) (filling : Filling) (label : Option Ident) (value : ExpressionTree) (m : Meant) (alike : Bool) (o : Option (ℕ × KnownComponent)) → IsComponentOf cs 0 o → Quiet (for_remark variables o filling label value m) → Counted cs filling → Counted cs (filled_for o filling alike (item_meant m)) × ((filled_for o filling alike (item_meant m)).count ≡ filling.count + 1)
 filled_counted variables cs filling label value m alike None is q w = absurd (none_for label q)
   where
     none_for : (l : Option Ident) → Quiet (for_remark variables None filling l value m) → ⊥
@@ -70,7 +71,7 @@ filled_counted variables cs filling label value m alike (Some found) is q w =
       refl,
     )
 
-items_counted : (k : Known) (cs : List ComponentForm) (is_named : Bool) (filling : Filling) (items : ItemsTree) → Quiet (items_remark k (Some cs) is_named filling items) → Counted cs filling → Counted cs (after_items k (Some cs) is_named filling items) × ((after_items k (Some cs) is_named filling items).count ≡ filling.count + how_many items)
+items_counted : (k : Known) (cs : List PartForm) (is_named : Bool) (filling : Filling) (items : ItemsTree) → Quiet (items_remark k (Some cs) is_named filling items) → Counted cs filling → Counted cs (after_items k (Some cs) is_named filling items) × ((after_items k (Some cs) is_named filling items).count ≡ filling.count + how_many items)
 unfolding item_remark after_item
 items_counted k cs is_named filling no_more_items q w = (w, omega arith)
 items_counted k cs is_named filling (an_item label e rest) q w =
@@ -79,7 +80,7 @@ items_counted k cs is_named filling (an_item label e rest) q w =
     (others.0, others.1 ∙ (ap (λ (n : ℕ). n + how_many rest) one.1 ∙ omega arith))
 
 -- where each component has its item, none is left out
-pub items_all : (k : Known) (cs : List ComponentForm) (items : ItemsTree) → Quiet (items_remark k (Some cs) (names_component items) (first_filling (Some cs)) items) → list_all is_some (filling_of k (Some cs) items).slots ≡ true → (how_many items ≡ length cs) × (length (map item_or_null (filling_of k (Some cs) items).slots) ≡ length cs)
+pub items_all : (k : Known) (cs : List PartForm) (items : ItemsTree) → Quiet (items_remark k (Some cs) (names_component items) (first_filling (Some cs)) items) → list_all is_some (filling_of k (Some cs) items).slots ≡ true → (how_many items ≡ length cs) × (length (map item_or_null (filling_of k (Some cs) items).slots) ≡ length cs)
 unfolding filling_of
 items_all k cs items q all =
     let none = none_filled cs in

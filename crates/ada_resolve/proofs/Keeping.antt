@@ -3,13 +3,11 @@
 use Rattle.std.proofs.Common.{◌≡◌, ◌∙◌, ℕ, List, refl, ap}
 use Rattle.std.specs.Prelude.{Option, Some, None}
 use Rattle.std.specs.List.{slice_get}
-use Rattle.ada_program.specs.declared.program.TypeNo.{TypeNo}
 use Rattle.ada_program.specs.ProgramForm.{TypeForm, access_to, VariableForm}
-use Rattle.ada_resolve.specs.declared.scope.Entity.TheVariants as entity
-use Rattle.ada_resolve.specs.Known.{Known, named}
+use Rattle.ada_resolve.specs.Known.{Known}
 use Rattle.ada_resolve.specs.Paths.{name_of_type}
 use Rattle.ada_resolve.specs.Naming.{Context}
-use Rattle.ada_resolve.proofs.Standing.{Sound, Keeps, record_settled}
+use Rattle.ada_resolve.proofs.Standing.{Sound, IsSettled, Keeps}
 use Rattle.ada_resolve.proofs.Agreeing.{Ahead}
 
 -- the type of a number has the name, whatever type it is
@@ -23,7 +21,7 @@ has_name types text t form there same = ap (λ (o : Option TypeForm). name_of_ty
 pub record Lasts (k : Known) (p : Context) : Type 0 where
   pub accesses : (t : ℕ) (name : List ℕ) (d : ℕ) → slice_get k.types t ≡ Some (access_to name d) → slice_get p.types t ≡ Some (access_to name d)
   pub type_names : (t : ℕ) (text : List ℕ) → HasName k.types text t → HasName p.types text t
-  pub records : (text : List ℕ) (t : TypeNo) (form : TypeForm) → named text k.here.names ≡ Some (entity.Record t) → slice_get k.types t.0 ≡ Some form → slice_get p.types t.0 ≡ Some form
+  pub settled : (t : ℕ) (form : TypeForm) → slice_get k.types t ≡ Some form → IsSettled k t → slice_get p.types t ≡ Some form
   pub variables : (x : ℕ) (v : VariableForm) → slice_get k.variables x ≡ Some v → slice_get p.variables x ≡ Some v
   pub exceptions : (e : ℕ) (text : List ℕ) → slice_get k.exceptions e ≡ Some text → slice_get p.exceptions e ≡ Some text
 
@@ -31,7 +29,7 @@ pub lasts_ahead : (k : Known) (p : Context) → Ahead k p → Lasts k p
 lasts_ahead k p w = record {
   accesses = λ t name d is. w.types t (access_to name d) is;
   type_names = λ t text is. by_form t text (slice_get k.types t) refl is;
-  records = λ text t form e is. w.types t.0 form is;
+  settled = λ t form is done. w.types t form is;
   variables = w.variables;
   exceptions = w.exceptions;
 }
@@ -44,7 +42,7 @@ pub lasts_on : (k m : Known) (p : Context) → Sound k → Keeps k m → Lasts m
 lasts_on k m p s f g = record {
   accesses = λ t name d is. g.accesses t name d (f.accesses t name d is);
   type_names = λ t text is. g.type_names t text (f.type_names t text is);
-  records = λ text t form e is. g.records text t form (f.names text (entity.Record t) tt e) (f.types t.0 form is (record_settled k text t s e)).0;
+  settled = λ t form is done. let so = f.types t form is done in g.settled t form so.0 so.1;
   variables = λ x v is. g.variables x v (f.variables x v is);
   exceptions = λ e text is. g.exceptions e text (f.exceptions e text is);
 }

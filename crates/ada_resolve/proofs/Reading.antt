@@ -15,15 +15,18 @@ use Rattle.ada_tree.specs.Declarations.{ChoiceTree, named_choice, others_choice}
 use Rattle.ada_tree.specs.Expressions.{ArgumentTree, expression_argument, text_argument, attribute_argument, RightTree, expression_right, allocator_right, creation_right, ItemsTree, no_more_items, an_item, ExpressionTree, number_expression, null_expression, path_expression, aggregate_expression, enclosed_expression, unary_expression, binary_expression}
 use Rattle.ada_tree.specs.Statements.{StatementTree, null_statement, assignment, call, exit_statement, return_statement, raise_statement}
 use Rattle.ada_program.specs.declared.program.ComponentKind.{ComponentKind}
+use Rattle.ada_program.specs.declared.program.PartKind.{PartKind}
+use Rattle.ada_program.specs.declared.program.PartKind.TheVariants as part
 use Rattle.ada_program.specs.declared.program.Exception.{Exception}
 use Rattle.ada_program.specs.declared.program.Exception.TheVariants as exception
 use Rattle.ada_program.specs.declared.program.VariableKind.{VariableKind}
 use Rattle.ada_program.specs.declared.program.VariableKind.TheVariants as variable
 use Rattle.ada_program.specs.declared.program.VariableNo.{VariableNo}
 use Rattle.ada_program.specs.declared.program.TypeNo.{TypeNo}
-use Rattle.ada_program.specs.Form.{PathForm, reads, ItemForm, RightForm, StmtForm}
-use Rattle.ada_program.specs.ProgramForm.{ComponentForm, TypeForm, VariableForm, record_of}
+use Rattle.ada_program.specs.Form.{PathForm, reads, ItemForm, RightForm, allocates, StmtForm}
+use Rattle.ada_program.specs.ProgramForm.{PartForm, TypeForm, VariableForm, record_of}
 use Rattle.ada_program.specs.WellFormed as fits
+use Rattle.ada_resolve.specs.declared.components.KnownComponent.{KnownComponent}
 use Rattle.ada_resolve.specs.declared.scope.Entity.{Entity}
 use Rattle.ada_resolve.specs.declared.scope.Entity.TheVariants as entity
 use Rattle.ada_resolve.specs.declared.selectors.Reached.{Reached}
@@ -31,7 +34,7 @@ use Rattle.ada_resolve.specs.declared.selectors.Reached.TheVariants as reached
 use Rattle.ada_resolve.specs.declared.fault.NameRule.TheVariants.{UnknownName, WrongType, NotInProfile}
 use Rattle.ada_resolve.specs.Known.{Known, parts, visible, is_empty, is_with, if_with, parts_of, library_wrong, library_remark, library_found, library_path_remark, library_path_found}
 use Rattle.ada_resolve.specs.Library.{is_library_root, library_name}
-use Rattle.ada_resolve.specs.Paths.{component_at, Meant, unknown, null_value, access_value, integer_value, boolean_value, selected_path, variable_path, components_of, designated_of, is_incomplete_type, component_behind, held_in, object_in, selectors_reached, number_in, components_selected, reached_meant, variable_meant, entity_meant, named_meant, path_meant, selectors_remark, no_object, variable_path_remark, value_wanted, named_remark, path_remark}
+use Rattle.ada_resolve.specs.Paths.{component_at, component_in, component_named, component_wanted, component_within_remark, complete_behind, held_by, known_component, number_by, Meant, unknown, null_value, access_value, integer_value, boolean_value, selected_path, variable_path, components_of, designated_of, is_incomplete_type, held_in, object_in, selectors_reached, number_in, components_selected, reached_meant, variable_meant, entity_meant, named_meant, path_meant, selectors_remark, no_object, variable_path_remark, value_wanted, named_remark, path_remark}
 use Rattle.ada_resolve.specs.Operators.{Signature, arithmetic, ordering, equality, logical, signature_of, integer_in, boolean_in, asks_equal, equality_meant, binary_by, unary_meant, integer_wanted, boolean_wanted, equal_wanted, operands_by, operand_remark}
 use Rattle.ada_resolve.specs.Expressions.{expression_meant, expression_remark}
 use Rattle.ada_resolve.specs.declared.library.LibraryName.{LibraryName}
@@ -44,8 +47,8 @@ use Rattle.ada_resolve.specs.Exceptions.{exception_of_library, end_error_wanted,
 use Rattle.ada_resolve.specs.Lines.{line_remark, line_found, put_line_remark, put_line_found}
 use Rattle.ada_resolve.specs.Arguments.{image_wanted, image_remark, image_value_remark}
 use Rattle.ada_resolve.specs.Naming.{Context, IsExceptionNamed, IsInstanceNamed, IsVariableNamed, IsObjectNamed}
-use Rattle.ada_resolve.specs.Reading.{IsPutLine, IsGet, IsImage, IsComponentNamed, AreSelectorsRead, IsPathRead, IsTargetRead, IsValueRead, read_path, read_number, read_truth, AsksEqual, null_on_right, null_on_left, IsExpressionRead, IsNull, IsMoveRead, IsConditionRead, IsItemRead, IsItemFor, at_place, by_name, further, AreItemsRead, IsRightRead, IsSimpleRead, IsChoiceRead, AreChoicesRead}
-use Rattle.ada_resolve.specs.Allocators.{allocated_wanted, allocated_remark, complete_in, allocated_found, filled_components, aggregate_remark, allocation, aggregate_found, is_in_use, has_items, allocator_remark, allocator_found}
+use Rattle.ada_resolve.specs.Reading.{IsPutLine, IsGet, IsImage, type_behind, at_value, at_object, IsComponentNamed, AreSelectorsRead, at_end, by_all, by_value, to_value, to_record, IsPathRead, IsTargetRead, IsValueRead, read_path, read_number, read_truth, AsksEqual, null_on_right, null_on_left, IsExpressionRead, IsNull, IsMoveRead, IsConditionRead, IsItemRead, IsItemFor, at_place, by_name, further, AreItemsRead, IsAllocationRead, IsRightRead, IsSimpleRead, IsChoiceRead, AreChoicesRead}
+use Rattle.ada_resolve.specs.Allocators.{allocated_wanted, allocated_remark, complete_in, allocated_found, filled_components, aggregate_remark, allocation, aggregate_found, default_allocation, default_found, allocator_remark, allocator_found}
 use Rattle.ada_resolve.specs.Rights.{assigned_wanted, assigned, right_remark, right_found}
 use Rattle.ada_resolve.specs.Assignments.{variable_target, component_target, target_found, variable_wanted, target_wanted, target_remark, kind_of_target, target_borrows, assignment_remark, assignment_of, assignment_found}
 use Rattle.ada_resolve.specs.Statements.{condition_remark, condition_meant, optional_condition_remark, optional_condition_meant, statement_remark, statement_found, statement_meant, form_or_null, text_in, simple_texts, bound_remark, bound_meant}
@@ -58,7 +61,7 @@ use Rattle.ada_resolve.proofs.WellFormed.Remarks.{Quiet, quiet_unless}
 use Rattle.ada_resolve.proofs.WellFormed.Values.{access_designates, components_are}
 use Rattle.ada_resolve.proofs.WellFormed.Names.{EntityFits, PartsFit, visible_fits, kind_there, text_same}
 use Rattle.ada_resolve.proofs.WellFormed.Meanings.{MeantFits, expression_fits, path_fits}
-use Rattle.ada_resolve.proofs.WellFormed.Selected.{IsNamedOf, name_at, designated_same, designated_more, IsReached, IsHeld, held_behind, held_reached, object_is}
+use Rattle.ada_resolve.proofs.WellFormed.Selected.{IsNamedOf, name_at, has_record, designated_same, designated_more}
 use Rattle.ada_resolve.proofs.WellFormed.Tables.{get_other}
 use Rattle.ada_resolve.proofs.WellFormed.Items.{items_there}
 use Rattle.ada_resolve.proofs.ItemCounts.{items_all}
@@ -89,68 +92,128 @@ MeantRead p e (access_value path t) = IsMoveRead p e path
 MeantRead p e (integer_value form) = IsExpressionRead p e form
 MeantRead p e (boolean_value form) = IsExpressionRead p e form
 
+-- a component that is found by a name is one of these, by its place, and has the name
+abbrev the_part : List ℕ → KnownComponent → PartForm
+the_part text found = record { name = text; kind = found.kind; first = found.first }
+
+abbrev IsFound : (at : ℕ) → List ℕ → List PartForm → ℕ × KnownComponent → Type 0
+IsFound at text cs found = (j : ℕ) × (found.0 ≡ at + j) × (slice_get cs j ≡ Some (the_part text found.1))
+
+same_part : (text : List ℕ) (c : PartForm) (known : KnownComponent) → known_component c ≡ known → c.name ≡ text → Some c ≡ Some (the_part text known)
+same_part text c known is named_so =
+    subst (λ (k : KnownComponent). Some c ≡ Some (the_part text k)) is
+    (subst (λ (name : List ℕ). Some c ≡ Some (the_part name (known_component c))) named_so refl)
+
+component_found : (at : ℕ) (text : List ℕ) (cs : List PartForm) (found : ℕ × KnownComponent) → component_named at text cs ≡ Some found → IsFound at text cs found
+component_found at text cs found e =
+    let there = subst (λ (o : Option (ℕ × KnownComponent)). IsNamedOf text cs at o) e (name_at at text cs) in
+    (there.0, there.2, there.3 ∙ same_part text there.1 found.1 there.4 there.5)
+
 -- the component that is found has the name
-component_read : (p : Context) (of : Option VariableKind) (c : Ident) (found : ℕ × ComponentKind) → IsHeld p.types of c.text (Some found) → IsComponentNamed p of c.text found.0
-component_read p of c found h = (h.0, h.1, h.2, h.3, h.4)
+abbrev IsNamed : Context → ℕ → List ℕ → Option (ℕ × KnownComponent) → Type 0
+IsNamed p t text None = ⊥
+IsNamed p t text (Some found) = IsComponentNamed p t text found.1.kind found.1.first
 
--- what stands behind what is reached; behind an object it stands behind `all`
-abbrev AreReadBehind : Context → Option VariableKind → Reached → List SelectorTree → List ℕ → Type 0
-AreReadBehind p of reached.Nothing ss cs = ⊥
-AreReadBehind p of (reached.Value kind) ss cs = AreSelectorsRead p of ss cs
-AreReadBehind p of (reached.Object t) ss cs = (spot : Spot) → AreSelectorsRead p of (dereference spot ∷ ss) cs
-
-held_read : (p : Context) (of : Option VariableKind) (c : Ident) (ss : List SelectorTree) (cs : List ℕ) (o : Option (ℕ × ComponentKind)) → IsHeld p.types of c.text o → AreReadBehind p (fits.selectors_kind p.types of (number_in o)) (held_in o) ss cs → AreSelectorsRead p of (component c ∷ ss) (number_in o ++ cs)
-held_read p of c ss cs None h r = absurd h
-held_read p of c ss cs (Some found) h r = (component_read p of c found h, r)
-
-held_read_behind : (p : Context) (of : Option VariableKind) (spot : Spot) (c : Ident) (ss : List SelectorTree) (cs : List ℕ) (o : Option (ℕ × ComponentKind)) → IsHeld p.types of c.text o → AreReadBehind p (fits.selectors_kind p.types of (number_in o)) (held_in o) ss cs → AreSelectorsRead p of (dereference spot ∷ (component c ∷ ss)) (number_in o ++ cs)
-held_read_behind p of spot c ss cs None h r = absurd h
-held_read_behind p of spot c ss cs (Some found) h r = (component_read p of c found h, r)
-
--- `all` reaches no value
-no_value : (k : Known) (o : Option ℕ) (kind : VariableKind) → object_in k o ≡ reached.Value kind → ⊥
-no_value k None kind e = cc e
-no_value k (Some d) kind e = by_complete (is_incomplete_type k d) e
+within_read : (k : Known) (p : Context) (spot : Spot) (t : ℕ) (c : Ident) → Ahead k p → Quiet (component_within_remark k spot (Some t) c) → IsNamed p t c.text (component_in k (Some t) c)
+within_read k p spot t c w q = complete_or (is_incomplete_type k t) q
   where
-    by_complete : (b : Bool) → cond b reached.Nothing (reached.Object (record { 0 = d })) ≡ reached.Value kind → ⊥
-    by_complete true e = cc e
-    by_complete false e = cc e
+    found_or : (o : Option (ℕ × KnownComponent)) → component_named 0 c.text (components_of k.types t) ≡ o → Quiet (component_wanted o c) → IsNamed p t c.text o
+    found_or None is q = absurd q
+    found_or (Some found) is q =
+        let at = component_found 0 c.text (components_of k.types t) found is in
+        let there = has_record k.types t at.0 (the_part c.text found.1) at.2 in
+        (there.0, there.1, there.2, at.0, w.types t (record_of there.0 there.1 there.2) there.3, there.4)
 
-object_read : (k : Known) (p : Context) (of : Option VariableKind) (spot : Spot) (o : Option ℕ) (at : Reached) (ss : List SelectorTree) (cs : List ℕ) → object_in k o ≡ at → AreReadBehind p of at ss cs → AreSelectorsRead p of (dereference spot ∷ ss) cs
-object_read k p of spot o reached.Nothing ss cs e r = absurd r
-object_read k p of spot o (reached.Value kind) ss cs e r = absurd (no_value k o kind e)
-object_read k p of spot o (reached.Object t) ss cs e r = r spot
+    complete_or : (b : Bool) → Quiet (cond b (wrong spot WrongType) (component_wanted (component_named 0 c.text (components_of k.types t)) c)) → IsNamed p t c.text (cond b None (component_named 0 c.text (components_of k.types t)))
+    complete_or true q = absurd q
+    complete_or false q = found_or (component_named 0 c.text (components_of k.types t)) refl q
+
+-- what stands behind what is reached
+abbrev AreReadBehind : Context → Reached → List SelectorTree → List ℕ → Type 0
+AreReadBehind p reached.Nothing ss cs = ⊥
+AreReadBehind p (reached.Value kind) ss cs = AreSelectorsRead p (at_value (Some kind)) ss cs
+AreReadBehind p (reached.Object t first) ss cs = AreSelectorsRead p (at_object t.0 first) ss cs
+
+-- something is reached
+abbrev IsThere : Reached → Type 0
+IsThere reached.Nothing = ⊥
+IsThere (reached.Value kind) = Unit {0}
+IsThere (reached.Object t first) = Unit {0}
+
+held_there : (p : Context) (t before : ℕ) (text : List ℕ) (o : Option (ℕ × KnownComponent)) → IsNamed p t text o → IsThere (held_in before o)
+held_there p t before text None h = absurd h
+held_there p t before text (Some found) h = by_kind found.1.kind
+  where
+    by_kind : (kind : PartKind) → IsThere (held_by kind (before + found.1.first))
+    by_kind (part.Elementary kind) = tt
+    by_kind (part.Record inner) = tt
+
+-- a component of an object, and what is selected from it
+held_read : (p : Context) (t before : ℕ) (c : Ident) (ss : List SelectorTree) (cs : List ℕ) (o : Option (ℕ × KnownComponent)) → IsNamed p t c.text o → AreReadBehind p (held_in before o) ss cs → AreSelectorsRead p (at_object t before) (component c ∷ ss) (number_in before o ++ cs)
+held_read p t before c ss cs None h r = absurd h
+held_read p t before c ss cs (Some found) h r = by_kind found.1.kind h r
+  where
+    by_kind : (kind : PartKind) → IsComponentNamed p t c.text kind found.1.first → AreReadBehind p (held_by kind (before + found.1.first)) ss cs → AreSelectorsRead p (at_object t before) (component c ∷ ss) (number_by kind (before + found.1.first) ++ cs)
+    by_kind (part.Elementary kind) h r = to_value h r
+    by_kind (part.Record inner) h r = to_record h r
+
+-- the type that an access type designates
+pub type_designated : (k : Known) (p : Context) (t d : ℕ) → Ahead k p → fits.designated_type k.types t ≡ Some d → fits.designated_type p.types t ≡ Some d
+type_designated k p t d w e = sym (designated_same p.types t) ∙ designated_more k.types p.types t d w.types (designated_same k.types t ∙ e)
+
+value_designates : (k : Known) (p : Context) (t : TypeNo) (d : ℕ) → Ahead k p → designated_of k.types t.0 ≡ Some d → type_behind p.types (Some (variable.Access t)) ≡ Some d
+value_designates k p t d w e = type_designated k p t.0 d w (sym (designated_same k.types t.0) ∙ e)
+
+-- a component behind an access value, and what is selected from it
+behind_read : (k : Known) (p : Context) (spot : Spot) (t : TypeNo) (o : Option ℕ) (c : Ident) (ss : List SelectorTree) (cs : List ℕ) → Ahead k p → designated_of k.types t.0 ≡ o → Quiet (component_within_remark k spot o c) → (IsThere (held_in 0 (component_in k o c)) → AreReadBehind p (held_in 0 (component_in k o c)) ss cs) → AreSelectorsRead p (at_value (Some (variable.Access t))) (component c ∷ ss) (number_in 0 (component_in k o c) ++ cs)
+behind_read k p spot t None c ss cs w is q rest = absurd q
+behind_read k p spot t (Some d) c ss cs w is q rest =
+    let o = component_in k (Some d) c in
+    let named_so = within_read k p spot d c w q in
+    by_value (value_designates k p t d w is) (held_read p d 0 c ss cs o named_so (rest (held_there p d 0 c.text o named_so)))
+
+-- `all`, and what is selected behind it
+all_read : (k : Known) (p : Context) (spot all : Spot) (t : TypeNo) (o : Option ℕ) (ss : List SelectorTree) (cs : List ℕ) → Ahead k p → designated_of k.types t.0 ≡ o → Quiet (complete_behind k spot o) → (IsThere (object_in k o) → AreReadBehind p (object_in k o) ss cs) → AreSelectorsRead p (at_value (Some (variable.Access t))) (dereference all ∷ ss) cs
+all_read k p spot all t None ss cs w is q rest = absurd q
+all_read k p spot all t (Some d) ss cs w is q rest = complete_or (is_incomplete_type k d) q rest
+  where
+    complete_or : (b : Bool) → Quiet (wrong_if b spot WrongType) → (IsThere (cond b reached.Nothing (reached.Object (record { 0 = d }) 0)) → AreReadBehind p (cond b reached.Nothing (reached.Object (record { 0 = d }) 0)) ss cs) → AreSelectorsRead p (at_value (Some (variable.Access t))) (dereference all ∷ ss) cs
+    complete_or true q rest = absurd q
+    complete_or false q rest = by_all (value_designates k p t d w is) (rest tt)
 
 -- selectors, one behind the other
-selectors_read : (k : Known) (p : Context) (of : Option VariableKind) (spot : Spot) (at : Reached) (ss : List SelectorTree) → Ahead k p → IsReached p.types of at → Quiet (selectors_remark k spot at ss) → Quiet (no_object (selectors_reached k at ss) spot) → AreReadBehind p of at ss (components_selected k at ss)
-selectors_read k p of spot reached.Nothing ss w is q e = absurd is
-selectors_read k p of spot (reached.Value kind) [] w is q e = tt
-selectors_read k p of spot (reached.Object t) [] w is q e = absurd e
-selectors_read k p of spot (reached.Value kind) (component c ∷ ss) w is q e =
-    let found = component_behind k (reached.Value kind) c in
-    let held = held_behind k p.types of spot (reached.Value kind) c w.types is q.0 in
-    held_read p of c ss (components_selected k (held_in found) ss) found held
-    (selectors_read k p (fits.selectors_kind p.types of (number_in found)) spot (held_in found) ss w (held_reached p.types of c.text found held) q.1 e)
-selectors_read k p of spot (reached.Object t) (component c ∷ ss) w is q e = λ all.
-    let found = component_behind k (reached.Object t) c in
-    let held = held_behind k p.types of spot (reached.Object t) c w.types is q.0 in
-    held_read_behind p of all c ss (components_selected k (held_in found) ss) found held
-    (selectors_read k p (fits.selectors_kind p.types of (number_in found)) spot (held_in found) ss w (held_reached p.types of c.text found held) q.1 e)
-selectors_read k p of spot (reached.Value (variable.Access t)) (dereference all ∷ ss) w is q e =
-    let at = object_in k (designated_of k.types t.0) in
-    object_read k p of all (designated_of k.types t.0) at ss (components_selected k at ss) refl
-    (selectors_read k p of spot at ss w (object_is k p.types of spot (reached.Value (variable.Access t)) w.types is q.0) q.1 e)
-selectors_read k p of spot at (dereference all ∷ ss) w is q e = absurd q.0
+selectors_read : (k : Known) (p : Context) (spot : Spot) (at : Reached) (ss : List SelectorTree) → Ahead k p → Quiet (selectors_remark k spot at ss) → Quiet (no_object (selectors_reached k at ss) spot) → IsThere at → AreReadBehind p at ss (components_selected k at ss)
+selectors_read k p spot reached.Nothing ss w q e there = absurd there
+selectors_read k p spot (reached.Value kind) [] w q e there = at_end
+selectors_read k p spot (reached.Object t first) [] w q e there = absurd e
+selectors_read k p spot (reached.Value (variable.Access t)) (component c ∷ ss) w q e there =
+    let next = held_in 0 (component_in k (designated_of k.types t.0) c) in
+    behind_read k p spot t (designated_of k.types t.0) c ss (components_selected k next ss) w refl q.0 (λ on. selectors_read k p spot next ss w q.1 e on)
+selectors_read k p spot (reached.Object t first) (component c ∷ ss) w q e there =
+    let o = component_in k (Some t.0) c in
+    let named_so = within_read k p spot t.0 c w q.0 in
+    held_read p t.0 first c ss (components_selected k (held_in first o) ss) o named_so
+    (selectors_read k p spot (held_in first o) ss w q.1 e (held_there p t.0 first c.text o named_so))
+selectors_read k p spot (reached.Value (variable.Access t)) (dereference all ∷ ss) w q e there =
+    let next = object_in k (designated_of k.types t.0) in
+    all_read k p spot all t (designated_of k.types t.0) ss (components_selected k next ss) w refl q.0 (λ on. selectors_read k p spot next ss w q.1 e on)
+selectors_read k p spot at (component c ∷ ss) w q e there = absurd q.0
+selectors_read k p spot at (dereference all ∷ ss) w q e there = absurd q.0
 
 -- a variable alone
 variable_read : (p : Context) (x : VariableNo) (name : Ident) → IsObjectNamed p name.text x.0 → IsPathRead p (record { root = name; selectors = [] }) (variable_path x name.spot)
-variable_read p x name b = record { root = b; selectors = tt; spot = refl }
+variable_read p x name b = record { root = b; selectors = at_end; spot = refl }
 
 place_read : (k : Known) (p : Context) (x : VariableNo) (name : Ident) (of : VariableKind) (ss : List SelectorTree) → Ahead k p → IsObjectNamed p name.text x.0 → fits.variable_kind p.variables x.0 ≡ Some of → Quiet (variable_path_remark k name.spot of ss) → MeantRead p (path_expression (record { root = name; selectors = ss })) (variable_meant k x name.spot of ss)
 place_read k p x name of ss w b v q = by_reached (selectors_reached k (reached.Value of) ss)
   where
     whole : IsPathRead p (record { root = name; selectors = ss }) (selected_path x name.spot (components_selected k (reached.Value of) ss))
-    whole = record { root = b; selectors = selectors_read k p (fits.variable_kind p.variables x.0) name.spot (reached.Value of) ss w v q.0 q.1; spot = refl }
+    whole = record {
+      root = b;
+      selectors = subst (λ (o : Option VariableKind). AreSelectorsRead p (at_value o) ss (components_selected k (reached.Value of) ss)) (sym v)
+          (selectors_read k p name.spot (reached.Value of) ss w q.0 q.1 tt);
+      spot = refl;
+    }
 
     by_reached : (at : Reached) → MeantRead p (path_expression (record { root = name; selectors = ss })) (reached_meant (selected_path x name.spot (components_selected k (reached.Value of) ss)) at)
     by_reached (reached.Value variable.Integer) = read_path whole
@@ -242,40 +305,55 @@ expression_read k p (binary_expression o left right) w q =
     (expression_known k left w.fits q.1.0) (expression_known k right w.fits q.1.1.0) (expression_read k p left w q.1.0) (expression_read k p right w q.1.1.0) q.1.1.1
 
 -- what an item gives its component
-item_read : (p : Context) (variables : List VariableForm) (e : ExpressionTree) (k : ComponentKind) (m : Meant) (spot : Spot) → IsMeant m → MeantRead p e m → Quiet (fits_remark variables k m spot) → IsItemRead p e (item_meant m)
+item_read : (p : Context) (variables : List VariableForm) (e : ExpressionTree) (k : PartKind) (m : Meant) (spot : Spot) → IsMeant m → MeantRead p e m → Quiet (fits_remark variables k m spot) → IsItemRead p e (item_meant m)
 item_read p variables e k (integer_value form) spot f r q = r
 item_read p variables e k (boolean_value form) spot f r q = r
 item_read p variables e k (access_value path t) spot f r q = r
 item_read p variables e k null_value spot f r q = r
 item_read p variables e k unknown spot f r q = absurd f
 
+-- a component that has an item is elementary
+abbrev IsElementary : PartKind → Type 0
+IsElementary k = (kind : ComponentKind) × (k ≡ part.Elementary kind)
+
+item_elementary : (variables : List VariableForm) (k : PartKind) (m : Meant) (spot : Spot) → IsMeant m → Quiet (fits_remark variables k m spot) → IsElementary k
+item_elementary variables (part.Elementary kind) m spot f q = (kind, refl)
+item_elementary variables (part.Record t) unknown spot f q = absurd f
+item_elementary variables (part.Record t) m spot f q = absurd q
+
 -- the component that an item is for
-component_there : (items : ItemsTree) (label : Option Ident) (e : ExpressionTree) (rest : ItemsTree) (cs : List ComponentForm) (at : ℕ) (found : ℕ × ComponentKind) → component_for cs label at ≡ Some found → (d : ComponentForm) × (slice_get cs found.0 ≡ Some d) × IsItemFor (an_item label e rest) at found.0 d.name e
+component_there : (items : ItemsTree) (label : Option Ident) (e : ExpressionTree) (rest : ItemsTree) (cs : List PartForm) (at : ℕ) (found : ℕ × KnownComponent) → component_for cs label at ≡ Some found → (d : PartForm) × (slice_get cs found.0 ≡ Some d) × IsItemFor (an_item label e rest) at found.0 d.name e × (d.kind ≡ found.1.kind)
 component_there items (Some label) e rest cs at found is =
-    let there = subst (λ (o : Option (ℕ × ComponentKind)). IsNamedOf label.text cs 0 o) is (name_at 0 label.text cs) in
-    let place : found.0 ≡ there.0 = there.2 ∙ omega arith in
+    let there = component_found 0 label.text cs found is in
+    let place : found.0 ≡ there.0 = there.1 ∙ omega arith in
+    let d = the_part label.text found.1 in
     let here : IsItemFor (an_item (Some label) e rest) at found.0 label.text e = by_name in
-    (there.1, subst (λ (n : ℕ). slice_get cs n ≡ Some there.1) (sym place) there.3, subst (λ (name : List ℕ). IsItemFor (an_item (Some label) e rest) at found.0 name e) (sym there.5) here)
+    (d, subst (λ (n : ℕ). slice_get cs n ≡ Some d) (sym place) there.2, here, refl)
 component_there items None e rest cs at found is = at_number (slice_get cs at) refl is
   where
-    at_number : (o : Option ComponentForm) → slice_get cs at ≡ o → component_at at o ≡ Some found → (d : ComponentForm) × (slice_get cs found.0 ≡ Some d) × IsItemFor (an_item None e rest) at found.0 d.name e
+    at_number : (o : Option PartForm) → slice_get cs at ≡ o → component_at at o ≡ Some found → (d : PartForm) × (slice_get cs found.0 ≡ Some d) × IsItemFor (an_item None e rest) at found.0 d.name e × (d.kind ≡ found.1.kind)
     at_number None there is = absurd (cc is)
     at_number (Some d) there is =
-        let place : at ≡ found.0 = cc is in
+        let same : (at, known_component d) ≡ found = cc is in
+        let place : at ≡ found.0 = ap (λ (f : ℕ × KnownComponent). f.0) same in
         let here : IsItemFor (an_item None e rest) at at d.name e = at_place in
-        (d, rw (sym place) there, subst (λ (n : ℕ). IsItemFor (an_item None e rest) at n d.name e) place here)
+        (d, rw (sym place) there, subst (λ (n : ℕ). IsItemFor (an_item None e rest) at n d.name e) place here, ap (λ (f : ℕ × KnownComponent). f.1.kind) same)
 
--- each item so far is what is written for its component
-abbrev SlotsRead : Context → List ComponentForm → ItemsTree → List (Option ItemForm) → Type 0
-SlotsRead p cs items slots =
-    (c : ℕ) (form : ItemForm) → slice_get slots c ≡ Some (Some form) →
-    (d : ComponentForm) × (e : ExpressionTree) × (slice_get cs c ≡ Some d) × IsItemFor items 0 c d.name e × IsItemRead p e form
+-- an item is what is written for its component, which is elementary
+abbrev IsFilled : Context → List PartForm → ItemsTree → ℕ → ItemForm → Type 0
+IsFilled p cs items c form =
+    (d : PartForm) × (kind : ComponentKind) × (e : ExpressionTree) × (slice_get cs c ≡ Some d) × (d.kind ≡ part.Elementary kind) ×
+    IsItemFor items 0 c d.name e × IsItemRead p e form
+
+-- so is each item so far
+abbrev SlotsRead : Context → List PartForm → ItemsTree → List (Option ItemForm) → Type 0
+SlotsRead p cs items slots = (c : ℕ) (form : ItemForm) → slice_get slots c ≡ Some (Some form) → IsFilled p cs items c form
 
 -- these items end those
 abbrev Ends : ItemsTree → ItemsTree → ℕ → Type 0
 Ends items rest at = (c : ℕ) (name : List ℕ) (e : ExpressionTree) → IsItemFor rest at c name e → IsItemFor items 0 c name e
 
-none_read : (p : Context) (cs : List ComponentForm) (items : ItemsTree) (n : ℕ) → SlotsRead p cs items (replicate n None)
+none_read : (p : Context) (cs : List PartForm) (items : ItemsTree) (n : ℕ) → SlotsRead p cs items (replicate n None)
 none_read p cs items n c form e = absurd (no_item n c e)
   where
     no_item : (n c : ℕ) → slice_get (replicate n None) c ≡ Some (Some form) → ⊥
@@ -283,8 +361,8 @@ none_read p cs items n c form e = absurd (no_item n c e)
     no_item (suc n) zero e = cc e
     no_item (suc n) (suc c) e = no_item n c e
 
-one_read : (p : Context) (cs : List ComponentForm) (items : ItemsTree) (slots : List (Option ItemForm)) (n : ℕ) (d : ComponentForm) (e : ExpressionTree) (form : ItemForm) → SlotsRead p cs items slots → slice_get cs n ≡ Some d → IsItemFor items 0 n d.name e → IsItemRead p e form → SlotsRead p cs items (slice_set slots n (Some form))
-one_read p cs items slots n d e form old there here own c other is = by_number (eqb n c) refl
+one_read : (p : Context) (cs : List PartForm) (items : ItemsTree) (slots : List (Option ItemForm)) (n : ℕ) (form : ItemForm) → SlotsRead p cs items slots → IsFilled p cs items n form → SlotsRead p cs items (slice_set slots n (Some form))
+one_read p cs items slots n form old own c other is = by_number (eqb n c) refl
   where
     off_on : (b : Bool) → b ≡ false → b ≡ true → ⊥
     off_on b e f = cc (e, f)
@@ -294,20 +372,30 @@ one_read p cs items slots n d e form old there here own c other is = by_number (
     set_there (s ∷ slots) zero e = cc e
     set_there (s ∷ slots) (suc n) e = set_there slots n e
 
-    by_number : (b : Bool) → eqb n c ≡ b → (d : ComponentForm) × (e : ExpressionTree) × (slice_get cs c ≡ Some d) × IsItemFor items 0 c d.name e × IsItemRead p e other
+    by_number : (b : Bool) → eqb n c ≡ b → IsFilled p cs items c other
     by_number true same =
         let place : n ≡ c = eqb-true n c same in
         let form_is : form ≡ other = set_there slots n (subst (λ (m : ℕ). slice_get (slice_set slots n (Some form)) m ≡ Some (Some other)) (sym place) is) in
-        (d, e, subst (λ (m : ℕ). slice_get cs m ≡ Some d) place there, subst (λ (m : ℕ). IsItemFor items 0 m d.name e) place here, subst (λ (f : ItemForm). IsItemRead p e f) form_is own)
+        subst (λ (f : ItemForm). IsFilled p cs items c f) form_is (subst (λ (m : ℕ). IsFilled p cs items m form) place own)
     by_number false apart = old c other (sym (get_other slots n c (Some form) (λ place. off_on (eqb n c) apart (eq-eqb n c place))) ∙ is)
 
-filled_read : (p : Context) (variables : List VariableForm) (cs : List ComponentForm) (items : ItemsTree) (label : Option Ident) (e : ExpressionTree) (rest : ItemsTree) (m : Meant) (filling : Filling) (alike : Bool) (o : Option (ℕ × ComponentKind)) → component_for cs label filling.count ≡ o → Ends items (an_item label e rest) filling.count → SlotsRead p cs items filling.slots → IsMeant m → MeantRead p e m → Quiet (for_remark variables o filling label e m) → SlotsRead p cs items (filled_for o filling alike (item_meant m)).slots × ((filled_for o filling alike (item_meant m)).count ≡ filling.count + 1)
+filled_read : (p : Context) (variables : List VariableForm) (cs : List PartForm) (items : ItemsTree) (label : Option Ident) (e : ExpressionTree) (rest : ItemsTree) (m : Meant) (filling : Filling) (alike : Bool) (o : Option (ℕ × KnownComponent)) → component_for cs label filling.count ≡ o → Ends items (an_item label e rest) filling.count → SlotsRead p cs items filling.slots → IsMeant m → MeantRead p e m → Quiet (for_remark variables o filling label e m) → SlotsRead p cs items (filled_for o filling alike (item_meant m)).slots × ((filled_for o filling alike (item_meant m)).count ≡ filling.count + 1)
 filled_read p variables cs items label e rest m filling alike None is ends old f r q = (old, refl)
 filled_read p variables cs items label e rest m filling alike (Some found) is ends old f r q =
     let there = component_there items label e rest cs filling.count found is in
-    (one_read p cs items filling.slots found.0 there.0 e (item_meant m) old there.1 (ends found.0 there.0.name e there.2) (item_read p variables e found.1 m (expression_spot e) f r q.1), refl)
+    let elementary = item_elementary variables found.1.kind m (expression_spot e) f q.1 in
+    let own : IsFilled p cs items found.0 (item_meant m) = (
+      there.0,
+      elementary.0,
+      e,
+      there.1,
+      there.3 ∙ elementary.1,
+      ends found.0 there.0.name e there.2,
+      item_read p variables e found.1.kind m (expression_spot e) f r q.1,
+    ) in
+    (one_read p cs items filling.slots found.0 (item_meant m) old own, refl)
 
-items_read : (k : Known) (p : Context) (cs : List ComponentForm) (is_named : Bool) (items : ItemsTree) (filling : Filling) (rest : ItemsTree) → Readable k p → Ends items rest filling.count → SlotsRead p cs items filling.slots → Quiet (items_remark k (Some cs) is_named filling rest) → SlotsRead p cs items (after_items k (Some cs) is_named filling rest).slots
+items_read : (k : Known) (p : Context) (cs : List PartForm) (is_named : Bool) (items : ItemsTree) (filling : Filling) (rest : ItemsTree) → Readable k p → Ends items rest filling.count → SlotsRead p cs items filling.slots → Quiet (items_remark k (Some cs) is_named filling rest) → SlotsRead p cs items (after_items k (Some cs) is_named filling rest).slots
 unfolding item_remark after_item
 items_read k p cs is_named items filling no_more_items w ends old q = old
 items_read k p cs is_named items filling (an_item label e rest) w ends old q =
@@ -317,7 +405,7 @@ items_read k p cs is_named items filling (an_item label e rest) w ends old q =
     items_read k p cs is_named items next rest w (λ c name f h. ends c name f (further (subst (λ (n : ℕ). IsItemFor rest n c name f) done.1 h))) done.0 q.1
 
 -- where each slot has its item, the items are those
-whole_read : (p : Context) (cs : List ComponentForm) (items : ItemsTree) (slots : List (Option ItemForm)) → list_all is_some slots ≡ true → SlotsRead p cs items slots → (c : ℕ) (form : ItemForm) → slice_get (map item_or_null slots) c ≡ Some form → (d : ComponentForm) × (e : ExpressionTree) × (slice_get cs c ≡ Some d) × IsItemFor items 0 c d.name e × IsItemRead p e form
+whole_read : (p : Context) (cs : List PartForm) (items : ItemsTree) (slots : List (Option ItemForm)) → list_all is_some slots ≡ true → SlotsRead p cs items slots → (c : ℕ) (form : ItemForm) → slice_get (map item_or_null slots) c ≡ Some form → IsFilled p cs items c form
 whole_read p cs items slots all old c form is = old c form (slot_is slots all c is)
   where
     slot_is : (slots : List (Option ItemForm)) → list_all is_some slots ≡ true → (c : ℕ) → slice_get (map item_or_null slots) c ≡ Some form → slice_get slots c ≡ Some (Some form)
@@ -326,7 +414,7 @@ whole_read p cs items slots all old c form is = old c form (slot_is slots all c 
     slot_is (Some i ∷ slots) all zero e = let same : i ≡ form = cc e in ap (λ (f : ItemForm). Some (Some f)) same
     slot_is (Some i ∷ slots) all (suc c) e = slot_is slots all c e
 
-aggregate_items_read : (k : Known) (p : Context) (cs : List ComponentForm) (items : ItemsTree) (spot : Spot) → Readable k p → Quiet (items_remark k (Some cs) (names_component items) (first_filling (Some cs)) items) → Quiet (count_remark (names_component items) (filling_of k (Some cs) items) spot) → AreItemsRead p cs items (map item_or_null (filling_of k (Some cs) items).slots)
+aggregate_items_read : (k : Known) (p : Context) (cs : List PartForm) (items : ItemsTree) (spot : Spot) → Readable k p → Quiet (items_remark k (Some cs) (names_component items) (first_filling (Some cs)) items) → Quiet (count_remark (names_component items) (filling_of k (Some cs) items) spot) → AreItemsRead p cs items (map item_or_null (filling_of k (Some cs) items).slots)
 unfolding filling_of
 aggregate_items_read k p cs items spot w q c =
     let all = items_there k cs items spot w.fits q c in
@@ -349,38 +437,61 @@ assigned_read p e of (integer_value form) spot f r q = r
 assigned_read p e of (boolean_value form) spot f r q = r
 assigned_read p e of unknown spot f r q = absurd f
 
-pub type_designated : (k : Known) (p : Context) (t d : ℕ) → Ahead k p → fits.designated_type k.types t ≡ Some d → fits.designated_type p.types t ≡ Some d
-type_designated k p t d w e = sym (designated_same p.types t) ∙ designated_more k.types p.types t d w.types (designated_same k.types t ∙ e)
+-- an allocator with items
+abbrev FoundAllocation : Context → Ident → ItemsTree → Option RightForm → Type 0
+FoundAllocation p name items (Some (allocates access forms)) = IsAllocationRead p name items access forms
+FoundAllocation p name items other = ⊥
 
-allocation_one : (k : Known) (p : Context) (e : Entity) (access : TypeNo) (at spot end_spot : Spot) (name : Ident) (items : ItemsTree) → Readable k p → EntityFits k.types k.variables name.text e → EntityRead p name.text e → Quiet (allocated_wanted (Some e) k.types (Some access) spot name) → Quiet (items_remark k (filled_components k (complete_in (Some e))) (names_component items) (first_filling (filled_components k (complete_in (Some e)))) items) → Quiet (count_remark (names_component items) (filling_of k (filled_components k (complete_in (Some e))) items) end_spot) → FoundRight p (allocator_right at None name items) (allocation k (Some access) (complete_in (Some e)) items)
-allocation_one k p (entity.Record t) access at spot end_spot name items w f r q i c = record {
+allocation_one : (k : Known) (p : Context) (e : Entity) (access : TypeNo) (spot end_spot : Spot) (name : Ident) (items : ItemsTree) → Readable k p → EntityFits k.types k.variables name.text e → EntityRead p name.text e → Quiet (allocated_wanted (Some e) k.types (Some access) spot name) → Quiet (items_remark k (filled_components k (complete_in (Some e))) (names_component items) (first_filling (filled_components k (complete_in (Some e)))) items) → Quiet (count_remark (names_component items) (filling_of k (filled_components k (complete_in (Some e))) items) end_spot) → FoundAllocation p name items (allocation k (Some access) (complete_in (Some e)) items)
+allocation_one k p (entity.Record t size) access spot end_spot name items w f r q i c = record {
   t = t.0;
-  components = f.0;
+  parts = f.0;
+  components = f.1;
   designates = type_designated k p access.0 t.0 w.ahead (access_designates k.types access.0 t.0 (quiet_unless (designates k.types access.0 t.0) spot WrongType q));
   bound = r;
-  named = w.ahead.types t.0 (record_of name.text f.0) f.1;
-  filled = subst (λ (cs : List ComponentForm). AreItemsRead p cs items (map item_or_null (filling_of k (Some (components_of k.types t.0)) items).slots))
-      (components_are k.types t.0 name.text f.0 f.1) (aggregate_items_read k p (components_of k.types t.0) items end_spot w i c);
+  named = w.ahead.types t.0 (record_of name.text f.0 f.1) f.2;
+  filled = subst (λ (cs : List PartForm). AreItemsRead p cs items (map item_or_null (filling_of k (Some (components_of k.types t.0)) items).slots))
+      (components_are k.types t.0 name.text f.0 f.1 f.2) (aggregate_items_read k p (components_of k.types t.0) items end_spot w i c);
 }
-allocation_one k p e access at spot end_spot name items w f r q i c = absurd q
+allocation_one k p e access spot end_spot name items w f r q i c = absurd q
 
-allocation_named : (k : Known) (p : Context) (o : Option Entity) (access : TypeNo) (at spot end_spot : Spot) (name : Ident) (items : ItemsTree) → Readable k p → ((e : Entity) → o ≡ Some e → EntityFits k.types k.variables name.text e) → ((e : Entity) → o ≡ Some e → EntityRead p name.text e) → Quiet (allocated_wanted o k.types (Some access) spot name) → Quiet (items_remark k (filled_components k (complete_in o)) (names_component items) (first_filling (filled_components k (complete_in o))) items) → Quiet (count_remark (names_component items) (filling_of k (filled_components k (complete_in o)) items) end_spot) → FoundRight p (allocator_right at None name items) (allocation k (Some access) (complete_in o) items)
-allocation_named k p (Some e) access at spot end_spot name items w v r q i c = allocation_one k p e access at spot end_spot name items w (v e refl) (r e refl) q i c
-allocation_named k p None access at spot end_spot name items w v r q i c = absurd q
+allocation_named : (k : Known) (p : Context) (o : Option Entity) (access : TypeNo) (spot end_spot : Spot) (name : Ident) (items : ItemsTree) → Readable k p → ((e : Entity) → o ≡ Some e → EntityFits k.types k.variables name.text e) → ((e : Entity) → o ≡ Some e → EntityRead p name.text e) → Quiet (allocated_wanted o k.types (Some access) spot name) → Quiet (items_remark k (filled_components k (complete_in o)) (names_component items) (first_filling (filled_components k (complete_in o))) items) → Quiet (count_remark (names_component items) (filling_of k (filled_components k (complete_in o)) items) end_spot) → FoundAllocation p name items (allocation k (Some access) (complete_in o) items)
+allocation_named k p (Some e) access spot end_spot name items w v r q i c = allocation_one k p e access spot end_spot name items w (v e refl) (r e refl) q i c
+allocation_named k p None access spot end_spot name items w v r q i c = absurd q
 
-aggregate_read : (k : Known) (p : Context) (access : TypeNo) (at : Spot) (name : Ident) (items : ItemsTree) → Readable k p → Quiet (aggregate_remark k (Some access) at name items) → FoundRight p (allocator_right at None name items) (aggregate_found k (Some access) name items)
+aggregate_read : (k : Known) (p : Context) (access : TypeNo) (at : Spot) (name : Ident) (items : ItemsTree) → Readable k p → Quiet (aggregate_remark k (Some access) at name items) → FoundAllocation p name items (aggregate_found k (Some access) name items)
 unfolding aggregate_remark aggregate_found allocated_remark allocated_found
 aggregate_read k p access at name items w q =
-    allocation_named k p (visible k name.text) access at at name.spot name items w (visible_fits k w.fits name.text) (visible_read k p w.agrees name.text) q.0 q.1.0 q.1.1
+    allocation_named k p (visible k name.text) access at name.spot name items w (visible_fits k w.fits name.text) (visible_read k p w.agrees name.text) q.0 q.1.0 q.1.1
+
+allocation_right : (p : Context) (at : Spot) (name : Ident) (label : Option Ident) (e : ExpressionTree) (rest : ItemsTree) (o : Option RightForm) → FoundAllocation p name (an_item label e rest) o → FoundRight p (allocator_right at None name (an_item label e rest)) o
+allocation_right p at name label e rest (Some (allocates access forms)) r = r
+allocation_right p at name label e rest other r = absurd r
+
+-- an allocator without items
+default_one : (k : Known) (p : Context) (e : Entity) (access : TypeNo) (at spot : Spot) (name : Ident) → Readable k p → EntityFits k.types k.variables name.text e → EntityRead p name.text e → Quiet (allocated_wanted (Some e) k.types (Some access) spot name) → FoundRight p (allocator_right at None name no_more_items) (default_allocation (Some access) (complete_in (Some e)))
+default_one k p (entity.Record t size) access at spot name w f r q = (
+  t.0,
+  type_designated k p access.0 t.0 w.ahead (access_designates k.types access.0 t.0 (quiet_unless (designates k.types access.0 t.0) spot WrongType q)),
+  (r, f.0, f.1, w.ahead.types t.0 (record_of name.text f.0 f.1) f.2),
+)
+default_one k p e access at spot name w f r q = absurd q
+
+default_named : (k : Known) (p : Context) (o : Option Entity) (access : TypeNo) (at spot : Spot) (name : Ident) → Readable k p → ((e : Entity) → o ≡ Some e → EntityFits k.types k.variables name.text e) → ((e : Entity) → o ≡ Some e → EntityRead p name.text e) → Quiet (allocated_wanted o k.types (Some access) spot name) → FoundRight p (allocator_right at None name no_more_items) (default_allocation (Some access) (complete_in o))
+default_named k p (Some e) access at spot name w v r q = default_one k p e access at spot name w (v e refl) (r e refl) q
+default_named k p None access at spot name w v r q = absurd q
+
+default_read : (k : Known) (p : Context) (access : TypeNo) (at : Spot) (name : Ident) → Readable k p → Quiet (allocated_remark k (Some access) at name) → FoundRight p (allocator_right at None name no_more_items) (default_found k (Some access) name)
+unfolding default_found allocated_remark allocated_found
+default_read k p access at name w q =
+    default_named k p (visible k name.text) access at at name w (visible_fits k w.fits name.text) (visible_read k p w.agrees name.text) q
 
 allocator_read : (k : Known) (p : Context) (access : TypeNo) (at : Spot) (handle : Option Ident) (name : Ident) (items : ItemsTree) → Readable k p → Quiet (allocator_remark k (Some access) at handle name items) → FoundRight p (allocator_right at handle name items) (allocator_found k (Some access) handle name items)
-unfolding allocator_remark allocator_found is_in_use
+unfolding allocator_remark allocator_found
 allocator_read k p access at (Some handle) name items w q = absurd q
-allocator_read k p access at None name items w q = by_use (has_items items) q
-  where
-    by_use : (b : Bool) → Quiet (cond b (aggregate_remark k (Some access) at name items) (wrong at NotInProfile)) → FoundRight p (allocator_right at None name items) (cond b (aggregate_found k (Some access) name items) None)
-    by_use true q = aggregate_read k p access at name items w q
-    by_use false q = absurd q
+allocator_read k p access at None name no_more_items w q = default_read k p access at name w q
+allocator_read k p access at None name (an_item label e rest) w q =
+    allocation_right p at name label e rest (aggregate_found k (Some access) name (an_item label e rest)) (aggregate_read k p access at name (an_item label e rest) w q)
 
 pub right_read : (k : Known) (p : Context) (of : VariableKind) (borrows : Bool) (right : RightTree) → Readable k p → Quiet (right_remark k (Some of) borrows right) → FoundRight p right (right_found k (Some of) right)
 right_read k p of borrows (expression_right e) w q =

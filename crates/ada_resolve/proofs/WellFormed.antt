@@ -4,6 +4,8 @@
 pub mod Remarks
 -- what stays of lists and types as more of them are declared
 pub mod Tables
+-- the components of record types lie one behind the other
+pub mod Laid
 -- what names stand for is there
 pub mod Names
 -- exceptions, and what names stand for them

@@ -1,17 +1,18 @@
 -- What each declaration writes is what is known after it.
 
-use Rattle.std.proofs.Common.{◌≡◌, ◌∙◌, zero, suc, inl, inr, ℕ, ◌+◌, Bool, true, false, ◌||◌, cond, List, [], ◌∷◌, ◌++◌, refl, sym, ap, subst, eqb-true}
+use Rattle.std.proofs.Common.{◌≡◌, ◌∙◌, zero, suc, inl, inr, ℕ, ◌+◌, Bool, true, false, ◌||◌, cond, List, [], ◌∷◌, ◌++◌, length, append_assoc, refl, sym, ap, subst, eqb-true}
 use Rattle.std.specs.Prelude.{Option, Some, None, codes, bytes_eq, is_some, map}
 use Rattle.std.specs.List.{slice_get, list_all}
 use Rattle.ada_text.specs.declared.spot.Spot.{Spot}
 use Rattle.ada_tree.specs.Names.{Ident, NameTree}
 use Rattle.ada_tree.specs.Records.{StaticTree, plain, minus, named as static_name, ComponentTree}
 use Rattle.ada_tree.specs.Expressions.{RightTree}
+use Rattle.ada_program.specs.declared.program.ComponentKind.{ComponentKind}
 use Rattle.ada_program.specs.declared.program.TypeNo.{TypeNo}
 use Rattle.ada_program.specs.declared.program.VariableKind.{VariableKind}
 use Rattle.ada_program.specs.declared.program.VariableKind.TheVariants as variable
 use Rattle.ada_program.specs.Form.{RightForm}
-use Rattle.ada_program.specs.ProgramForm.{ComponentForm, TypeForm, record_of, access_to}
+use Rattle.ada_program.specs.ProgramForm.{PartForm, TypeForm, record_of, access_to}
 use Rattle.ada_program.specs.WellFormed as well
 use Rattle.ada_resolve.specs.declared.fault.NameRule.TheVariants.{UnknownName, DeclaredTwice, WrongType}
 use Rattle.ada_resolve.specs.declared.library.LibraryName.{LibraryName}
@@ -24,20 +25,22 @@ use Rattle.ada_resolve.specs.Library.{is_library_root, library_name}
 use Rattle.ada_resolve.specs.Remark.{◌also◌}
 use Rattle.ada_resolve.specs.Types.{record_in, record_found, record_wanted, record_remark, designates, is_access_to}
 use Rattle.ada_resolve.specs.Statics.{static_value, static_remark, number_in, number_wanted, truth_in, truth_wanted}
-use Rattle.ada_resolve.specs.Records.{integer_remark, boolean_remark, no_value_remark, kind_wanted, kind_in, is_component, component_remark, component_meant, components_remark}
+use Rattle.ada_resolve.specs.Records.{integer_remark, boolean_remark, no_value_remark, kind_wanted, kind_in, Composition, is_component, component_remark, component_meant, no_components, composed, composed_with, composition_of, components_remark, all_components_remark}
 use Rattle.ada_resolve.specs.Instances.{deallocation_wanted, no_generic, generic_remark, access_if, access_in, access_wanted, freed_found, freed_remark}
 use Rattle.ada_resolve.specs.Paths.{library_is_no_value}
 use Rattle.ada_resolve.specs.Objects.{initial_remark, initial_found, initial_wanted, type_in, type_wanted, object_type_found, object_type_remark, kind_of, initial_source}
-use Rattle.ada_resolve.specs.Naming.{Context, IsNumberNamed, IsStaticRead, IsKindRead, AreComponentsRead, AreNamedApart, IsFullTypeNamed, IsTypeNamed, IsRecordNamed, IsKindNamed, truth_name}
+use Rattle.ada_resolve.specs.Naming.{Context, IsNumberNamed, IsStaticRead, IsKindRead, AreComponentsRead, AreNamedApart, AreLaidOut, IsFullTypeNamed, IsTypeNamed, IsRecordNamed, IsKindNamed, truth_name}
 use Rattle.ada_resolve.specs.Reading.{IsInitialRead}
-use Rattle.ada_resolve.specs.Paths.{name_of_type}
+use Rattle.ada_resolve.specs.Paths.{name_of_type, elementary_of}
 use Rattle.ada_resolve.proofs.WellFormed.Remarks.{Quiet, quiet_if, quiet_unless}
 use Rattle.ada_resolve.proofs.WellFormed.Names.{EntityFits, PartsFit, same_text, visible_fits}
+use Rattle.ada_resolve.proofs.WellFormed.Laid.{append_none, elementary_same, laid_stays}
+use Rattle.ada_resolve.proofs.WellFormed.Types.{composition_has, composition_laid}
 use Rattle.ada_resolve.proofs.WellFormed.Tables.{first_part, second_part}
 use Rattle.ada_resolve.proofs.Agreeing.{Agrees, EntityRead, Readable, visible_read}
 use Rattle.ada_resolve.proofs.ComponentLists.{in_more}
 use Rattle.ada_resolve.proofs.Keeping.{HasName, has_name, Lasts}
-use Rattle.ada_resolve.proofs.Standing.{Sound}
+use Rattle.ada_resolve.proofs.Standing.{Sound, visible_settled}
 use Rattle.ada_resolve.proofs.Reading.{FoundRight, right_read, empty_is, no_name}
 
 -- what declarations are read by, where a type may be incomplete
@@ -80,36 +83,73 @@ no_value k (Some (plain spot n)) q = absurd q
 no_value k (Some (minus spot n)) q = absurd q
 no_value k (Some (static_name name)) q = absurd q.1
 
-kind_read : (k : Known) (p : Context) (name type_name : Ident) (initial : Option StaticTree) (o : Option Entity) → Legible k p → ((e : Entity) → o ≡ Some e → EntityFits k.types k.variables type_name.text e) → ((e : Entity) → o ≡ Some e → EntityRead p type_name.text e) → Quiet (kind_wanted o k (record { name = name; type_name = type_name; initial = initial })) → IsKindRead p (record { name = name; type_name = type_name; initial = initial }) (kind_in o k initial)
-kind_read k p name type_name initial (Some entity.Integer) w f t q = integer_read k p name type_name initial w (t entity.Integer refl) q
-kind_read k p name type_name initial (Some entity.Boolean) w f t q = boolean_read k p name type_name initial w (t entity.Boolean refl) q
-kind_read k p name type_name initial (Some (entity.Access a)) w f t q =
+kind_read : (k : Known) (p : Context) (name type_name : Ident) (initial : Option StaticTree) (o : Option Entity) → Legible k p → visible k type_name.text ≡ o → ((e : Entity) → o ≡ Some e → EntityFits k.types k.variables type_name.text e) → ((e : Entity) → o ≡ Some e → EntityRead p type_name.text e) → Quiet (kind_wanted o k (record { name = name; type_name = type_name; initial = initial })) → IsKindRead p (record { name = name; type_name = type_name; initial = initial }) (kind_in o k initial)
+kind_read k p name type_name initial (Some entity.Integer) w is f t q = integer_read k p name type_name initial w (t entity.Integer refl) q
+kind_read k p name type_name initial (Some entity.Boolean) w is f t q = boolean_read k p name type_name initial w (t entity.Boolean refl) q
+kind_read k p name type_name initial (Some (entity.Access a)) w is f t q =
     let there = f (entity.Access a) refl in ((t (entity.Access a) refl, there.0, w.lasts.accesses a.0 type_name.text there.0 there.1), no_value k initial q)
-kind_read k p name type_name initial (Some (entity.Record u)) w f t q = absurd q
-kind_read k p name type_name initial (Some e) w f t q = absurd q
-kind_read k p name type_name initial None w f t q = absurd q
+kind_read k p name type_name initial (Some (entity.Record u size)) w is f t q =
+    let there = f (entity.Record u size) refl in (
+      (
+        t (entity.Record u size) refl,
+        there.0,
+        there.1,
+        w.lasts.settled u.0 (record_of type_name.text there.0 there.1) there.2 (visible_settled k type_name.text u size w.sound is),
+      ),
+      no_value k initial q,
+    )
+kind_read k p name type_name initial (Some e) w is f t q = absurd q
+kind_read k p name type_name initial None w is f t q = absurd q
 
-pub components_read : (k : Known) (p : Context) (before : List ComponentForm) (count : ℕ) (cs : List ComponentTree) → Legible k p → Quiet (components_remark k before count cs) → AreComponentsRead p cs (map (component_meant k) cs)
-unfolding component_remark component_meant
-components_read k p before count [] w q = tt
-components_read k p before count (c ∷ cs) w q = (
+-- the declared components that join those before them
+further_parts : Known → Composition → List ComponentTree → List PartForm
+further_parts k before [] = []
+further_parts k before (c ∷ cs) = component_meant k (length before.kinds) c ∷ further_parts k (composed_with k before c) cs
+
+composed_parts : (k : Known) (before : Composition) (cs : List ComponentTree) → before.parts ++ further_parts k before cs ≡ (composed k before cs).parts
+unfolding further_parts
+composed_parts k before [] = append_none before.parts
+composed_parts k before (c ∷ cs) =
+    let one = component_meant k (length before.kinds) c in
+    sym (append_assoc before.parts (one ∷ []) (further_parts k (composed_with k before c) cs)) ∙ composed_parts k (composed_with k before c) cs
+
+components_read : (k : Known) (p : Context) (before : Composition) (cs : List ComponentTree) → Legible k p → Quiet (components_remark k before cs) → AreComponentsRead p cs (further_parts k before cs)
+unfolding component_remark component_meant further_parts
+components_read k p before [] w q = tt
+components_read k p before (c ∷ cs) w q = (
   refl,
-  kind_read k p c.name c.type_name c.initial (visible k c.type_name.text) w (visible_fits k w.sound.names c.type_name.text) (visible_read k p w.agrees c.type_name.text) q.0.1.1.1.1.1,
-  components_read k p (before ++ component_meant k c ∷ []) (count + 1) cs w q.1,
+  kind_read k p c.name c.type_name c.initial (visible k c.type_name.text) w refl (visible_fits k w.sound.names c.type_name.text) (visible_read k p w.agrees c.type_name.text) q.0.1.1.1.1.1,
+  components_read k p (composed_with k before c) cs w q.1,
 )
 
--- no two components have one name
-abbrev IsApart : List ℕ → List ComponentForm → Type 0
-IsApart text cs = (i : ℕ) (d : ComponentForm) → slice_get cs i ≡ Some d → d.name ≡ text → ⊥
+pub all_read : (k : Known) (p : Context) (cs : List ComponentTree) → Legible k p → Quiet (all_components_remark k cs) → AreComponentsRead p cs (composition_of k cs).parts
+all_read k p cs w q =
+    subst (λ (ps : List PartForm). AreComponentsRead p cs ps) (composed_parts k no_components cs) (components_read k p no_components cs w q)
 
-apart_more : (text : List ℕ) (c : ComponentForm) (cs : List ComponentForm) → (c.name ≡ text → ⊥) → IsApart text cs → IsApart text (c ∷ cs)
-apart_more text c cs ne old zero d is same = let first : c ≡ d = cc is in ne (ap (λ (x : ComponentForm). x.name) first ∙ same)
+-- they lie one behind the other in the program
+pub all_laid : (k : Known) (p : Context) (cs : List ComponentTree) → Legible k p → AreLaidOut p.types 0 (composition_of k cs).parts (composition_of k cs).kinds
+all_laid k p cs w =
+    laid_stays k.types p.types 0 (composition_of k cs).parts (composition_of k cs).kinds
+    (composition_has k (λ t. elementary_of p.types t ≡ elementary_of k.types t) stays cs) (composition_laid k [] cs w.sound.names).0
+  where
+    stays : (text : List ℕ) (t : TypeNo) (size : ℕ) → visible k text ≡ Some (entity.Record t size) → elementary_of p.types t.0 ≡ elementary_of k.types t.0
+    stays text t size is =
+        let there = visible_fits k w.sound.names text (entity.Record t size) is in
+        let form = record_of text there.0 there.1 in
+        elementary_same k.types p.types t.0 (w.lasts.settled t.0 form there.2 (visible_settled k text t size w.sound is) ∙ sym there.2)
+
+-- no two components have one name
+abbrev IsApart : List ℕ → List PartForm → Type 0
+IsApart text cs = (i : ℕ) (d : PartForm) → slice_get cs i ≡ Some d → d.name ≡ text → ⊥
+
+apart_more : (text : List ℕ) (c : PartForm) (cs : List PartForm) → (c.name ≡ text → ⊥) → IsApart text cs → IsApart text (c ∷ cs)
+apart_more text c cs ne old zero d is same = let first : c ≡ d = cc is in ne (ap (λ (x : PartForm). x.name) first ∙ same)
 apart_more text c cs ne old (suc i) d is same = old i d is same
 
-still_there : (text : List ℕ) (before : List ComponentForm) (c : ComponentForm) → is_component text before ≡ true → is_component text (before ++ c ∷ []) ≡ true
+still_there : (text : List ℕ) (before : List PartForm) (c : PartForm) → is_component text before ≡ true → is_component text (before ++ c ∷ []) ≡ true
 still_there text before c on = in_more text before c ∙ ap (λ (b : Bool). b || bytes_eq text c.name) on
 
-there_now : (before : List ComponentForm) (c : ComponentForm) → is_component c.name (before ++ c ∷ []) ≡ true
+there_now : (before : List PartForm) (c : PartForm) → is_component c.name (before ++ c ∷ []) ≡ true
 there_now before c =
     in_more c.name before c ∙ (ap (λ (b : Bool). is_component c.name before || b) (same_text c.name c.name refl) ∙ either (is_component c.name before))
   where
@@ -117,23 +157,24 @@ there_now before c =
     either true = refl
     either false = refl
 
-components_apart : (k : Known) (before : List ComponentForm) (count : ℕ) (cs : List ComponentTree) → Quiet (components_remark k before count cs) → ((text : List ℕ) → is_component text before ≡ true → IsApart text (map (component_meant k) cs)) × AreNamedApart (map (component_meant k) cs)
-unfolding component_remark component_meant
-components_apart k before count [] q = (λ text on i d is. absurd (cc is), tt)
-components_apart k before count (c ∷ cs) q =
-    let one : ComponentForm = component_meant k c in
-    let rest = components_apart k (before ++ one ∷ []) (count + 1) cs q.1 in (
-      λ text on. apart_more text one (map (component_meant k) cs) (not_before text on) (rest.0 text (still_there text before one on)),
-      (rest.0 c.name.text (there_now before one), rest.1),
+components_apart : (k : Known) (before : Composition) (cs : List ComponentTree) → Quiet (components_remark k before cs) → ((text : List ℕ) → is_component text before.parts ≡ true → IsApart text (further_parts k before cs)) × AreNamedApart (further_parts k before cs)
+unfolding component_remark component_meant further_parts
+components_apart k before [] q = (λ text on i d is. absurd (cc is), tt)
+components_apart k before (c ∷ cs) q =
+    let one : PartForm = component_meant k (length before.kinds) c in
+    let others = further_parts k (composed_with k before c) cs in
+    let rest = components_apart k (composed_with k before c) cs q.1 in (
+      λ text on. apart_more text one others (not_before text on) (rest.0 text (still_there text before.parts one on)),
+      (rest.0 c.name.text (there_now before.parts one), rest.1),
     )
   where
-    not_before : (text : List ℕ) → is_component text before ≡ true → c.name.text ≡ text → ⊥
+    not_before : (text : List ℕ) → is_component text before.parts ≡ true → c.name.text ≡ text → ⊥
     not_before text on same =
-        let off : is_component c.name.text before ≡ false = quiet_if (is_component c.name.text before) c.name.spot DeclaredTwice q.0.1.1.0 in
-        let there : is_component c.name.text before ≡ true = subst (λ (t : List ℕ). is_component t before ≡ true) (sym same) on in cc (off, there)
+        let off : is_component c.name.text before.parts ≡ false = quiet_if (is_component c.name.text before.parts) c.name.spot DeclaredTwice q.0.1.1.0 in
+        let there : is_component c.name.text before.parts ≡ true = subst (λ (t : List ℕ). is_component t before.parts ≡ true) (sym same) on in cc (off, there)
 
-pub all_apart : (k : Known) (cs : List ComponentTree) → Quiet (components_remark k [] 0 cs) → AreNamedApart (map (component_meant k) cs)
-all_apart k cs q = (components_apart k [] 0 cs q).1
+pub all_apart : (k : Known) (cs : List ComponentTree) → Quiet (all_components_remark k cs) → AreNamedApart (composition_of k cs).parts
+all_apart k cs q = subst (λ (ps : List PartForm). AreNamedApart ps) (composed_parts k no_components cs) (components_apart k no_components cs q).1
 
 -- the record type of a name
 abbrev pub FoundRecord : Known → Context → Ident → Option TypeNo → Type 0
@@ -141,8 +182,8 @@ FoundRecord k p name None = ⊥
 FoundRecord k p name (Some t) = HasName k.types name.text t.0 × IsTypeNamed p name.text t.0
 
 record_at : (k : Known) (p : Context) (name : Ident) (o : Option Entity) → ((e : Entity) → o ≡ Some e → EntityFits k.types k.variables name.text e) → ((e : Entity) → o ≡ Some e → EntityRead p name.text e) → Quiet (record_wanted o name) → FoundRecord k p name (record_in o)
-record_at k p name (Some (entity.Incomplete t)) f r q = (has_name k.types name.text t.0 (record_of name.text []) (f (entity.Incomplete t) refl) refl, inr (r (entity.Incomplete t) refl))
-record_at k p name (Some (entity.Record t)) f r q = let there = f (entity.Record t) refl in (has_name k.types name.text t.0 (record_of name.text there.0) there.1 refl, inl (r (entity.Record t) refl))
+record_at k p name (Some (entity.Incomplete t)) f r q = (has_name k.types name.text t.0 (record_of name.text [] []) (f (entity.Incomplete t) refl) refl, inr (r (entity.Incomplete t) refl))
+record_at k p name (Some (entity.Record t size)) f r q = let there = f (entity.Record t size) refl in (has_name k.types name.text t.0 (record_of name.text there.0 there.1) there.2 refl, inl (r (entity.Record t size) refl))
 record_at k p name (Some e) f r q = absurd q
 record_at k p name None f r q = absurd q
 
@@ -156,15 +197,15 @@ all_at f [] i x all is = absurd (cc is)
 all_at f (y ∷ xs) zero x all is = let same : y ≡ x = cc is in rw (sym same) (first_part (f y) (list_all f xs) all)
 all_at f (y ∷ xs) (suc i) x all is = all_at f xs i x (second_part (f y) (list_all f xs) all) is
 
-record_there : (types : List TypeForm) (text : List ℕ) (d : ℕ) (o : Option TypeForm) → slice_get types d ≡ o → name_of_type o ≡ Some text → is_some (well.components_in o) ≡ true → (cs : List ComponentForm) × (slice_get types d ≡ Some (record_of text cs))
+record_there : (types : List TypeForm) (text : List ℕ) (d : ℕ) (o : Option TypeForm) → slice_get types d ≡ o → name_of_type o ≡ Some text → is_some (well.components_in o) ≡ true → (ps : List PartForm) × (cs : List ComponentKind) × (slice_get types d ≡ Some (record_of text ps cs))
 record_there types text d None there same is = absurd (cc is)
-record_there types text d (Some (record_of name cs)) there same is =
-    let name_is : name ≡ text = cc same in (cs, subst (λ (n : List ℕ). slice_get types d ≡ Some (record_of n cs)) name_is there)
+record_there types text d (Some (record_of name ps cs)) there same is =
+    let name_is : name ≡ text = cc same in (ps, cs, subst (λ (n : List ℕ). slice_get types d ≡ Some (record_of n ps cs)) name_is there)
 record_there types text d (Some (access_to name u)) there same is = absurd (cc is)
 
 pub designated_read : (p : Context) (text designated : List ℕ) (t d : ℕ) → list_all (well.type_fits p.types) p.types ≡ true → slice_get p.types t ≡ Some (access_to text d) → HasName p.types designated d → IsTypeNamed p designated d → IsRecordNamed p designated d
 designated_read p text designated t d all there same named_so =
-    let is = record_there p.types designated d (slice_get p.types d) refl same (all_at (well.type_fits p.types) p.types t (access_to text d) all there) in (named_so, is.0, is.1)
+    let is = record_there p.types designated d (slice_get p.types d) refl same (all_at (well.type_fits p.types) p.types t (access_to text d) all there) in (named_so, is.0, is.1, is.2)
 
 -- the access type of an instance
 abbrev pub FoundAccess : Known → Context → Ident → Ident → Option TypeNo → Type 0
@@ -256,7 +297,7 @@ object_typed k p name type_name initial None w alone f t r q g = absurd r
 object_typed k p name type_name initial (Some entity.Integer) w alone f t r q g = object_at k p name type_name initial entity.Integer w alone (f entity.Integer refl) (t entity.Integer refl) q g
 object_typed k p name type_name initial (Some entity.Boolean) w alone f t r q g = object_at k p name type_name initial entity.Boolean w alone (f entity.Boolean refl) (t entity.Boolean refl) q g
 object_typed k p name type_name initial (Some (entity.Access a)) w alone f t r q g = object_at k p name type_name initial (entity.Access a) w alone (f (entity.Access a) refl) (t (entity.Access a) refl) q g
-object_typed k p name type_name initial (Some (entity.Record u)) w alone f t r q g = absurd g
+object_typed k p name type_name initial (Some (entity.Record u size)) w alone f t r q g = absurd g
 object_typed k p name type_name initial (Some e) w alone f t r q g = absurd r.1
 
 -- a name of the library is no type
@@ -290,7 +331,7 @@ object_kind k name type_name initial r g = by_root (is_library_root type_name.fi
     by_entity (Some entity.Integer) r g = (variable.Integer, refl)
     by_entity (Some entity.Boolean) r g = (variable.Boolean, refl)
     by_entity (Some (entity.Access a)) r g = (variable.Access a, refl)
-    by_entity (Some (entity.Record u)) r g = absurd g
+    by_entity (Some (entity.Record u size)) r g = absurd g
     by_entity (Some e) r g = absurd r.1
 
     by_rest : (b : Bool) → Quiet (type_wanted (visible k type_name.first.text) b type_name.first) → Quiet (initial_wanted (cond b (type_in (visible k type_name.first.text)) None) name initial) → (of : VariableKind) × (kind_of (cond b (type_in (visible k type_name.first.text)) None) ≡ Some of)

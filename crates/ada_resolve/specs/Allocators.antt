@@ -1,11 +1,11 @@
 -- Allocators: what is wrong with each, and what it allocates.
 
-use Rattle.std.specs.Prelude.{ℕ, Bool, true, false, ◌&&◌, not, if◌then◌else◌, List, map, Option, Some, None, is_none}
+use Rattle.std.specs.Prelude.{ℕ, Bool, true, not, if◌then◌else◌, List, map, Option, Some, None, is_none}
 use Rattle.ada_text.specs.declared.spot.Spot.{Spot}
-use Rattle.ada_program.specs.Form.{RightForm, allocates}
+use Rattle.ada_program.specs.Form.{RightForm, allocates, allocates_default}
 use Rattle.ada_tree.specs.Names.{Ident}
 use Rattle.ada_tree.specs.Expressions.{ItemsTree, no_more_items, an_item}
-use Rattle.ada_program.specs.ProgramForm.{ComponentForm, TypeForm}
+use Rattle.ada_program.specs.ProgramForm.{PartForm, TypeForm}
 use Rattle.ada_program.specs.declared.program.TypeNo.{TypeNo}
 use Rattle.ada_resolve.specs.declared.fault.NameRule.TheVariants.{WrongType, NotInProfile}
 use Rattle.ada_resolve.specs.declared.scope.Entity.{Entity}
@@ -23,7 +23,7 @@ designated_if_known types None record_type = true
 
 -- A complete record type is wanted, and the one that is designated: another thing of that name is of the wrong kind (8.6).
 abbrev pub allocated_wanted : Option Entity → List TypeForm → Option TypeNo → Spot → Ident → Remark
-allocated_wanted (Some (entity.Record t)) types access spot name = wrong_if (not (designated_if_known types access t)) spot WrongType
+allocated_wanted (Some (entity.Record t size)) types access spot name = wrong_if (not (designated_if_known types access t)) spot WrongType
 allocated_wanted (Some other) types access spot name = wrong spot WrongType
 allocated_wanted None types access spot name = missing None name
 
@@ -33,7 +33,7 @@ allocated_remark known access spot name = allocated_wanted (visible known name.t
 
 -- The complete record type that a name stands for, if it stands for one.
 abbrev pub complete_in : Option Entity → Option TypeNo
-complete_in (Some (entity.Record t)) = Some t
+complete_in (Some (entity.Record t size)) = Some t
 complete_in (Some other) = None
 complete_in None = None
 
@@ -41,8 +41,8 @@ complete_in None = None
 unfoldable pub allocated_found : Known → Ident → Option TypeNo
 allocated_found known name = complete_in (visible known name.text)
 
--- The components of the record type that an allocator names, where that is known.
-abbrev pub filled_components : Known → Option TypeNo → Option (List ComponentForm)
+-- The components of the record type that an allocator names, as they are declared, where that is known.
+abbrev pub filled_components : Known → Option TypeNo → Option (List PartForm)
 filled_components known (Some t) = Some (components_of known.types t.0)
 filled_components known None = None
 
@@ -68,21 +68,35 @@ allocation known access None items = None
 unfoldable pub aggregate_found : Known → Option TypeNo → Ident → ItemsTree → Option RightForm
 aggregate_found known access type_name items = allocation known access (allocated_found known type_name) items
 
--- Whether there is an item.
-abbrev pub has_items : ItemsTree → Bool
-has_items no_more_items = false
-has_items (an_item label value rest) = true
+-- The allocation of an object whose components hold what they hold at first, or `None` where the record type is not known.
+abbrev pub default_allocation : Option TypeNo → Option TypeNo → Option RightForm
+default_allocation access (Some t) = Some (allocates_default (wanted_or access t))
+default_allocation access None = None
 
--- Whether an allocator is in the profile: it has no handle (13.11.4), and items.
-unfoldable pub is_in_use : Option Ident → ItemsTree → Bool
-is_in_use handle items = is_none handle && has_items items
+-- The allocation that `new T` makes, or `None` where its type is wrong.
+unfoldable pub default_found : Known → Option TypeNo → Ident → Option RightForm
+default_found known access type_name = default_allocation access (allocated_found known type_name)
+
+-- Whether an allocator is in the profile: it has no handle (13.11.4).
+abbrev pub is_in_use : Option Ident → Bool
+is_in_use handle = is_none handle
+
+-- What is wrong with an allocator without a handle: with items it is `new T'(..)`, and without them `new T`.
+abbrev pub new_remark : Known → Option TypeNo → Spot → Ident → ItemsTree → Remark
+new_remark known access spot type_name no_more_items = allocated_remark known access spot type_name
+new_remark known access spot type_name (an_item label value rest) = aggregate_remark known access spot type_name (an_item label value rest)
+
+-- What such an allocator makes, or `None` where something is wrong.
+abbrev pub new_found : Known → Option TypeNo → Ident → ItemsTree → Option RightForm
+new_found known access type_name no_more_items = default_found known access type_name
+new_found known access type_name (an_item label value rest) = aggregate_found known access type_name (an_item label value rest)
 
 -- What is wrong with an allocator.
 unfoldable pub allocator_remark : Known → Option TypeNo → Spot → Option Ident → Ident → ItemsTree → Remark
 allocator_remark known access spot handle type_name items =
-    if is_in_use handle items then aggregate_remark known access spot type_name items else wrong spot NotInProfile
+    if is_in_use handle then new_remark known access spot type_name items else wrong spot NotInProfile
 
 -- The allocation that an allocator makes, or `None` where something is wrong.
 unfoldable pub allocator_found : Known → Option TypeNo → Option Ident → Ident → ItemsTree → Option RightForm
 allocator_found known access handle type_name items =
-    if is_in_use handle items then aggregate_found known access type_name items else None
+    if is_in_use handle then new_found known access type_name items else None

@@ -7,9 +7,11 @@ use Rattle.ada_text.specs.declared.spot.Spot.{Spot}
 use Rattle.ada_program.specs.Form.{ItemForm, null_item, item_of_path, item_of_value}
 use Rattle.ada_tree.specs.Names.{Ident}
 use Rattle.ada_tree.specs.Expressions.{ExpressionTree, ItemsTree, no_more_items, an_item}
-use Rattle.ada_program.specs.ProgramForm.{ComponentForm, VariableForm}
-use Rattle.ada_program.specs.declared.program.ComponentKind.{ComponentKind}
+use Rattle.ada_program.specs.ProgramForm.{PartForm, VariableForm}
 use Rattle.ada_program.specs.declared.program.ComponentKind.TheVariants as kind
+use Rattle.ada_program.specs.declared.program.PartKind.{PartKind}
+use Rattle.ada_program.specs.declared.program.PartKind.TheVariants as part
+use Rattle.ada_resolve.specs.declared.components.KnownComponent.{KnownComponent}
 use Rattle.ada_resolve.specs.declared.fault.NameRule.TheVariants.{WrongType, NotInProfile}
 use Rattle.ada_resolve.specs.Known.{Known}
 use Rattle.ada_resolve.specs.Library.{no_component_rule}
@@ -17,7 +19,7 @@ use Rattle.ada_resolve.specs.Remark.{Remark, fine, wrong, ◌also◌, wrong_if}
 use Rattle.ada_resolve.specs.Spots.{expression_spot}
 use Rattle.ada_resolve.specs.Expressions.{expression_meant, expression_remark}
 use Rattle.ada_resolve.specs.Operators.{access_wanted, boolean_wanted, integer_wanted, owner_wanted}
-use Rattle.ada_resolve.specs.Paths.{Meant, access_value, boolean_value, component_at, component_named, integer_value}
+use Rattle.ada_resolve.specs.Paths.{Meant, access_value, boolean_value, component_at, component_named, integer_value, unknown}
 
 -- What is known before an item: how many items come before it, which components have their items, and whether each item so far names a
 -- component of its own.
@@ -27,7 +29,7 @@ pub record Filling : Type 0 where
   pub whole : Bool
 
 -- The component that an item is for: that of its name, or the one at its place.
-abbrev pub component_for : List ComponentForm → Option Ident → ℕ → Option (ℕ × ComponentKind)
+abbrev pub component_for : List PartForm → Option Ident → ℕ → Option (ℕ × KnownComponent)
 component_for components (Some label) at = component_named 0 label.text components
 component_for components None at = component_at at (slice_get components at)
 
@@ -43,12 +45,18 @@ item_meant (boolean_value e) = item_of_value e
 item_meant (access_value path t) = item_of_path path
 item_meant other = null_item
 
+-- No value but a whole record is one of a record component, and none is in the profile yet.
+abbrev pub record_item_wanted : Meant → Spot → Remark
+record_item_wanted unknown spot = fine
+record_item_wanted other spot = wrong spot WrongType
+
 -- A value is of its component's type: an access component is given null, or what a path of that very type names, which is no borrower as a whole.
-abbrev pub fits_remark : List VariableForm → ComponentKind → Meant → Spot → Remark
-fits_remark variables (kind.Integer initial) value spot = integer_wanted value spot
-fits_remark variables (kind.Boolean initial) value spot = boolean_wanted value spot
-fits_remark variables (kind.Access t) value spot =
+abbrev pub fits_remark : List VariableForm → PartKind → Meant → Spot → Remark
+fits_remark variables (part.Elementary (kind.Integer initial)) value spot = integer_wanted value spot
+fits_remark variables (part.Elementary (kind.Boolean initial)) value spot = boolean_wanted value spot
+fits_remark variables (part.Elementary (kind.Access t)) value spot =
     access_wanted t value spot also owner_wanted variables value spot
+fits_remark variables (part.Record t) value spot = record_item_wanted value spot
 
 -- No component has that name (4.1.3), or there are too many items.
 abbrev pub no_component : Option Ident → ExpressionTree → Remark
@@ -60,14 +68,14 @@ abbrev pub is_filled : ℕ → List (Option ItemForm) → Bool
 is_filled c slots = is_some (slice_index_or slots c None)
 
 -- What is wrong with the component of an item, and with its value for it: a component has one item.
-abbrev pub for_remark : List VariableForm → Option (ℕ × ComponentKind) → Filling → Option Ident → ExpressionTree → Meant → Remark
+abbrev pub for_remark : List VariableForm → Option (ℕ × KnownComponent) → Filling → Option Ident → ExpressionTree → Meant → Remark
 for_remark variables (Some found) filling label value meant =
     wrong_if (is_filled found.0 filling.slots) (item_spot label value) WrongType also
-    fits_remark variables found.1 meant (expression_spot value)
+    fits_remark variables found.1.kind meant (expression_spot value)
 for_remark variables None filling label value meant = no_component label value
 
 -- What is wrong with an item for its component, which only a known record type has.
-abbrev pub component_item_remark : List VariableForm → Option (List ComponentForm) → Filling → Option Ident → ExpressionTree → Meant → Remark
+abbrev pub component_item_remark : List VariableForm → Option (List PartForm) → Filling → Option Ident → ExpressionTree → Meant → Remark
 component_item_remark variables (Some components) filling label value meant =
     for_remark variables (component_for components label filling.count) filling label value meant
 component_item_remark variables None filling label value meant = fine
@@ -78,7 +86,7 @@ is_alike true label = is_some label
 is_alike false label = is_none label
 
 -- What is wrong with an item: the first item tells whether all name their components, and its component and value are as they should be.
-unfoldable pub item_remark : Known → Option (List ComponentForm) → Bool → Filling → Option Ident → ExpressionTree → Remark
+unfoldable pub item_remark : Known → Option (List PartForm) → Bool → Filling → Option Ident → ExpressionTree → Remark
 item_remark known components is_named filling label value =
     wrong_if (not (is_alike is_named label)) (item_spot label value) WrongType also
     expression_remark known value also
@@ -89,7 +97,7 @@ abbrev pub with_item : ℕ → ItemForm → Filling → Filling
 with_item c item filling = record filling { slots = slice_set filling.slots c (Some item) }
 
 -- What is known after an item for this component.
-abbrev pub filled_for : Option (ℕ × ComponentKind) → Filling → Bool → ItemForm → Filling
+abbrev pub filled_for : Option (ℕ × KnownComponent) → Filling → Bool → ItemForm → Filling
 filled_for (Some found) filling alike item = record {
   count = filling.count + 1;
   slots = slice_set filling.slots found.0 (Some item);
@@ -98,35 +106,35 @@ filled_for (Some found) filling alike item = record {
 filled_for None filling alike item = record { count = filling.count + 1; slots = filling.slots; whole = false }
 
 -- What is known after an item. Where the record type is not known, the item is only counted.
-abbrev pub filled_by : Option (List ComponentForm) → Filling → Option Ident → Bool → ItemForm → Filling
+abbrev pub filled_by : Option (List PartForm) → Filling → Option Ident → Bool → ItemForm → Filling
 filled_by (Some components) filling label alike item = filled_for (component_for components label filling.count) filling alike item
 filled_by None filling label alike item = record { count = filling.count + 1; slots = filling.slots; whole = false }
 
 -- What is known after an item, by what its value means.
-unfoldable pub after_item : Known → Option (List ComponentForm) → Bool → Filling → Option Ident → ExpressionTree → Filling
+unfoldable pub after_item : Known → Option (List PartForm) → Bool → Filling → Option Ident → ExpressionTree → Filling
 after_item known components is_named filling label value =
     filled_by components filling label (is_alike is_named label) (item_meant (expression_meant known value))
 
 -- What is wrong with items.
-abbrev pub items_remark : Known → Option (List ComponentForm) → Bool → Filling → ItemsTree → Remark
+abbrev pub items_remark : Known → Option (List PartForm) → Bool → Filling → ItemsTree → Remark
 items_remark known components is_named filling no_more_items = fine
 items_remark known components is_named filling (an_item label value rest) =
     item_remark known components is_named filling label value also
     items_remark known components is_named (after_item known components is_named filling label value) rest
 
 -- What is known after items.
-abbrev pub after_items : Known → Option (List ComponentForm) → Bool → Filling → ItemsTree → Filling
+abbrev pub after_items : Known → Option (List PartForm) → Bool → Filling → ItemsTree → Filling
 after_items known components is_named filling no_more_items = filling
 after_items known components is_named filling (an_item label value rest) =
     after_items known components is_named (after_item known components is_named filling label value) rest
 
 -- No component has its item yet.
-abbrev pub empty_slots : Option (List ComponentForm) → List (Option ItemForm)
+abbrev pub empty_slots : Option (List PartForm) → List (Option ItemForm)
 empty_slots (Some components) = replicate (length components) None
 empty_slots None = []
 
 -- What is known before the first item.
-abbrev pub first_filling : Option (List ComponentForm) → Filling
+abbrev pub first_filling : Option (List PartForm) → Filling
 first_filling components = record { count = 0; slots = empty_slots components; whole = is_some components }
 
 -- Whether the first item names its component.
@@ -135,7 +143,7 @@ names_component no_more_items = false
 names_component (an_item label value rest) = is_some label
 
 -- What is wrong with all items of `new T'(..)`.
-abbrev pub all_items_remark : Known → Option (List ComponentForm) → ItemsTree → Remark
+abbrev pub all_items_remark : Known → Option (List PartForm) → ItemsTree → Remark
 all_items_remark known components items = items_remark known components (names_component items) (first_filling components) items
 
 -- What is wrong with how many items there are: an aggregate of one item names its component (4.3.1), and one is missing where there are more
@@ -152,5 +160,5 @@ item_or_null (Some item) = item
 item_or_null None = null_item
 
 -- The items of `new T'(..)`, looked at in order.
-unfoldable pub filling_of : Known → Option (List ComponentForm) → ItemsTree → Filling
+unfoldable pub filling_of : Known → Option (List PartForm) → ItemsTree → Filling
 filling_of known components items = after_items known components (names_component items) (first_filling components) items

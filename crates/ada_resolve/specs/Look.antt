@@ -24,7 +24,6 @@ use Rattle.ada_tree.specs.declared.records.RecordDefinition.{RecordDefinition}
 use Rattle.ada_tree.specs.declared.statements.Choice.{Choice}
 use Rattle.ada_tree.specs.declared.statements.Statement.{Statement}
 use Rattle.ada_program.specs.Form.{ExpressionForm, PathForm, RightForm, StmtForm}
-use Rattle.ada_program.specs.ProgramForm.{ComponentForm}
 use Rattle.ada_program.specs.declared.program.Choice.{Choice as ChoiceOf}
 use Rattle.ada_program.specs.declared.program.TypeNo.{TypeNo}
 use Rattle.ada_program.specs.declared.program.VariableKind.{VariableKind}
@@ -35,7 +34,7 @@ use Rattle.ada_resolve.specs.declared.fault.NameFault.TheVariants.{NoMemory}
 use Rattle.ada_resolve.specs.declared.library.LibraryName.{LibraryName}
 use Rattle.ada_resolve.specs.declared.notes.Notes.{Notes}
 use Rattle.ada_resolve.specs.declared.selectors.Reached.{Reached}
-use Rattle.ada_resolve.specs.Allocators.{aggregate_found, aggregate_remark, filled_components}
+use Rattle.ada_resolve.specs.Allocators.{aggregate_found, aggregate_remark, allocated_remark, default_found, filled_components, new_found, new_remark}
 use Rattle.ada_resolve.specs.Arguments.{image_value_remark}
 use Rattle.ada_resolve.specs.Assignments.{assignment_found, assignment_remark, target_found, target_remark}
 use Rattle.ada_resolve.specs.Borrowers.{lender_found, lender_remark}
@@ -46,11 +45,12 @@ use Rattle.ada_resolve.specs.Expressions.{expression_meant, expression_remark}
 use Rattle.ada_resolve.specs.Items.{Filling, all_items_remark, filling_of}
 use Rattle.ada_resolve.specs.Known.{library_path_found, library_path_remark}
 use Rattle.ada_resolve.specs.Lines.{line_found, line_remark, put_line_found, put_line_remark}
-use Rattle.ada_resolve.specs.Method.{Seen, known, IsNoted, kept_meant}
+use Rattle.ada_resolve.specs.Kept.{kept_meant}
+use Rattle.ada_resolve.specs.Method.{Seen, known, IsNoted}
 use Rattle.ada_resolve.specs.Objects.{initial_found, initial_remark}
 use Rattle.ada_resolve.specs.Operators.{integer_in}
 use Rattle.ada_resolve.specs.Paths.{Meant, named_meant, named_remark, path_meant, path_remark, selector_reached, selector_remark, selectors_reached, selectors_remark, variable_meant, variable_path_remark}
-use Rattle.ada_resolve.specs.Records.{all_components_remark, components_written}
+use Rattle.ada_resolve.specs.Records.{Composition, all_components_remark, components_written}
 use Rattle.ada_resolve.specs.Remark.{Remark}
 use Rattle.ada_resolve.specs.Rights.{right_found, right_remark}
 use Rattle.ada_resolve.specs.Statements.{condition_meant, condition_remark, exit_found, exit_remark, bound_meant, bound_remark, statement_found, statement_remark}
@@ -144,6 +144,20 @@ abbrev pub aggregate_look : Seen → Option TypeNo → Spot → Identifier → L
 aggregate_look seen access spot type_name items = record {
   remark = aggregate_remark (known seen) access spot (ident_of type_name) (items_of items);
   meaning = aggregate_found (known seen) access (ident_of type_name) (items_of items);
+}
+
+-- `new T` (4.8).
+abbrev pub default_look : Seen → Option TypeNo → Spot → Identifier → Look (Option RightForm)
+default_look seen access spot type_name = record {
+  remark = allocated_remark (known seen) access spot (ident_of type_name);
+  meaning = default_found (known seen) access (ident_of type_name);
+}
+
+-- `new T` or `new T'(..)` (4.8).
+abbrev pub new_look : Seen → Option TypeNo → Spot → Identifier → List Item → Look (Option RightForm)
+new_look seen access spot type_name items = record {
+  remark = new_remark (known seen) access spot (ident_of type_name) (items_of items);
+  meaning = new_found (known seen) access (ident_of type_name) (items_of items);
 }
 
 -- What is assigned (5.2).
@@ -279,15 +293,15 @@ target_look seen target = record {
   meaning = target_found (known seen) (path_of target);
 }
 
--- The components of a record type (3.8), as the code keeps them.
-abbrev pub components_look : Seen → RecordDefinition → Look (List ComponentForm)
+-- What a record type is made of (3.8), as the code keeps it.
+abbrev pub components_look : Seen → RecordDefinition → Look Composition
 components_look seen definition = record {
   remark = all_components_remark (known seen) (components_written (record_of definition));
   meaning = kept_meant (known seen) (components_written (record_of definition));
 }
 
 -- The components that are listed.
-abbrev pub listed_look : Seen → ComponentDefinition → List ComponentDefinition → Look (List ComponentForm)
+abbrev pub listed_look : Seen → ComponentDefinition → List ComponentDefinition → Look Composition
 listed_look seen first rest = record {
   remark = all_components_remark (known seen) (map component_of (first ∷ rest));
   meaning = kept_meant (known seen) (map component_of (first ∷ rest));

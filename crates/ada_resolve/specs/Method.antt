@@ -27,7 +27,7 @@ use Rattle.ada_tree.specs.declared.statements.Handler.{Handler}
 use Rattle.ada_tree.specs.declared.unit.Unit.{Unit as UnitOf}
 use Rattle.ada_program.specs.Form.{BranchesForm, DeclarationForm, component_number, declaration_form, declares}
 use Rattle.ada_program.specs.Kept.{variables_in}
-use Rattle.ada_program.specs.ProgramForm.{ComponentForm, ProgramForm, VariableForm}
+use Rattle.ada_program.specs.ProgramForm.{ProgramForm, VariableForm}
 use Rattle.ada_program.specs.declared.program.Branch.{Branch as BranchOf}
 use Rattle.ada_program.specs.declared.program.ComponentKind.{ComponentKind}
 use Rattle.ada_program.specs.declared.program.ComponentNo.{ComponentNo}
@@ -39,6 +39,7 @@ use Rattle.ada_program.specs.declared.program.Variable.{Variable}
 use Rattle.ada_program.specs.declared.program.VariableKind.{VariableKind}
 use Rattle.ada_program.specs.declared.program.VariableNo.{VariableNo}
 use Rattle.ada_resolve.specs.declared.components.Components.{Components}
+use Rattle.ada_resolve.specs.declared.components.KnownComponent.{KnownComponent}
 use Rattle.ada_resolve.specs.declared.components.KnownType.{KnownType}
 use Rattle.ada_resolve.specs.declared.fault.NameFault.{NameFault}
 use Rattle.ada_resolve.specs.declared.instances.Instance.{Instance}
@@ -53,10 +54,10 @@ use Rattle.ada_resolve.specs.Allocators.{filled_components}
 use Rattle.ada_resolve.specs.Arguments.{argument_remark, arguments_remark, image_remark}
 use Rattle.ada_resolve.specs.Instances.{with_elaborated}
 use Rattle.ada_resolve.specs.Items.{Filling, after_item, first_filling, for_remark, item_remark}
-use Rattle.ada_resolve.specs.Kept.{forms_of, known_type_form, with_component, with_components}
+use Rattle.ada_resolve.specs.Kept.{composition_in, kept_with, known_type_form}
 use Rattle.ada_resolve.specs.Known.{Known, entered, new_name_remark, visible}
 use Rattle.ada_resolve.specs.Objects.{initial_source, variable_created}
-use Rattle.ada_resolve.specs.Records.{component_meant, further_component_remark}
+use Rattle.ada_resolve.specs.Records.{Composition, further_component_remark}
 use Rattle.ada_resolve.specs.Remark.{Remark, noted}
 use Rattle.ada_resolve.specs.Resolution.{At, Others, Told, branches_told, end_told, procedure_from, program_of, told_of, with_parameter}
 use Rattle.ada_resolve.specs.Types.{completion_remark, new_unless, with_definition}
@@ -117,9 +118,9 @@ Takes result resolver notes step =
 abbrev pub Declares : {X : Type 0} → Result X NameFault → Knowing → Noting → DeclarationTree → Type 0
 Declares result resolver notes declaration = Takes result resolver notes (told_of declaration)
 
--- The call adds this component to those that are there.
-abbrev pub AddsComponent : Both (MutBor Components) (MutBor Components) → ComponentForm → Type 0
-AddsComponent components c = forms_of components.exit.now ≡ with_component c (forms_of components.entry.now)
+-- The call changes in this way what the code keeps of a record type.
+abbrev pub Composes : Both (MutBor Components) (MutBor Components) → (Composition → Composition) → Type 0
+Composes components change = composition_in components.exit.now ≡ change (composition_in components.entry.now)
 
 -- The call changes in this way what is known of the items of an aggregate.
 abbrev pub Fills : Both (MutBor FillingOf) (MutBor FillingOf) → (Filling → Filling) → Type 0
@@ -128,10 +129,6 @@ Fills filling change = filling_in filling.exit.now ≡ change (filling_in fillin
 -- The call adds the numbers of these components to those that are selected so far.
 abbrev pub Selects : Both (MutBor (Vec ComponentNo)) (MutBor (Vec ComponentNo)) → List ℕ → Type 0
 Selects components numbers = map component_number components.exit.now.items ≡ map component_number components.entry.now.items ++ numbers
-
--- The components of a record type as the code keeps them: they are added one by one.
-abbrev pub kept_meant : Known → List ComponentTree → List ComponentForm
-kept_meant known cs = with_components [] (map (component_meant known) cs)
 
 -- Declarations of the tree, of their parts as the code has them.
 
@@ -164,6 +161,10 @@ instance_tree written =
 abbrev pub each : {X Y : Type 0} → (X → Y) → Vec X → List Y
 each view v = map view v.items
 
+-- The elements of a vector of elementary components.
+abbrev pub kinds_listed : Vec ComponentKind → List ComponentKind
+kinds_listed kinds = kinds.items
+
 -- The name before `=>` in an item, where one is written (4.3.1).
 abbrev pub label_of : WrittenItem → Option Ident
 label_of item = optional_ident_of item.label
@@ -187,17 +188,17 @@ item_filling seen found is_named item filling =
     after_item (known seen) (filled_components (known seen) found) is_named filling (label_of item) (written_value item)
 
 -- What is wrong with an item for this component, where its value means this.
-abbrev pub written_for_remark : List Variable → Option (ℕ × ComponentKind) → FillingOf → WrittenItem → MeantOf → Remark
+abbrev pub written_for_remark : List Variable → Option (ℕ × KnownComponent) → FillingOf → WrittenItem → MeantOf → Remark
 written_for_remark variables component filling item meant =
     for_remark (variables_in variables) component (filling_in filling) (label_of item) (written_value item) (meant_of meant)
 
 -- What is wrong with one more component of a record type.
-abbrev pub next_component_remark : Seen → Both (MutBor Components) (MutBor Components) → ℕ → ComponentDefinition → Remark
-next_component_remark seen components count c = further_component_remark (known seen) (forms_of components.entry.now) count (component_of c)
+abbrev pub next_component_remark : Seen → Both (MutBor Components) (MutBor Components) → ComponentDefinition → Remark
+next_component_remark seen components c = further_component_remark (known seen) (composition_in components.entry.now) (component_of c)
 
--- That component.
-abbrev pub meant_component : Seen → ComponentDefinition → ComponentForm
-meant_component seen c = component_meant (known seen) (component_of c)
+-- What the code keeps of a record type with one more component.
+abbrev pub with_kept : Seen → ComponentDefinition → Composition → Composition
+with_kept seen c before = kept_with (known seen) before (component_of c)
 
 -- What is wrong with arguments, in order.
 abbrev pub remark_of_arguments : Seen → List Argument → Remark

@@ -2,7 +2,7 @@
 -- and by the tables of the program. An inner declaration hides the outer ones (8.3); types, variables and exceptions are numbered in the order
 -- of the text, and so are the texts that Put_Line writes.
 
-use Rattle.std.specs.Prelude.{◌≡◌, ◌⊎◌, ℕ, Bool, true, false, if◌then◌else◌, List, [], ◌∷◌, ◌++◌, Option, Some, None, slice_get, codes, bytes_eq, ℤ}
+use Rattle.std.specs.Prelude.{◌≡◌, ◌⊎◌, ℕ, ◌+◌, Bool, true, false, if◌then◌else◌, List, [], ◌∷◌, ◌++◌, length, Option, Some, None, slice_get, codes, bytes_eq, ℤ}
 use Rattle.ada_tree.specs.Names.{Ident, NameTree}
 use Rattle.ada_tree.specs.Records.{StaticTree, plain, minus, named as static_name, ComponentTree}
 use Rattle.ada_tree.specs.Statements.{DeclarationTree, access_type, record_type}
@@ -10,12 +10,14 @@ use Rattle.ada_program.specs.declared.program.ComponentKind.{ComponentKind}
 use Rattle.ada_program.specs.declared.program.ComponentKind.TheVariants as component
 use Rattle.ada_program.specs.declared.program.Exception.{Exception}
 use Rattle.ada_program.specs.declared.program.Exception.TheVariants as exception
+use Rattle.ada_program.specs.declared.program.PartKind.{PartKind}
+use Rattle.ada_program.specs.declared.program.PartKind.TheVariants as part
 use Rattle.ada_program.specs.declared.program.VariableKind.{VariableKind}
 use Rattle.ada_program.specs.declared.program.VariableKind.TheVariants as variable
-use Rattle.ada_program.specs.ProgramForm.{ComponentForm, TypeForm, record_of, access_to, VariableForm}
+use Rattle.ada_program.specs.ProgramForm.{PartForm, TypeForm, record_of, access_to, VariableForm}
 use Rattle.ada_resolve.specs.Library.{library_name}
 use Rattle.ada_resolve.specs.declared.library.LibraryName.TheVariants.{UncheckedDeallocation, EndError}
-use Rattle.ada_resolve.specs.Records.{components_written}
+use Rattle.ada_resolve.specs.Records.{components_written, kinds_within}
 use Rattle.ada_resolve.specs.Statics.{at_most_greatest, integer_of}
 
 -- What a declaration binds its name to: a type that is to be completed (3.10.1), a type, the value of a named number (3.3.2), an exception
@@ -99,7 +101,13 @@ IsStaticRead p (static_name name) value = IsNumberNamed p name.text value
 
 -- A name is that of the record type of a number (3.8).
 abbrev pub IsRecordNamed : Context → List ℕ → ℕ → Type 0
-IsRecordNamed p text t = IsTypeNamed p text t × (components : List ComponentForm) × (slice_get p.types t ≡ Some (record_of text components))
+IsRecordNamed p text t =
+    IsTypeNamed p text t × (parts : List PartForm) × (components : List ComponentKind) × (slice_get p.types t ≡ Some (record_of text parts components))
+
+-- A name is that of the record type of a number, which is not incomplete there (3.8, 3.10.1).
+abbrev pub IsFullRecordNamed : Context → List ℕ → ℕ → Type 0
+IsFullRecordNamed p text t =
+    IsFullTypeNamed p text t × (parts : List PartForm) × (components : List ComponentKind) × (slice_get p.types t ≡ Some (record_of text parts components))
 
 -- A name is that of the access type of a number (3.10).
 abbrev pub IsAccessNamed : Context → List ℕ → ℕ → Type 0
@@ -129,34 +137,47 @@ pub data IsPredefined : List ℕ → Type 0 where
   the_pools : IsPredefined (codes "PROFILE_POOLS")
   the_input : IsPredefined (codes "RUN_INPUT")
 
--- What a component holds, and at first (3.8): an Integer or a Boolean has the value that is written; an access value is null.
-abbrev pub IsKindRead : Context → ComponentTree → ComponentKind → Type 0
-IsKindRead p c (component.Integer n) =
+-- What an elementary component holds, and at first (3.8): an Integer or a Boolean has the value that is written; an access value is null.
+abbrev pub IsElementaryRead : Context → ComponentTree → ComponentKind → Type 0
+IsElementaryRead p c (component.Integer n) =
     (c.type_name.text ≡ codes "INTEGER") × (value : StaticTree) × (c.initial ≡ Some value) × IsStaticRead p value n
-IsKindRead p c (component.Boolean b) =
+IsElementaryRead p c (component.Boolean b) =
     (c.type_name.text ≡ codes "BOOLEAN") × (value : Ident) × (c.initial ≡ Some (static_name value)) × (value.text ≡ truth_name b)
-IsKindRead p c (component.Access t) = IsAccessNamed p c.type_name.text t.0 × (c.initial ≡ None)
+IsElementaryRead p c (component.Access t) = IsAccessNamed p c.type_name.text t.0 × (c.initial ≡ None)
 
--- Components, one for one: each has its name and its kind (3.8).
-abbrev pub AreComponentsRead : Context → List ComponentTree → List ComponentForm → Type 0
+-- What a component is (3.8): an elementary one, or a record of a type that is complete before.
+abbrev pub IsKindRead : Context → ComponentTree → PartKind → Type 0
+IsKindRead p c (part.Elementary kind) = IsElementaryRead p c kind
+IsKindRead p c (part.Record t) = IsFullRecordNamed p c.type_name.text t.0 × (c.initial ≡ None)
+
+-- Components, one for one: each has its name, and is what is written (3.8).
+abbrev pub AreComponentsRead : Context → List ComponentTree → List PartForm → Type 0
 AreComponentsRead p [] [] = Unit {0}
 AreComponentsRead p [] (d ∷ ds) = ⊥
 AreComponentsRead p (c ∷ cs) [] = ⊥
 AreComponentsRead p (c ∷ cs) (d ∷ ds) = (d.name ≡ c.name.text) × IsKindRead p c d.kind × AreComponentsRead p cs ds
 
 -- No two of these components have one name (8.3).
-abbrev pub AreNamedApart : List ComponentForm → Type 0
+abbrev pub AreNamedApart : List PartForm → Type 0
 AreNamedApart [] = Unit {0}
-AreNamedApart (c ∷ cs) = ((i : ℕ) (d : ComponentForm) → slice_get cs i ≡ Some d → d.name ≡ c.name → ⊥) × AreNamedApart cs
+AreNamedApart (c ∷ cs) = ((i : ℕ) (d : PartForm) → slice_get cs i ≡ Some d → d.name ≡ c.name → ⊥) × AreNamedApart cs
+
+-- Components lie one behind the other: each begins where those before it end, and the elementary components of all of them, in order, are these.
+-- The first of them begins behind as many elementary components.
+abbrev pub AreLaidOut : List TypeForm → ℕ → List PartForm → List ComponentKind → Type 0
+AreLaidOut types before [] components = components ≡ []
+AreLaidOut types before (c ∷ cs) components =
+    (c.first ≡ before) × (rest : List ComponentKind) × (components ≡ kinds_within types c.kind ++ rest) ×
+    AreLaidOut types (before + length (kinds_within types c.kind)) cs rest
 
 -- The type of a number is the one that a full type declaration declares (3.2.1): an access type, or a record type with its components, each of
--- which has a name of its own.
+-- which has a name of its own, and with their elementary components.
 abbrev pub IsTypeRead : Context → DeclarationTree → ℕ → Type 0
 IsTypeRead p (access_type spot name designated aspect) t =
     (aspect ≡ None) × (d : ℕ) × (slice_get p.types t ≡ Some (access_to name.text d)) × IsRecordNamed p designated.text d
 IsTypeRead p (record_type spot name definition) t =
-    (components : List ComponentForm) × (slice_get p.types t ≡ Some (record_of name.text components)) ×
-    AreComponentsRead p (components_written definition) components × AreNamedApart components
+    (parts : List PartForm) × (components : List ComponentKind) × (slice_get p.types t ≡ Some (record_of name.text parts components)) ×
+    AreComponentsRead p (components_written definition) parts × AreNamedApart parts × AreLaidOut p.types 0 parts components
 IsTypeRead p other t = ⊥
 
 -- An instance of Unchecked_Deallocation is for the access type of a number (13.11.2).

@@ -32,7 +32,7 @@ initial_found known kind None = None
 abbrev pub type_in : Option Entity → Option Entity
 type_in (Some entity.Integer) = Some entity.Integer
 type_in (Some entity.Boolean) = Some entity.Boolean
-type_in (Some (entity.Record t)) = Some (entity.Record t)
+type_in (Some (entity.Record t size)) = Some (entity.Record t size)
 type_in (Some (entity.Access t)) = Some (entity.Access t)
 type_in (Some other) = None
 type_in None = None
@@ -87,7 +87,7 @@ object_remark known name type_name initial =
 -- The collections of the access types that have none, in the order of the types, the first of which has this number.
 abbrev pub collections_of : ℕ → List TypeForm → List DeclarationForm → List DeclarationForm
 collections_of t [] elaborated = []
-collections_of t (record_of name parts ∷ types) elaborated = collections_of (t + 1) types elaborated
+collections_of t (record_of name parts components ∷ types) elaborated = collections_of (t + 1) types elaborated
 collections_of t (access_to name designated ∷ types) elaborated =
     if is_collected t elaborated then collections_of (t + 1) types elaborated else collects t ∷ collections_of (t + 1) types elaborated
 

@@ -4,13 +4,16 @@ use Rattle.std.specs.Prelude.{ℕ, ◌+◌, Bool, false, ◌||◌, ◌==◌, if�
 use Rattle.ada_text.specs.declared.spot.Spot.{Spot}
 use Rattle.ada_tree.specs.Names.{Ident, SelectorTree, component, dereference, PathTree}
 use Rattle.ada_program.specs.Form.{PathForm, ExpressionForm, integer, boolean, reads}
-use Rattle.ada_program.specs.ProgramForm.{ComponentForm, TypeForm, record_of, access_to}
+use Rattle.ada_program.specs.ProgramForm.{PartForm, TypeForm, record_of, access_to}
 use Rattle.ada_program.specs.declared.program.ComponentKind.{ComponentKind}
+use Rattle.ada_program.specs.declared.program.PartKind.{PartKind}
+use Rattle.ada_program.specs.declared.program.PartKind.TheVariants as part
 use Rattle.ada_program.specs.declared.program.VariableKind.{VariableKind}
 use Rattle.ada_program.specs.declared.program.VariableKind.TheVariants as variable
 use Rattle.ada_program.specs.declared.program.VariableNo.{VariableNo}
 use Rattle.ada_program.specs.declared.program.TypeNo.{TypeNo}
 use Rattle.ada_program.specs.WellFormed.{held_kind}
+use Rattle.ada_resolve.specs.declared.components.KnownComponent.{KnownComponent}
 use Rattle.ada_resolve.specs.declared.fault.NameRule.TheVariants.{WrongType, NotInProfile}
 use Rattle.ada_resolve.specs.declared.library.LibraryName.{LibraryName}
 use Rattle.ada_resolve.specs.declared.scope.Entity.{Entity}
@@ -38,39 +41,53 @@ selected_path x spot components = record { root = x.0; selectors = components; s
 abbrev pub variable_path : VariableNo → Spot → PathForm
 variable_path x spot = selected_path x spot []
 
--- The components of a record type (3.8); none, if it is no record type.
-abbrev pub components_in : Option TypeForm → List ComponentForm
-components_in (Some (record_of name components)) = components
+-- The components of a record type as they are declared (3.8); none, if it is no record type.
+abbrev pub components_in : Option TypeForm → List PartForm
+components_in (Some (record_of name parts components)) = parts
 components_in (Some (access_to name designated)) = []
 components_in None = []
 
--- The components of a type by its number, in order.
-unfoldable pub components_of : List TypeForm → ℕ → List ComponentForm
+-- The components of a type by its number, as they are declared, in order.
+unfoldable pub components_of : List TypeForm → ℕ → List PartForm
 components_of types t = components_in (slice_get types t)
+
+-- The elementary components of a record type at any depth (3.8); none, if it is no record type.
+abbrev pub elementary_in : Option TypeForm → List ComponentKind
+elementary_in (Some (record_of name parts components)) = components
+elementary_in (Some (access_to name designated)) = []
+elementary_in None = []
+
+-- The elementary components of a type by its number, at any depth, in order.
+unfoldable pub elementary_of : List TypeForm → ℕ → List ComponentKind
+elementary_of types t = elementary_in (slice_get types t)
 
 -- The type that an access type designates (3.10).
 abbrev pub designated_in : Option TypeForm → Option ℕ
 designated_in (Some (access_to name designated)) = Some designated
-designated_in (Some (record_of name components)) = None
+designated_in (Some (record_of name parts components)) = None
 designated_in None = None
 
 -- The type that the access type of a number designates.
 unfoldable pub designated_of : List TypeForm → ℕ → Option ℕ
 designated_of types access = designated_in (slice_get types access)
 
--- A component by its number, and what it holds.
-abbrev pub component_at : ℕ → Option ComponentForm → Option (ℕ × ComponentKind)
-component_at at (Some c) = Some (at, c.kind)
+-- What a component is, and the number of its first elementary component in the record type.
+abbrev pub known_component : PartForm → KnownComponent
+known_component c = record { kind = c.kind; first = c.first }
+
+-- A component by its place among those that are declared, and what it is.
+abbrev pub component_at : ℕ → Option PartForm → Option (ℕ × KnownComponent)
+component_at at (Some c) = Some (at, known_component c)
 component_at at None = None
 
--- The component of a name, and what it holds (4.1.3); the first of these components has this number.
-abbrev pub component_named : ℕ → List ℕ → List ComponentForm → Option (ℕ × ComponentKind)
+-- The component of a name, and what it is (4.1.3); the first of these components has this place.
+abbrev pub component_named : ℕ → List ℕ → List PartForm → Option (ℕ × KnownComponent)
 component_named at text [] = None
-component_named at text (c ∷ cs) = if bytes_eq text c.name then Some (at, c.kind) else component_named (at + 1) text cs
+component_named at text (c ∷ cs) = if bytes_eq text c.name then Some (at, known_component c) else component_named (at + 1) text cs
 
 -- The name of a type.
 abbrev pub name_of_type : Option TypeForm → Option (List ℕ)
-name_of_type (Some (record_of name components)) = Some name
+name_of_type (Some (record_of name parts components)) = Some name
 name_of_type (Some (access_to name designated)) = Some name
 name_of_type None = None
 
@@ -94,25 +111,35 @@ is_incomplete_named t None parts = false
 unfoldable pub is_incomplete_type : Known → ℕ → Bool
 is_incomplete_type known t = is_incomplete_named t (name_of_type (slice_get known.types t)) (parts known)
 
--- The component of a name in a record type, which is complete (4.1.3, 3.10.1): its number, and what it holds.
-abbrev pub component_in : Known → Option ℕ → Ident → Option (ℕ × ComponentKind)
+-- The component of a name in a record type, which is complete (4.1.3, 3.10.1): its place, and what it is.
+abbrev pub component_in : Known → Option ℕ → Ident → Option (ℕ × KnownComponent)
 component_in known (Some t) c = if is_incomplete_type known t then None else component_named 0 c.text (components_of known.types t)
 component_in known None c = None
 
 -- The component of a name behind what is reached: of the object that an access value gives access to, or of the object itself.
-abbrev pub component_behind : Known → Reached → Ident → Option (ℕ × ComponentKind)
+abbrev pub component_behind : Known → Reached → Ident → Option (ℕ × KnownComponent)
 component_behind known (reached.Value (variable.Access access)) c = component_in known (designated_of known.types access.0) c
-component_behind known (reached.Object t) c = component_in known (Some t.0) c
+component_behind known (reached.Object t first) c = component_in known (Some t.0) c
 component_behind known other c = None
 
--- What a component holds is reached, where the component is found.
-abbrev pub held_in : Option (ℕ × ComponentKind) → Reached
-held_in (Some found) = reached.Value (held_kind found.1)
-held_in None = reached.Nothing
+-- The number of the first elementary component of what is reached, in the object that the last access value gives access to.
+abbrev pub first_behind : Reached → ℕ
+first_behind (reached.Object t first) = first
+first_behind other = 0
+
+-- What a component reaches (4.1.3), whose first elementary component has this number: the value of an elementary one, or a record.
+abbrev pub held_by : PartKind → ℕ → Reached
+held_by (part.Elementary kind) first = reached.Value (held_kind kind)
+held_by (part.Record t) first = reached.Object t first
+
+-- What a component reaches, where it is found: it lies behind as many elementary components.
+abbrev pub held_in : ℕ → Option (ℕ × KnownComponent) → Reached
+held_in before (Some found) = held_by found.1.kind (before + found.1.first)
+held_in before None = reached.Nothing
 
 -- The object of a record type is reached, which is complete (3.10.1).
 abbrev pub object_in : Known → Option ℕ → Reached
-object_in known (Some t) = if is_incomplete_type known t then reached.Nothing else reached.Object (record { 0 = t })
+object_in known (Some t) = if is_incomplete_type known t then reached.Nothing else reached.Object (record { 0 = t }) 0
 object_in known None = reached.Nothing
 
 -- What `all` reaches (4.1): the object that an access value gives access to.
@@ -122,7 +149,7 @@ object_behind known other = reached.Nothing
 
 -- What a selector reaches.
 abbrev pub selector_reached : Known → Reached → SelectorTree → Reached
-selector_reached known at (component c) = held_in (component_behind known at c)
+selector_reached known at (component c) = held_in (first_behind at) (component_behind known at c)
 selector_reached known at (dereference spot) = object_behind known at
 
 -- What selectors reach, one behind the other.
@@ -130,17 +157,22 @@ abbrev pub selectors_reached : Known → Reached → List SelectorTree → Reach
 selectors_reached known at [] = at
 selectors_reached known at (s ∷ ss) = selectors_reached known (selector_reached known at s) ss
 
--- The number of a component, where it is found.
-abbrev pub number_in : Option (ℕ × ComponentKind) → List ℕ
-number_in (Some found) = found.0 ∷ []
-number_in None = []
+-- The number of an elementary component, which is this one: a record has none of its own.
+abbrev pub number_by : PartKind → ℕ → List ℕ
+number_by (part.Elementary kind) first = first ∷ []
+number_by (part.Record t) first = []
 
--- The number of the component that a selector names: `all` names none.
+-- The number of a component, where it is found: it lies behind as many elementary components.
+abbrev pub number_in : ℕ → Option (ℕ × KnownComponent) → List ℕ
+number_in before (Some found) = number_by found.1.kind (before + found.1.first)
+number_in before None = []
+
+-- The number of the elementary component that a selector names: `all` names none.
 abbrev pub component_selected : Known → Reached → SelectorTree → List ℕ
-component_selected known at (component c) = number_in (component_behind known at c)
+component_selected known at (component c) = number_in (first_behind at) (component_behind known at c)
 component_selected known at (dereference spot) = []
 
--- The numbers of the components that selectors name, one behind the other.
+-- The numbers of the elementary components that selectors name, one behind the other.
 abbrev pub components_selected : Known → Reached → List SelectorTree → List ℕ
 components_selected known at [] = []
 components_selected known at (s ∷ ss) = component_selected known at s ++ components_selected known (selector_reached known at s) ss
@@ -177,7 +209,7 @@ path_meant known path =
     else named_meant known path.root path.selectors
 
 -- A component of that name is wanted (4.1.3).
-abbrev pub component_wanted : Option (ℕ × ComponentKind) → Ident → Remark
+abbrev pub component_wanted : Option (ℕ × KnownComponent) → Ident → Remark
 component_wanted (Some found) c = fine
 component_wanted None c = wrong c.spot (no_component_rule c.text)
 
@@ -198,7 +230,7 @@ abbrev pub component_behind_remark : Known → Spot → Reached → Ident → Re
 component_behind_remark known spot reached.Nothing c = fine
 component_behind_remark known spot (reached.Value (variable.Access access)) c =
     component_within_remark known spot (designated_of known.types access.0) c
-component_behind_remark known spot (reached.Object t) c = component_within_remark known spot (Some t.0) c
+component_behind_remark known spot (reached.Object t first) c = component_within_remark known spot (Some t.0) c
 component_behind_remark known spot other c = wrong spot WrongType
 
 -- What is wrong with `all` behind what is reached: it names what an access value gives access to (4.1).
@@ -220,7 +252,7 @@ selectors_remark known spot at (s ∷ ss) =
 
 -- No whole object is in the profile yet where a value is wanted.
 abbrev pub no_object : Reached → Spot → Remark
-no_object (reached.Object t) spot = wrong spot NotInProfile
+no_object (reached.Object t first) spot = wrong spot NotInProfile
 no_object other spot = fine
 
 -- What is wrong with what is selected from a variable.

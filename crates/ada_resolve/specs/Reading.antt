@@ -12,48 +12,67 @@ use Rattle.ada_tree.specs.Declarations.{ChoiceTree, named_choice, others_choice}
 use Rattle.ada_tree.specs.Statements.{DeclarationTree, exception_declaration, constant_declaration, object_declaration, borrower_declaration, incomplete_type, access_type, record_type, instance, DeclarationsTree, no_declarations, a_declaration, SchemeTree, endless, while_scheme, for_scheme, StatementTree, null_statement, assignment, call, if_statement, loop_statement, exit_statement, return_statement, raise_statement, block, declare_block, StatementsTree, no_statements, a_statement, BranchesTree, no_branches, a_branch, HandlersTree, no_handlers, a_handler, SequenceTree, a_sequence, UnitTree}
 use Rattle.ada_program.specs.declared.program.Choice.{Choice}
 use Rattle.ada_program.specs.declared.program.Choice.TheVariants as choice
+use Rattle.ada_program.specs.declared.program.ComponentKind.{ComponentKind}
+use Rattle.ada_program.specs.declared.program.PartKind.{PartKind}
+use Rattle.ada_program.specs.declared.program.PartKind.TheVariants as part
 use Rattle.ada_program.specs.declared.program.TypeNo.{TypeNo}
 use Rattle.ada_program.specs.declared.program.VariableKind.{VariableKind}
 use Rattle.ada_program.specs.declared.program.VariableKind.TheVariants as variable
-use Rattle.ada_program.specs.Form.{DeclarationForm, collects, declares, PathForm, ExpressionForm, integer, boolean, reads, is_null, applied_to, ItemForm, null_item, item_of_path, item_of_value, RightForm, nothing, value_of, allocates, computes, StmtForm, skips, assigns, frees, gets, writes, writes_text, chooses, repeats, counts, exits, returns, raises, encloses, StmtsForm, no_stmts, a_stmt, BranchesForm, otherwise, HandlersForm}
+use Rattle.ada_program.specs.Form.{DeclarationForm, collects, declares, PathForm, ExpressionForm, integer, boolean, reads, is_null, applied_to, ItemForm, null_item, item_of_path, item_of_value, RightForm, nothing, value_of, allocates, allocates_default, computes, StmtForm, skips, assigns, frees, gets, writes, writes_text, chooses, repeats, counts, exits, returns, raises, encloses, StmtsForm, no_stmts, a_stmt, BranchesForm, otherwise, HandlersForm}
 use Rattle.ada_program.specs.Form as form
-use Rattle.ada_program.specs.ProgramForm.{ComponentForm, TypeForm, record_of, ProgramForm}
+use Rattle.ada_program.specs.ProgramForm.{PartForm, TypeForm, record_of, ProgramForm}
 use Rattle.ada_program.specs.WellFormed as fits
 use Rattle.ada_resolve.specs.Library.{library_name}
 use Rattle.ada_resolve.specs.declared.library.LibraryName.TheVariants.{PutLine, Get}
-use Rattle.ada_resolve.specs.Naming.{Context, Place, Meaning, an_incomplete_type, a_type, a_number, an_exception, an_instance, a_variable, a_parameter, meaning_among, IsPredefined, IsExceptionNamed, IsNumberNamed, IsRecordNamed, IsVariableNamed, IsObjectNamed, IsFullTypeNamed, IsStaticRead, IsTypeRead, IsInstanceRead, IsInstanceNamed, IsKindNamed, truth_name}
+use Rattle.ada_resolve.specs.Naming.{Context, Place, Meaning, an_incomplete_type, a_type, a_number, an_exception, an_instance, a_variable, a_parameter, meaning_among, IsPredefined, IsExceptionNamed, IsNumberNamed, IsRecordNamed, IsVariableNamed, IsObjectNamed, IsFullRecordNamed, IsFullTypeNamed, IsStaticRead, IsTypeRead, IsInstanceRead, IsInstanceNamed, IsKindNamed, truth_name}
 use Rattle.ada_resolve.specs.Known.{parts_of}
 use Rattle.ada_resolve.specs.Operators.{joined}
 use Rattle.ada_resolve.specs.Statics.{at_most_greatest, integer_of}
 
--- The components of the objects behind a value (3.10): none, if it is no access value.
-abbrev pub components_behind : List TypeForm → Option ℕ → Option (List ComponentForm)
-components_behind types None = None
-components_behind types (Some access) = fits.reached_components types access
+-- The type of the objects behind a value (3.10): none, if it is no access value.
+abbrev pub type_behind : List TypeForm → Option VariableKind → Option ℕ
+type_behind types None = None
+type_behind types (Some (variable.Access access)) = fits.designated_type types access.0
+type_behind types (Some other) = None
 
--- The component of a number behind a value has the name (4.1.3).
-abbrev pub IsComponentNamed : Context → Option VariableKind → List ℕ → ℕ → Type 0
-IsComponentNamed p kind text c =
-    (components : List ComponentForm) × (d : ComponentForm) ×
-    (components_behind p.types (fits.access_of kind) ≡ Some components) × (slice_get components c ≡ Some d) × (d.name ≡ text)
+-- Where selectors have led (4.1): to a value, or to an object of a record type, whose first elementary component has this number in the object
+-- that the last access value gives access to.
+pub data Way : Type 0 where
+  at_value : Option VariableKind → Way
+  at_object : (t first : ℕ) → Way
 
--- The components that are selected have these names, one behind the other; `all` stands before a component alone, and selects none itself (4.1).
-abbrev pub AreSelectorsRead : Context → Option VariableKind → List SelectorTree → List ℕ → Type 0
-AreSelectorsRead p kind [] [] = Unit {0}
-AreSelectorsRead p kind [] (c ∷ cs) = ⊥
-AreSelectorsRead p kind (dereference spot ∷ []) cs = ⊥
-AreSelectorsRead p kind (dereference spot ∷ (dereference other ∷ selectors)) cs = ⊥
-AreSelectorsRead p kind (dereference spot ∷ (component i ∷ selectors)) [] = ⊥
-AreSelectorsRead p kind (dereference spot ∷ (component i ∷ selectors)) (c ∷ cs) =
-    IsComponentNamed p kind i.text c × AreSelectorsRead p (fits.selected_kind p.types kind c) selectors cs
-AreSelectorsRead p kind (component i ∷ selectors) [] = ⊥
-AreSelectorsRead p kind (component i ∷ selectors) (c ∷ cs) =
-    IsComponentNamed p kind i.text c × AreSelectorsRead p (fits.selected_kind p.types kind c) selectors cs
+-- A component of a record type has the name, is of this kind, and begins behind as many elementary components (4.1.3).
+abbrev pub IsComponentNamed : Context → ℕ → List ℕ → PartKind → ℕ → Type 0
+IsComponentNamed p t text kind first =
+    (name : List ℕ) × (parts : List PartForm) × (components : List ComponentKind) × (c : ℕ) ×
+    (slice_get p.types t ≡ Some (record_of name parts components)) ×
+    (slice_get parts c ≡ Some (record { name = text; kind = kind; first = first }))
+
+-- Selectors lead on to a value by the elementary components of these numbers (4.1): `all`, which is written or not, leads to the object that an
+-- access value gives access to; a name leads from an object to its component of that name.
+pub data AreSelectorsRead (p : Context) : Way → List SelectorTree → List ℕ → Type 0 where
+  at_end : {kind : Option VariableKind} → AreSelectorsRead p (at_value kind) [] []
+  by_all :
+      {kind : Option VariableKind} {t : ℕ} {spot : Spot} {selectors : List SelectorTree} {cs : List ℕ} →
+      type_behind p.types kind ≡ Some t → AreSelectorsRead p (at_object t 0) selectors cs →
+      AreSelectorsRead p (at_value kind) (dereference spot ∷ selectors) cs
+  by_value :
+      {kind : Option VariableKind} {t : ℕ} {i : Ident} {selectors : List SelectorTree} {cs : List ℕ} →
+      type_behind p.types kind ≡ Some t → AreSelectorsRead p (at_object t 0) (component i ∷ selectors) cs →
+      AreSelectorsRead p (at_value kind) (component i ∷ selectors) cs
+  to_value :
+      {t before first : ℕ} {kind : ComponentKind} {i : Ident} {selectors : List SelectorTree} {cs : List ℕ} →
+      IsComponentNamed p t i.text (part.Elementary kind) first → AreSelectorsRead p (at_value (Some (fits.held_kind kind))) selectors cs →
+      AreSelectorsRead p (at_object t before) (component i ∷ selectors) ((before + first) ∷ cs)
+  to_record :
+      {t before first : ℕ} {inner : TypeNo} {i : Ident} {selectors : List SelectorTree} {cs : List ℕ} →
+      IsComponentNamed p t i.text (part.Record inner) first → AreSelectorsRead p (at_object inner.0 (before + first)) selectors cs →
+      AreSelectorsRead p (at_object t before) (component i ∷ selectors) cs
 
 -- A path (4.1): its object has the name that is written, so have its components, and it stands where its first name does.
 pub record IsPathRead (p : Context) (tree : PathTree) (path : PathForm) : Type 0 where
   pub root : IsObjectNamed p tree.root.text path.root
-  pub selectors : AreSelectorsRead p (fits.variable_kind p.variables path.root) tree.selectors path.selectors
+  pub selectors : AreSelectorsRead p (at_value (fits.variable_kind p.variables path.root)) tree.selectors path.selectors
   pub spot : path.spot ≡ tree.root.spot
 
 -- A path whose object is assigned, read from the input or freed: it begins at a variable, since a constant keeps its value (3.3, 5.2, 6.4.1).
@@ -126,21 +145,27 @@ abbrev pub how_many : ItemsTree → ℕ
 how_many no_more_items = 0
 how_many (an_item label e rest) = how_many rest + 1
 
--- Each component of a new object has one item, which is what is written for it, and no item is left out (4.3.1).
-abbrev pub AreItemsRead : Context → List ComponentForm → ItemsTree → List ItemForm → Type 0
-AreItemsRead p components items forms =
-    (how_many items ≡ length components) × (length forms ≡ length components) ×
+-- Each component of a new object is elementary and has one item, which is what is written for it, and no item is left out (4.3.1).
+abbrev pub AreItemsRead : Context → List PartForm → ItemsTree → List ItemForm → Type 0
+AreItemsRead p parts items forms =
+    (how_many items ≡ length parts) × (length forms ≡ length parts) ×
     ((c : ℕ) (form : ItemForm) → slice_get forms c ≡ Some form →
-    (d : ComponentForm) × (e : ExpressionTree) × (slice_get components c ≡ Some d) × IsItemFor items 0 c d.name e × IsItemRead p e form)
+    (d : PartForm) × (kind : ComponentKind) × (e : ExpressionTree) × (slice_get parts c ≡ Some d) × (d.kind ≡ part.Elementary kind) ×
+    IsItemFor items 0 c d.name e × IsItemRead p e form)
 
 -- A new object (4.8) is of the record type that the name stands for there, which the access type designates, and holds its items.
 pub record IsAllocationRead (p : Context) (type_name : Ident) (items : ItemsTree) (access : ℕ) (forms : List ItemForm) : Type 0 where
   pub t : ℕ
-  pub components : List ComponentForm
+  pub parts : List PartForm
+  pub components : List ComponentKind
   pub designates : fits.designated_type p.types access ≡ Some t
   pub bound : IsFullTypeNamed p type_name.text t
-  pub named : slice_get p.types t ≡ Some (record_of type_name.text components)
-  pub filled : AreItemsRead p components items forms
+  pub named : slice_get p.types t ≡ Some (record_of type_name.text parts components)
+  pub filled : AreItemsRead p parts items forms
+
+-- A new object without items (4.8) is of the record type that the name stands for there, which the access type designates.
+abbrev pub IsDefaultRead : Context → Ident → (access : ℕ) → Type 0
+IsDefaultRead p type_name access = (t : ℕ) × (fits.designated_type p.types access ≡ Some t) × IsFullRecordNamed p type_name.text t
 
 -- What is assigned (5.2); no allocator has a handle yet (13.11.4).
 abbrev pub IsRightRead : Context → RightTree → RightForm → Type 0
@@ -148,7 +173,10 @@ IsRightRead p (expression_right e) nothing = IsNull e
 IsRightRead p (expression_right e) (value_of path) = IsMoveRead p e path
 IsRightRead p (expression_right e) (computes form) = IsExpressionRead p e form
 IsRightRead p (expression_right e) (allocates access forms) = ⊥
-IsRightRead p (allocator_right spot None type_name items) (allocates access forms) = IsAllocationRead p type_name items access forms
+IsRightRead p (expression_right e) (allocates_default access) = ⊥
+IsRightRead p (allocator_right spot None type_name no_more_items) (allocates_default access) = IsDefaultRead p type_name access
+IsRightRead p (allocator_right spot None type_name (an_item label e rest)) (allocates access forms) =
+    IsAllocationRead p type_name (an_item label e rest) access forms
 IsRightRead p (allocator_right spot handle type_name items) other = ⊥
 IsRightRead p (creation_right function argument) form = ⊥
 

@@ -1,17 +1,20 @@
 -- Record types: what is wrong with a declaration, and what is known after it.
 
-use Rattle.std.specs.Prelude.{ℕ, ◌+◌, Bool, false, ◌||◌, ◌==◌, List, [], ◌∷◌, ◌++◌, map, Option, Some, None, bytes_eq, ℤ, pos}
+use Rattle.std.specs.Prelude.{ℕ, ◌+◌, Bool, false, ◌||◌, nat_lt, List, [], ◌∷◌, ◌++◌, length, Option, Some, None, bytes_eq, ℤ, pos}
 use Rattle.ada_text.specs.declared.spot.Spot.{Spot}
 use Rattle.ada_tree.specs.Names.{Ident}
 use Rattle.ada_tree.specs.Records.{StaticTree, plain, minus, named as static_name, ComponentTree, RecordTree, null_record, null_components, components}
-use Rattle.ada_program.specs.ProgramForm.{ComponentForm, record_of}
+use Rattle.ada_program.specs.ProgramForm.{PartForm, TypeForm, record_of}
 use Rattle.ada_program.specs.declared.program.ComponentKind.{ComponentKind}
 use Rattle.ada_program.specs.declared.program.ComponentKind.TheVariants as kind
+use Rattle.ada_program.specs.declared.program.PartKind.{PartKind}
+use Rattle.ada_program.specs.declared.program.PartKind.TheVariants as part
 use Rattle.ada_resolve.specs.declared.fault.NameRule.TheVariants.{DeclaredTwice, WrongType, NotInProfile, NoInitialValue, Limit}
 use Rattle.ada_resolve.specs.declared.scope.Entity.{Entity}
 use Rattle.ada_resolve.specs.declared.scope.Entity.TheVariants as entity
 use Rattle.ada_resolve.specs.Known.{Known, declared, visible, missing, name_remark, new_name_remark, type_begins}
 use Rattle.ada_resolve.specs.Library.{is_taken, is_primitive}
+use Rattle.ada_resolve.specs.Paths.{elementary_of}
 use Rattle.ada_resolve.specs.Remark.{Remark, fine, wrong, node, ◌also◌, wrong_if}
 use Rattle.ada_resolve.specs.Statics.{static_remark, static_truth, static_truth_remark, static_value}
 use Rattle.ada_resolve.specs.Types.{completed_type, defined, new_unless, number_of}
@@ -44,76 +47,129 @@ abbrev pub initial_truth : Known → Option StaticTree → Bool
 initial_truth known (Some value) = static_truth known value
 initial_truth known None = false
 
--- An access component has no initial value: neither a number nor a name is of its type.
+-- An access component has no initial value, and neither has a record: neither a number nor a name is of its type.
 abbrev pub no_value_remark : Known → Option StaticTree → Remark
 no_value_remark known (Some (plain spot n)) = wrong spot WrongType
 no_value_remark known (Some (minus spot n)) = wrong spot WrongType
 no_value_remark known (Some (static_name value)) = name_remark known value also wrong value.spot WrongType
 no_value_remark known None = fine
 
--- A component is an Integer, a Boolean or of an access type (3.8); record components are not in the profile yet.
+-- A component is an Integer, a Boolean, of an access type, or a record of a type that is complete (3.8).
 abbrev pub kind_wanted : Option Entity → Known → ComponentTree → Remark
 kind_wanted (Some entity.Integer) known c = first_integer_remark known c
 kind_wanted (Some (entity.Access t)) known c = no_value_remark known c.initial
 kind_wanted (Some entity.Boolean) known c = first_truth_remark known c
-kind_wanted (Some (entity.Record t)) known c = wrong c.type_name.spot NotInProfile
+kind_wanted (Some (entity.Record t size)) known c = no_value_remark known c.initial
 kind_wanted (Some other) known c = wrong c.type_name.spot WrongType
 kind_wanted None known c = missing None c.type_name
 
--- What a component holds (3.8); an Integer where something is wrong.
-abbrev pub kind_in : Option Entity → Known → Option StaticTree → ComponentKind
-kind_in (Some (entity.Access t)) known initial = kind.Access t
-kind_in (Some entity.Integer) known initial = kind.Integer (initial_value known initial)
-kind_in (Some entity.Boolean) known initial = kind.Boolean (initial_truth known initial)
-kind_in (Some other) known initial = kind.Integer (pos 0)
-kind_in None known initial = kind.Integer (pos 0)
+-- What a component is (3.8); an Integer where something is wrong.
+abbrev pub kind_in : Option Entity → Known → Option StaticTree → PartKind
+kind_in (Some (entity.Access t)) known initial = part.Elementary (kind.Access t)
+kind_in (Some (entity.Record t size)) known initial = part.Record t
+kind_in (Some entity.Integer) known initial = part.Elementary (kind.Integer (initial_value known initial))
+kind_in (Some entity.Boolean) known initial = part.Elementary (kind.Boolean (initial_truth known initial))
+kind_in (Some other) known initial = part.Elementary (kind.Integer (pos 0))
+kind_in None known initial = part.Elementary (kind.Integer (pos 0))
 
--- What is wrong with what a component holds.
+-- How many components one is, with those at any depth of a record.
+abbrev pub size_in : Option Entity → ℕ
+size_in (Some (entity.Record t size)) = size + 1
+size_in (Some other) = 1
+size_in None = 1
+
+-- What is wrong with what a component is.
 abbrev pub kind_remark : Known → ComponentTree → Remark
 kind_remark known c = kind_wanted (visible known c.type_name.text) known c
 
--- What a component holds, by its declaration.
-abbrev pub kind_of_component : Known → ComponentTree → ComponentKind
+-- What a component is, by its declaration.
+abbrev pub kind_of_component : Known → ComponentTree → PartKind
 kind_of_component known c = kind_in (visible known c.type_name.text) known c.initial
 
+-- How many components it is, by its declaration.
+abbrev pub size_of_component : Known → ComponentTree → ℕ
+size_of_component known c = size_in (visible known c.type_name.text)
+
+-- The elementary components of a component (3.8): itself, or those of its record type.
+abbrev pub kinds_within : List TypeForm → PartKind → List ComponentKind
+kinds_within types (part.Elementary kind) = kind ∷ []
+kinds_within types (part.Record t) = elementary_of types t.0
+
+-- What a record type is made of: its components as they are declared, its elementary components at any depth, each in order, and how many
+-- components it has at any depth.
+pub record Composition : Type 0 where
+  pub parts : List PartForm
+  pub kinds : List ComponentKind
+  pub size : ℕ
+
+-- What a record type is made of before its first component.
+abbrev pub no_components : Composition
+no_components = record { parts = []; kinds = []; size = 0 }
+
 -- Whether one of the components has the name.
-abbrev pub is_component : List ℕ → List ComponentForm → Bool
+abbrev pub is_component : List ℕ → List PartForm → Bool
 is_component text [] = false
 is_component text (c ∷ cs) = bytes_eq text c.name || is_component text cs
 
--- The most components of a record.
+-- The most components of a record, at any depth.
 abbrev pub most_components : ℕ
 most_components = 4096
 
--- What is wrong with a component. The test says whether one before it has its name, and the count is how many stand before it. Its name is
--- predefined, that of one before it (8.3) or that of a primitive; there are too many components; or what it holds is wrong.
-unfoldable pub component_remark : Known → Bool → ℕ → ComponentTree → Remark
-component_remark known is_named count c =
+-- What is wrong with a component. The test says whether one before it has its name, and the size is that of the record type with it. Its name is
+-- predefined, that of one before it (8.3) or that of a primitive; there are too many components; or what it is is wrong.
+unfoldable pub component_remark : Known → Bool → (size : ℕ) → ComponentTree → Remark
+component_remark known is_named size c =
     node c.name.spot also
     wrong_if (is_taken c.name.text) c.name.spot DeclaredTwice also
     wrong_if is_named c.name.spot DeclaredTwice also
     wrong_if (is_primitive c.name.text) c.name.spot NotInProfile also
-    wrong_if (count == most_components) c.name.spot Limit also
+    wrong_if (nat_lt most_components size) c.name.spot Limit also
     kind_remark known c
 
--- The component.
-unfoldable pub component_meant : Known → ComponentTree → ComponentForm
-component_meant known c = record { name = c.name.text; kind = kind_of_component known c }
+-- The component, which lies behind as many elementary components.
+unfoldable pub component_meant : Known → ℕ → ComponentTree → PartForm
+component_meant known before c = record { name = c.name.text; kind = kind_of_component known c; first = before }
 
--- What is wrong with a component behind others, whose number is the count.
-abbrev pub further_component_remark : Known → List ComponentForm → ℕ → ComponentTree → Remark
-further_component_remark known before count c = component_remark known (is_component c.name.text before) count c
+-- What a record type is made of with one more component, whose declared component joins those before it so.
+abbrev pub composed_by : (PartForm → List PartForm → List PartForm) → Known → Composition → ComponentTree → Composition
+composed_by join known before c = record {
+  parts = join (component_meant known (length before.kinds) c) before.parts;
+  kinds = before.kinds ++ kinds_within known.types (kind_of_component known c);
+  size = before.size + size_of_component known c;
+}
 
--- What is wrong with components behind others, whose number is the count.
-abbrev pub components_remark : Known → List ComponentForm → ℕ → List ComponentTree → Remark
-components_remark known before count [] = fine
-components_remark known before count (c ∷ cs) =
-    further_component_remark known before count c also
-    components_remark known (before ++ component_meant known c ∷ []) (count + 1) cs
+-- A declared component stands behind the others.
+abbrev pub put_last : PartForm → List PartForm → List PartForm
+put_last c cs = cs ++ c ∷ []
+
+-- What a record type is made of with one more component.
+abbrev pub composed_with : Known → Composition → ComponentTree → Composition
+composed_with known before c = composed_by put_last known before c
+
+-- What a record type is made of with more components.
+abbrev pub composed : Known → Composition → List ComponentTree → Composition
+composed known before [] = before
+composed known before (c ∷ cs) = composed known (composed_with known before c) cs
+
+-- What a record type of these components is made of.
+abbrev pub composition_of : Known → List ComponentTree → Composition
+composition_of known cs = composed known no_components cs
+
+-- What is wrong with a component behind others.
+abbrev pub further_component_remark : Known → Composition → ComponentTree → Remark
+further_component_remark known before c =
+    component_remark known (is_component c.name.text before.parts) (before.size + size_of_component known c) c
+
+-- What is wrong with components behind others.
+abbrev pub components_remark : Known → Composition → List ComponentTree → Remark
+components_remark known before [] = fine
+components_remark known before (c ∷ cs) =
+    further_component_remark known before c also
+    components_remark known (composed_with known before c) cs
 
 -- What is wrong with all components of a record type.
 abbrev pub all_components_remark : Known → List ComponentTree → Remark
-all_components_remark known cs = components_remark known [] 0 cs
+all_components_remark known cs = components_remark known no_components cs
 
 -- The components that a record type is written with (3.8).
 abbrev pub components_written : RecordTree → List ComponentTree
@@ -128,9 +184,12 @@ record_type_remark known spot name definition =
     new_unless (completed_type known name) (new_name_remark known name spot) also
     all_components_remark known (components_written definition)
 
+-- What is known once a record type that is made of this is declared.
+abbrev pub with_record : Known → Ident → Composition → Known
+with_record known name made =
+    declared (record known { types = defined (completed_type known name) (record_of name.text made.parts made.kinds) known.types })
+    name.text (entity.Record (number_of (completed_type known name) known.types) made.size)
+
 -- After it the record type is known.
 abbrev pub record_type_known : Known → Ident → RecordTree → Known
-record_type_known known name definition =
-    declared
-    (record known { types = defined (completed_type known name) (record_of name.text (map (component_meant known) (components_written definition))) known.types })
-    name.text (entity.Record (number_of (completed_type known name) known.types))
+record_type_known known name definition = with_record known name (composition_of known (components_written definition))

@@ -25,7 +25,7 @@ completed_type known name = incomplete_of (named name.text known.here.names)
 -- The record type that a name stands for, complete or not (3.8, 3.10.1).
 abbrev pub record_in : Option Entity → Option TypeNo
 record_in (Some (entity.Incomplete t)) = Some t
-record_in (Some (entity.Record t)) = Some t
+record_in (Some (entity.Record t size)) = Some t
 record_in (Some other) = None
 record_in None = None
 
@@ -36,7 +36,7 @@ record_found known name = record_in (visible known name.text)
 -- A record type is wanted: another thing of that name is of the wrong kind (8.6).
 abbrev pub record_wanted : Option Entity → Ident → Remark
 record_wanted (Some (entity.Incomplete t)) name = fine
-record_wanted (Some (entity.Record t)) name = fine
+record_wanted (Some (entity.Record t size)) name = fine
 record_wanted (Some other) name = wrong name.spot WrongType
 record_wanted None name = missing None name
 
@@ -47,7 +47,7 @@ record_remark known name = record_wanted (visible known name.text) name
 -- Whether an access type designates the record type (3.10).
 abbrev pub is_access_to : Option TypeForm → ℕ → Bool
 is_access_to (Some (access_to name designated)) wanted = designated == wanted
-is_access_to (Some (record_of name parts)) wanted = false
+is_access_to (Some (record_of name parts components)) wanted = false
 is_access_to None wanted = false
 
 -- Whether an access type, by its number, designates the record type.
@@ -57,7 +57,7 @@ designates types access wanted = is_access_to (slice_get types access) wanted
 -- Whether an access type of these designates the type.
 abbrev pub is_designated : ℕ → List TypeForm → Bool
 is_designated t [] = false
-is_designated t (record_of name parts ∷ types) = is_designated t types
+is_designated t (record_of name parts components ∷ types) = is_designated t types
 is_designated t (access_to name designated ∷ types) = designated == t || is_designated t types
 
 -- The number of the type that a declaration defines: that of the incomplete type that it completes, else the next.
@@ -86,7 +86,7 @@ incomplete_remark known spot name = type_begins known spot also new_name_remark 
 -- After it a record type is known whose components are still to come.
 abbrev pub incomplete_known : Known → Ident → Known
 incomplete_known known name =
-    declared (record known { types = known.types ++ record_of name.text [] ∷ [] }) name.text
+    declared (record known { types = known.types ++ record_of name.text [] [] ∷ [] }) name.text
     (entity.Incomplete (record { 0 = length known.types }))
 
 -- An access type may complete an incomplete type that no access type designates, itself included.

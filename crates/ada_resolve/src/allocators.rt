@@ -1,10 +1,9 @@
 //! Resolution of allocators (4.8).
 
 ghost use Rattle.std.specs.Prelude.{◌≡◌};
-ghost use Rattle.ada_tree.specs.ExpressionView.{items_of};
 ghost use Rattle.ada_tree.specs.Names.{ident_of, optional_ident_of};
-ghost use Rattle.ada_resolve.specs.Allocators.{allocated_found, allocated_remark, designated_if_known, is_in_use};
-ghost use Rattle.ada_resolve.specs.Look.{Looks, aggregate_look};
+ghost use Rattle.ada_resolve.specs.Allocators.{allocated_found, allocated_remark, default_found, designated_if_known, is_in_use};
+ghost use Rattle.ada_resolve.specs.Look.{Looks, aggregate_look, new_look};
 ghost use Rattle.ada_resolve.specs.Method.{known, IsNoted};
 ghost use Rattle.ada_resolve.specs.View.{right_in};
 
@@ -18,9 +17,46 @@ use ada_tree::expressions::Item;
 use ada_tree::names::Identifier;
 
 impl<'t> Resolver<'t> {
+    /// `new T` or `new T'(..)` (4.8), without a handle.
+    #[tactic(auto, using(std::proofs::lemmas::Grind::common_steps, crate::proofs::ItemLists::new_remarked, crate::proofs::ItemLists::new_meant))]
+    pub(crate) fn new_object(
+        &self,
+        spot: Spot,
+        type_name: Identifier<'t>,
+        items: &[Item<'t>],
+        access: Option<TypeNo>,
+        notes: &mut Notes,
+    ) -> Result<Option<program::Right>, NameFault>
+        ensures { Looks right_in result notes (new_look self access spot type_name.entry items.now) }
+    {
+        if items.is_empty() {
+            Ok(self.default_object(spot, type_name, access, notes))
+        } else {
+            self.aggregate(spot, type_name, items, access, notes)
+        }
+    }
+
+    /// `new T` (4.8): an object whose components hold what they hold at first.
+    #[tactic(auto, unfolding(crate::specs::Allocators::default_found))]
+    fn default_object(
+        &self,
+        spot: Spot,
+        type_name: Identifier<'t>,
+        access: Option<TypeNo>,
+        notes: &mut Notes,
+    ) -> Option<program::Right>
+        ensures found { right_in result
+            ≡ default_found (known self) access (ident_of type_name.entry) }
+        ensures remark { IsNoted notes
+            (allocated_remark (known self) access spot (ident_of type_name.entry)) }
+    {
+        let number = self.allocated_type(spot, type_name, access, notes)?;
+        Some(program::Right::Default(access.unwrap_or(number)))
+    }
+
     /// `new T'(..)` (4.8): a new object of the access type that is wanted, where that is known.
     #[tactic(auto, unfolding(crate::specs::Allocators::aggregate_remark, crate::specs::Allocators::aggregate_found))]
-    pub(crate) fn aggregate(
+    fn aggregate(
         &self,
         spot: Spot,
         type_name: Identifier<'t>,
@@ -57,7 +93,7 @@ impl<'t> Resolver<'t> {
             (allocated_remark (known self) access spot (ident_of name.entry)) }
     {
         match self.lookup(name, notes) {
-            Some(Entity::Record(number)) => {
+            Some(Entity::Record { number, size: _ }) => {
                 notes.note_if(
                     !self.designated_if_known(access, number),
                     spot,
@@ -84,10 +120,9 @@ impl<'t> Resolver<'t> {
     }
 }
 
-/// Whether an allocator is in use: it has no handle (13.11.4), and items.
-#[tactic(auto, unfolding(crate::specs::Allocators::is_in_use), using(crate::proofs::ItemLists::items_some))]
-pub(crate) fn is_in_use(handle: &Option<Identifier<'_>>, items: &[Item<'_>]) -> bool
-    ensures { result ≡ is_in_use (optional_ident_of handle.now) (items_of items.now) }
+/// Whether an allocator is in use: it has no handle (13.11.4).
+pub(crate) fn is_in_use(handle: &Option<Identifier<'_>>) -> bool
+    ensures { result ≡ is_in_use (optional_ident_of handle.now) }
 {
-    handle.is_none() && !items.is_empty()
+    handle.is_none()
 }

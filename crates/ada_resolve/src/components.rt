@@ -1,22 +1,35 @@
 //! Types as they are kept while names are looked up: components are found by their names.
 
-ghost use Rattle.std.specs.Prelude.{◌≡◌, map, length, slice_get, [], OnOk, IfErr};
-ghost use Rattle.ada_program.specs.ProgramForm.{component_form, type_form};
-ghost use Rattle.ada_resolve.specs.Kept.{forms_of, known_type_form};
-ghost use Rattle.ada_resolve.specs.Method.{Finds, AddsComponent, each};
+ghost use Rattle.std.specs.Prelude.{◌≡◌, ◌+◌, ◌∷◌, [], map, length, slice_get, IfOk, OnOk, IfErr};
+ghost use Rattle.ada_program.specs.ProgramForm.{part_form, type_form};
+ghost use Rattle.ada_resolve.specs.Kept.{composition_in, forms_of, known_type_form, with_declared, with_kinds};
+ghost use Rattle.ada_resolve.specs.Method.{Finds, Composes, each, kinds_listed};
 ghost use Rattle.ada_resolve.specs.Paths.{component_at, component_named};
-ghost use Rattle.ada_resolve.specs.Records.{is_component};
+ghost use Rattle.ada_resolve.specs.Records.{is_component, no_components};
 
 use crate::fault::NameFault;
 use ada_program::TypeNo;
-use ada_program::program::{Component, ComponentKind, TypeDefinition};
+use ada_program::program::{ComponentKind, ComponentNo, Part, PartKind, TypeDefinition};
 use indexmap::IndexMap;
 use std::alloc::Global;
 
-/// The components of a record type, in order.
+/// What a component is.
+#[derive(Clone, Copy)]
+pub(crate) struct KnownComponent {
+    pub(crate) kind: PartKind,
+    /// The number of its first elementary component in the record type.
+    pub(crate) first: usize,
+}
+
+/// The components of a record type.
 #[derive(Drop)]
 pub(crate) struct Components<'t> {
-    entries: IndexMap<&'t str, ComponentKind>,
+    /// As they are declared, in order.
+    entries: IndexMap<&'t str, KnownComponent>,
+    /// The elementary ones at any depth, in order.
+    kinds: Vec<ComponentKind>,
+    /// How many there are at any depth, records among them.
+    size: usize,
 }
 
 /// A type that is declared.
@@ -36,16 +49,26 @@ pub(crate) enum KnownType<'t> {
 
 impl<'t> Components<'t> {
     /// No component.
-    #[tactic(auto, unfolding(crate::specs::Kept::forms_of))]
+    #[tactic(auto, unfolding(crate::specs::Kept::composition_in, crate::specs::Kept::forms_of))]
     pub(crate) fn new(alloc: Global) -> Components<'t>
-        ensures { forms_of result ≡ [] }
+        ensures { composition_in result ≡ no_components }
     {
         Components {
             entries: IndexMap::new(alloc),
+            kinds: Vec::new(alloc),
+            size: 0,
         }
     }
 
-    /// How many components there are.
+    /// How many there are at any depth, records among them.
+    #[tactic(auto, unfolding(crate::specs::Kept::composition_in))]
+    pub(crate) fn size(&self) -> usize
+        ensures { result ≡ (composition_in self.now).size }
+    {
+        self.size
+    }
+
+    /// How many components are declared.
     #[tactic(auto, unfolding(crate::specs::Kept::forms_of))]
     pub(crate) fn count(&self) -> usize
         ensures { result ≡ length (forms_of self.now) }
@@ -53,57 +76,107 @@ impl<'t> Components<'t> {
         self.entries.len()
     }
 
-    /// The component of a name, by its number, and what it holds.
+    /// The component of a name, by its place, and what it is.
     #[tactic(auto, unfolding(crate::specs::Kept::forms_of), using(crate::proofs::ComponentLists::found_named, crate::proofs::ComponentLists::none_found))]
-    pub(crate) fn named(&self, text: &'t str) -> Option<(usize, ComponentKind)>
+    pub(crate) fn named(&self, text: &'t str) -> Option<(usize, KnownComponent)>
         ensures { result ≡ component_named 0 text.now (forms_of self.now) }
     {
         match self.entries.get_index_of(text) {
-            Some(number) => self.at(number),
+            Some(place) => self.at(place),
             None => None,
         }
     }
 
     /// Whether one of them has the name.
     pub(crate) fn has(&self, text: &'t str) -> bool
-        ensures { result ≡ is_component text.now (forms_of self.now) }
+        ensures { result ≡ is_component text.now (composition_in self.now).parts }
     {
         self.named(text).is_some()
     }
 
-    /// The component of a number, and what it holds.
+    /// The component of a place, and what it is.
     #[tactic(auto, unfolding(crate::specs::Kept::forms_of), using(crate::proofs::Names::map_get))]
-    pub(crate) fn at(&self, number: usize) -> Option<(usize, ComponentKind)>
-        ensures { result ≡ component_at number (slice_get (forms_of self.now) number) }
+    pub(crate) fn at(&self, place: usize) -> Option<(usize, KnownComponent)>
+        ensures { result ≡ component_at place (slice_get (forms_of self.now) place) }
     {
-        match self.entries.get_index(number) {
-            Some((_, kind)) => Some((number, *kind)),
+        match self.entries.get_index(place) {
+            Some((_, component)) => Some((place, *component)),
             None => None,
         }
     }
 
-    /// One more component.
-    #[tactic(auto, unfolding(crate::specs::Kept::forms_of), using(crate::proofs::ComponentLists::with_component_map))]
-    pub(crate) fn add(&mut self, name: &'t str, kind: ComponentKind) -> Result<(), NameFault>
-        ensures added { OnOk result (AddsComponent self (record { name = name.now; kind = kind })) }
+    /// How many components there are at any depth with as many more.
+    #[tactic(auto, unfolding(crate::specs::Kept::composition_in))]
+    pub(crate) fn size_with(&self, more: usize) -> Result<usize, NameFault>
+        ensures size { IfOk result (λ n. n ≡ (composition_in self.now).size + more) }
         ensures memory { IfErr result (λ e. e ≡ NameFault.NoMemory) }
     {
-        self.entries.insert(name, kind)?;
+        self.size.checked_add(more).ok_or(NameFault::NoMemory)
+    }
+
+    /// One more component, with which there are as many at any depth. Its elementary components come behind those before.
+    #[tactic(auto, unfolding(crate::specs::Kept::composition_in, crate::specs::Kept::forms_of), using(crate::proofs::ComponentLists::with_component_map))]
+    pub(crate) fn add(
+        &mut self,
+        name: &'t str,
+        kind: PartKind,
+        size: usize,
+    ) -> Result<(), NameFault>
+        ensures added { OnOk result (Composes self (with_declared name.now kind size)) }
+        ensures memory { IfErr result (λ e. e ≡ NameFault.NoMemory) }
+    {
+        let first = self.kinds.len();
+        self.entries.insert(name, KnownComponent { kind, first })?;
+        self.size = size;
         Ok(())
     }
 
-    /// The components as a program has them.
-    #[tactic(auto, unfolding(crate::specs::Kept::forms_of))]
-    fn definitions(&self, alloc: Global) -> Result<Vec<Component>, NameFault>
-        ensures components { Finds (each component_form) result (forms_of self.now) }
+    /// One more elementary component.
+    #[tactic(auto, unfolding(crate::specs::Kept::composition_in, crate::specs::Kept::forms_of))]
+    pub(crate) fn push(&mut self, kind: ComponentKind) -> Result<(), NameFault>
+        ensures added { OnOk result (Composes self (with_kinds (kind ∷ []))) }
         ensures memory { IfErr result (λ e. e ≡ NameFault.NoMemory) }
     {
-        let mut components = Vec::new(alloc);
-        for (name, kind) in self.entries.as_slice() {
+        self.kinds.push(kind)?;
+        Ok(())
+    }
+
+    /// The elementary components of a record more.
+    #[tactic(auto, unfolding(crate::specs::Kept::composition_in, crate::specs::Kept::forms_of))]
+    pub(crate) fn extend(&mut self, inner: &Components<'t>) -> Result<(), NameFault>
+        ensures added { OnOk result (Composes self (with_kinds inner.now.kinds.items)) }
+        ensures memory { IfErr result (λ e. e ≡ NameFault.NoMemory) }
+    {
+        self.kinds.extend_from_slice(&inner.kinds)?;
+        Ok(())
+    }
+
+    /// The components as they are declared, as a program has them.
+    #[tactic(auto, unfolding(crate::specs::Kept::forms_of))]
+    fn parts(&self, alloc: Global) -> Result<Vec<Part>, NameFault>
+        ensures components { Finds (each part_form) result (forms_of self.now) }
+        ensures memory { IfErr result (λ e. e ≡ NameFault.NoMemory) }
+    {
+        let mut parts = Vec::new(alloc);
+        for (name, component) in self.entries.as_slice() {
             let name = String::from_str(alloc, *name)?;
-            components.push(Component { name, kind: *kind })?;
+            parts.push(Part {
+                name,
+                kind: component.kind,
+                first: ComponentNo(component.first),
+            })?;
         }
-        Ok(components)
+        Ok(parts)
+    }
+
+    /// The elementary components, as a program has them.
+    fn kinds(&self, alloc: Global) -> Result<Vec<ComponentKind>, NameFault>
+        ensures components { Finds kinds_listed result self.now.kinds.items }
+        ensures memory { IfErr result (λ e. e ≡ NameFault.NoMemory) }
+    {
+        let mut kinds = Vec::new(alloc);
+        kinds.extend_from_slice(&self.kinds)?;
+        Ok(kinds)
     }
 }
 
@@ -116,7 +189,8 @@ impl<'t> KnownType<'t> {
         match self {
             KnownType::Record { name, components } => Ok(TypeDefinition::Record {
                 name: String::from_str(alloc, *name)?,
-                components: components.definitions(alloc)?,
+                parts: components.parts(alloc)?,
+                components: components.kinds(alloc)?,
             }),
             KnownType::Access { name, designated } => Ok(TypeDefinition::Access {
                 name: String::from_str(alloc, *name)?,

@@ -7,21 +7,21 @@ ghost use Rattle.ada_tree.specs.ExpressionView.{items_of};
 ghost use Rattle.ada_tree.specs.Names.{optional_ident_of};
 ghost use Rattle.ada_program.specs.Form.{item_form};
 ghost use Rattle.ada_program.specs.Kept.{variables_in};
-ghost use Rattle.ada_resolve.specs.Items.{component_for, count_remark, filled_for, fits_remark, is_filled, item_meant, item_or_null, item_spot, names_component, no_component, with_item};
+ghost use Rattle.ada_resolve.specs.Items.{component_for, count_remark, filled_for, fits_remark, is_filled, item_meant, item_or_null, item_spot, names_component, no_component, record_item_wanted, with_item};
 ghost use Rattle.ada_resolve.specs.Kept.{forms_in};
 ghost use Rattle.ada_resolve.specs.Look.{Looks, items_look};
 ghost use Rattle.ada_resolve.specs.Method.{known, Finds, IsNoted, Remarks, Fills, written_item_remark, written_for_remark, each, label_of, written_value, empty_filling, item_filling};
 ghost use Rattle.ada_resolve.specs.Paths.{components_of};
 ghost use Rattle.ada_resolve.specs.View.{filling_in, item_in, meant_of};
 
-use crate::components::Components;
+use crate::components::{Components, KnownComponent};
 use crate::fault::{NameFault, NameRule};
 use crate::library::no_component_rule;
 use crate::meant::Meant;
 use crate::notes::Notes;
 use crate::resolver::Resolver;
 use crate::spots::expression_spot;
-use ada_program::program::{self, ComponentKind, Variable};
+use ada_program::program::{self, ComponentKind, PartKind, Variable};
 use ada_program::{Spot, TypeNo};
 use ada_tree::expressions::Item;
 use ada_tree::names::Identifier;
@@ -73,7 +73,7 @@ impl<'t> Resolver<'t> {
         })
     }
 
-    /// How many components a record type has.
+    /// How many components a record type declares.
     fn component_count(&self, number: TypeNo) -> usize
         ensures { result ≡ length (components_of (known self).types number.0) }
     {
@@ -125,7 +125,7 @@ impl Filling {
     fn component_item(
         &self,
         variables: &[Variable],
-        component: Option<(usize, ComponentKind)>,
+        component: Option<(usize, KnownComponent)>,
         item: &Item<'_>,
         value: &Meant,
         notes: &mut Notes,
@@ -133,16 +133,17 @@ impl Filling {
         ensures { IsNoted notes (written_for_remark variables.now component self.now item.now value.now) }
     {
         match component {
-            Some((at, kind)) => {
+            Some((at, component)) => {
                 notes.note_if(self.is_filled(at), item_spot(item), NameRule::WrongType);
-                fits(variables, kind, value, expression_spot(&item.value), notes);
+                let spot = expression_spot(&item.value);
+                fits(variables, component.kind, value, spot, notes);
             }
             None => no_component(item, notes),
         }
     }
 
     /// What is known after an item for this component.
-    fn fill(&mut self, component: Option<(usize, ComponentKind)>, alike: bool, item: program::Item)
+    fn fill(&mut self, component: Option<(usize, KnownComponent)>, alike: bool, item: program::Item)
         requires room { self.old.count < usize.MAX }
         ensures filling { Fills self (λ f. filled_for component f alike (item_form item)) }
         ensures count { self.new.count ≡ self.old.count + 1 }
@@ -243,7 +244,7 @@ fn component_for<'t>(
     components: Option<&Components<'t>>,
     label: Option<Identifier<'t>>,
     at: usize,
-) -> Option<(usize, ComponentKind)>
+) -> Option<(usize, KnownComponent)>
     ensures { result ≡ component_for (forms_in (option_copied components.entry))
         (optional_ident_of label.entry) at }
 {
@@ -264,17 +265,28 @@ fn no_component(item: &Item<'_>, notes: &mut Notes)
 }
 
 /// A value is of its component's type, and that of an access component is no borrower as a whole.
-fn fits(variables: &[Variable], kind: ComponentKind, value: &Meant, spot: Spot, notes: &mut Notes)
+fn fits(variables: &[Variable], kind: PartKind, value: &Meant, spot: Spot, notes: &mut Notes)
     ensures { IsNoted notes
         (fits_remark (variables_in variables.now) kind (meant_of value.now) spot) }
 {
     match kind {
-        ComponentKind::Integer { .. } => value.integer_wanted(spot, notes),
-        ComponentKind::Boolean { .. } => value.boolean_wanted(spot, notes),
-        ComponentKind::Access(access) => {
+        PartKind::Elementary(ComponentKind::Integer { .. }) => value.integer_wanted(spot, notes),
+        PartKind::Elementary(ComponentKind::Boolean { .. }) => value.boolean_wanted(spot, notes),
+        PartKind::Elementary(ComponentKind::Access(access)) => {
             value.access_wanted(access, spot, notes);
             value.owner_wanted(variables, spot, notes);
         }
+        PartKind::Record(_) => record_item_wanted(value, spot, notes),
+    }
+}
+
+/// No value but a whole record is one of a record component.
+fn record_item_wanted(value: &Meant, spot: Spot, notes: &mut Notes)
+    ensures { IsNoted notes (record_item_wanted (meant_of value.now) spot) }
+{
+    match value {
+        Meant::Unknown => {}
+        _ => notes.note(spot, NameRule::WrongType),
     }
 }
 

@@ -198,7 +198,9 @@ fn type_in(found: Entity) -> Option<Entity>
     ensures { result ≡ type_in (Some found) }
 {
     match found {
-        Entity::Integer | Entity::Boolean | Entity::Record(_) | Entity::Access(_) => Some(found),
+        Entity::Integer | Entity::Boolean | Entity::Record { .. } | Entity::Access(_) => Some(
+            found,
+        ),
         _ => None,
     }
 }

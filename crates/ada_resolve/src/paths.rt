@@ -3,14 +3,14 @@
 ghost use Rattle.std.specs.Prelude.{◌≡◌, map, slice_get, option_copied, IfErr};
 ghost use Rattle.ada_tree.specs.Names.{ident_of, selector_of};
 ghost use Rattle.ada_program.specs.Form.{path_form};
-ghost use Rattle.ada_resolve.specs.Kept.{forms_in};
+ghost use Rattle.ada_resolve.specs.Kept.{forms_in, kinds_in};
 ghost use Rattle.ada_resolve.specs.Known.{parts_of};
 ghost use Rattle.ada_resolve.specs.Look.{Looks, library_path_look, named_look, path_look, variable_look};
 ghost use Rattle.ada_resolve.specs.Method.{known, Finds, each};
-ghost use Rattle.ada_resolve.specs.Paths.{component_named, components_of, designated_of, is_incomplete_type, name_of_type, reached_meant};
+ghost use Rattle.ada_resolve.specs.Paths.{component_named, components_of, designated_of, elementary_of, is_incomplete_type, name_of_type, reached_meant};
 ghost use Rattle.ada_resolve.specs.View.{meant_of, optional_number, itself};
 
-use crate::components::{Components, KnownType};
+use crate::components::{Components, KnownComponent, KnownType};
 use crate::fault::{NameFault, NameRule};
 use crate::library::{LibraryName, is_library_root};
 use crate::meant::Meant;
@@ -19,7 +19,7 @@ use crate::part::{is_incomplete_in, is_this_incomplete};
 use crate::resolver::Resolver;
 use crate::scope::Entity;
 use crate::selectors::Reached;
-use ada_program::program::{self, ComponentKind, Expression, VariableKind};
+use ada_program::program::{self, Expression, VariableKind};
 use ada_program::{Spot, TypeNo, VariableNo};
 use ada_tree::names::{Identifier, Path, Selector};
 
@@ -103,12 +103,12 @@ impl<'t> Resolver<'t> {
         ))
     }
 
-    /// The component of a name in a type.
+    /// The component of a name in a type: its place, and what it is.
     pub(crate) fn component_of(
         &self,
         number: TypeNo,
         text: &'t str,
-    ) -> Option<(usize, ComponentKind)>
+    ) -> Option<(usize, KnownComponent)>
         ensures { result ≡ component_named 0 text.now (components_of (known self).types number.0) }
     {
         self.components_of(number)?.named(text)
@@ -131,9 +131,12 @@ impl<'t> Resolver<'t> {
     }
 
     /// The components of a record type.
-    #[tactic(auto, unfolding(crate::specs::View::known_of, crate::specs::Paths::components_of), using(crate::proofs::Names::map_get))]
+    #[tactic(auto, unfolding(crate::specs::View::known_of, crate::specs::Paths::components_of, crate::specs::Paths::elementary_of), using(crate::proofs::Names::map_get))]
     pub(crate) fn components_of(&self, number: TypeNo) -> Option<&Components<'t>>
-        ensures { forms_in (option_copied result) ≡ components_of (known self).types number.0 }
+        ensures declared { forms_in (option_copied result)
+            ≡ components_of (known self).types number.0 }
+        ensures elementary { kinds_in (option_copied result)
+            ≡ elementary_of (known self).types number.0 }
     {
         match self.types.get(number.0) {
             Some(
@@ -212,6 +215,6 @@ fn reached_meant(reached: Reached, path: program::Path) -> Meant
         Reached::Value(VariableKind::Integer) => Meant::Integer(Expression::Path(path)),
         Reached::Value(VariableKind::Boolean) => Meant::Boolean(Expression::Path(path)),
         Reached::Value(VariableKind::Access(access)) => Meant::Access(path, access),
-        Reached::Object(_) | Reached::Nothing => Meant::Unknown,
+        Reached::Object { .. } | Reached::Nothing => Meant::Unknown,
     }
 }

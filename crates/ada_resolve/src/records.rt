@@ -1,11 +1,11 @@
 //! Resolution of record types (3.8).
 
-ghost use Rattle.std.specs.Prelude.{◌≡◌, IfErr, OnOk};
+ghost use Rattle.std.specs.Prelude.{◌≡◌, IfErr, IfOk, OnOk};
 ghost use Rattle.ada_tree.specs.Records.{component_of, initial_static_of};
-ghost use Rattle.ada_resolve.specs.Kept.{forms_of};
+ghost use Rattle.ada_resolve.specs.Kept.{composition_in, with_kinds};
 ghost use Rattle.ada_resolve.specs.Look.{Looks, components_look, listed_look};
-ghost use Rattle.ada_resolve.specs.Method.{known, IsNoted, Remarks, AddsComponent, record_tree, Declares, meant_component, next_component_remark};
-ghost use Rattle.ada_resolve.specs.Records.{initial_value, initial_truth, no_value_remark, kind_remark, kind_of_component, first_integer_remark, first_truth_remark};
+ghost use Rattle.ada_resolve.specs.Method.{known, IsNoted, Remarks, Composes, record_tree, Declares, next_component_remark, with_kept};
+ghost use Rattle.ada_resolve.specs.Records.{initial_value, initial_truth, no_value_remark, kind_remark, kind_of_component, kinds_within, size_of_component, first_integer_remark, first_truth_remark};
 
 use crate::components::{Components, KnownType};
 use crate::fault::{NameFault, NameRule};
@@ -14,16 +14,16 @@ use crate::notes::Notes;
 use crate::resolver::Resolver;
 use crate::scope::{Entity, is_taken};
 use ada_program::Spot;
-use ada_program::program::ComponentKind;
+use ada_program::program::{ComponentKind, PartKind};
 use ada_tree::names::Identifier;
 use ada_tree::records::{ComponentDefinition, RecordDefinition, StaticValue};
 
-/// The most components of a record.
+/// The most components of a record, at any depth.
 const MOST_COMPONENTS: usize = 4_096;
 
 impl<'t> Resolver<'t> {
     /// `type T is record .. end record;` (3.8)
-    #[tactic(auto, using(std::proofs::lemmas::Grind::common_steps, crate::proofs::ComponentLists::listed_once))]
+    #[tactic(auto, using(std::proofs::lemmas::Grind::common_steps, crate::proofs::ComponentLists::listed_once, crate::proofs::ComponentLists::parts_kept, crate::proofs::ComponentLists::kinds_kept))]
     pub(crate) fn record_type(
         &mut self,
         spot: Spot,
@@ -38,12 +38,13 @@ impl<'t> Resolver<'t> {
         self.new_unless(completes, name, spot, notes);
         let components = self.components(definition, notes)?;
         notes.settle()?;
+        let size = components.size();
         let definition = KnownType::Record {
             name: name.text,
             components,
         };
         let number = self.define(completes, definition)?;
-        self.declare(name.text, Entity::Record(number))
+        self.declare(name.text, Entity::Record { number, size })
     }
 
     /// The components of a record type.
@@ -52,7 +53,7 @@ impl<'t> Resolver<'t> {
         definition: &RecordDefinition<'t>,
         notes: &mut Notes,
     ) -> Result<Components<'t>, NameFault>
-        ensures { Looks forms_of result notes (components_look self definition.now) }
+        ensures { Looks composition_in result notes (components_look self definition.now) }
     {
         match definition {
             RecordDefinition::Components { first, rest } => self.component_list(first, rest, notes),
@@ -61,39 +62,38 @@ impl<'t> Resolver<'t> {
     }
 
     /// The components that are listed.
-    #[tactic(auto, using(std::proofs::lemmas::Grind::common_steps, crate::proofs::ComponentLists::remark_next))]
+    #[tactic(auto, using(std::proofs::lemmas::Grind::common_steps, crate::proofs::ComponentLists::remark_first, crate::proofs::ComponentLists::remark_next))]
     fn component_list(
         &self,
         first: &ComponentDefinition<'t>,
         rest: &[ComponentDefinition<'t>],
         notes: &mut Notes,
     ) -> Result<Components<'t>, NameFault>
-        ensures { Looks forms_of result notes (listed_look self first.now rest.now) }
+        ensures { Looks composition_in result notes (listed_look self first.now rest.now) }
     {
         let mut components = Components::new(self.alloc);
-        self.component(first, 0, &mut components, notes)?;
-        for (i, definition) in rest.iter().enumerate() {
-            self.component(definition, i + 1, &mut components, notes)?;
+        self.component(first, &mut components, notes)?;
+        for definition in rest {
+            self.component(definition, &mut components, notes)?;
         }
         Ok(components)
     }
 
-    /// `C : T := 0;` (3.8), behind `count` others: Integer or Boolean with an initial value, or an access type without one.
-    #[tactic(auto, unfolding(crate::specs::Records::component_remark, crate::specs::Records::component_meant))]
+    /// `C : T := 0;` (3.8), behind others: Integer or Boolean with an initial value, or an access type or a record type without one.
+    #[tactic(auto, unfolding(crate::specs::Records::component_remark, crate::specs::Records::component_meant, crate::specs::Kept::kept_with))]
     fn component(
         &self,
         component: &ComponentDefinition<'t>,
-        count: usize,
         components: &mut Components<'t>,
         notes: &mut Notes,
     ) -> Result<(), NameFault>
-        ensures meant { OnOk result
-            (AddsComponent components (meant_component self component.now)) }
+        ensures meant { OnOk result (Composes components (with_kept self component.now)) }
         ensures remark { Remarks result notes
-            (next_component_remark self components count component.now) }
+            (next_component_remark self components component.now) }
         ensures memory { IfErr result (λ e. e ≡ NameFault.NoMemory) }
     {
         let name = component.name;
+        let size = components.size_with(self.component_size(component)?)?;
         notes.node(name.spot);
         notes.note_if(is_taken(name.text), name.spot, NameRule::DeclaredTwice);
         notes.note_if(
@@ -102,40 +102,66 @@ impl<'t> Resolver<'t> {
             NameRule::DeclaredTwice,
         );
         notes.note_if(is_primitive(name.text), name.spot, NameRule::NotInProfile);
-        notes.note_if(count == MOST_COMPONENTS, name.spot, NameRule::Limit);
+        notes.note_if(size > MOST_COMPONENTS, name.spot, NameRule::Limit);
         let kind = self.component_kind(component, notes);
-        components.add(name.text, kind)
+        components.add(name.text, kind, size)?;
+        self.add_kinds(kind, components)
     }
 
-    /// What a component holds; where that is wrong, whatever was noted comes first.
-    fn component_kind(
-        &self,
-        component: &ComponentDefinition<'t>,
-        notes: &mut Notes,
-    ) -> ComponentKind
+    /// How many components one is, with those at any depth of a record.
+    fn component_size(&self, component: &ComponentDefinition<'t>) -> Result<usize, NameFault>
+        ensures size { IfOk result
+            (λ n. n ≡ size_of_component (known self) (component_of component.now)) }
+        ensures memory { IfErr result (λ e. e ≡ NameFault.NoMemory) }
+    {
+        match self.visible(component.type_name.text) {
+            Some(Entity::Record { number: _, size }) => {
+                size.checked_add(1).ok_or(NameFault::NoMemory)
+            }
+            _ => Ok(1),
+        }
+    }
+
+    /// The elementary components of a component come behind those before.
+    fn add_kinds(&self, kind: PartKind, components: &mut Components<'t>) -> Result<(), NameFault>
+        ensures added { OnOk result (Composes components
+            (with_kinds (kinds_within (known self).types kind))) }
+        ensures memory { IfErr result (λ e. e ≡ NameFault.NoMemory) }
+    {
+        match kind {
+            PartKind::Elementary(kind) => components.push(kind),
+            PartKind::Record(number) => match self.components_of(number) {
+                Some(inner) => components.extend(inner),
+                None => Ok(()),
+            },
+        }
+    }
+
+    /// What a component is; where that is wrong, whatever was noted comes first.
+    fn component_kind(&self, component: &ComponentDefinition<'t>, notes: &mut Notes) -> PartKind
         ensures meant { result ≡ kind_of_component (known self) (component_of component.now) }
         ensures remark { IsNoted notes (kind_remark (known self) (component_of component.now)) }
     {
         match self.lookup(component.type_name, notes) {
-            Some(Entity::Integer) => ComponentKind::Integer {
+            Some(Entity::Integer) => PartKind::Elementary(ComponentKind::Integer {
                 initial: self.initial_value(component, notes),
-            },
-            Some(Entity::Boolean) => ComponentKind::Boolean {
+            }),
+            Some(Entity::Boolean) => PartKind::Elementary(ComponentKind::Boolean {
                 initial: self.initial_truth(component, notes),
-            },
+            }),
             Some(Entity::Access(number)) => {
                 self.no_value(&component.initial, notes);
-                ComponentKind::Access(number)
+                PartKind::Elementary(ComponentKind::Access(number))
             }
-            Some(Entity::Record(_)) => {
-                notes.note(component.type_name.spot, NameRule::NotInProfile);
-                ComponentKind::Integer { initial: 0 }
+            Some(Entity::Record { number, size: _ }) => {
+                self.no_value(&component.initial, notes);
+                PartKind::Record(number)
             }
             Some(_) => {
                 notes.note(component.type_name.spot, NameRule::WrongType);
-                ComponentKind::Integer { initial: 0 }
+                PartKind::Elementary(ComponentKind::Integer { initial: 0 })
             }
-            None => ComponentKind::Integer { initial: 0 },
+            None => PartKind::Elementary(ComponentKind::Integer { initial: 0 }),
         }
     }
 
@@ -169,7 +195,7 @@ impl<'t> Resolver<'t> {
         }
     }
 
-    /// An access component has no initial value.
+    /// An access component has no initial value, and neither has a record.
     fn no_value(&self, initial: &Option<StaticValue<'t>>, notes: &mut Notes)
         ensures { IsNoted notes (no_value_remark (known self) (initial_static_of initial.now)) }
     {

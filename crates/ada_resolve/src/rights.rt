@@ -45,8 +45,8 @@ impl<'t> Resolver<'t> {
             } => {
                 access_object_wanted(kind, *spot, notes);
                 notes.note_if(borrows, *spot, NameRule::WrongType);
-                if is_in_use(handle, items) {
-                    self.aggregate(*spot, *type_name, items, access_kind(kind), notes)
+                if is_in_use(handle) {
+                    self.new_object(*spot, *type_name, items, access_kind(kind), notes)
                 } else {
                     notes.note(*spot, NameRule::NotInProfile);
                     Ok(None)

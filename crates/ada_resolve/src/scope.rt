@@ -24,8 +24,11 @@ pub(crate) enum Entity {
     Procedure,
     /// A record type that is not completed yet (3.10.1).
     Incomplete(TypeNo),
-    /// A record type (3.8).
-    Record(TypeNo),
+    /// A record type (3.8), and how many components it has at any depth.
+    Record {
+        number: TypeNo,
+        size: usize,
+    },
     /// An access type (3.10).
     Access(TypeNo),
     /// An instance of Unchecked_Deallocation for an access type (13.11.2).

@@ -1,18 +1,19 @@
 //! What a path selects behind its variable, one selector behind the other (4.1, 4.1.3).
 
-ghost use Rattle.std.specs.Prelude.{◌≡◌, map, OnOk};
+ghost use Rattle.std.specs.Prelude.{◌≡◌, ◌+◌, map, IfOk, IfErr, OnOk};
 ghost use Rattle.ada_tree.specs.Names.{ident_of, selector_of};
 ghost use Rattle.ada_program.specs.WellFormed as fits;
 ghost use Rattle.ada_resolve.specs.Look.{Looks, selector_look, selectors_look};
 ghost use Rattle.ada_resolve.specs.Method.{known, IsNoted, Selects};
-ghost use Rattle.ada_resolve.specs.Paths.{all_remark, complete_behind, component_behind, component_behind_remark, component_in, component_selected, component_within_remark, components_selected, no_object, object_behind, object_in};
+ghost use Rattle.ada_resolve.specs.Paths.{all_remark, complete_behind, component_behind, component_behind_remark, component_in, component_selected, component_within_remark, components_selected, first_behind, no_object, object_behind, object_in};
 ghost use Rattle.ada_resolve.specs.View.{itself, optional_number};
 
+use crate::components::KnownComponent;
 use crate::fault::{NameFault, NameRule};
 use crate::library::no_component_rule;
 use crate::notes::Notes;
 use crate::resolver::Resolver;
-use ada_program::program::{ComponentKind, ComponentNo, VariableKind};
+use ada_program::program::{ComponentKind, ComponentNo, PartKind, VariableKind};
 use ada_program::{Spot, TypeNo};
 use ada_tree::names::{Identifier, Selector};
 
@@ -23,8 +24,12 @@ pub(crate) enum Reached {
     Nothing,
     /// The value of a variable or of a component.
     Value(VariableKind),
-    /// A whole object of this record type, to which an access value gives access.
-    Object(TypeNo),
+    /// A whole object of this record type: the one to which the last access value gives access, or a component of it.
+    Object {
+        number: TypeNo,
+        /// The number of its first elementary component in the object to which the value gives access.
+        first: usize,
+    },
 }
 
 impl<'t> Resolver<'t> {
@@ -64,9 +69,15 @@ impl<'t> Resolver<'t> {
     {
         match selector {
             Selector::Component(name) => match self.component_behind(reached, spot, *name, notes) {
-                Some((at, kind)) => {
-                    components.push(ComponentNo(at))?;
-                    Ok(Reached::Value(held_kind(kind)))
+                Some((_, component)) => {
+                    let first = reached.first_with(component.first)?;
+                    match component.kind {
+                        PartKind::Elementary(kind) => {
+                            components.push(ComponentNo(first))?;
+                            Ok(Reached::Value(held_kind(kind)))
+                        }
+                        PartKind::Record(number) => Ok(Reached::Object { number, first }),
+                    }
                 }
                 None => Ok(Reached::Nothing),
             },
@@ -81,7 +92,7 @@ impl<'t> Resolver<'t> {
         spot: Spot,
         name: Identifier<'t>,
         notes: &mut Notes,
-    ) -> Option<(usize, ComponentKind)>
+    ) -> Option<(usize, KnownComponent)>
         ensures found { result ≡ component_behind (known self) reached (ident_of name.entry) }
         ensures remark { IsNoted notes
             (component_behind_remark (known self) spot reached (ident_of name.entry)) }
@@ -91,7 +102,9 @@ impl<'t> Resolver<'t> {
             Reached::Value(VariableKind::Access(access)) => {
                 self.component_in(self.designated_type(access), spot, name, notes)
             }
-            Reached::Object(number) => self.component_in(Some(number), spot, name, notes),
+            Reached::Object { number, first: _ } => {
+                self.component_in(Some(number), spot, name, notes)
+            }
             Reached::Value(VariableKind::Integer | VariableKind::Boolean) => {
                 notes.note(spot, NameRule::WrongType);
                 None
@@ -106,7 +119,7 @@ impl<'t> Resolver<'t> {
         spot: Spot,
         name: Identifier<'t>,
         notes: &mut Notes,
-    ) -> Option<(usize, ComponentKind)>
+    ) -> Option<(usize, KnownComponent)>
         ensures found { result
             ≡ component_in (known self) (optional_number number) (ident_of name.entry) }
         ensures remark { IsNoted notes
@@ -138,7 +151,8 @@ impl<'t> Resolver<'t> {
             Reached::Value(VariableKind::Access(access)) => {
                 self.object_in(self.designated_type(access), spot, notes)
             }
-            Reached::Value(VariableKind::Integer | VariableKind::Boolean) | Reached::Object(_) => {
+            Reached::Value(VariableKind::Integer | VariableKind::Boolean)
+            | Reached::Object { .. } => {
                 notes.note(spot, NameRule::WrongType);
                 Reached::Nothing
             }
@@ -151,7 +165,7 @@ impl<'t> Resolver<'t> {
         ensures remark { IsNoted notes (complete_behind (known self) spot (optional_number number)) }
     {
         match number {
-            Some(number) if !self.is_incomplete(number) => Reached::Object(number),
+            Some(number) if !self.is_incomplete(number) => Reached::Object { number, first: 0 },
             Some(_) | None => {
                 notes.note(spot, NameRule::WrongType);
                 Reached::Nothing
@@ -161,11 +175,26 @@ impl<'t> Resolver<'t> {
 }
 
 impl Reached {
+    /// The number of an elementary component, in the object that the last access value gives access to, which has this number in what is
+    /// reached.
+    fn first_with(self, first: usize) -> Result<usize, NameFault>
+        ensures number { IfOk result (λ n. n ≡ first_behind self + first) }
+        ensures memory { IfErr result (λ e. e ≡ NameFault.NoMemory) }
+    {
+        match self {
+            Reached::Object {
+                number: _,
+                first: before,
+            } => before.checked_add(first).ok_or(NameFault::NoMemory),
+            Reached::Nothing | Reached::Value(_) => Ok(first),
+        }
+    }
+
     /// No whole object is in use where a value is wanted.
     pub(crate) fn no_object(self, spot: Spot, notes: &mut Notes)
         ensures { IsNoted notes (no_object self spot) }
     {
-        if let Reached::Object(_) = self {
+        if let Reached::Object { .. } = self {
             notes.note(spot, NameRule::NotInProfile);
         }
     }

@@ -19,6 +19,7 @@ use ada_tree::names::Identifier;
 
 impl<'t> Resolver<'t> {
     /// `type T;` (3.10.1)
+    #[tactic(auto, unfolding(crate::specs::Kept::composition_in))]
     pub(crate) fn incomplete_type(
         &mut self,
         spot: Spot,
@@ -161,7 +162,7 @@ impl<'t> Resolver<'t> {
         ensures remark { IsNoted notes (record_remark (known self) (ident_of name.entry)) }
     {
         match self.lookup(name, notes) {
-            Some(Entity::Incomplete(number) | Entity::Record(number)) => Some(number),
+            Some(Entity::Incomplete(number) | Entity::Record { number, size: _ }) => Some(number),
             Some(_) => {
                 notes.note(name.spot, NameRule::WrongType);
                 None

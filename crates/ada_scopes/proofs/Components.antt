@@ -9,7 +9,7 @@ use Rattle.ada_program.specs.declared.program.ComponentKind.{ComponentKind}
 use Rattle.ada_program.specs.declared.program.ComponentKind.TheVariants as component
 use Rattle.ada_program.specs.declared.program.TypeNo.{TypeNo}
 use Rattle.ada_program.specs.declared.program.VariableKind.TheVariants as variable
-use Rattle.ada_program.specs.ProgramForm.{TypeForm, ComponentForm, program_form}
+use Rattle.ada_program.specs.ProgramForm.{TypeForm, program_form}
 use Rattle.ada_program.specs.WellFormed.{reached_components, held_kind, component_kind, kind_among}
 use Rattle.ada_meaning.specs.declared.state.Id.{Id}
 use Rattle.ada_meaning.specs.declared.state.Value.{Value}
@@ -214,13 +214,13 @@ kind_named cells (component.Integer initial) p has = absurd has
 kind_named cells (component.Boolean initial) p has = absurd has
 kind_named cells (component.Access access) p has = (access, refl, has)
 
-component_named : (cells : Cells) (cs : List ComponentForm) (vs : List Value) (c : ℕ) (p : Id) → HaveKinds cells cs vs → slice_get vs c ≡ Some (Names p) → (target : TypeNo) × (component_kind (slice_get cs c) ≡ Some (variable.Access target)) × Designates cells target.0 p
+component_named : (cells : Cells) (cs : List ComponentKind) (vs : List Value) (c : ℕ) (p : Id) → HaveKinds cells cs vs → slice_get vs c ≡ Some (Names p) → (target : TypeNo) × (component_kind (slice_get cs c) ≡ Some (variable.Access target)) × Designates cells target.0 p
 component_named cells [] [] c p have is = absurd (cc)
 component_named cells [] (v ∷ vs) c p have is = absurd have
 component_named cells (k ∷ cs) [] c p have is = absurd have
 component_named cells (k ∷ cs) (v ∷ vs) zero p have is =
     let same : v ≡ Names p = cc in
-    let named = kind_named cells k.kind p (subst (λ (w : Value). HasKind cells (held_kind k.kind) w) same have.0) in
+    let named = kind_named cells k p (subst (λ (w : Value). HasKind cells (held_kind k) w) same have.0) in
     (named.0, ap Some named.1, named.2)
 component_named cells (k ∷ cs) (v ∷ vs) (suc c) p have is = component_named cells cs vs c p have.1 is
 
@@ -270,7 +270,7 @@ held_outside types s nested kinds holder held holds =
     let own = holds.4 in
     let filled = kinds o holder listed.0 in
     let named = component_named (cells_of s.heap) filled.0 holder.cell.values holds.2 p filled.2 holds.5 in
-    let names : HoldsNames types holder.cell.access holds.2 named.0 = ap (λ (found : Option (List ComponentForm)). kind_among found holds.2) filled.1 ∙ named.1 in
+    let names : HoldsNames types holder.cell.access holds.2 named.0 = ap (λ (found : Option (List ComponentKind)). kind_among found holds.2) filled.1 ∙ named.1 in
     let here : slice_get (cells_of s.heap) p.0 ≡ Some held.cell = cell_at s.heap p.0 held own.0 in
     let twice : Some named.2.0 ≡ Some held.cell = sym named.2.1 ∙ here in
     let one_cell : named.2.0 ≡ held.cell = cc in

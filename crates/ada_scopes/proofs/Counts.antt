@@ -7,9 +7,8 @@ use Rattle.ada_program.specs.declared.program.ComponentKind.{ComponentKind}
 use Rattle.ada_program.specs.declared.program.ComponentKind.TheVariants as component
 use Rattle.ada_program.specs.declared.program.TypeNo.{TypeNo}
 use Rattle.ada_program.specs.declared.program.VariableKind.TheVariants as variable
-use Rattle.ada_program.specs.ProgramForm.{ComponentForm}
 use Rattle.ada_program.specs.WellFormed.{held_kind, component_kind, kind_among}
-use Rattle.ada_program.specs.Nested.{is_one_of, kind_is_open, component_is_open, are_open}
+use Rattle.ada_program.specs.Nested.{is_one_of, kind_is_open, are_open}
 use Rattle.ada_meaning.specs.State.{Owned, declared, collection, Item, Master}
 use Rattle.ada_meaning.specs.Step.{older, owning, shorter}
 use Rattle.ada_meaning.specs.Law.{items_of}
@@ -83,13 +82,13 @@ both : (a b : Bool) → a ≡ true → b ≡ true → (a && b) ≡ true
 both true b h g = g
 both false b h g = h
 
-components_within : (us vs : List ℕ) (cs : List ComponentForm) → Within us vs → list_all (component_is_open us) cs ≡ true → list_all (component_is_open vs) cs ≡ true
+components_within : (us vs : List ℕ) (cs : List ComponentKind) → Within us vs → list_all (kind_is_open us) cs ≡ true → list_all (kind_is_open vs) cs ≡ true
 components_within us vs [] le is = refl
 components_within us vs (c ∷ cs) le is =
-    both (component_is_open vs c) (list_all (component_is_open vs) cs) (kind_within us vs c.kind le (and_left (component_is_open us c) (list_all (component_is_open us) cs) is))
-    (components_within us vs cs le (and_right (component_is_open us c) (list_all (component_is_open us) cs) is))
+    both (kind_is_open vs c) (list_all (kind_is_open vs) cs) (kind_within us vs c le (and_left (kind_is_open us c) (list_all (kind_is_open us) cs) is))
+    (components_within us vs cs le (and_right (kind_is_open us c) (list_all (kind_is_open us) cs) is))
 
-pub open_within : (us vs : List ℕ) (o : Option (List ComponentForm)) → Within us vs → are_open us o ≡ true → are_open vs o ≡ true
+pub open_within : (us vs : List ℕ) (o : Option (List ComponentKind)) → Within us vs → are_open us o ≡ true → are_open vs o ≡ true
 open_within us vs None le is = refl
 open_within us vs (Some cs) le is = components_within us vs cs le is
 
@@ -99,12 +98,12 @@ kind_open us (component.Integer initial) target is opens = absurd (cc)
 kind_open us (component.Boolean initial) target is opens = absurd (cc)
 kind_open us (component.Access access) target is opens = let same : access ≡ target = cc in subst (λ (t : TypeNo). 1 ≤ times t.0 us) same (times_of us access.0 opens)
 
-component_open : (us : List ℕ) (cs : List ComponentForm) (c : ℕ) (target : TypeNo) → component_kind (slice_get cs c) ≡ Some (variable.Access target) → list_all (component_is_open us) cs ≡ true → 1 ≤ times target.0 us
+component_open : (us : List ℕ) (cs : List ComponentKind) (c : ℕ) (target : TypeNo) → component_kind (slice_get cs c) ≡ Some (variable.Access target) → list_all (kind_is_open us) cs ≡ true → 1 ≤ times target.0 us
 component_open us [] c target is opens = absurd (cc)
-component_open us (x ∷ cs) zero target is opens = kind_open us x.kind target (cc) (and_left (component_is_open us x) (list_all (component_is_open us) cs) opens)
-component_open us (x ∷ cs) (suc c) target is opens = component_open us cs c target is (and_right (component_is_open us x) (list_all (component_is_open us) cs) opens)
+component_open us (x ∷ cs) zero target is opens = kind_open us x target (cc) (and_left (kind_is_open us x) (list_all (kind_is_open us) cs) opens)
+component_open us (x ∷ cs) (suc c) target is opens = component_open us cs c target is (and_right (kind_is_open us x) (list_all (kind_is_open us) cs) opens)
 
-pub target_open : (us : List ℕ) (o : Option (List ComponentForm)) (c : ℕ) (target : TypeNo) → kind_among o c ≡ Some (variable.Access target) → are_open us o ≡ true → 1 ≤ times target.0 us
+pub target_open : (us : List ℕ) (o : Option (List ComponentKind)) (c : ℕ) (target : TypeNo) → kind_among o c ≡ Some (variable.Access target) → are_open us o ≡ true → 1 ≤ times target.0 us
 target_open us None c target is opens = absurd (cc)
 target_open us (Some cs) c target is opens = component_open us cs c target is opens
 

@@ -1,6 +1,6 @@
 -- A program whose collections nest and a run of it; and a program whose collections do not.
 
-use Rattle.std.proofs.Common.{◌≡◌, ◌≤◌, ◌<◌, ◌==◌, ℕ, zero, suc, Bool, true, false, List, [], ◌∷◌, ◌++◌, length, map, refl, sym, ap, ◌∙◌, subst, arith, inl, inr}
+use Rattle.std.proofs.Common.{◌≡◌, ◌≤◌, ◌<◌, ◌==◌, ◌+◌, ℕ, zero, suc, Bool, true, false, List, [], ◌∷◌, ◌++◌, length, map, refl, sym, ap, ◌∙◌, subst, arith, inl, inr}
 use Rattle.std.proofs.Math.ListN.{replicate}
 use Rattle.std.proofs.lemmas.Bool.{eq-eqb}
 use Rattle.std.specs.Prelude.{None, Some, pos, String}
@@ -13,7 +13,8 @@ use Rattle.ada_program.specs.declared.program.Stmt.{Stmt}
 use Rattle.ada_program.specs.declared.program.Stmt as stmt
 use Rattle.ada_program.specs.declared.program.ComponentKind.{ComponentKind}
 use Rattle.ada_program.specs.declared.program.ComponentKind.TheVariants as kind
-use Rattle.ada_program.specs.declared.program.Component.{Component}
+use Rattle.ada_program.specs.declared.program.Part.{Part}
+use Rattle.ada_program.specs.declared.program.PartKind.TheVariants as part
 use Rattle.ada_program.specs.declared.program.TypeDefinition.{TypeDefinition}
 use Rattle.ada_program.specs.declared.program.TypeDefinition.TheVariants as definition
 use Rattle.ada_program.specs.declared.program.Declaration.{Declaration}
@@ -50,15 +51,17 @@ vec items le = record { ptr = null_ptr; len = length items; cap = length items; 
 abbrev no_name : String Global
 no_name = record { bytes = vec [] (omega arith); ok = ∣ ([], (refl, refl)) ∣₁ }
 
--- A component; a record type; an access type; and a variable of one.
-abbrev of_kind : ComponentKind → Component
-of_kind held = record { name = no_name; kind = held }
+-- Components from a number on; one that holds access values; a record type; an access type; and a variable of one.
+abbrev parts_from : ℕ → List ComponentKind → List Part
+parts_from number [] = []
+parts_from number (held ∷ others) =
+    record { name = no_name; kind = part.Elementary held; first = record { 0 = number } } ∷ parts_from (number + 1) others
 
 abbrev access_kind : ℕ → ComponentKind
 access_kind access = kind.Access (record { 0 = access })
 
-abbrev cell_of : (components : List Component) → length components ≤ 8 → TypeDefinition
-cell_of components le = definition.Record no_name (vec components le)
+abbrev cell_of : (components : List ComponentKind) → length (parts_from 0 components) ≤ 8 → length components ≤ 8 → TypeDefinition
+cell_of components few le = definition.Record no_name (vec (parts_from 0 components) few) (vec components le)
 
 abbrev access_to : ℕ → TypeDefinition
 access_to designated = definition.Access no_name (record { 0 = designated })
@@ -81,7 +84,7 @@ block_form ds = a_stmt (encloses ds (a_stmt skips no_stmts) no_handlers) no_stmt
 -- begin declare type Link; type Near is access Link; type Link is record Cell : Far; Next : Near; end record; Y : Near := new Link'(null, null); ..
 abbrev pub nested : Program
 nested = record {
-  types = vec (cell_of (of_kind (kind.Integer (pos 0)) ∷ []) (omega arith) ∷ access_to 0 ∷ cell_of (of_kind (access_kind 1) ∷ of_kind (access_kind 3) ∷ []) (omega arith) ∷ access_to 2 ∷ []) (omega arith);
+  types = vec (cell_of (kind.Integer (pos 0) ∷ []) (omega arith) (omega arith) ∷ access_to 0 ∷ cell_of (access_kind 1 ∷ access_kind 3 ∷ []) (omega arith) (omega arith) ∷ access_to 2 ∷ []) (omega arith);
   variables = vec (of_type 1 ∷ of_type 3 ∷ []) (omega arith);
   texts = vec [] (omega arith);
   exceptions = vec [] (omega arith);
@@ -147,7 +150,7 @@ holds_both =
 -- begin declare type Cell is record Value : Integer; end record; type Near is access Cell; ..
 abbrev pub loose : Program
 loose = record {
-  types = vec (cell_of (of_kind (access_kind 2) ∷ []) (omega arith) ∷ access_to 0 ∷ access_to 3 ∷ cell_of (of_kind (kind.Integer (pos 0)) ∷ []) (omega arith) ∷ []) (omega arith);
+  types = vec (cell_of (access_kind 2 ∷ []) (omega arith) (omega arith) ∷ access_to 0 ∷ access_to 3 ∷ cell_of (kind.Integer (pos 0) ∷ []) (omega arith) (omega arith) ∷ []) (omega arith);
   variables = vec (of_type 1 ∷ []) (omega arith);
   texts = vec [] (omega arith);
   exceptions = vec [] (omega arith);
@@ -217,7 +220,7 @@ not_outlived all =
 -- type Link is record Next : Near; end record; X : Far := new Link'(null);
 abbrev pub passing : Program
 passing = record {
-  types = vec (cell_of (of_kind (access_kind 2) ∷ []) (omega arith) ∷ access_to 0 ∷ access_to 3 ∷ cell_of (of_kind (kind.Integer (pos 0)) ∷ []) (omega arith) ∷ []) (omega arith);
+  types = vec (cell_of (access_kind 2 ∷ []) (omega arith) (omega arith) ∷ access_to 0 ∷ access_to 3 ∷ cell_of (kind.Integer (pos 0) ∷ []) (omega arith) (omega arith) ∷ []) (omega arith);
   variables = vec (of_type 1 ∷ []) (omega arith);
   texts = vec [] (omega arith);
   exceptions = vec [] (omega arith);

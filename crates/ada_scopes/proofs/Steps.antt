@@ -5,7 +5,7 @@ use Rattle.std.specs.Prelude.{int_le}
 use Rattle.std.specs.List.{slice_get, slice_index_or, list_all}
 use Rattle.ada_program.specs.declared.program.TypeDefinition.{TypeDefinition}
 use Rattle.ada_program.specs.declared.program.Exception.{Exception}
-use Rattle.ada_program.specs.Form.{ExpressionForm, integer, boolean, reads, is_null, applied_to, chained, LinksForm, no_more_links, a_link, ItemForm, null_item, item_of_path, item_of_value, RightForm, nothing, value_of, allocates, computes, StmtForm, skips, assigns, frees, gets, writes, writes_text, chooses, repeats, counts, exits, returns, raises, encloses, StmtsForm, no_stmts, a_stmt, BranchesForm, otherwise, a_branch, HandlersForm, no_handlers, a_handler, DeclarationForm, collects, declares}
+use Rattle.ada_program.specs.Form.{ExpressionForm, integer, boolean, reads, is_null, applied_to, chained, LinksForm, no_more_links, a_link, ItemForm, null_item, item_of_path, item_of_value, RightForm, nothing, value_of, allocates, allocates_default, computes, StmtForm, skips, assigns, frees, gets, writes, writes_text, chooses, repeats, counts, exits, returns, raises, encloses, StmtsForm, no_stmts, a_stmt, BranchesForm, otherwise, a_branch, HandlersForm, no_handlers, a_handler, DeclarationForm, collects, declares}
 use Rattle.ada_program.specs.Handling.{some_takes, handler_of}
 use Rattle.ada_program.specs.ProgramForm.{TypeForm}
 use Rattle.ada_program.specs.Typed.{words_of}
@@ -138,11 +138,12 @@ module _ (types : List TypeForm) where
   new_good access count words None s is h = standing h.0 h.1
   new_good access count words (Some item) s is h = λ granted. answered_good access count item words s granted is h
 
-  right_good : (right : RightForm) (s : State) → Stands types s → Good types (right_next named right s)
-  right_good nothing s h = standing h.0 h.1
-  right_good (value_of path) s h = path_good path.selectors (held named s path.root) s h
-  right_good (allocates access items) s h = standing h.0 (tt, (tt, h.1))
-  right_good (computes e) s h = standing h.0 (tt, h.1)
+  right_good : (definitions : List TypeDefinition) (right : RightForm) (s : State) → Stands types s → Good types (right_next named definitions right s)
+  right_good definitions nothing s h = standing h.0 h.1
+  right_good definitions (value_of path) s h = path_good path.selectors (held named s path.root) s h
+  right_good definitions (allocates access items) s h = standing h.0 (tt, (tt, h.1))
+  right_good definitions (allocates_default access) s h = standing h.0 (tt, h.1)
+  right_good definitions (computes e) s h = standing h.0 (tt, h.1)
 
   -- Free, and what it leads to.
   freeing_good : (access : ℕ) (v : Value) (clears : Frame Value) (s : State) → Whole types s.masters s.heap → Nests types (scopes s.masters) (clears ∷ s.control) → Nested types (freeing named access v clears s)
@@ -331,7 +332,7 @@ module _ (types : List TypeForm) where
   frame_good definitions (frame.Handles hs) s runs w nest n = standing w n
   frame_good definitions frame.Closes s runs w nest n = parting (whole_parts types s.masters s.heap w) runs n
   frame_good definitions (frame.Leaves mode) s runs w nest n = absurd nest
-  frame_good definitions (frame.Evaluates right) s runs w nest n = right_good right s (w, n)
+  frame_good definitions (frame.Evaluates right) s runs w nest n = right_good definitions right s (w, n)
   frame_good definitions (frame.Computes e) s runs w nest n = expression_good e s (w, n)
   frame_good definitions (frame.Follows cs) s runs w nest n = path_good cs (newest named s) (popped s) (w, n)
   frame_good definitions (frame.TestsNull equal) s runs w nest n = null_test_good equal (reads_null (newest named s)) (popped s) (w, n)

@@ -96,12 +96,12 @@ once_right types bs cs once t is = let h = once t is in let all = makes_append t
 -- A well-formed program creates each collection once.
 this_one : (cs : List Creation) (k i : ℕ) (types : List TypeForm) → has_collections cs k types ≡ true → is_some (designated_in (slice_get types i)) ≡ true → count_by (is_collection (k + i)) cs ≡ 1
 this_one cs k i [] has is = absurd (cc)
-this_one cs k zero (record_of name components ∷ types) has is = absurd (cc)
+this_one cs k zero (record_of name parts components ∷ types) has is = absurd (cc)
 this_one cs k zero (access_to name designated ∷ types) has is =
     let at_k : count_by (is_collection k) cs ≡ 1 = eqb-true (count_by (is_collection k) cs) 1 (and_left (count_by (is_collection k) cs == 1) (has_collections cs (k + 1) types) has) in
     let same : k + 0 ≡ k = omega arith in
     ap (λ n. count_by (is_collection n) cs) same ∙ at_k
-this_one cs k (suc i) (record_of name components ∷ types) has is =
+this_one cs k (suc i) (record_of name parts components ∷ types) has is =
     let same : k + suc i ≡ (k + 1) + i = omega arith in
     ap (λ n. count_by (is_collection n) cs) same ∙ this_one cs (k + 1) i types has is
 this_one cs k (suc i) (access_to name designated ∷ types) has is =

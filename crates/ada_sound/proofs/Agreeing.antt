@@ -7,7 +7,8 @@ use Rattle.ada_program.specs.declared.program.Program.{Program}
 use Rattle.ada_program.specs.declared.program.VariableKind.{VariableKind}
 use Rattle.ada_program.specs.declared.program.VariableKind.TheVariants as variable
 use Rattle.ada_program.specs.Form.{PathForm, nothing, assigns, StmtsForm, a_stmt}
-use Rattle.ada_program.specs.ProgramForm.{ComponentForm, ProgramForm, program_form}
+use Rattle.ada_program.specs.declared.program.ComponentKind.{ComponentKind}
+use Rattle.ada_program.specs.ProgramForm.{ProgramForm, program_form}
 use Rattle.ada_program.specs.WellFormed.{access_of, variable_kind, held_kind, component_kind, kind_among, IsWellFormed}
 use Rattle.ada_flow.specs.declared.rule.Hold.{Hold}
 use Rattle.ada_flow.specs.declared.rule.Hold.TheVariants as hold
@@ -70,11 +71,11 @@ named_by cells variable.Integer k has = absurd has
 named_by cells variable.Boolean k has = absurd has
 named_by cells (variable.Access access) k has = (access.0, refl, has)
 
-named_at : (cells : Cells) (cs : List ComponentForm) (vs : List Value) (c : ℕ) (k : Id) → HaveKinds cells cs vs → slice_get vs c ≡ Some (Names k) → (t : ℕ) × (access_of (component_kind (slice_get cs c)) ≡ Some t) × Designates cells t k
+named_at : (cells : Cells) (cs : List ComponentKind) (vs : List Value) (c : ℕ) (k : Id) → HaveKinds cells cs vs → slice_get vs c ≡ Some (Names k) → (t : ℕ) × (access_of (component_kind (slice_get cs c)) ≡ Some t) × Designates cells t k
 named_at cells [] [] c k have is = absurd (cc is)
 named_at cells [] (v ∷ vs) c k have is = absurd have
 named_at cells (d ∷ cs) [] c k have is = absurd have
-named_at cells (d ∷ cs) (v ∷ vs) zero k have is = let same : v ≡ Names k = cc is in named_by cells (held_kind d.kind) k (rw same at (have.0))
+named_at cells (d ∷ cs) (v ∷ vs) zero k have is = let same : v ≡ Names k = cc is in named_by cells (held_kind d) k (rw same at (have.0))
 named_at cells (d ∷ cs) (v ∷ vs) (suc c) k have is = named_at cells cs vs c k have.1 is
 
 -- What a component of an object names exists if it is there.

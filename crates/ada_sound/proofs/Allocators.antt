@@ -48,7 +48,7 @@ raise_back (d ∷ done) todo e = raise_back done (d ∷ todo) (or_right (item_ra
 
 module _ (known : Known) (heap : List Object) (places : List Value) where
   -- An item has its value.
-  fill_one : (access count : ℕ) (i : ItemForm) (items : List ItemForm) (k : Control) (operands : List Value) (v : Value) (rooms : Rooms) (holds : Holds) → FilledBy heap places i v → Filling known heap places access count (i ∷ items) k operands rooms holds → Filling known heap places access count items k (v ∷ operands) rooms holds
+  pub fill_one : (access count : ℕ) (i : ItemForm) (items : List ItemForm) (k : Control) (operands : List Value) (v : Value) (rooms : Rooms) (holds : Holds) → FilledBy heap places i v → Filling known heap places access count (i ∷ items) k operands rooms holds → Filling known heap places access count items k (v ∷ operands) rooms holds
   fill_one access count i items k operands v rooms holds is f = record {
     done = i ∷ f.done;
     target = f.target;

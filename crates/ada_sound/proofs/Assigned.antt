@@ -3,10 +3,11 @@
 use Rattle.std.proofs.Common.{◌≡◌, ℕ, Bool, true, false, ◌==◌, ◌&&◌, List, refl, sym, ap, ◌∙◌}
 use Rattle.std.proofs.lemmas.Bool.{eqb-true}
 use Rattle.std.specs.Prelude.{Option, Some, None}
+use Rattle.ada_program.specs.declared.program.ComponentKind.{ComponentKind}
 use Rattle.ada_program.specs.declared.program.VariableKind.{VariableKind}
 use Rattle.ada_program.specs.declared.program.VariableKind.TheVariants as variable
 use Rattle.ada_program.specs.Form.{PathForm, ItemForm, value_of, allocates, computes}
-use Rattle.ada_program.specs.ProgramForm.{ComponentForm, TypeForm, VariableForm}
+use Rattle.ada_program.specs.ProgramForm.{TypeForm, VariableForm}
 use Rattle.ada_program.specs.WellFormed.{access_of, is_this, reached_components, kind_among, selected_kind, path_access, items_fit, is_filled, kind_takes}
 use Rattle.ada_meaning.specs.declared.state.Id.{Id}
 use Rattle.ada_meaning.specs.declared.state.Value.{Value}
@@ -60,7 +61,7 @@ computed_goes types variables (variable.Access access) e takes = absurd (cc take
 -- An allocator goes where its access type is, and its items are those of an object of it.
 pub record Allocated (types : List TypeForm) (variables : List VariableForm) (kind : VariableKind) (access : ℕ) (items : List ItemForm) : Type 0 where
   pub goes : access_of (Some kind) ≡ Some access
-  pub components : List ComponentForm
+  pub components : List ComponentKind
   pub reached : reached_components types access ≡ Some components
   pub fit : items_fit types variables components items ≡ true
 
@@ -68,7 +69,7 @@ both : (a b : Bool) → (a && b) ≡ true → (a ≡ true) × (b ≡ true)
 both true b e = (refl, e)
 both false b e = absurd (cc e)
 
-filled_by : (types : List TypeForm) (variables : List VariableForm) (found : Option (List ComponentForm)) (items : List ItemForm) → is_filled types variables found items ≡ true → (components : List ComponentForm) × (found ≡ Some components) × (items_fit types variables components items ≡ true)
+filled_by : (types : List TypeForm) (variables : List VariableForm) (found : Option (List ComponentKind)) (items : List ItemForm) → is_filled types variables found items ≡ true → (components : List ComponentKind) × (found ≡ Some components) × (items_fit types variables components items ≡ true)
 filled_by types variables None items e = absurd (cc e)
 filled_by types variables (Some components) items e = (components, refl, e)
 

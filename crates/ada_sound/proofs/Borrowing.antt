@@ -3,7 +3,7 @@
 use Rattle.std.proofs.Common.{◌≡◌, ◌≢◌, ℕ, Bool, true, false, List, [], ◌∷◌, refl, sym, ◌∙◌}
 use Rattle.std.specs.Prelude.{Option, Some}
 use Rattle.std.specs.List.{slice_set}
-use Rattle.ada_program.specs.Form.{PathForm, RightForm, nothing, value_of, allocates, computes}
+use Rattle.ada_program.specs.Form.{PathForm, RightForm, nothing, value_of, allocates, allocates_default, computes}
 use Rattle.ada_program.specs.ProgramForm.{VariableForm}
 use Rattle.ada_program.specs.WellFormed.{is_borrower, names_borrower, lends_to}
 use Rattle.ada_flow.specs.declared.rule.Hold.{Hold}
@@ -20,6 +20,7 @@ moves_none : (variables : List VariableForm) (right : RightForm) → lends_to va
 moves_none variables nothing suits = refl
 moves_none variables (value_of path) suits = refl
 moves_none variables (allocates access items) suits = absurd (cc suits)
+moves_none variables (allocates_default access) suits = refl
 moves_none variables (computes e) suits = refl
 
 borrowed_no_owner : (h : Hold) (r : Region) → borrowed_hold h ≢ hold.Own r
@@ -32,6 +33,7 @@ lends_no_owner : (variables : List VariableForm) (right : RightForm) (holds : Ho
 lends_no_owner variables nothing holds r suits e = cc e
 lends_no_owner variables (value_of path) holds r suits e = borrowed_no_owner (hold_at holds path.root) r e
 lends_no_owner variables (allocates access items) holds r suits e = absurd (cc suits)
+lends_no_owner variables (allocates_default access) holds r suits e = absurd (cc suits)
 lends_no_owner variables (computes f) holds r suits e = cc e
 
 -- A variable that is a borrower and gets what suits it changes what it holds, and nothing else changes.

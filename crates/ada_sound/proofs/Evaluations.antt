@@ -1,15 +1,18 @@
 -- What is assigned is evaluated, moved and stored; new objects come to be; what is read is written.
 
-use Rattle.std.proofs.Common.{◌≡◌, ◌≢◌, ℕ, Bool, true, false, ◌==◌, List, [], ◌∷◌, ◌++◌, length, refl, sym, ap, ◌∙◌, subst, ◌⊎◌, inl, inr}
+use Rattle.std.proofs.Common.{◌≡◌, ◌≢◌, ℕ, Bool, true, false, ◌==◌, List, [], ◌∷◌, ◌++◌, length, map, refl, sym, ap, ◌∙◌, subst, ◌⊎◌, inl, inr}
 use Rattle.std.proofs.lemmas.Bool.{and_parts, eqb-true}
 use Rattle.std.specs.Prelude.{ℤ, Option, Some, None}
 use Rattle.std.specs.List.{slice_get, slice_set}
 use Rattle.ada_program.specs.declared.program.Exception.TheVariants.{ConstraintError, StorageError}
 use Rattle.ada_program.specs.declared.program.VariableKind.{VariableKind}
-use Rattle.ada_program.specs.Form.{PathForm, ExpressionForm, ItemForm, RightForm, nothing, value_of, allocates, computes, assigns, StmtsForm, no_stmts, a_stmt}
+use Rattle.ada_program.specs.Form.{PathForm, ExpressionForm, ItemForm, RightForm, nothing, value_of, allocates, allocates_default, computes, assigns, StmtsForm, no_stmts, a_stmt}
 use Rattle.ada_text.specs.declared.spot.Spot.{Spot}
 use Rattle.ada_program.specs.Handling.{is_same}
-use Rattle.ada_program.specs.WellFormed.{access_of, selected_kind, selectors_kind, variable_kind, kind_takes, is_borrower}
+use Rattle.ada_program.specs.declared.program.ComponentKind.{ComponentKind}
+use Rattle.ada_program.specs.declared.program.TypeDefinition.{TypeDefinition}
+use Rattle.ada_program.specs.Typed.{reached_of, words_of}
+use Rattle.ada_program.specs.WellFormed.{access_of, reached_components, selected_kind, selectors_kind, variable_kind, kind_takes, is_borrower}
 use Rattle.ada_effects.specs.Effects.{expression_raises, right_raises}
 use Rattle.ada_flow.specs.declared.rule.Hold.{Hold}
 use Rattle.ada_flow.specs.declared.rule.Hold.TheVariants as hold
@@ -23,7 +26,7 @@ use Rattle.ada_meaning.specs.Frame.{Does, Evaluates, Computes, Follows, Fills, C
 use Rattle.ada_meaning.specs.Event.{Followed, Line, Quiet}
 use Rattle.ada_meaning.specs.Heap.{finds}
 use Rattle.ada_meaning.specs.State.{declared, Activation}
-use Rattle.ada_meaning.specs.Step.{owned, reading, component_next, follow_next, path_next, right_next, line_next}
+use Rattle.ada_meaning.specs.Step.{in_front, initial_value, initial_values, owned, reading, component_next, follow_next, path_next, right_next, line_next}
 use Rattle.ada_meaning.specs.Named.{Object, State, object_at, look, named, store}
 use Rattle.ada_owners.specs.Keeping.{IsThere}
 use Rattle.ada_owners.specs.Places.{component, component_in, value_at}
@@ -33,6 +36,7 @@ use Rattle.ada_owners.specs.Walks.{walk}
 use Rattle.ada_typed.specs.Holding.{cells_of}
 use Rattle.ada_typed.proofs.Values.{AreComputed}
 use Rattle.ada_typed.proofs.Control as typed
+use Rattle.ada_sound.proofs.Defaults.{default_item, defaults_fit, defaults_raise, defaults_move, defaults_keep, defaults_count, fill_defaults, DefaultFor, default_for, Reaches}
 use Rattle.ada_sound.proofs.Values.{read_other}
 use Rattle.ada_sound.proofs.Stored.{Stored, exists_out, stored_owning}
 use Rattle.ada_sound.proofs.Fits.{Fit, MayFollow, component_value, component_access, none_spared, bare, place_at, put_null, put_alias, component_is, root_follows, component_follows, take_variable, take_component}
@@ -333,6 +337,38 @@ module _ (known : Known) (k : Control) (a : Activation Value) (rest : List (Acti
           (Some g.1.0, g.1.4, h.0, record { components = al.components; reached = al.reached; fit = al.fit; fails = λ may. h.1.1 ConstraintError refl; refused = λ may. h.1.1 StorageError refl; to = h.1.0 })
       go (f ∷ k') fits' g = absurd g
 
+  -- The component that the object of an allocator without items goes to, if it goes to one; and what the allocator leads to.
+  abbrev Defaulted_to : ℕ → List ComponentKind → Control → Rooms → Holds → Type 0
+  Defaulted_to access components k' rooms holds =
+      (target : Option PathForm) × GoesInto s.heap a.places target k' × Allocating known s.heap access (map default_item components) k' rooms holds
+
+  defaulting : (access : ℕ) (kind : VariableKind) (kinds : List VariableKind) (d : DefaultFor known.program.types kind access) → typed.Fits known.program (cells_of s.heap) (kind ∷ kinds) k → (rooms : Rooms) (holds : Holds) → Takes known s.heap a.places (allocates_default access) k rooms holds → Defaulted_to access d.components k rooms holds
+  defaulting access kind kinds d fits rooms holds = go k fits
+    where
+      to : (x : ℕ) (k' : Control) (cleared : Bool) → Goes (gives known.program.variables cleared x (allocates_default access) holds) (RunsOn known k' rooms) (Raised (λ e. right_raises (is_same e) (allocates_default access)) (ways known k' rooms)) → RunsOn known k' rooms (slice_set holds x (hold.Own Whole)) × Raised (λ e. right_raises (is_same e) (allocates_default access)) (ways known k' rooms) holds
+      to x k' cleared g =
+          (using_goes [] holds (ends_with true holds (slice_set holds x (hold.Own Whole))) (RunsOn known k' rooms) (Raised (λ e. right_raises (is_same e) (allocates_default access)) (ways known k' rooms)) g).1
+
+      into : (o : Value) (c : ℕ) (k' : Control) → typed.Fits known.program (cells_of s.heap) (kind ∷ kinds) (StoresIn o c ∷ k') → IsHolder s.heap o → FillsIn known (allocates_default access) (LeadsTo s.heap a.places o [] c) rooms holds k' → (Accepts known s.heap o c (Some access) × RunsOn known k' rooms holds) × Raised (component_among (allocates_default access)) (ways known k' rooms) holds
+      into Null c k' fits' there g = absurd there
+      into (Names o) c k' fits' there g =
+          let u = using_goes (reads_it g.0 ∷ []) holds (ends_with true holds holds) (RunsOn known k' rooms) (Raised (component_among (allocates_default access)) (ways known k' rooms)) g.2 in
+          (((there.0, there.1, there.2, component_goes known.program s.heap kind kinds o there.0 c k' there.1 fits' ∙ d.goes), u.1.0), u.1.1)
+      into (Scalar n) c k' fits' there g = absurd there
+
+      go : (k' : Control) → typed.Fits known.program (cells_of s.heap) (kind ∷ kinds) k' → Takes known s.heap a.places (allocates_default access) k' rooms holds → Defaulted_to access d.components k' rooms holds
+      go [] fits' g = absurd g
+      go (Stores x ∷ k') fits' g =
+          let h = to x k' g.0 g.1 in
+          (None, tt, record { components = d.components; reached = d.reached; fit = defaults_fit known.program.types known.program.variables d.components; fails = λ may. absurd (cc (may, defaults_raise d.components)); refused = λ may. h.1 StorageError refl; to = (variable_goes known.program s.heap kind kinds x k' fits' ∙ d.goes, rw (defaults_move d.components) h.0) })
+      go (Declares x ∷ k') fits' g =
+          let h = to x k' g.0 g.1 in
+          (None, tt, record { components = d.components; reached = d.reached; fit = defaults_fit known.program.types known.program.variables d.components; fails = λ may. absurd (cc (may, defaults_raise d.components)); refused = λ may. h.1 StorageError refl; to = (declared_goes known.program s.heap kind kinds x k' fits' ∙ d.goes, rw (defaults_move d.components) h.0) })
+      go (StoresIn o c ∷ k') fits' g =
+          let h = into o c k' fits' g.0 g.1 in
+          (Some g.1.0, g.1.4, record { components = d.components; reached = d.reached; fit = defaults_fit known.program.types known.program.variables d.components; fails = λ may. absurd (cc (may, defaults_raise d.components)); refused = λ may. h.1 StorageError refl; to = (h.0.0, rw (defaults_move d.components) h.0.1) })
+      go (f ∷ k') fits' g = absurd g
+
   items_keep : (target : Option PathForm) (holds : Holds) (earlier : List PathForm) (items : List ItemForm) → NoneBroken holds (uses_in_items target earlier items) → ItemsKeep target holds earlier items
   items_keep target holds earlier [] kept = tt
   items_keep target holds earlier (i ∷ is) kept =
@@ -383,15 +419,28 @@ module _ (known : Known) (k : Control) (a : Activation Value) (rest : List (Acti
       go (StoresIn o c ∷ k') h = clears_in o c k' h
       go (f ∷ k') w = absurd (w.rest)
 
+  -- An allocator without items: what the components hold at first is kept, and then its object is asked for.
+  default_ready : (types : List TypeDefinition) (access : ℕ) (kind : VariableKind) (d : DefaultFor known.program.types kind access) (w : Working known s.heap a.places s.masters (Takes known s.heap a.places (allocates_default access) k)) → reached_of types access ≡ reached_components known.program.types access → Defaulted_to access d.components k w.rooms w.holds → Stepped known s.heap Quiet (running (Creates access (words_of types access) ∷ k) (record a { operands = in_front (initial_values named (reached_of types access)) a.operands }) rest s)
+  default_ready types access kind d w same h =
+      let kinds = d.components in
+      let found : reached_of types access ≡ Some kinds = same ∙ d.reached in
+      rw found (ready_on known (Creates access (length kinds) ∷ k) a rest s (in_front (map (initial_value named) kinds) a.operands)
+      (at_work w (fill_defaults known s.heap a.places access (length kinds) k w.rooms w.holds kinds a.operands
+      (record { done = []; target = h.0; into = h.1; filled = tt; counted = sym (defaults_count kinds); before = tt; behind = defaults_keep h.0 w.holds [] kinds; leads = h.2 }))))
+
   -- What is assigned is evaluated.
-  pub right_fine : (right : RightForm) (kinds : List VariableKind) → typed.Fits known.program (cells_of s.heap) kinds (Evaluates right ∷ k) → EvaluatesTo known right k s.heap a.places s.masters → Fine known s.heap s.masters (right_next named right (running k a rest s))
-  right_fine nothing kinds fits e = ready_on known k a rest s (Null ∷ a.operands) (nothing_ready e)
-  right_fine (value_of path) kinds fits w = value_fine path.root path.selectors path.spot kinds fits w
-  right_fine (allocates access items) kinds (kind, takes, fits) w =
+  pub right_fine : (types : List TypeDefinition) → Reaches known types → (right : RightForm) (kinds : List VariableKind) → typed.Fits known.program (cells_of s.heap) kinds (Evaluates right ∷ k) → EvaluatesTo known right k s.heap a.places s.masters → Fine known s.heap s.masters (right_next named types right (running k a rest s))
+  right_fine types reaches nothing kinds fits e = ready_on known k a rest s (Null ∷ a.operands) (nothing_ready e)
+  right_fine types reaches (value_of path) kinds fits w = value_fine path.root path.selectors path.spot kinds fits w
+  right_fine types reaches (allocates access items) kinds (kind, takes, fits) w =
       let h = allocating access items kind kinds takes fits w.rooms w.holds w.rest in
       ready_on known (Fills items ∷ Creates access (length items) ∷ k) a rest s a.operands
       (at_work w (record { done = []; target = h.0; into = h.1; filled = tt; counted = refl; before = tt; behind = items_keep h.0 w.holds [] items h.2; leads = h.3 }))
-  right_fine (computes e) kinds (kind, takes, fits) w =
+  right_fine types reaches (allocates_default access) kinds (kind, takes, fits) w =
+      let d = default_for known.program.types known.program.variables kind access takes in
+      let h = defaulting access kind kinds d fits w.rooms w.holds w.rest in
+      default_ready types access kind d w (reaches access) h
+  right_fine types reaches (computes e) kinds (kind, takes, fits) w =
       ready_on known (Computes e ∷ k) a rest s a.operands (at_work w (computing e kind kinds takes fits w.rooms w.holds w.rest))
 
   -- What typing says of a value that is followed on.

@@ -10,7 +10,6 @@ use Rattle.ada_program.specs.declared.program.Right.TheVariants as right
 use Rattle.ada_program.specs.declared.program.Stmt.{Stmt}
 use Rattle.ada_program.specs.declared.program.Stmt as stmt
 use Rattle.ada_program.specs.declared.program.Path.{Path}
-use Rattle.ada_program.specs.declared.program.Component.{Component}
 use Rattle.ada_program.specs.declared.program.ComponentKind.{ComponentKind}
 use Rattle.ada_program.specs.declared.program.ComponentKind.TheVariants as component
 use Rattle.ada_program.specs.declared.program.TypeDefinition.{TypeDefinition}
@@ -28,25 +27,22 @@ use Rattle.ada_meaning.specs.declared.event.Why.TheVariants.{FollowsGone, EndsTw
 use Rattle.ada_meaning.specs.Named.{next}
 use Rattle.ada_meaning.specs.Run.{grants, takes}
 use Rattle.ada_sound.specs.Always.{IsChecked, FinishesAfter, Breaks, IsIllNested, HaltsAfter}
-use Rattle.ada_sound.specs.OwnerExamples.{owning_stmts, owning_events, pairing_stmts, pairing_events, items_stmts, items_events, outlasting_stmts, outlasting_events}
+use Rattle.ada_sound.specs.OwnerExamples.{default_stmts, default_events, owning_stmts, owning_events, pairing_stmts, pairing_events, items_stmts, items_events, outlasting_stmts, outlasting_events}
 use Rattle.ada_sound.proofs.Choices.{halts_after, accepted_by, breaks_by, ill_nested_by}
 use Rattle.ada_sound.proofs.Example.{steps, vec, no_name, spot, link, declarations}
 
--- A component, a record type, and an access type.
-abbrev of_kind : ComponentKind → Component
-of_kind kind = record { name = no_name; kind = kind }
-
-abbrev pub record_of : (components : List Component) → length components ≤ 8 → TypeDefinition
-record_of components le = definition.Record no_name (vec components le)
+-- A record type, of whose declared components nothing here speaks, and an access type.
+abbrev pub record_of : (components : List ComponentKind) → length components ≤ 8 → TypeDefinition
+record_of components le = definition.Record no_name (vec [] (omega arith)) (vec components le)
 
 abbrev pub access_to : ℕ → TypeDefinition
 access_to designated = definition.Access no_name (record { 0 = designated })
 
-abbrev pub an_integer : Component
-an_integer = of_kind (component.Integer (pos 0))
+abbrev pub an_integer : ComponentKind
+an_integer = component.Integer (pos 0)
 
-abbrev pub an_access : ℕ → Component
-an_access access = of_kind (component.Access (record { 0 = access }))
+abbrev pub an_access : ℕ → ComponentKind
+an_access access = component.Access (record { 0 = access })
 
 -- A program with X, Y : Link; where the types are these
 abbrev program_with : (types : List TypeDefinition) → length types ≤ 8 → (statements : List Stmt) → length statements ≤ 8 → Program
@@ -213,3 +209,30 @@ unfolding next expression_form
 outlasts =
     halts_after outlasting outlasting_stmts no_handlers outlasting_form refl [] (steps 16 ++ grants true ∷ steps 5 ++ grants true ∷ steps 5 ++ takes 0 ∷ steps 6)
     outlasting_events (Erroneous FollowsGone) refl refl refl
+
+-- type Node is record Value : Integer := 5; Next : Link; end record;
+-- Head := new Node; Head.Next := new Node; Put_Line (Integer'Image (Head.Next.Value));
+abbrev five_types : List TypeDefinition
+five_types = record_of (component.Integer (pos 5) ∷ an_access 1 ∷ []) (omega arith) ∷ access_to 0 ∷ []
+
+abbrev default_news : Path → Stmt
+default_news p = stmt.Assign p (right.Default (record { 0 = 1 }))
+
+abbrev pub defaulting : Program
+defaulting =
+    program_with five_types (omega arith)
+    (default_news (whole 0) ∷ default_news (part 0 1) ∷ stmt.PutImage (Reads (path 0 (record { 0 = 1 } ∷ record { 0 = 0 } ∷ []) (omega arith))) ∷ []) (omega arith)
+
+pub defaulting_form : stmt_forms defaulting ≡ default_stmts
+defaulting_form = simp (statement_rules, expression_rules)
+
+pub defaulting_accepted : IsChecked defaulting
+unfolding expression_form uses_in
+defaulting_accepted = accepted_by defaulting default_stmts no_handlers defaulting_form refl _ _ refl refl refl
+
+pub defaults : FinishesAfter default_events defaulting
+unfolding next expression_form
+defaults =
+    halts_after defaulting default_stmts no_handlers defaulting_form refl []
+    (steps 10 ++ grants true ∷ steps 4 ++ grants true ∷ steps 10 ++ takes 0 ∷ steps 2 ++ takes 0 ∷ steps 4)
+    default_events Finished refl refl refl

@@ -10,7 +10,7 @@ use Rattle.ada_program.specs.declared.program.ComponentKind.{ComponentKind}
 use Rattle.ada_program.specs.declared.program.ComponentKind.TheVariants as component_kinds
 use Rattle.ada_program.specs.declared.program.VariableKind.{VariableKind}
 use Rattle.ada_program.specs.Form.{PathForm, ItemForm, null_item, item_of_path, item_of_value}
-use Rattle.ada_program.specs.ProgramForm.{ComponentForm, TypeForm, VariableForm}
+use Rattle.ada_program.specs.ProgramForm.{TypeForm, VariableForm}
 use Rattle.ada_program.specs.WellFormed.{access_of, held_kind, component_kind, kind_among, reached_components, item_fits, items_fit}
 use Rattle.ada_flow.specs.declared.rule.Hold.{Hold}
 use Rattle.ada_flow.specs.declared.rule.Hold.TheVariants as hold
@@ -272,14 +272,14 @@ module _ (types : List TypeForm) (variables : List VariableForm) (heap : List Ob
   one_moved : {earlier named : List PathForm} {moved : List ℕ} {o : Id} → Moves heap places holds target lends.h lends.d earlier named moved o → IsMoved earlier o
   one_moved m = record { path = m.path; place = m.place; once = m.once; is_place = m.is_place; own = m.own; names = m.names }
 
-  later_moved : (cs : List ComponentForm) (items : List ItemForm) (vs : List Value) (earlier : List PathForm) → items_fit types variables cs items ≡ true → ItemsKeep target holds earlier items → FilledInOrder heap places items vs → HaveKinds (cells_of heap) cs vs → (i : ℕ) (o : Id) → slice_index_or vs i Null ≡ Names o → IsMoved earlier o
+  later_moved : (cs : List ComponentKind) (items : List ItemForm) (vs : List Value) (earlier : List PathForm) → items_fit types variables cs items ≡ true → ItemsKeep target holds earlier items → FilledInOrder heap places items vs → HaveKinds (cells_of heap) cs vs → (i : ℕ) (o : Id) → slice_index_or vs i Null ≡ Names o → IsMoved earlier o
   later_moved cs items [] earlier fits keep filled kinds i o e = absurd (cc e)
   later_moved [] items (v ∷ vs) earlier fits keep filled kinds i o e = absurd kinds
   later_moved (c ∷ cs) [] (v ∷ vs) earlier fits keep filled kinds i o e = absurd (cc fits)
   later_moved (c ∷ cs) (item ∷ items) (v ∷ vs) earlier fits keep filled kinds zero o e =
-      one_moved (item_moves earlier c.kind item v o (and_left (item_fits types variables c.kind item) _ fits) keep.0 filled.0 kinds.0 e)
+      one_moved (item_moves earlier c item v o (and_left (item_fits types variables c item) _ fits) keep.0 filled.0 kinds.0 e)
   later_moved (c ∷ cs) (item ∷ items) (v ∷ vs) earlier fits keep filled kinds (suc i) o e =
-      let m = later_moved cs items vs (named_by_item item ++ earlier) (and_right (item_fits types variables c.kind item) _ fits) keep.1 filled.1 kinds.1 i o e in
+      let m = later_moved cs items vs (named_by_item item ++ earlier) (and_right (item_fits types variables c item) _ fits) keep.1 filled.1 kinds.1 i o e in
       record { path = m.path; place = m.place; once = (named_parts (named_by_item item) earlier m.path m.once).1; is_place = m.is_place; own = m.own; names = m.names }
 
   -- Once the places are lost, the value of an item is in hand.
@@ -307,31 +307,31 @@ module _ (types : List TypeForm) (variables : List VariableForm) (heap : List Ob
       rw (same, there.found, there.listed) refl
 
   -- All values of items are, from one component on.
-  items_in_hand : (kind : ℕ → Option ℕ) (c : ℕ) (cs : List ComponentForm) (items : List ItemForm) (vs : List Value) (earlier : List PathForm) → ((n : ℕ) → kind (n + c) ≡ access_of (component_kind (slice_get cs n))) → ((x : ℕ) → is_one_of (moved_by_items items) x ≡ true → is_one_of xs x ≡ true) → items_fit types variables cs items ≡ true → ItemsKeep target holds earlier items → FilledInOrder heap places items vs → HaveKinds (cells_of heap) cs vs → AreInHand heap (bare places) after kind c vs
+  items_in_hand : (kind : ℕ → Option ℕ) (c : ℕ) (cs : List ComponentKind) (items : List ItemForm) (vs : List Value) (earlier : List PathForm) → ((n : ℕ) → kind (n + c) ≡ access_of (component_kind (slice_get cs n))) → ((x : ℕ) → is_one_of (moved_by_items items) x ≡ true → is_one_of xs x ≡ true) → items_fit types variables cs items ≡ true → ItemsKeep target holds earlier items → FilledInOrder heap places items vs → HaveKinds (cells_of heap) cs vs → AreInHand heap (bare places) after kind c vs
   items_in_hand kind c cs items [] earlier kinds_are among fits keep filled kinds = tt
   items_in_hand kind c [] items (v ∷ vs) earlier kinds_are among fits keep filled kinds = absurd kinds
   items_in_hand kind c (f ∷ cs) [] (v ∷ vs) earlier kinds_are among fits keep filled kinds = absurd (cc fits)
   items_in_hand kind c (f ∷ cs) (item ∷ items) (v ∷ vs) earlier kinds_are among fits keep filled kinds =
-      let here = and_left (item_fits types variables f.kind item) (items_fit types variables cs items) fits in
-      let behind = and_right (item_fits types variables f.kind item) (items_fit types variables cs items) fits in
+      let here = and_left (item_fits types variables f item) (items_fit types variables cs items) fits in
+      let behind = and_right (item_fits types variables f item) (items_fit types variables cs items) fits in
       (moved_in_hand (kind c) v (λ o e. right here o e) (λ o e. moved here o e), not_again here behind, items_in_hand kind (suc c) cs items vs (named_by_item item ++ earlier) (λ n. shifted n) (λ x e. among x (later_one (moved_by_item item) (moved_by_items items) x e)) behind keep.1 filled.1 kinds.1)
     where
-      at_c : kind c ≡ access_of (Some (held_kind f.kind))
+      at_c : kind c ≡ access_of (Some (held_kind f))
       at_c = let first : c ≡ 0 + c = omega arith in ap kind first ∙ kinds_are 0
 
-      right : item_fits types variables f.kind item ≡ true → (o : Id) → v ≡ Names o → IsOf (access_at heap) (kind c) o
+      right : item_fits types variables f item ≡ true → (o : Id) → v ≡ Names o → IsOf (access_at heap) (kind c) o
       right here o e =
-          let m = item_moves earlier f.kind item v o here keep.0 filled.0 kinds.0 e in
-          rw at_c (right_kind (kind_of (kinds_of types variables) (access_at heap) m.place) (held_kind f.kind) o (kernel.owned_at fit.owners.fit m.place m.own o m.names) (rw e at kinds.0))
+          let m = item_moves earlier f item v o here keep.0 filled.0 kinds.0 e in
+          rw at_c (right_kind (kind_of (kinds_of types variables) (access_at heap) m.place) (held_kind f) o (kernel.owned_at fit.owners.fit m.place m.own o m.names) (rw e at kinds.0))
 
-      moved : item_fits types variables f.kind item ≡ true → (o : Id) → v ≡ Names o → (place : Place) × Owns (hold_in none_spared holds place) × (value_at heap (bare places) place ≡ Names o) × (Owns (after place) → ⊥)
+      moved : item_fits types variables f item ≡ true → (o : Id) → v ≡ Names o → (place : Place) × Owns (hold_in none_spared holds place) × (value_at heap (bare places) place ≡ Names o) × (Owns (after place) → ⊥)
       moved here o e =
-          let m = item_moves earlier f.kind item v o here keep.0 filled.0 kinds.0 e in
+          let m = item_moves earlier f item v o here keep.0 filled.0 kinds.0 e in
           (m.place, m.own, m.names, place_gone m.path m.place m.is_place (λ x is. among x (rw (m.of_moved x is) (first_one x (moved_by_items items)))))
 
-      not_again : item_fits types variables f.kind item ≡ true → items_fit types variables cs items ≡ true → IsNotAmong v vs
+      not_again : item_fits types variables f item ≡ true → items_fit types variables cs items ≡ true → IsNotAmong v vs
       not_again here behind o i e n =
-          let m = item_moves earlier f.kind item v o here keep.0 filled.0 kinds.0 e in
+          let m = item_moves earlier f item v o here keep.0 filled.0 kinds.0 e in
           let l = later_moved cs items vs (named_by_item item ++ earlier) behind keep.1 filled.1 kinds.1 i o n in
           let one_place = fit.owners.fit.apart m.place l.place o m.own l.own m.names l.names in
           let same = one_path target lends.h lends.d m.path l.path m.place m.is_place (rw one_place l.is_place) in
@@ -342,7 +342,7 @@ module _ (types : List TypeForm) (variables : List VariableForm) (heap : List Ob
       shifted n = let e : n + suc c ≡ suc n + c = omega arith in ap kind e ∙ kinds_are (suc n)
 
   -- The newest operands, in order, are in hand.
-  pub filled_in_hand : (access : ℕ) (components : List ComponentForm) (done : List ItemForm) (operands : List Value) → ((x : ℕ) → is_one_of (moved_by_items (back_onto done [])) x ≡ true → is_one_of xs x ≡ true) → reached_components types access ≡ Some components → items_fit types variables components (back_onto done []) ≡ true → DoneKeep target holds done → Filled heap places done operands → HaveKinds (cells_of heap) components (reverse (take (length (back_onto done [])) operands)) → AreInHand heap (bare places) after (λ c. access_of (kind_among (reached_components types access) c)) 0 (reverse (take (length (back_onto done [])) operands))
+  pub filled_in_hand : (access : ℕ) (components : List ComponentKind) (done : List ItemForm) (operands : List Value) → ((x : ℕ) → is_one_of (moved_by_items (back_onto done [])) x ≡ true → is_one_of xs x ≡ true) → reached_components types access ≡ Some components → items_fit types variables components (back_onto done []) ≡ true → DoneKeep target holds done → Filled heap places done operands → HaveKinds (cells_of heap) components (reverse (take (length (back_onto done [])) operands)) → AreInHand heap (bare places) after (λ c. access_of (kind_among (reached_components types access) c)) 0 (reverse (take (length (back_onto done [])) operands))
   filled_in_hand access components done operands among reached fits keep filled kinds =
       let all = back_onto done [] in
       let counted : length all ≡ length done = let h = back_length done [] in omega (arith, h) in

@@ -5,8 +5,9 @@ use Rattle.std.specs.Prelude.{ℤ, Option, Some, None}
 use Rattle.std.specs.List.{slice_set}
 use Rattle.ada_program.specs.declared.program.Exception.{Exception}
 use Rattle.ada_program.specs.declared.program.Exception.TheVariants.{ConstraintError, StorageError, EndError}
-use Rattle.ada_program.specs.Form.{PathForm, ExpressionForm, ItemForm, null_item, item_of_path, item_of_value, RightForm, nothing, value_of, allocates, computes, assigns, StmtsForm, a_stmt, BranchesForm, HandlersForm, DeclarationForm}
-use Rattle.ada_program.specs.ProgramForm.{ComponentForm, TypeForm, VariableForm, ProgramForm}
+use Rattle.ada_program.specs.Form.{PathForm, ExpressionForm, ItemForm, null_item, item_of_path, item_of_value, RightForm, nothing, value_of, allocates, allocates_default, computes, assigns, StmtsForm, a_stmt, BranchesForm, HandlersForm, DeclarationForm}
+use Rattle.ada_program.specs.declared.program.ComponentKind.{ComponentKind}
+use Rattle.ada_program.specs.ProgramForm.{TypeForm, VariableForm, ProgramForm}
 use Rattle.ada_program.specs.declared.program.VariableKind.{VariableKind}
 use Rattle.ada_program.specs.WellFormed.{access_of, selectors_kind, reached_components, items_fit}
 use Rattle.ada_program.specs.Handling.{is_same, handler_of}
@@ -278,6 +279,7 @@ Pairs false right leaves k = Unit {0}
 Pairs true nothing leaves k = ⊥
 Pairs true (value_of path) leaves k = leaves path × IsCleared path k
 Pairs true (allocates access items) leaves k = ⊥
+Pairs true (allocates_default access) leaves k = ⊥
 Pairs true (computes e) leaves k = ⊥
 
 -- One selector, behind a variable.
@@ -379,7 +381,7 @@ GoesInto heap places (Some path) k = StoresTo k (λ x k'. ⊥) (λ o c k'. Leads
 
 -- What an allocator with all these items leads to.
 pub record Allocating (known : Known) (heap : List Object) (access : ℕ) (all : List ItemForm) (k : Control) (rooms : Rooms) (holds : Holds) : Type 0 where
-  pub components : List ComponentForm
+  pub components : List ComponentKind
   pub reached : reached_components known.program.types access ≡ Some components
   pub fit : items_fit known.program.types known.program.variables components all ≡ true
   pub fails : MayRaise known (items_raise all) ConstraintError k rooms holds

@@ -4,16 +4,19 @@ use Rattle.std.proofs.Common.{◌≡◌, ◌≢◌, ℕ, zero, suc, Bool, true, 
 use Rattle.std.specs.Prelude.{Some, None, ◌==◌, if◌then◌else◌}
 use Rattle.std.specs.List.{slice_get}
 use Rattle.std.proofs.lemmas.Bool.{and_parts, eqb-true, eq-eqb}
-use Rattle.ada_program.specs.Form.{PathForm, ItemForm, item_of_path, allocates}
+use Rattle.ada_program.specs.Form.{PathForm, ItemForm, item_of_path, allocates, allocates_default}
 use Rattle.ada_program.specs.WellFormed.{names_borrower}
 use Rattle.ada_program.specs.Nested.{is_one_of}
+use Rattle.ada_flow.specs.declared.rule.Hold.TheVariants.{Own, Lost}
+use Rattle.ada_flow.specs.declared.rule.Region.TheVariants.{Whole}
 use Rattle.ada_flow.specs.Flow.{Holds, hold_at, moves_it, moves_again, variable_of, moved_by_item, uses_in_item, uses_in_items, is_named, is_target, named_by_item, moved_behind, broken_in, moved_by_items, same_selectors, same_path}
 use Rattle.ada_sound.specs.Agreement.{IsOwner}
-use Rattle.ada_sound.specs.Owners.{IsVariable, IsSamePath, OnlyOwnersAreItems, ItemsMoveApart, ItemsOwnNothing, ItemsStayWhereRaised}
+use Rattle.ada_sound.specs.Owners.{IsVariable, IsElsewhere, IsSamePath, OnlyOwnersAreItems, ItemsMoveApart, ItemsOwnNothing, ItemsStayWhereRaised, DefaultsMoveNothing, DefaultsStayWhereRaised}
 use Rattle.ada_sound.proofs.Invariant.{NoneBroken}
 use Rattle.ada_sound.proofs.Followings.{first_kept, kept_apart}
 use Rattle.ada_sound.proofs.Taken.{cleared_is, selectors_are}
-use Rattle.ada_sound.proofs.Moves.{target_at, assigns_by, moved_owner, ends_nothing}
+use Rattle.ada_sound.proofs.Values.{read_other}
+use Rattle.ada_sound.proofs.Moves.{target_at, assigned, assigns_by, moved_owner, ends_nothing}
 use Rattle.ada_sound.proofs.Filled.{first_one, later_one}
 
 -- Items: what one moves is a variable, or the component that the assignment goes to; and no item before it names that path.
@@ -134,3 +137,19 @@ items_own_nothing types variables target path access i items holds after is foun
 pub items_stay_where_raised : ItemsStayWhereRaised
 items_stay_where_raised types variables target access items holds raised raises =
     (assigns_by variables (names_borrower variables target) raises.1 target (allocates access items) holds raises.2 (Some raised) refl raises.3).raises raised refl
+
+-- Without items nothing is moved.
+default_assigned : (borrows : Bool) (target : PathForm) (cs : List ℕ) (access : ℕ) (holds : Holds) (x : ℕ) → target.selectors ≡ cs → IsElsewhere target x → hold_at (assigned borrows cs target.root (allocates_default access) holds) x ≡ hold_at holds x
+default_assigned borrows target [] access holds x is other = read_other holds target.root x (Own Whole) Lost (other is)
+default_assigned borrows target (c ∷ cs) access holds x is other = refl
+
+pub defaults_move_nothing : DefaultsMoveNothing
+defaults_move_nothing types variables target access holds after ends x other =
+    let borrows = names_borrower variables target in
+    let all = assigns_by variables borrows ends.1 target (allocates_default access) holds (Some after) ends.2 refl ends.3 in
+    let same : assigned borrows target.selectors target.root (allocates_default access) holds ≡ after = cc (all.ends) in
+    rw (← same) (default_assigned borrows target target.selectors access holds x refl other)
+
+pub defaults_stay_where_raised : DefaultsStayWhereRaised
+defaults_stay_where_raised types variables target access holds raised raises =
+    (assigns_by variables (names_borrower variables target) raises.1 target (allocates_default access) holds raises.2 (Some raised) refl raises.3).raises raised refl

@@ -44,6 +44,8 @@ pub mod Filled
 pub mod Lendings
 -- allocators
 pub mod Allocators
+-- allocators without items
+pub mod Defaults
 -- what is assigned
 pub mod Evaluations
 -- what Free does

@@ -14,7 +14,7 @@ use Rattle.ada_values.specs.declared.fault.OperatorFault.TheVariants.{Overflow, 
 use Rattle.ada_values.specs.Outcome.{outcome_of, outcome_of_integers, outcome_of_booleans, unary_outcome_of}
 use Rattle.ada_program.specs.declared.program.Exception.{Exception}
 use Rattle.ada_program.specs.declared.program.Exception.TheVariants.{ConstraintError, ProgramError, StorageError, EndError, Declared}
-use Rattle.ada_program.specs.Form.{RightForm, nothing, value_of, allocates, computes, DeclarationForm, collects, declares, StmtForm, skips, assigns, frees, gets, writes, writes_text, chooses, repeats, counts, exits, returns, raises, encloses, StmtsForm, no_stmts, a_stmt, BranchesForm, otherwise, a_branch, HandlersForm, no_handlers, a_handler}
+use Rattle.ada_program.specs.Form.{RightForm, nothing, value_of, allocates, allocates_default, computes, DeclarationForm, collects, declares, StmtForm, skips, assigns, frees, gets, writes, writes_text, chooses, repeats, counts, exits, returns, raises, encloses, StmtsForm, no_stmts, a_stmt, BranchesForm, otherwise, a_branch, HandlersForm, no_handlers, a_handler}
 use Rattle.ada_program.specs.Handling.{is_same, handler_of, is_taken}
 use Rattle.ada_effects.specs.Effects.{expression_raises, condition_raises, items_raise, path_raises, untaken, unary_raises, binary_raises, right_raises, declaration_raises, declarations_raise, stmt_raises, stmts_raise, branches_raise, handlers_raise}
 use Rattle.ada_meaning.specs.declared.state.Value.{Value}
@@ -75,6 +75,7 @@ right_more among more m (value_of path) is = and_first (among ConstraintError) (
 right_more among more m (allocates access items) is =
     or_map (among StorageError) (among ConstraintError && items_raise items) (more StorageError) (more ConstraintError && items_raise items) (m StorageError)
     (λ i. and_first (among ConstraintError) (items_raise items) (more ConstraintError) (m ConstraintError) i) is
+right_more among more m (allocates_default access) is = m StorageError is
 right_more among more m (computes e) is = and_first (among ConstraintError) (expression_raises e) (more ConstraintError) (m ConstraintError) is
 
 declarations_more : (among more : Exception → Bool) → IsAmong among more → (ds : List DeclarationForm) → declarations_raise among ds ≡ true → declarations_raise more ds ≡ true

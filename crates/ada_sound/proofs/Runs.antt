@@ -28,6 +28,7 @@ use Rattle.ada_typed.proofs.Steps.{next_fine}
 use Rattle.ada_scopes.specs.Scopes.{InnermostHeldInside}
 use Rattle.ada_scopes.proofs.Components.{AreOfKinds, held_outside, held_inside}
 use Rattle.ada_scopes.proofs.Runs.{step_nested}
+use Rattle.ada_sound.proofs.Defaults.{reached_same}
 use Rattle.ada_sound.proofs.Items.{NoMaster, items_fall}
 use Rattle.ada_sound.proofs.Stored.{Stored}
 use Rattle.ada_sound.proofs.Alters.{BackIn, StaysItself}
@@ -189,7 +190,7 @@ held_inside_it program s sound =
 
 -- So what comes next keeps the invariant, and each state that a sound one steps to is sound.
 step_fine : (program : Program) (s : State) → Sound program s → Fine (reached program) s.heap s.masters (next program.types.items s)
-step_fine program s sound = fine (reached program) program.types.items s sound.typed (held_inside_it program s sound) sound.ready
+step_fine program s sound = fine (reached program) program.types.items (reached_same program.types.items) s sound.typed (held_inside_it program s sound) sound.ready
 
 pub stepped : (program : Program) (s : State) (choice : Choice) (e : Event) (after : State) → Sound program s → Step program s choice e after → Stepped (reached program) s.heap e after
 stepped program s choice e after r step = leads_fine (reached program) s.heap s.masters (next program.types.items s) choice e after (step_fine program s r) step
@@ -197,7 +198,7 @@ stepped program s choice e after r step = leads_fine (reached program) s.heap s.
 pub sound_step : (program : Program) (s : State) (choice : Choice) (e : Event) (after : State) → Sound program s → Step program s choice e after → Sound program after
 sound_step program s choice e after r step = record {
   ready = (stepped program s choice e after r step).ready;
-  typed = typed_led (program_form program) (next program.types.items s) choice e after (next_fine (program_form program) program.types.items s r.typed) step;
+  typed = typed_led (program_form program) (next program.types.items s) choice e after (next_fine (program_form program) program.types.items refl s r.typed) step;
   nested = step_nested (program_form program).types program s after choice e r.nested step;
 }
 

@@ -6,7 +6,7 @@ use Rattle.std.specs.List.{slice_set}
 use Rattle.std.proofs.lemmas.Bool.{eq-eqb}
 use Rattle.ada_program.specs.declared.program.Exception.{Exception}
 use Rattle.ada_program.specs.declared.program.Exception.TheVariants.{ConstraintError, EndError}
-use Rattle.ada_program.specs.Form.{PathForm, ExpressionForm, RightForm, nothing, value_of, allocates, computes, StmtForm, skips, assigns, frees, gets, writes, writes_text, chooses, repeats, counts, exits, returns, raises, encloses, StmtsForm, no_stmts, a_stmt, BranchesForm, otherwise, a_branch, HandlersForm, DeclarationForm, collects, declares}
+use Rattle.ada_program.specs.Form.{PathForm, ExpressionForm, RightForm, nothing, value_of, allocates, allocates_default, computes, StmtForm, skips, assigns, frees, gets, writes, writes_text, chooses, repeats, counts, exits, returns, raises, encloses, StmtsForm, no_stmts, a_stmt, BranchesForm, otherwise, a_branch, HandlersForm, DeclarationForm, collects, declares}
 use Rattle.ada_program.specs.Handling.{is_same}
 use Rattle.ada_effects.specs.Effects.{expression_raises, path_raises, condition_raises, right_raises}
 use Rattle.ada_flow.specs.Flow.{Holds, uses_in_target, ends_with, bounds_flow, gives, gives_component, gives_path, gets_path, frees_path, leaves_path, clears, begins_pair, exit_of, collected, computed, Around}
@@ -70,6 +70,7 @@ pairs_variable target nothing fs k is = tt
 pairs_variable target (value_of path) fs k is =
     pairs_by (leaves_path target.selectors path.selectors (not (target.root == path.root))) (clears path fs) path (λ p. target.root ≢ p.root) fs k (leaves_variable target path is) refl
 pairs_variable target (allocates access items) fs k is = tt
+pairs_variable target (allocates_default access) fs k is = tt
 pairs_variable target (computes e) fs k is = tt
 
 pairs_component : (c : ℕ) (cs : List ℕ) (target : PathForm) (right : RightForm) (fs : StmtsForm) (k : Control) → target.selectors ≡ c ∷ cs → Pairs (begins_pair (assigns target right) fs) right (λ taken. IsOne taken.selectors) (Does fs ∷ k)
@@ -78,6 +79,7 @@ pairs_component c cs target (value_of path) fs k is =
     pairs_by (leaves_path target.selectors path.selectors (not (target.root == path.root))) (clears path fs) path (λ p. IsOne p.selectors) fs k
     (λ e. leaves_one c cs path.selectors (not (target.root == path.root)) (rw is at e)) refl
 pairs_component c cs target (allocates access items) fs k is = tt
+pairs_component c cs target (allocates_default access) fs k is = tt
 pairs_component c cs target (computes e) fs k is = tt
 
 module _ (known : Known) where
@@ -112,12 +114,14 @@ module _ (known : Known) where
     stores_ready nothing x k w = w
     stores_ready (value_of path) x k w = w
     stores_ready (allocates access items) x k w = w
+    stores_ready (allocates_default access) x k w = w
     stores_ready (computes e) x k w = w
 
     declares_ready : (right : RightForm) (x : ℕ) (k : Control) → Working known s.heap a.places s.masters (Takes known s.heap a.places right (Declares x ∷ k)) → EvaluatesTo known right (Declares x ∷ k) s.heap a.places s.masters
     declares_ready nothing x k w = w
     declares_ready (value_of path) x k w = w
     declares_ready (allocates access items) x k w = w
+    declares_ready (allocates_default access) x k w = w
     declares_ready (computes e) x k w = w
 
     -- Declarations.

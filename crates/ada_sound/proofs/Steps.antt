@@ -28,6 +28,7 @@ use Rattle.ada_sound.proofs.Raising.{unary_only, binary_only}
 use Rattle.ada_sound.proofs.Expressions.{outcome_fine, null_test_fine, expression_fine, links_fine}
 use Rattle.ada_sound.proofs.Statements.{declarations_fine, repeats_fine, counts_fine, ranges_fine, decided_fine, turned_fine, exited_fine, stmts_fine}
 use Rattle.ada_sound.proofs.Allocators.{items_fine, creates_fine}
+use Rattle.ada_sound.proofs.Defaults.{Reaches}
 use Rattle.ada_sound.proofs.Evaluations.{right_fine, follows_fine, stores_fine, declares_fine, writes_fine}
 use Rattle.ada_sound.proofs.Releases.{free_in_fine}
 use Rattle.ada_sound.proofs.Targets.{target_fine, store_fine, receive_fine, clear_fine}
@@ -55,7 +56,7 @@ runs_typed known s (typed.on_jump mode jumps goes) runs =
     absurd none
 
 module _ (known : Known) where
-  module _ (types : List TypeDefinition) (k : Control) (a : Activation Value) (rest : List (Activation Value)) (s : State) where
+  module _ (types : List TypeDefinition) (reaches : Reaches known types) (k : Control) (a : Activation Value) (rest : List (Activation Value)) (s : State) where
     -- Frames that take an operand, which is there.
     path_fine : (cs : List ℕ) (operands : List Value) → RunsTyped known s.heap (Follows cs ∷ k) operands → ReadyBy known (Follows cs) k s.heap a.places operands s.masters → Fine known s.heap s.masters (frame_next named types (Follows cs) (running k (record a { operands = operands }) rest s))
     path_fine cs [] t r = let fits = t.1 in absurd (no_operand (cells_of s.heap) t.0 fits.1 fits.0 fits.3 t.2)
@@ -85,7 +86,7 @@ module _ (known : Known) where
     frame_fine (Handles hs) t held r = runs_on known k a rest s (at_less r r.rest) Quiet tt
     frame_fine Closes t held r = closes_fine known k a rest s Running r
     frame_fine (Leaves mode) t held r = leave_fine known mode k a rest s s.masters r held
-    frame_fine (Evaluates right) t held r = right_fine known k a rest s right t.0 t.1 r
+    frame_fine (Evaluates right) t held r = right_fine known k a rest s types reaches right t.0 t.1 r
     frame_fine (Computes e) t held r = expression_fine known k a rest s e r
     frame_fine (Follows cs) t held r = path_fine cs a.operands t r
     frame_fine (TestsNull equal) t held r = null_test_fine known k a rest s (older a.operands) r equal (named.reads_null (first_or Null a.operands))
@@ -111,21 +112,21 @@ module _ (known : Known) where
     frame_fine (Clears x) t held r = stores_fine known k a rest s x Null a.operands (inl r)
     frame_fine (ClearsIn o c) t held r = clear_fine known k a rest s o c r
 
-  mode_fine : (types : List TypeDefinition) (mode : Mode) (k : Control) (a : Activation Value) (rest : List (Activation Value)) (s : State) → (mode ≡ Running → RunsTyped known s.heap k a.operands) → HeldIn s.heap s.masters → ReadyIn known mode k s.heap a.places a.operands s.masters → Fine known s.heap s.masters (mode_next named types mode (record s { mode = mode; control = k; activations = a ∷ rest }))
-  mode_fine types Running [] a rest s t held r = r
-  mode_fine types Running (f ∷ k) a rest s t held r = frame_fine types k a rest s f (t refl) held r
-  mode_fine types (Raising e) [] a rest s t held r = r
-  mode_fine types (Raising e) (f ∷ k) a rest s t held r = raising_fine known k a rest s e f r
-  mode_fine types Exiting [] a rest s t held r = tt
-  mode_fine types Exiting (f ∷ k) a rest s t held r = exiting_fine known k a rest s f r
-  mode_fine types Returning [] a rest s t held r = r
-  mode_fine types Returning (f ∷ k) a rest s t held r = returning_fine known k a rest s f r
+  mode_fine : (types : List TypeDefinition) → Reaches known types → (mode : Mode) (k : Control) (a : Activation Value) (rest : List (Activation Value)) (s : State) → (mode ≡ Running → RunsTyped known s.heap k a.operands) → HeldIn s.heap s.masters → ReadyIn known mode k s.heap a.places a.operands s.masters → Fine known s.heap s.masters (mode_next named types mode (record s { mode = mode; control = k; activations = a ∷ rest }))
+  mode_fine types reaches Running [] a rest s t held r = r
+  mode_fine types reaches Running (f ∷ k) a rest s t held r = frame_fine types reaches k a rest s f (t refl) held r
+  mode_fine types reaches (Raising e) [] a rest s t held r = r
+  mode_fine types reaches (Raising e) (f ∷ k) a rest s t held r = raising_fine known k a rest s e f r
+  mode_fine types reaches Exiting [] a rest s t held r = tt
+  mode_fine types reaches Exiting (f ∷ k) a rest s t held r = exiting_fine known k a rest s f r
+  mode_fine types reaches Returning [] a rest s t held r = r
+  mode_fine types reaches Returning (f ∷ k) a rest s t held r = returning_fine known k a rest s f r
 
-  active_fine : (types : List TypeDefinition) (all : List (Activation Value)) (s : State) → IsActive all → (s.mode ≡ Running → RunsTyped known s.heap s.control (operands_of all)) → HeldIn s.heap s.masters → Ready known (record s { activations = all }) → Fine known s.heap s.masters (mode_next named types s.mode (record s { activations = all }))
-  active_fine types [] s i t held r = absurd i
-  active_fine types (a ∷ rest) s i t held r = mode_fine types s.mode s.control a rest s t held r.1
+  active_fine : (types : List TypeDefinition) → Reaches known types → (all : List (Activation Value)) (s : State) → IsActive all → (s.mode ≡ Running → RunsTyped known s.heap s.control (operands_of all)) → HeldIn s.heap s.masters → Ready known (record s { activations = all }) → Fine known s.heap s.masters (mode_next named types s.mode (record s { activations = all }))
+  active_fine types reaches [] s i t held r = absurd i
+  active_fine types reaches (a ∷ rest) s i t held r = mode_fine types reaches s.mode s.control a rest s t held r.1
 
   -- One step keeps the invariant.
-  pub fine : (types : List TypeDefinition) (s : State) → typed.Typed known.program s → InnermostHeldInside s → Ready known s → Fine known s.heap s.masters (next types s)
+  pub fine : (types : List TypeDefinition) → Reaches known types → (s : State) → typed.Typed known.program s → InnermostHeldInside s → Ready known s → Fine known s.heap s.masters (next types s)
   unfolding next
-  fine types s typing held r = active_fine types s.activations s r.0 (runs_typed known s typing) held r
+  fine types reaches s typing held r = active_fine types reaches s.activations s r.0 (runs_typed known s typing) held r

@@ -3,7 +3,7 @@
 use Rattle.std.proofs.Common.{ℕ, List, [], ◌∷◌, ◌⊎◌, inl, inr}
 use Rattle.std.specs.Prelude.{Option, Some, None}
 use Rattle.std.specs.List.{slice_set}
-use Rattle.ada_program.specs.Form.{RightForm, nothing, value_of, allocates, computes}
+use Rattle.ada_program.specs.Form.{RightForm, nothing, value_of, allocates, allocates_default, computes}
 use Rattle.ada_flow.specs.Flow.{Holds}
 use Rattle.ada_meaning.specs.declared.state.Id.{Id}
 use Rattle.ada_meaning.specs.declared.state.Value.{Value}
@@ -48,6 +48,7 @@ module _ (known : Known) where
   right_stored nothing k heap places ms h = null_stored k heap places ms h
   right_stored (value_of path) k heap places ms w = (None, w.stored)
   right_stored (allocates access items) k heap places ms w = (None, w.stored)
+  right_stored (allocates_default access) k heap places ms w = (None, w.stored)
   right_stored (computes e) k heap places ms w = (None, w.stored)
 
   half_follows_stored : (v : Value) (cs : List ℕ) (k : Control) (heap : List Object) (places : List Value) (ms : List Master) → HalfFollows known v cs k heap places ms → IsStored heap ms

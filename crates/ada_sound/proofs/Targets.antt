@@ -6,7 +6,7 @@ use Rattle.std.specs.List.{slice_get}
 use Rattle.ada_program.specs.declared.program.Exception.TheVariants.{ConstraintError, EndError}
 use Rattle.ada_program.specs.declared.program.VariableKind.{VariableKind}
 use Rattle.ada_program.specs.declared.program.VariableKind.TheVariants as variable
-use Rattle.ada_program.specs.Form.{PathForm, RightForm, nothing, value_of, allocates, computes, StmtsForm, a_stmt, assigns}
+use Rattle.ada_program.specs.Form.{PathForm, RightForm, nothing, value_of, allocates, allocates_default, computes, StmtsForm, a_stmt, assigns}
 use Rattle.ada_program.specs.ProgramForm.{VariableForm}
 use Rattle.ada_program.specs.Handling.{is_same}
 use Rattle.ada_effects.specs.Effects.{stmt_raises}
@@ -115,6 +115,7 @@ module _ (known : Known) (k : Control) (a : Activation Value) (rest : List (Acti
       ((object, found, listed), blank_works {more = RunsOn known k} o object c Null found (λ p e. cc e) (at_work w g.1))
   evaluates (value_of path) o object c found listed w = at_work w ((object, found, listed), w.rest)
   evaluates (allocates access items) o object c found listed w = at_work w ((object, found, listed), w.rest)
+  evaluates (allocates_default access) o object c found listed w = at_work w ((object, found, listed), w.rest)
   evaluates (computes e) o object c found listed w = at_work w ((object, found, listed), w.rest)
 
   -- The object that was found is there.

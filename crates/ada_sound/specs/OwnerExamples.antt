@@ -2,7 +2,7 @@
 
 use Rattle.std.specs.Prelude.{ℕ, List, [], ◌∷◌, ◌++◌, None, Some, false, pos}
 use Rattle.std.proofs.Math.ListN.{replicate}
-use Rattle.ada_program.specs.Form.{PathForm, integer, reads, is_null, nothing, null_item, item_of_path, item_of_value, value_of, allocates, collects, declares, StmtForm, assigns, frees, writes, repeats, encloses, StmtsForm, no_stmts, a_stmt, no_handlers}
+use Rattle.ada_program.specs.Form.{PathForm, integer, reads, is_null, nothing, null_item, item_of_path, item_of_value, value_of, allocates, allocates_default, collects, declares, StmtForm, assigns, frees, writes, repeats, encloses, StmtsForm, no_stmts, a_stmt, no_handlers}
 use Rattle.ada_meaning.specs.declared.state.Value.TheVariants.{Names}
 use Rattle.ada_meaning.specs.declared.event.Cause.TheVariants.{Leaving, Freeing}
 use Rattle.ada_meaning.specs.declared.event.Line.TheVariants.{Image}
@@ -52,6 +52,24 @@ owning_events =
     ∷ Line (Image (pos 1))
     ∷ replicate 3 (Followed (Names (record { 0 = 0 })))
     ++ Back (Names (record { 0 = 0 })) 1 1 0 None (Freeing 2)
+    ∷ Left 0
+    ∷ []
+
+-- Head := new Node; Head.Next := new Node; Put_Line (Integer'Image (Head.Next.Value)); where the Value of a Node is 5 at first
+abbrev pub default_stmts : StmtsForm
+default_stmts =
+    a_stmt (assigns (example_path 0 []) (allocates_default 1))
+    (a_stmt (assigns (next_at 0) (allocates_default 1))
+    (a_stmt (writes (reads (example_path 0 (1 ∷ 0 ∷ [])))) no_stmts))
+
+-- The first node is followed where its Next is found as a target, where it is written, and where it is read; the second one where its Value is.
+abbrev pub default_events : List Event
+default_events =
+    replicate 3 (Followed (Names (record { 0 = 0 })))
+    ++ Followed (Names (record { 0 = 1 }))
+    ∷ Line (Image (pos 5))
+    ∷ Back (Names (record { 0 = 1 })) 1 2 0 None (Leaving 0 0)
+    ∷ Back (Names (record { 0 = 0 })) 1 1 0 None (Leaving 0 0)
     ∷ Left 0
     ∷ []
 

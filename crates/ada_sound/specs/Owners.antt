@@ -3,7 +3,7 @@
 
 use Rattle.std.specs.Prelude.{◌≡◌, ◌≢◌, ◌⊎◌, ℕ, Bool, true, false, List, [], ◌∷◌, ◌++◌, Option, Some}
 use Rattle.std.specs.List.{slice_get}
-use Rattle.ada_program.specs.Form.{PathForm, ItemForm, item_of_path, RightForm, nothing, value_of, allocates, StmtForm, assigns, frees, StmtsForm, a_stmt, declares}
+use Rattle.ada_program.specs.Form.{PathForm, ItemForm, item_of_path, RightForm, nothing, value_of, allocates, allocates_default, StmtForm, assigns, frees, StmtsForm, a_stmt, declares}
 use Rattle.ada_flow.specs.declared.rule.Hold.TheVariants.{Own, Alias, Lost}
 use Rattle.ada_flow.specs.declared.rule.Region.{Region}
 use Rattle.ada_flow.specs.declared.rule.Rule.TheVariants.{LostValue}
@@ -126,6 +126,19 @@ abbrev pub ItemsStayWhereRaised : Type 0
 ItemsStayWhereRaised =
     (types : List TypeForm) (variables : List VariableForm) (target : PathForm) (access : ℕ) (items : List ItemForm) (holds raised : Holds)
     → RaisesWith types variables (assigns target (allocates access items)) holds raised → raised ≡ holds
+
+-- P := new T (4.8): an allocator without items moves nothing, so each other variable holds what it did.
+abbrev pub DefaultsMoveNothing : Type 0
+DefaultsMoveNothing =
+    (types : List TypeForm) (variables : List VariableForm) (target : PathForm) (access : ℕ) (holds after : Holds)
+    → EndsWith types variables (assigns target (allocates_default access)) holds after
+    → (x : ℕ) → IsElsewhere target x → hold_at after x ≡ hold_at holds x
+
+-- Where it raises an exception, each variable is what it was.
+abbrev pub DefaultsStayWhereRaised : Type 0
+DefaultsStayWhereRaised =
+    (types : List TypeForm) (variables : List VariableForm) (target : PathForm) (access : ℕ) (holds raised : Holds)
+    → RaisesWith types variables (assigns target (allocates_default access)) holds raised → raised ≡ holds
 
 -- The statement behind `T := P.C;` is `P.C := null;`; T is another variable than the one that P begins with, or a component, and then P is
 -- that variable alone. So the statement changes nothing on the way to P.C.

@@ -132,12 +132,15 @@ pub fn only_owners_are_moved()
 {}
 
 /// The rules let an allocator move what a variable owns, or null, and what the component holds that the new object goes
-/// to, each once (4.8). The variables own nothing after; where it raises an exception, they are what they were.
+/// to, each once (4.8). The variables own nothing after; where it raises an exception, they are what they were. Without
+/// items it moves nothing.
 pub fn only_owners_are_items()
     ensures owner { owners.OnlyOwnersAreItems }
     ensures once { owners.ItemsMoveApart }
     ensures nothing_after { owners.ItemsOwnNothing }
     ensures unchanged_where_raised { owners.ItemsStayWhereRaised }
+    ensures nothing_by_default { owners.DefaultsMoveNothing }
+    ensures default_unchanged_where_raised { owners.DefaultsStayWhereRaised }
 {}
 
 /// The rules let an assignment of a component's value move it only where the next statement sets that component to null,
@@ -173,7 +176,8 @@ pub fn borrowers_only_borrow()
 /// keeps its owners. And one whose borrower is null where a loop begins that gives it a value. And one that puts two nodes
 /// into a list behind its first one: each of them takes what the component held that it goes to, and so a borrower meets
 /// the newer one before the older one. And one that frees a component, whose access type is not the one on the way to it:
-/// the component is null then, and to free it once more has no effect.
+/// the component is null then, and to free it once more has no effect. And one whose objects have no items: it reads what
+/// a component holds at first.
 pub fn premises_are_met()
     ensures begins { (program : Program) × IsChecked program × ReachesStatement program }
     ensures finishes { (program : Program) × IsChecked program × FinishesAfter examples.example_events program }
@@ -199,6 +203,8 @@ pub fn premises_are_met()
         × IsChecked program × FinishesAfter examples.filling_events program }
     ensures owns { (program : Program) × (stmt_forms program ≡ owner_examples.owning_stmts)
         × IsChecked program × FinishesAfter owner_examples.owning_events program }
+    ensures defaults { (program : Program) × (stmt_forms program ≡ owner_examples.default_stmts)
+        × IsChecked program × FinishesAfter owner_examples.default_events program }
     ensures walks { (program : Program) × (stmt_forms program ≡ borrower_examples.walking_stmts)
         × borrower_examples.HasBorrower program
         × IsChecked program × FinishesAfter borrower_examples.walking_events program }

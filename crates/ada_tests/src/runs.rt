@@ -28,6 +28,18 @@ A := new Node'(Value => 1); Ada.Text_IO.Put_Line (\"first\"); Free (A);
 B := new Node'(Value => 2); Ada.Text_IO.Put_Line (\"second\");
 end Main;";
 
+/// Two requests for objects without items: what the first one got is kept where the second one is refused.
+const DEFAULTS: &str = "with Ada.Text_IO;
+procedure Main is
+type Part is record Value : Integer := 5; end record;
+type Node; type Link is access Node;
+type Node is record Left : Part; Right : Part; Next : Link; end record;
+A : Link := new Node;
+begin
+A.Right.Value := 6; A.Next := new Node; A := null;
+exception when Storage_Error => Ada.Text_IO.Put_Line (Integer'Image (A.Left.Value * A.Right.Value));
+end Main;";
+
 /// A program that takes numbers until there is none left, and writes the double of each.
 const DOUBLES: &str = "with Ada.Text_IO; with Run_Input;
 procedure Main is
@@ -74,6 +86,9 @@ fn runs_stop_at_the_limit_and_requests_are_refused(rt: HostRuntime) -> Result<()
         (REQUESTS, MANY, 1, "unhandled STORAGE_ERROR\n", 2),
         (REQUESTS, MANY, 2, "first\nunhandled STORAGE_ERROR\n", 2),
         (REQUESTS, MANY, 3, "first\nsecond\nfinished\n", 0),
+        (DEFAULTS, MANY, 0, "finished\n", 0),
+        (DEFAULTS, MANY, 1, "unhandled STORAGE_ERROR\n", 2),
+        (DEFAULTS, MANY, 2, " 30\nfinished\n", 0),
     ];
     for (source, steps, refuse, wanted, status) in rows {
         let (found, code) = run_of(rt.alloc(), source, steps, refuse)?;

@@ -4,12 +4,13 @@ use Rattle.ada_typed.specs.Holding.{Cells, IsAccess, HaveKinds, cells_of}
 use Rattle.std.proofs.Common.{◌≡◌, ℕ, zero, suc, ◌+◌, ◌≤◌, Bool, true, false, List, [], ◌∷◌, ◌++◌, length, take, drop, reverse, Option, Some, None, arith, refl, sym, ap, ◌∙◌, subst}
 use Rattle.std.proofs.lemmas.List.{reverse-append}
 use Rattle.std.specs.List.{list_all}
+use Rattle.ada_program.specs.declared.program.ComponentKind.{ComponentKind}
 use Rattle.ada_program.specs.declared.program.ScalarType.{ScalarType}
 use Rattle.ada_program.specs.declared.program.TypeNo.{TypeNo}
 use Rattle.ada_program.specs.declared.program.VariableKind.{VariableKind}
 use Rattle.ada_program.specs.declared.program.VariableKind.TheVariants as variable
 use Rattle.ada_program.specs.Form.{HandlersForm}
-use Rattle.ada_program.specs.ProgramForm.{ComponentForm, ProgramForm}
+use Rattle.ada_program.specs.ProgramForm.{ProgramForm}
 use Rattle.ada_program.specs.WellFormed.{reached_components, held_kind, variable_kind, selected_kind, selectors_kind, unary_type, binary_type, type_of, chain_type, items_fit, kind_takes, initial_fits, condition_fits, has_statement, stmts_fit, branches_fit, handlers_fit}
 use Rattle.ada_meaning.specs.declared.state.Value.{Value}
 use Rattle.ada_meaning.specs.declared.state.Value.TheVariants.{Null, Names, Scalar}
@@ -21,9 +22,9 @@ use Rattle.ada_meaning.specs.Named.{State}
 use Rattle.ada_typed.proofs.Values.{AreFilled, AreComputed, IsActive, kind_of}
 
 -- The kinds of operands, newest first, once values for these components have been computed in order.
-abbrev pub onto : List ComponentForm → List VariableKind → List VariableKind
+abbrev pub onto : List ComponentKind → List VariableKind → List VariableKind
 onto [] kinds = kinds
-onto (c ∷ cs) kinds = onto cs (held_kind c.kind ∷ kinds)
+onto (c ∷ cs) kinds = onto cs (held_kind c ∷ kinds)
 
 abbrev pub IsName : Value → Type 0
 IsName Null = ⊥
@@ -79,8 +80,8 @@ abbrev mutual
   Fits p cells kinds (frame.Continues links ∷ k) = (ks : List VariableKind) × (l : ScalarType) × (t : ScalarType) × (kinds ≡ kind_of l ∷ ks) × (chain_type p.types p.variables (Some l) links ≡ Some t) × Fits p cells (kind_of t ∷ ks) k
   Fits p cells kinds (frame.Applies operator ∷ k) = (ks : List VariableKind) × (l : ScalarType) × (r : ScalarType) × (t : ScalarType) × (kinds ≡ kind_of r ∷ kind_of l ∷ ks) × (binary_type operator (Some l) (Some r) ≡ Some t) × Fits p cells (kind_of t ∷ ks) k
   Fits p cells kinds (frame.AppliesAlone operator ∷ k) = (ks : List VariableKind) × (l : ScalarType) × (t : ScalarType) × (kinds ≡ kind_of l ∷ ks) × (unary_type operator (Some l) ≡ Some t) × Fits p cells (kind_of t ∷ ks) k
-  Fits p cells kinds (frame.Fills items ∷ k) = (cs : List ComponentForm) × (items_fit p.types p.variables cs items ≡ true) × Fits p cells (onto cs kinds) k
-  Fits p cells kinds (frame.Creates access count ∷ k) = (ks : List VariableKind) × (cs : List ComponentForm) × (kinds ≡ onto cs ks) × (reached_components p.types access ≡ Some cs) × (count ≡ length cs) × Fits p cells (variable.Access (record { 0 = access }) ∷ ks) k
+  Fits p cells kinds (frame.Fills items ∷ k) = (cs : List ComponentKind) × (items_fit p.types p.variables cs items ≡ true) × Fits p cells (onto cs kinds) k
+  Fits p cells kinds (frame.Creates access count ∷ k) = (ks : List VariableKind) × (cs : List ComponentKind) × (kinds ≡ onto cs ks) × (reached_components p.types access ≡ Some cs) × (count ≡ length cs) × Fits p cells (variable.Access (record { 0 = access }) ∷ ks) k
   Fits p cells kinds (frame.Stores x ∷ k) = (ks : List VariableKind) × (kind : VariableKind) × (kinds ≡ kind ∷ ks) × (variable_kind p.variables x ≡ Some kind) × Fits p cells ks k
   Fits p cells kinds (frame.Targets c right ∷ k) = (ks : List VariableKind) × (access : TypeNo) × (kind : VariableKind) × (kinds ≡ variable.Access access ∷ ks) × (selected_kind p.types (Some (variable.Access access)) c ≡ Some kind) × (kind_takes p.types p.variables kind right ≡ true) × Fits p cells ks k
   Fits p cells kinds (frame.StoresIn object c ∷ k) = (ks : List VariableKind) × (access : TypeNo) × (kind : VariableKind) × (kinds ≡ kind ∷ ks) × IsName object × IsAccess cells access.0 object × (selected_kind p.types (Some (variable.Access access)) c ≡ Some kind) × Fits p cells ks k
@@ -245,15 +246,15 @@ next_taken zero (x ∷ ops) v rest h = (cc, cc)
 next_taken (suc m) [] v rest h = absurd (cc)
 next_taken (suc m) (x ∷ ops) v rest h = let later = next_taken m ops v rest h in (ap (λ xs. x ∷ xs) later.0, later.1)
 
-split_next : (cells : Cells) (c : ComponentForm) (cs : List ComponentForm) (ks : List VariableKind) (m : ℕ) (ops tail : List Value) → drop m ops ≡ tail → HaveKinds cells cs (reverse (take m ops)) → AreComputed cells (held_kind c.kind ∷ ks) tail → HaveKinds cells (c ∷ cs) (reverse (take (suc m) ops)) × AreComputed cells ks (drop (suc m) ops)
+split_next : (cells : Cells) (c : ComponentKind) (cs : List ComponentKind) (ks : List VariableKind) (m : ℕ) (ops tail : List Value) → drop m ops ≡ tail → HaveKinds cells cs (reverse (take m ops)) → AreComputed cells (held_kind c ∷ ks) tail → HaveKinds cells (c ∷ cs) (reverse (take (suc m) ops)) × AreComputed cells ks (drop (suc m) ops)
 split_next cells c cs ks m ops [] is h g = absurd g
 split_next cells c cs ks m ops (v ∷ rest) is h g =
     let next = next_taken m ops v rest is in
     let turned : reverse (take (suc m) ops) ≡ v ∷ reverse (take m ops) = ap reverse next.0 ∙ reverse-append (take m ops) (v ∷ []) in
     (subst (λ (vs : List Value). HaveKinds cells (c ∷ cs) vs) (sym turned) (g.0, h), subst (λ (vs : List Value). AreComputed cells ks vs) (sym next.1) g.1)
 
-pub split : (cells : Cells) (cs : List ComponentForm) (ks : List VariableKind) (ops : List Value) → AreComputed cells (onto cs ks) ops → HaveKinds cells cs (reverse (take (length cs) ops)) × AreComputed cells ks (drop (length cs) ops)
+pub split : (cells : Cells) (cs : List ComponentKind) (ks : List VariableKind) (ops : List Value) → AreComputed cells (onto cs ks) ops → HaveKinds cells cs (reverse (take (length cs) ops)) × AreComputed cells ks (drop (length cs) ops)
 split cells [] ks ops h = (tt, h)
 split cells (c ∷ cs) ks ops h =
-    let below = split cells cs (held_kind c.kind ∷ ks) ops h in
+    let below = split cells cs (held_kind c ∷ ks) ops h in
     split_next cells c cs ks (length cs) ops (drop (length cs) ops) refl below.0 below.1

@@ -2,7 +2,7 @@
 
 use Rattle.ada_typed.specs.Stuck.{EndsByTheLanguage}
 use Rattle.ada_typed.specs.Holding.{Cells, Designates, HasKind, HaveKinds, cells_of}
-use Rattle.std.proofs.Common.{◌≡◌, ℕ, zero, suc, ◌<◌, ◌≤◌, ◌==◌, if◌then◌else◌, Bool, true, false, List, [], ◌∷◌, ◌++◌, length, take, drop, reverse, Option, Some, None, Result, Ok, Err, arith, refl, sym, ap, ◌∙◌, subst}
+use Rattle.std.proofs.Common.{◌≡◌, ℕ, zero, suc, ◌<◌, ◌≤◌, ◌==◌, if◌then◌else◌, Bool, true, false, List, [], ◌∷◌, ◌++◌, length, map, take, drop, reverse, Option, Some, None, Result, Ok, Err, arith, refl, sym, ap, ◌∙◌, subst}
 use Rattle.std.specs.Prelude.{is_some}
 use Rattle.std.proofs.lemmas.Bool.{eqb-true}
 use Rattle.std.specs.List.{slice_get, slice_set}
@@ -10,11 +10,13 @@ use Rattle.ada_program.specs.declared.program.ComponentKind.{ComponentKind}
 use Rattle.ada_program.specs.declared.program.ComponentKind.TheVariants as component
 use Rattle.ada_program.specs.declared.program.ScalarType.{ScalarType}
 use Rattle.ada_program.specs.declared.program.ScalarType.TheVariants.{Integer, Boolean}
+use Rattle.ada_program.specs.declared.program.TypeDefinition.{TypeDefinition}
 use Rattle.ada_program.specs.declared.program.TypeNo.{TypeNo}
 use Rattle.ada_program.specs.declared.program.VariableKind.{VariableKind}
 use Rattle.ada_program.specs.declared.program.VariableKind.TheVariants as variable
-use Rattle.ada_program.specs.Form.{ExpressionForm, integer, boolean, reads, is_null, applied_to, chained, LinksForm, no_more_links, a_link, ItemForm, null_item, item_of_path, item_of_value, RightForm, nothing, value_of, allocates, computes}
-use Rattle.ada_program.specs.ProgramForm.{TypeForm, ComponentForm, VariableForm, ProgramForm}
+use Rattle.ada_program.specs.Form.{ExpressionForm, integer, boolean, reads, is_null, applied_to, chained, LinksForm, no_more_links, a_link, ItemForm, null_item, item_of_path, item_of_value, RightForm, nothing, value_of, allocates, allocates_default, computes}
+use Rattle.ada_program.specs.ProgramForm.{TypeForm, VariableForm, ProgramForm, type_form}
+use Rattle.ada_program.specs.Typed.{reached_of, count_of, words_of}
 use Rattle.ada_program.specs.WellFormed.{reached_components, held_kind, component_kind, kind_among, selected_kind, selectors_kind, variable_kind, path_kind, access_of, scalar_of, is_this, type_of, chain_type, unary_type, binary_type, item_fits, items_fit, is_filled, kind_takes}
 use Rattle.ada_values.specs.declared.value.Value.TheVariants as scalar
 use Rattle.ada_values.specs.declared.operator.BinaryOperator.{BinaryOperator}
@@ -33,9 +35,10 @@ use Rattle.ada_meaning.specs.Frame.{Frame, is_master}
 use Rattle.ada_meaning.specs.Frame as frame
 use Rattle.ada_meaning.specs.State.{Activation, Owned, Item, Master, height}
 use Rattle.ada_meaning.specs.Heap.{Cell}
-use Rattle.ada_meaning.specs.Step.{halts, moves, tells, asks, picks, at, owning, owned, shorter, computed, popped, jumping, raised, put, held, newest, operands, operands_of, with_operands, reading, component_next, follow_next, path_next, expression_next, null_test_next, is_decided, link_next, links_next, outcome_next, item_next, items_next, answered, new_next, new_cell, right_next}
+use Rattle.ada_meaning.specs.Step.{halts, moves, tells, asks, picks, at, owning, owned, shorter, computed, popped, jumping, raised, put, held, newest, operands, operands_of, with_operands, reading, component_next, follow_next, path_next, expression_next, null_test_next, is_decided, link_next, links_next, outcome_next, item_next, items_next, answered, new_next, new_cell, initial_value, initial_values, in_front, initialized, right_next}
 use Rattle.ada_meaning.specs.Named.{Object, State, Next, named, look, seen, existing, changed, on_object, new_object, reads_boolean, reads_null}
-use Rattle.ada_typed.proofs.Values.{AreFilled, IsActive, kind_of, filled_new, active_later, designated_more, newest_name, active_held, active_set, active_push, active_pop, active_newest, active_cleared, component_held, filled_at}
+use Rattle.ada_typed.proofs.Values.{AreFilled, AreComputed, IsActive, kind_of, filled_new, active_later, designated_more, newest_name, active_held, active_set, active_push, active_pop, active_newest, active_cleared, component_held, filled_at}
+use Rattle.ada_typed.proofs.Shown.{same_components}
 use Rattle.ada_typed.proofs.Later.{fits_later}
 use Rattle.ada_typed.proofs.Operators.{and_left, and_right, typed, unary_operand, binary_operand, chain_left, decided_same, GivesKind}
 use Rattle.ada_typed.proofs.Control.{onto, Fits, depth, Ready, Jumps, Typed, running, on_jump, catches, split}
@@ -96,6 +99,25 @@ own_access xs o access object has is =
     let twice : Some has.0 ≡ Some object.cell = sym has.1 ∙ cell_at xs o.0 object is in
     let one : has.0 ≡ object.cell = cc in
     ap (λ (x : Cell Value). x.access) (sym one) ∙ has.2
+
+-- What components hold at first has their kinds.
+initial_kind : (cells : Cells) (kind : ComponentKind) → HasKind cells (held_kind kind) (initial_value named kind)
+initial_kind cells (component.Integer initial) = tt
+initial_kind cells (component.Boolean initial) = tt
+initial_kind cells (component.Access access) = tt
+
+computed_initial : (cells : Cells) (cs : List ComponentKind) (kinds : List VariableKind) (vs : List Value) → AreComputed cells kinds vs → AreComputed cells (onto cs kinds) (in_front (map (initial_value named) cs) vs)
+computed_initial cells [] kinds vs h = h
+computed_initial cells (c ∷ cs) kinds vs h = computed_initial cells cs (held_kind c ∷ kinds) (initial_value named c ∷ vs) (initial_kind cells c, h)
+
+active_initial : (cells : Cells) (xs : List VariableForm) (cs : List ComponentKind) (kinds : List VariableKind) (acts : List (Activation Value)) → IsActive cells xs kinds acts → IsActive cells xs (onto cs kinds) (with_operands (in_front (map (initial_value named) cs) (operands_of acts)) acts)
+active_initial cells xs cs kinds [] h = h
+active_initial cells xs cs kinds (a ∷ suspended) h = (h.0, computed_initial cells cs kinds a.operands h.1)
+
+-- There is something.
+there_is : {X : Type 0} (o : Option X) → is_some o ≡ true → (x : X) × (o ≡ Some x)
+there_is None h = absurd (cc)
+there_is (Some x) h = (x, refl)
 
 module _ (p : ProgramForm) where
   -- How states change.
@@ -175,7 +197,7 @@ module _ (p : ProgramForm) where
   reading_fine (c ∷ cs) v kind to s kinds ready has is fits =
       running (kind ∷ kinds) (ready_at (kind ∷ kinds) (computed v s) (frame.Follows (c ∷ cs) ∷ s.control) (ready_push kinds s kind v ready has) ready.deep) (kinds, kind, to, refl, is, fits)
 
-  value_fine : (o : Value) (cs : List ℕ) (c : ℕ) (components : List ComponentForm) (values : List Value) (kind : Option VariableKind) (to : VariableKind) (s : State) (kinds : List VariableKind) → Ready p kinds s → HaveKinds (cells_of s.heap) components values → component_kind (slice_get components c) ≡ kind → selectors_kind p.types kind cs ≡ Some to → Fits p (cells_of s.heap) (to ∷ kinds) s.control → Fine p (component_next named o cs (slice_get values c) s)
+  value_fine : (o : Value) (cs : List ℕ) (c : ℕ) (components : List ComponentKind) (values : List Value) (kind : Option VariableKind) (to : VariableKind) (s : State) (kinds : List VariableKind) → Ready p kinds s → HaveKinds (cells_of s.heap) components values → component_kind (slice_get components c) ≡ kind → selectors_kind p.types kind cs ≡ Some to → Fits p (cells_of s.heap) (to ∷ kinds) s.control → Fine p (component_next named o cs (slice_get values c) s)
   value_fine o cs c components values None to s kinds ready have is leads fits = let never : None ≡ Some to = sym (selectors_none p.types cs) ∙ leads in absurd (cc)
   value_fine o cs c components values (Some kind) to s kinds ready have is leads fits =
       let u = component_held (cells_of s.heap) components values c kind have is in
@@ -187,7 +209,7 @@ module _ (p : ProgramForm) where
       let own : object.cell.access ≡ access.0 = own_access s.heap o access.0 object has is in
       let filled = filled_at p.types (cells_of s.heap) (cells_of s.heap) o.0 object.cell ready.filled there in
       let reached : reached_components p.types access.0 ≡ Some filled.0 = ap (reached_components p.types) (sym own) ∙ filled.1 in
-      let behind : selectors_kind p.types (component_kind (slice_get filled.0 c)) cs ≡ Some to = sym (ap (λ (found : Option (List ComponentForm)). selectors_kind p.types (kind_among found c) cs) reached) ∙ leads in
+      let behind : selectors_kind p.types (component_kind (slice_get filled.0 c)) cs ≡ Some to = sym (ap (λ (found : Option (List ComponentKind)). selectors_kind p.types (kind_among found c) cs) reached) ∙ leads in
       value_fine (Names o) cs c filled.0 object.cell.values (component_kind (slice_get filled.0 c)) to s kinds ready filled.2 refl behind fits
 
   stage_fine : (stage : Stage) (o : Id) (c : ℕ) (cs : List ℕ) (access : TypeNo) (to : VariableKind) (object : Object) (s : State) (kinds : List VariableKind) → Ready p kinds s → Designates (cells_of s.heap) access.0 o → slice_get s.heap o.0 ≡ Some object → selectors_kind p.types (selected_kind p.types (Some (variable.Access access)) c) cs ≡ Some to → Fits p (cells_of s.heap) (to ∷ kinds) s.control → Fine p (follow_next named (Names o) c cs (existing object stage) s)
@@ -311,26 +333,26 @@ module _ (p : ProgramForm) where
       (this_kind (path_kind p.types p.variables path) access is) fits
   item_fine (component.Access access) (item_of_value e) s kinds ready is fits = absurd (cc)
 
-  pub items_fine : (items : List ItemForm) (cs : List ComponentForm) (s : State) (kinds : List VariableKind) → Ready p kinds s → items_fit p.types p.variables cs items ≡ true → Fits p (cells_of s.heap) (onto cs kinds) s.control → Fine p (items_next named items s)
+  pub items_fine : (items : List ItemForm) (cs : List ComponentKind) (s : State) (kinds : List VariableKind) → Ready p kinds s → items_fit p.types p.variables cs items ≡ true → Fits p (cells_of s.heap) (onto cs kinds) s.control → Fine p (items_next named items s)
   items_fine [] [] s kinds ready is fits = running kinds ready fits
   items_fine [] (c ∷ cs) s kinds ready is fits = absurd (cc)
   items_fine (i ∷ items) [] s kinds ready is fits = absurd (cc)
   items_fine (i ∷ items) (c ∷ cs) s kinds ready is fits =
-      item_fine c.kind i (at (frame.Fills items ∷ s.control) s) kinds (ready_at kinds s (frame.Fills items ∷ s.control) ready ready.deep)
-      (and_left (item_fits p.types p.variables c.kind i) (items_fit p.types p.variables cs items) is)
-      (cs, and_right (item_fits p.types p.variables c.kind i) (items_fit p.types p.variables cs items) is, fits)
+      item_fine c i (at (frame.Fills items ∷ s.control) s) kinds (ready_at kinds s (frame.Fills items ∷ s.control) ready ready.deep)
+      (and_left (item_fits p.types p.variables c i) (items_fit p.types p.variables cs items) is)
+      (cs, and_right (item_fits p.types p.variables c i) (items_fit p.types p.variables cs items) is, fits)
 
-  active_new : (cells : Cells) (cell : Cell Value) (cs : List ComponentForm) (ks : List VariableKind) (access : TypeNo) (acts : List (Activation Value)) (o : ℕ) → cell.access ≡ access.0 → o ≡ length cells → IsActive cells p.variables (onto cs ks) acts → IsActive (cells ++ cell ∷ []) p.variables (variable.Access access ∷ ks) (with_operands (Names (record { 0 = o }) ∷ drop (length cs) (operands_of acts)) acts)
+  active_new : (cells : Cells) (cell : Cell Value) (cs : List ComponentKind) (ks : List VariableKind) (access : TypeNo) (acts : List (Activation Value)) (o : ℕ) → cell.access ≡ access.0 → o ≡ length cells → IsActive cells p.variables (onto cs ks) acts → IsActive (cells ++ cell ∷ []) p.variables (variable.Access access ∷ ks) (with_operands (Names (record { 0 = o }) ∷ drop (length cs) (operands_of acts)) acts)
   active_new cells cell cs ks access [] o own is active = active
   active_new cells cell cs ks access (a ∷ suspended) o own is active =
       let more : IsActive (cells ++ cell ∷ []) p.variables ks (record a { operands = drop (length cs) a.operands } ∷ suspended) = active_later cells (cells ++ cell ∷ []) (designated_more cells cell) p.variables ks (record a { operands = drop (length cs) a.operands } ∷ suspended) (active.0, (split cells cs ks a.operands active.1).1) in
       (more.0, ((cell, ap (slice_get (cells ++ cell ∷ [])) is ∙ newest_name cells cell, own), more.1))
 
-  active_values : (cells : Cells) (cs : List ComponentForm) (ks : List VariableKind) (acts : List (Activation Value)) → IsActive cells p.variables (onto cs ks) acts → HaveKinds cells cs (reverse (take (length cs) (operands_of acts)))
+  active_values : (cells : Cells) (cs : List ComponentKind) (ks : List VariableKind) (acts : List (Activation Value)) → IsActive cells p.variables (onto cs ks) acts → HaveKinds cells cs (reverse (take (length cs) (operands_of acts)))
   active_values cells cs ks [] active = absurd active
   active_values cells cs ks (a ∷ suspended) active = (split cells cs ks a.operands active.1).0
 
-  answered_fine : (access item words : ℕ) (s : State) (ks : List VariableKind) (cs : List ComponentForm) → Ready p (onto cs ks) s → reached_components p.types access ≡ Some cs → Fits p (cells_of s.heap) (variable.Access (record { 0 = access }) ∷ ks) s.control → (granted : Bool) → Typed p (answered named access (length cs) item words s granted)
+  answered_fine : (access item words : ℕ) (s : State) (ks : List VariableKind) (cs : List ComponentKind) → Ready p (onto cs ks) s → reached_components p.types access ≡ Some cs → Fits p (cells_of s.heap) (variable.Access (record { 0 = access }) ∷ ks) s.control → (granted : Bool) → Typed p (answered named access (length cs) item words s granted)
   answered_fine access item words s ks cs ready reached fits true =
       let cell = new_cell named access (length cs) item s in
       let same : cells_of (s.heap ++ new_object cell ∷ []) ≡ cells_of s.heap ++ cell ∷ [] = cells_more s.heap (new_object cell) in
@@ -344,39 +366,58 @@ module _ (p : ProgramForm) where
       (fits_later p (cells_of s.heap) (cells_of s.heap ++ cell ∷ []) (designated_more (cells_of s.heap) cell) s.control (variable.Access (record { 0 = access }) ∷ ks) fits))
   answered_fine access item words s ks cs ready reached fits false = raises (onto cs ks) (variable.Access (record { 0 = access }) ∷ ks) StorageError s ready fits
 
-  pub new_fine : (home : Option ℕ) (access words : ℕ) (s : State) (ks : List VariableKind) (cs : List ComponentForm) → Ready p (onto cs ks) s → reached_components p.types access ≡ Some cs → Fits p (cells_of s.heap) (variable.Access (record { 0 = access }) ∷ ks) s.control → Fine p (new_next named access (length cs) words home s)
+  pub new_fine : (home : Option ℕ) (access words : ℕ) (s : State) (ks : List VariableKind) (cs : List ComponentKind) → Ready p (onto cs ks) s → reached_components p.types access ≡ Some cs → Fits p (cells_of s.heap) (variable.Access (record { 0 = access }) ∷ ks) s.control → Fine p (new_next named access (length cs) words home s)
   new_fine None access words s ks cs ready reached fits = raises (onto cs ks) (variable.Access (record { 0 = access }) ∷ ks) StorageError s ready fits
   new_fine (Some item) access words s ks cs ready reached fits = answered_fine access item words s ks cs ready reached fits
 
   -- What is assigned.
-  filled_items : (o : Option (List ComponentForm)) (vs : List VariableForm) (items : List ItemForm) → is_filled p.types vs o items ≡ true → (cs : List ComponentForm) × (o ≡ Some cs) × (items_fit p.types vs cs items ≡ true)
+  filled_items : (o : Option (List ComponentKind)) (vs : List VariableForm) (items : List ItemForm) → is_filled p.types vs o items ≡ true → (cs : List ComponentKind) × (o ≡ Some cs) × (items_fit p.types vs cs items ≡ true)
   filled_items None vs items h = absurd (cc)
   filled_items (Some cs) vs items h = (cs, refl, h)
 
-  as_many : (vs : List VariableForm) (cs : List ComponentForm) (items : List ItemForm) → items_fit p.types vs cs items ≡ true → length items ≡ length cs
+  as_many : (vs : List VariableForm) (cs : List ComponentKind) (items : List ItemForm) → items_fit p.types vs cs items ≡ true → length items ≡ length cs
   as_many vs [] [] h = refl
   as_many vs [] (i ∷ items) h = absurd (cc)
   as_many vs (c ∷ cs) [] h = absurd (cc)
-  as_many vs (c ∷ cs) (i ∷ items) h = ap suc (as_many vs cs items (and_right (item_fits p.types vs c.kind i) (items_fit p.types vs cs items) h))
+  as_many vs (c ∷ cs) (i ∷ items) h = ap suc (as_many vs cs items (and_right (item_fits p.types vs c i) (items_fit p.types vs cs items) h))
 
-  pub right_fine : (right : RightForm) (kind : VariableKind) (s : State) (kinds : List VariableKind) → Ready p kinds s → kind_takes p.types p.variables kind right ≡ true → Fits p (cells_of s.heap) (kind ∷ kinds) s.control → Fine p (right_next named right s)
-  right_fine nothing variable.Integer s kinds ready is fits = absurd (cc)
-  right_fine (value_of path) variable.Integer s kinds ready is fits = absurd (cc)
-  right_fine (allocates access items) variable.Integer s kinds ready is fits = absurd (cc)
-  right_fine (computes e) variable.Integer s kinds ready is fits =
+  ready_initialized : (types : List TypeDefinition) (access : ℕ) (cs : List ComponentKind) (kinds : List VariableKind) (s : State) → reached_of types access ≡ Some cs → Ready p kinds s → Ready p (onto cs kinds) (initialized named types access s)
+  ready_initialized types access cs kinds s found ready = record {
+    filled = ready.filled;
+    active = subst (λ (o : Option (List ComponentKind)). IsActive (cells_of s.heap) p.variables (onto cs kinds) (with_operands (in_front (initial_values named o) (operands s)) s.activations)) (sym found)
+        (active_initial (cells_of s.heap) p.variables cs kinds s.activations ready.active);
+    runs = ready.runs;
+    deep = ready.deep;
+  }
+
+  pub right_fine : (types : List TypeDefinition) → map type_form types ≡ p.types → (right : RightForm) (kind : VariableKind) (s : State) (kinds : List VariableKind) → Ready p kinds s → kind_takes p.types p.variables kind right ≡ true → Fits p (cells_of s.heap) (kind ∷ kinds) s.control → Fine p (right_next named types right s)
+  right_fine types shown nothing variable.Integer s kinds ready is fits = absurd (cc)
+  right_fine types shown (value_of path) variable.Integer s kinds ready is fits = absurd (cc)
+  right_fine types shown (allocates access items) variable.Integer s kinds ready is fits = absurd (cc)
+  right_fine types shown (allocates_default access) variable.Integer s kinds ready is fits = absurd (cc)
+  right_fine types shown (computes e) variable.Integer s kinds ready is fits =
       running kinds (ready_at kinds s (frame.Computes e ∷ s.control) ready ready.deep) (Integer, typed Integer (type_of p.types p.variables e) is, fits)
-  right_fine nothing variable.Boolean s kinds ready is fits = absurd (cc)
-  right_fine (value_of path) variable.Boolean s kinds ready is fits = absurd (cc)
-  right_fine (allocates access items) variable.Boolean s kinds ready is fits = absurd (cc)
-  right_fine (computes e) variable.Boolean s kinds ready is fits =
+  right_fine types shown nothing variable.Boolean s kinds ready is fits = absurd (cc)
+  right_fine types shown (value_of path) variable.Boolean s kinds ready is fits = absurd (cc)
+  right_fine types shown (allocates access items) variable.Boolean s kinds ready is fits = absurd (cc)
+  right_fine types shown (allocates_default access) variable.Boolean s kinds ready is fits = absurd (cc)
+  right_fine types shown (computes e) variable.Boolean s kinds ready is fits =
       running kinds (ready_at kinds s (frame.Computes e ∷ s.control) ready ready.deep) (Boolean, typed Boolean (type_of p.types p.variables e) is, fits)
-  right_fine nothing (variable.Access access) s kinds ready is fits = running (variable.Access access ∷ kinds) (ready_push kinds s (variable.Access access) Null ready tt) fits
-  right_fine (value_of path) (variable.Access access) s kinds ready is fits =
+  right_fine types shown nothing (variable.Access access) s kinds ready is fits = running (variable.Access access ∷ kinds) (ready_push kinds s (variable.Access access) Null ready tt) fits
+  right_fine types shown (value_of path) (variable.Access access) s kinds ready is fits =
       root_fine (variable_kind p.variables path.root) path.selectors path.root (variable.Access access) s kinds ready refl
       (this_kind (path_kind p.types p.variables path) access is) fits
-  right_fine (allocates t items) (variable.Access access) s kinds ready is fits =
+  right_fine types shown (allocates t items) (variable.Access access) s kinds ready is fits =
       let same : t ≡ access.0 = eqb-true t access.0 (and_left (t == access.0) (is_filled p.types p.variables (reached_components p.types access.0) items) is) in
       let filled = filled_items (reached_components p.types access.0) p.variables items (and_right (t == access.0) (is_filled p.types p.variables (reached_components p.types access.0) items) is) in
       running kinds (ready_at kinds s (frame.Fills items ∷ frame.Creates t (length items) ∷ s.control) ready ready.deep)
       (filled.0, filled.2, (kinds, filled.0, refl, ap (reached_components p.types) same ∙ filled.1, as_many p.variables filled.0 items filled.2, subst (λ (i : ℕ). Fits p (cells_of s.heap) (variable.Access (record { 0 = i }) ∷ kinds) s.control) (sym same) fits))
-  right_fine (computes e) (variable.Access access) s kinds ready is fits = absurd (cc)
+  right_fine types shown (allocates_default t) (variable.Access access) s kinds ready is fits =
+      let same : t ≡ access.0 = eqb-true t access.0 (and_left (t == access.0) (is_some (reached_components p.types access.0)) is) in
+      let components = there_is (reached_components p.types access.0) (and_right (t == access.0) (is_some (reached_components p.types access.0)) is) in
+      let reached : reached_components p.types t ≡ Some components.0 = ap (reached_components p.types) same ∙ components.1 in
+      let found : reached_of types t ≡ Some components.0 = sym (same_components types t) ∙ ap (λ (ts : List TypeForm). reached_components ts t) shown ∙ reached in
+      running (onto components.0 kinds)
+      (ready_at (onto components.0 kinds) (initialized named types t s) (frame.Creates t (words_of types t) ∷ s.control) (ready_initialized types t components.0 kinds s found ready) ready.deep)
+      (kinds, components.0, refl, reached, ap count_of found, subst (λ (i : ℕ). Fits p (cells_of s.heap) (variable.Access (record { 0 = i }) ∷ kinds) s.control) (sym same) fits)
+  right_fine types shown (computes e) (variable.Access access) s kinds ready is fits = absurd (cc)

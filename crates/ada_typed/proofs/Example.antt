@@ -11,6 +11,8 @@ use Rattle.ada_program.specs.declared.program.Right.TheVariants as right
 use Rattle.ada_program.specs.declared.program.Stmt as stmt
 use Rattle.ada_program.specs.declared.program.Stmt.{Stmt}
 use Rattle.ada_program.specs.declared.program.ComponentKind.TheVariants as kind
+use Rattle.ada_program.specs.declared.program.Part.{Part}
+use Rattle.ada_program.specs.declared.program.PartKind.TheVariants as part
 use Rattle.ada_program.specs.declared.program.TypeDefinition.{TypeDefinition}
 use Rattle.ada_program.specs.declared.program.TypeDefinition.TheVariants as definition
 use Rattle.ada_program.specs.declared.program.Declaration.{Declaration}
@@ -22,7 +24,7 @@ use Rattle.ada_program.specs.declared.program.Choice.TheVariants as choice
 use Rattle.ada_program.specs.declared.program.Exception.{Exception}
 use Rattle.ada_program.specs.declared.program.Exception.TheVariants.{ProgramError, Declared}
 use Rattle.ada_program.specs.declared.program.Handler.{Handler}
-use Rattle.ada_program.specs.Form.{expression_form, stmt_form, path_form, integer, reads, is_null, StmtsForm, no_stmts, a_stmt, assigns, computes, gets, writes, frees, chooses, repeats, counts, exits, raises, encloses, otherwise, a_branch, HandlersForm, no_handlers, a_handler, declaration_forms, stmt_forms, handler_forms, statement_rules, expression_rules}
+use Rattle.ada_program.specs.Form.{expression_form, stmt_form, path_form, integer, reads, is_null, StmtsForm, no_stmts, a_stmt, assigns, allocates_default, computes, gets, writes, frees, chooses, repeats, counts, exits, raises, encloses, otherwise, a_branch, HandlersForm, no_handlers, a_handler, declaration_forms, stmt_forms, handler_forms, statement_rules, expression_rules}
 use Rattle.ada_program.specs.ProgramForm.{program_form}
 use Rattle.ada_program.specs.WellFormed.{Creation, creation, created_by_all, created_by_handlers, creates_from, has_collections, IsWellFormed, stmts_fit}
 use Rattle.ada_meaning.specs.declared.event.Halt.TheVariants.{Finished}
@@ -58,8 +60,11 @@ abbrev i_path : Path
 i_path = record { root = record { 0 = 2 }; selectors = vec [] (omega arith); spot = spot }
 
 -- type Cell is record Value : Integer; end record; type Link is access Cell;
+abbrev parts : List Part
+parts = record { name = no_name; kind = part.Elementary (kind.Integer (pos 0)); first = record { 0 = 0 } } ∷ []
+
 abbrev types : List TypeDefinition
-types = definition.Record no_name (vec (record { name = no_name; kind = kind.Integer (pos 0) } ∷ []) (omega arith)) ∷ definition.Access no_name (record { 0 = 0 }) ∷ []
+types = definition.Record no_name (vec parts (omega arith)) (vec (kind.Integer (pos 0) ∷ []) (omega arith)) ∷ definition.Access no_name (record { 0 = 0 }) ∷ []
 
 -- X : Link := new Cell'(Value => 7); N : Integer := X.Value; and the parameter I
 abbrev variables : List Variable
@@ -105,9 +110,14 @@ handlers = record { choices = vec (choice.Exception failure ∷ []) (omega arith
 abbrev counted : List Stmt
 counted = stmt.Block (vec [] (omega arith)) (vec (stmt.Get n_path ∷ stmt.Raise failure ∷ []) (omega arith)) (vec handlers (omega arith)) ∷ []
 
--- loop .. end loop; for I in 1 .. 1 loop .. end loop;
+-- loop .. end loop; for I in 1 .. 1 loop .. end loop; X := new Cell; Free (X);
 abbrev statements : List Stmt
-statements = stmt.Loop None (vec body (omega arith)) spot ∷ stmt.For (record { 0 = 2 }) (Integer (pos 1)) (Integer (pos 1)) (vec counted (omega arith)) spot ∷ []
+statements =
+    stmt.Loop None (vec body (omega arith)) spot
+    ∷ stmt.For (record { 0 = 2 }) (Integer (pos 1)) (Integer (pos 1)) (vec counted (omega arith)) spot
+    ∷ stmt.Assign x_path (right.Default (record { 0 = 1 }))
+    ∷ stmt.Free (record { 0 = 1 }) x_path
+    ∷ []
 
 abbrev pub program : Program
 program = record {
@@ -137,7 +147,10 @@ abbrev counted_forms : StmtsForm
 counted_forms = a_stmt (encloses [] (a_stmt (gets (path_form n_path)) (a_stmt (raises failure) no_stmts)) handled_forms) no_stmts
 
 abbrev forms : StmtsForm
-forms = a_stmt (repeats None body_forms spot) (a_stmt (counts 2 (integer (pos 1)) (integer (pos 1)) counted_forms spot) no_stmts)
+forms =
+    a_stmt (repeats None body_forms spot) (
+    a_stmt (counts 2 (integer (pos 1)) (integer (pos 1)) counted_forms spot) (
+    a_stmt (assigns (path_form x_path) (allocates_default 1)) (a_stmt (frees 1 (path_form x_path)) no_stmts)))
 
 statements_are : stmt_forms program ≡ forms
 statements_are = simp (statement_rules, expression_rules)
@@ -170,7 +183,7 @@ FinishesFrom fs = (events : List Event) × (last : State) × Run program (record
 
 finishes_from : FinishesFrom forms
 unfolding next expression_form
-finishes_from = (_, _, there settled _ (refl, refl) (there settled _ (refl, refl) (there settled _ (refl, refl) (there settled _ (refl, refl) (there settled _ (refl, refl) (there settled _ (refl, refl) (there (grants true) _ (refl, refl) (there settled _ (refl, refl) (there settled _ (refl, refl) (there settled _ (refl, refl) (there settled _ (refl, refl) (there settled _ (refl, refl) (there settled _ (refl, refl) (there settled _ (refl, refl) (there settled _ (refl, refl) (there settled _ (refl, refl) (there settled _ (refl, refl) (there settled _ (refl, refl) (there settled _ (refl, refl) (there settled _ (refl, refl) (there settled _ (refl, refl) (there settled _ (refl, refl) (there settled _ (refl, refl) (there settled _ (refl, refl) (there settled _ (refl, refl) (there settled _ (refl, refl) (there settled _ (refl, refl) (there settled _ (refl, refl) (there settled _ (refl, refl) (there settled _ (refl, refl) (there settled _ (refl, refl) (there settled _ (refl, refl) (there settled _ (refl, refl) (there settled _ (refl, refl) (there settled _ (refl, refl) (there settled _ (refl, refl) (there settled _ (refl, refl) (there settled _ (refl, refl) (there settled _ (refl, refl) (there settled _ (refl, refl) (there settled _ (refl, refl) (there settled _ (refl, refl) (there settled _ (refl, refl) (there settled _ (refl, refl) (there settled _ (refl, refl) (there settled _ (refl, refl) (there settled _ (refl, refl) (there settled _ (refl, refl) (there settled _ (refl, refl) (there settled _ (refl, refl) (there settled _ (refl, refl) (there settled _ (refl, refl) (there settled _ (refl, refl) (there settled _ (refl, refl) (there settled _ (refl, refl) (there settled _ (refl, refl) (there settled _ (refl, refl) (there settled _ (refl, refl) (there settled _ (refl, refl) (there settled _ (refl, refl) (there settled _ (refl, refl) (there settled _ (refl, refl) (there settled _ (refl, refl) (there settled _ (refl, refl) (there settled _ (refl, refl) here)))))))))))))))))))))))))))))))))))))))))))))))))))))))))))))))), refl)
+finishes_from = (_, _, there settled _ (refl, refl) (there settled _ (refl, refl) (there settled _ (refl, refl) (there settled _ (refl, refl) (there settled _ (refl, refl) (there settled _ (refl, refl) (there (grants true) _ (refl, refl) (there settled _ (refl, refl) (there settled _ (refl, refl) (there settled _ (refl, refl) (there settled _ (refl, refl) (there settled _ (refl, refl) (there settled _ (refl, refl) (there settled _ (refl, refl) (there settled _ (refl, refl) (there settled _ (refl, refl) (there settled _ (refl, refl) (there settled _ (refl, refl) (there settled _ (refl, refl) (there settled _ (refl, refl) (there settled _ (refl, refl) (there settled _ (refl, refl) (there settled _ (refl, refl) (there settled _ (refl, refl) (there settled _ (refl, refl) (there settled _ (refl, refl) (there settled _ (refl, refl) (there settled _ (refl, refl) (there settled _ (refl, refl) (there settled _ (refl, refl) (there settled _ (refl, refl) (there settled _ (refl, refl) (there settled _ (refl, refl) (there settled _ (refl, refl) (there settled _ (refl, refl) (there settled _ (refl, refl) (there settled _ (refl, refl) (there settled _ (refl, refl) (there settled _ (refl, refl) (there settled _ (refl, refl) (there settled _ (refl, refl) (there settled _ (refl, refl) (there settled _ (refl, refl) (there settled _ (refl, refl) (there settled _ (refl, refl) (there settled _ (refl, refl) (there settled _ (refl, refl) (there settled _ (refl, refl) (there settled _ (refl, refl) (there settled _ (refl, refl) (there settled _ (refl, refl) (there settled _ (refl, refl) (there settled _ (refl, refl) (there settled _ (refl, refl) (there settled _ (refl, refl) (there settled _ (refl, refl) (there settled _ (refl, refl) (there settled _ (refl, refl) (there settled _ (refl, refl) (there settled _ (refl, refl) (there (grants true) _ (refl, refl) (there settled _ (refl, refl) (there settled _ (refl, refl) (there settled _ (refl, refl) (there settled _ (refl, refl) (there settled _ (refl, refl) (there settled _ (refl, refl) (there settled _ (refl, refl) (there settled _ (refl, refl) (there settled _ (refl, refl) (there settled _ (refl, refl) (there settled _ (refl, refl) (there settled _ (refl, refl) here)))))))))))))))))))))))))))))))))))))))))))))))))))))))))))))))))))))))), refl)
 
 pub finishes : Finishes program
 finishes =

@@ -4,6 +4,8 @@ pub mod Values
 pub mod Operators
 -- what is left to do fits what is there
 pub mod Control
+-- what is shown of the types of a program has their components
+pub mod Shown
 -- it fits as well once objects have come to be or have changed
 pub mod Later
 -- paths, expressions, allocators and what is assigned

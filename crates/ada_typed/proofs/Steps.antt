@@ -11,7 +11,7 @@ use Rattle.ada_program.specs.declared.program.VariableKind.{VariableKind}
 use Rattle.ada_program.specs.declared.program.VariableKind.TheVariants as variable
 use Rattle.ada_program.specs.Form.{ExpressionForm, RightForm, StmtForm, skips, assigns, frees, gets, writes, writes_text, chooses, repeats, counts, exits, returns, raises as raises_it, encloses, StmtsForm, no_stmts, a_stmt, BranchesForm, otherwise, a_branch, HandlersForm, no_handlers, a_handler, DeclarationForm, collects, declares}
 use Rattle.ada_program.specs.Handling.{some_takes, handler_of}
-use Rattle.ada_program.specs.ProgramForm.{VariableForm, ProgramForm}
+use Rattle.ada_program.specs.ProgramForm.{VariableForm, ProgramForm, type_form}
 use Rattle.ada_program.specs.Typed.{words_of}
 use Rattle.ada_program.specs.WellFormed.{selectors_kind, variable_kind, path_access, access_of, scalar_of, is_type, type_of, kind_takes, right_fits, names_borrower, lends_to, is_borrower, path_kind, is_freed_by, collections_first, collection_fits, initial_fits, declarations_fit, has_type, condition_fits, has_statement, choice_fits, statement_fits, stmts_fit, branches_fit, handlers_fit, names_before}
 use Rattle.ada_values.specs.declared.value.Value.TheVariants as scalar
@@ -339,85 +339,85 @@ module _ (p : ProgramForm) where
       master_leave_fine mode m.number m.items s kinds ready deep (omega (arith, deep, same, all)) fits
 
   -- Each frame that is taken off.
-  frame_fine : (types : List TypeDefinition) (f : Frame Value) (s : State) (kinds : List VariableKind) → Ready p kinds s → depth (f ∷ s.control) ≤ length s.masters → Fits p (cells_of s.heap) kinds (f ∷ s.control) → Fine p (frame_next named types f s)
-  frame_fine types (frame.Elaborates ds fs hs) s kinds ready deep fits =
+  frame_fine : (types : List TypeDefinition) → map type_form types ≡ p.types → (f : Frame Value) (s : State) (kinds : List VariableKind) → Ready p kinds s → depth (f ∷ s.control) ≤ length s.masters → Fits p (cells_of s.heap) kinds (f ∷ s.control) → Fine p (frame_next named types f s)
+  frame_fine types shown (frame.Elaborates ds fs hs) s kinds ready deep fits =
       declarations_fine ds fs hs s (ready_kinds p kinds [] s fits.0 ready) deep (refl, fits.1, fits.2, fits.3, fits.4, fits.5, fits.6)
-  frame_fine types (frame.Does fs) s kinds ready deep fits = stmts_fine fs fits.1 s (ready_kinds p kinds [] s fits.0 ready) fits.2 fits.3 fits.4
-  frame_fine types (frame.Decides fs branches) s kinds ready deep fits =
+  frame_fine types shown (frame.Does fs) s kinds ready deep fits = stmts_fine fs fits.1 s (ready_kinds p kinds [] s fits.0 ready) fits.2 fits.3 fits.4
+  frame_fine types shown (frame.Decides fs branches) s kinds ready deep fits =
       let taken = ready_kinds p kinds (variable.Boolean ∷ []) s fits.0 ready in
       decided_fine fs branches (newest named s) fits.1 (popped s) (cells_of s.heap) (newest_of p variable.Boolean [] s taken) (ready_pop p variable.Boolean [] s taken) fits.2 fits.3 fits.4 fits.5
-  frame_fine types (frame.Repeats condition fs) s kinds ready deep fits = repeats_fine condition fs s (ready_kinds p kinds [] s fits.0 ready) fits.1 fits.2 fits.3 fits.4
-  frame_fine types (frame.Turns e fs) s kinds ready deep fits =
+  frame_fine types shown (frame.Repeats condition fs) s kinds ready deep fits = repeats_fine condition fs s (ready_kinds p kinds [] s fits.0 ready) fits.1 fits.2 fits.3 fits.4
+  frame_fine types shown (frame.Turns e fs) s kinds ready deep fits =
       let taken = ready_kinds p kinds (variable.Boolean ∷ []) s fits.0 ready in
       turned_fine e fs (newest named s) (popped s) (cells_of s.heap) (newest_of p variable.Boolean [] s taken) (ready_pop p variable.Boolean [] s taken) fits.1 fits.2 fits.3 fits.4
-  frame_fine types (frame.Ranges x fs) s kinds ready deep fits =
+  frame_fine types shown (frame.Ranges x fs) s kinds ready deep fits =
       let high = ready_kinds p kinds (variable.Integer ∷ variable.Integer ∷ []) s fits.0 ready in
       let low = ready_pop p variable.Integer (variable.Integer ∷ []) s high in
       ranges_fine x fs (newest named (popped s)) (newest named s) (popped (popped s)) (cells_of s.heap) (newest_of p variable.Integer [] (popped s) low) (newest_of p variable.Integer (variable.Integer ∷ []) s high)
       (ready_pop p variable.Integer [] (popped s) low) fits.1 fits.2 fits.3 fits.4
-  frame_fine types (frame.Counts x value last fs) s kinds ready deep fits =
+  frame_fine types shown (frame.Counts x value last fs) s kinds ready deep fits =
       counts_fine (int_le value last) x value last fs s (ready_kinds p kinds [] s fits.0 ready) fits.1 fits.2 fits.3 fits.4
-  frame_fine types (frame.Handles hs) s kinds ready deep fits = running [] (ready_kinds p kinds [] s fits.0 ready) fits.4
-  frame_fine types frame.Exits s kinds ready deep fits =
+  frame_fine types shown (frame.Handles hs) s kinds ready deep fits = running [] (ready_kinds p kinds [] s fits.0 ready) fits.4
+  frame_fine types shown frame.Exits s kinds ready deep fits =
       let taken = ready_kinds p kinds (variable.Boolean ∷ []) s fits.0 ready in
       exited_fine (newest named s) (popped s) (cells_of s.heap) (newest_of p variable.Boolean [] s taken) (ready_pop p variable.Boolean [] s taken) fits.1 fits.2
-  frame_fine types frame.Closes s kinds ready deep fits = running kinds (ready_at p kinds s (frame.Leaves Running ∷ s.control) ready deep) fits
-  frame_fine types (frame.Leaves mode) s kinds ready deep fits = leave_fine mode s.masters s kinds refl ready deep fits
-  frame_fine types (frame.Evaluates right) s kinds ready deep fits = right_fine p right fits.0 s kinds ready fits.1 fits.2
-  frame_fine types (frame.Computes e) s kinds ready deep fits = expression_fine p e fits.0 s kinds ready fits.1 fits.2
-  frame_fine types (frame.Follows cs) s kinds ready deep fits =
+  frame_fine types shown frame.Closes s kinds ready deep fits = running kinds (ready_at p kinds s (frame.Leaves Running ∷ s.control) ready deep) fits
+  frame_fine types shown (frame.Leaves mode) s kinds ready deep fits = leave_fine mode s.masters s kinds refl ready deep fits
+  frame_fine types shown (frame.Evaluates right) s kinds ready deep fits = right_fine p types shown right fits.0 s kinds ready fits.1 fits.2
+  frame_fine types shown (frame.Computes e) s kinds ready deep fits = expression_fine p e fits.0 s kinds ready fits.1 fits.2
+  frame_fine types shown (frame.Follows cs) s kinds ready deep fits =
       let taken = ready_kinds p kinds (fits.1 ∷ fits.0) s fits.3 ready in
       path_fine p cs (newest named s) fits.1 fits.2 (popped s) fits.0 (ready_pop p fits.1 fits.0 s taken) (newest_of p fits.1 fits.0 s taken) fits.4 fits.5
-  frame_fine types (frame.TestsNull equal) s kinds ready deep fits =
+  frame_fine types shown (frame.TestsNull equal) s kinds ready deep fits =
       let taken = ready_kinds p kinds (variable.Access fits.1 ∷ fits.0) s fits.2 ready in
       null_test_fine p equal fits.1 (newest named s) (popped s) fits.0 (cells_of s.heap) (newest_of p (variable.Access fits.1) fits.0 s taken) (ready_pop p (variable.Access fits.1) fits.0 s taken) fits.3
-  frame_fine types (frame.Continues links) s kinds ready deep fits =
+  frame_fine types shown (frame.Continues links) s kinds ready deep fits =
       links_fine p links fits.1 fits.2 s fits.0 (ready_kinds p kinds (kind_of fits.1 ∷ fits.0) s fits.3 ready) fits.4 fits.5
-  frame_fine types (frame.Applies operator) s kinds ready deep fits =
+  frame_fine types shown (frame.Applies operator) s kinds ready deep fits =
       let right = ready_kinds p kinds (kind_of fits.2 ∷ kind_of fits.1 ∷ fits.0) s fits.4 ready in
       let left = ready_pop p (kind_of fits.2) (kind_of fits.1 ∷ fits.0) s right in
       outcome_fine p (binary_given operator (newest named (popped s)) (newest named s)) fits.3 (popped (popped s)) fits.0 (ready_pop p (kind_of fits.1) fits.0 (popped s) left)
       (binary_gives (cells_of s.heap) operator fits.1 fits.2 fits.3 (newest named (popped s)) (newest named s) fits.5 (newest_of p (kind_of fits.1) fits.0 (popped s) left) (newest_of p (kind_of fits.2) (kind_of fits.1 ∷ fits.0) s right)) fits.6
-  frame_fine types (frame.AppliesAlone operator) s kinds ready deep fits =
+  frame_fine types shown (frame.AppliesAlone operator) s kinds ready deep fits =
       let taken = ready_kinds p kinds (kind_of fits.1 ∷ fits.0) s fits.3 ready in
       outcome_fine p (unary_given operator (newest named s)) fits.2 (popped s) fits.0 (ready_pop p (kind_of fits.1) fits.0 s taken)
       (unary_gives (cells_of s.heap) operator fits.1 fits.2 (newest named s) fits.4 (newest_of p (kind_of fits.1) fits.0 s taken)) fits.5
-  frame_fine types (frame.Fills items) s kinds ready deep fits = items_fine p items fits.0 s kinds ready fits.1 fits.2
-  frame_fine types (frame.Creates access count) s kinds ready deep fits =
+  frame_fine types shown (frame.Fills items) s kinds ready deep fits = items_fine p items fits.0 s kinds ready fits.1 fits.2
+  frame_fine types shown (frame.Creates access count) s kinds ready deep fits =
       let taken = ready_kinds p kinds (onto fits.1 fits.0) s fits.2 ready in
       subst (λ (m : ℕ). Fine p (new_next named access m (words_of types access) (home_of access s.masters) s)) (sym fits.4)
       (new_fine p (home_of access s.masters) access (words_of types access) s fits.0 fits.1 taken fits.3 fits.5)
-  frame_fine types (frame.Stores x) s kinds ready deep fits =
+  frame_fine types shown (frame.Stores x) s kinds ready deep fits =
       let taken = ready_kinds p kinds (fits.1 ∷ fits.0) s fits.2 ready in
       running fits.0 (put_in p fits.0 (popped s) x fits.1 (newest named s) (ready_pop p fits.1 fits.0 s taken) fits.3 (newest_of p fits.1 fits.0 s taken)) fits.4
-  frame_fine types (frame.Targets c right) s kinds ready deep fits =
+  frame_fine types shown (frame.Targets c right) s kinds ready deep fits =
       let taken = ready_kinds p kinds (variable.Access fits.1 ∷ fits.0) s fits.3 ready in
       target_fine p (newest named s) fits.1 c right fits.2 (popped s) fits.0 (ready_pop p (variable.Access fits.1) fits.0 s taken) (newest_of p (variable.Access fits.1) fits.0 s taken) fits.4 fits.5 fits.6
-  frame_fine types (frame.StoresIn object c) s kinds ready deep fits =
+  frame_fine types shown (frame.StoresIn object c) s kinds ready deep fits =
       let taken = ready_kinds p kinds (fits.2 ∷ fits.0) s fits.3 ready in
       store_fine p object fits.1 c (newest named s) fits.2 (popped s) fits.0 fits.4 (ready_pop p fits.2 fits.0 s taken) fits.5 fits.6 (newest_of p fits.2 fits.0 s taken) fits.7
-  frame_fine types (frame.Receives c) s kinds ready deep fits =
+  frame_fine types shown (frame.Receives c) s kinds ready deep fits =
       let taken = ready_kinds p kinds (variable.Access fits.1 ∷ fits.0) s fits.2 ready in
       receive_fine p (newest named s) fits.1 c (popped s) fits.0 (ready_pop p (variable.Access fits.1) fits.0 s taken) (newest_of p (variable.Access fits.1) fits.0 s taken) fits.3 fits.4
-  frame_fine types (frame.FreesIn access c) s kinds ready deep fits =
+  frame_fine types shown (frame.FreesIn access c) s kinds ready deep fits =
       let taken = ready_kinds p kinds (variable.Access fits.1 ∷ fits.0) s fits.3 ready in
       free_in_fine p (newest named s) access fits.1 fits.2 c (popped s) fits.0 (ready_pop p (variable.Access fits.1) fits.0 s taken) (newest_of p (variable.Access fits.1) fits.0 s taken) fits.4 fits.5
-  frame_fine types (frame.Declares x) s kinds ready deep fits =
+  frame_fine types shown (frame.Declares x) s kinds ready deep fits =
       let taken = ready_kinds p kinds (fits.1 ∷ fits.0) s fits.2 ready in
       running fits.0 (ready_owning p fits.0 (put x (newest named s) (popped s)) (declared x) (put_in p fits.0 (popped s) x fits.1 (newest named s) (ready_pop p fits.1 fits.0 s taken) fits.3 (newest_of p fits.1 fits.0 s taken))) fits.4
-  frame_fine types frame.Writes s kinds ready deep fits =
+  frame_fine types shown frame.Writes s kinds ready deep fits =
       let taken = ready_kinds p kinds (variable.Integer ∷ fits.0) s fits.1 ready in
       line_fine (newest named s) (popped s) fits.0 (cells_of s.heap) (newest_of p variable.Integer fits.0 s taken) (ready_pop p variable.Integer fits.0 s taken) fits.2
-  frame_fine types (frame.Ends v) s kinds ready deep fits = end_fine v s kinds fits.0 ready fits.1
-  frame_fine types (frame.GivesBack v cause pool) s kinds ready deep fits = back_fine v cause pool s kinds fits.0 ready fits.1
-  frame_fine types (frame.Clears x) s kinds ready deep fits = running kinds (put_in p kinds s x (variable.Access fits.0) Null ready fits.1 tt) fits.2
-  frame_fine types (frame.ClearsIn object c) s kinds ready deep fits = store_fine p object fits.0 c Null (variable.Access fits.1) s kinds fits.2 ready fits.3 fits.4 tt fits.5
+  frame_fine types shown (frame.Ends v) s kinds ready deep fits = end_fine v s kinds fits.0 ready fits.1
+  frame_fine types shown (frame.GivesBack v cause pool) s kinds ready deep fits = back_fine v cause pool s kinds fits.0 ready fits.1
+  frame_fine types shown (frame.Clears x) s kinds ready deep fits = running kinds (put_in p kinds s x (variable.Access fits.0) Null ready fits.1 tt) fits.2
+  frame_fine types shown (frame.ClearsIn object c) s kinds ready deep fits = store_fine p object fits.0 c Null (variable.Access fits.1) s kinds fits.2 ready fits.3 fits.4 tt fits.5
 
-  running_fine : (types : List TypeDefinition) (k : List (Frame Value)) (s : State) (kinds : List VariableKind) → s.control ≡ k → Ready p kinds s → Fits p (cells_of s.heap) kinds k → Fine p (running_next named types k s)
-  running_fine types [] s kinds is ready fits = tt
-  running_fine types (f ∷ k) s kinds is ready fits =
+  running_fine : (types : List TypeDefinition) → map type_form types ≡ p.types → (k : List (Frame Value)) (s : State) (kinds : List VariableKind) → s.control ≡ k → Ready p kinds s → Fits p (cells_of s.heap) kinds k → Fine p (running_next named types k s)
+  running_fine types shown [] s kinds is ready fits = tt
+  running_fine types shown (f ∷ k) s kinds is ready fits =
       let same : depth s.control ≡ depth (f ∷ k) = ap depth is in
-      frame_fine types f (at k s) kinds (ready_at p kinds s k ready (omega (arith, ready.deep, same, depth_behind f k))) (omega (arith, ready.deep, same)) fits
+      frame_fine types shown f (at k s) kinds (ready_at p kinds s k ready (omega (arith, ready.deep, same, depth_behind f k))) (omega (arith, ready.deep, same)) fits
 
   -- Jumps pass what is left to do (5.7, 6.5, 11.4).
   master_deep : (f : Frame Value) (k : List (Frame Value)) → is_master f ≡ true → (1 + depth k ≤ depth (f ∷ k)) × (is_loop f ≡ false)
@@ -566,9 +566,9 @@ module _ (p : ProgramForm) where
   mode_fine types Returning s goes jumps = jump_fine Returning s.control s refl goes jumps
 
   -- A typed state's next step is fine.
-  pub next_fine : (types : List TypeDefinition) (s : State) → Typed p s → Fine p (next types s)
+  pub next_fine : (types : List TypeDefinition) → map type_form types ≡ p.types → (s : State) → Typed p s → Fine p (next types s)
   unfolding next
-  next_fine types s (running kinds ready fits) =
-      subst (λ (mode : Mode). Fine p (mode_next named types mode s)) (sym ready.runs) (running_fine types s.control s kinds refl ready fits)
-  next_fine types s (on_jump mode jumps goes) =
+  next_fine types shown s (running kinds ready fits) =
+      subst (λ (mode : Mode). Fine p (mode_next named types mode s)) (sym ready.runs) (running_fine types shown s.control s kinds refl ready fits)
+  next_fine types shown s (on_jump mode jumps goes) =
       subst (λ (now : Mode). Fine p (mode_next named types now s)) (sym jumps.jumps) (mode_fine types mode s goes jumps)

@@ -4,12 +4,13 @@ use Rattle.ada_typed.specs.Holding.{Cells, Designates, IsAccess, HasKind, cells_
 use Rattle.std.proofs.Common.{◌≡◌, ℕ, ℤ, true, List, [], ◌∷◌, Option, Some, None, refl, sym, ap, ◌∙◌, subst}
 use Rattle.std.proofs.lemmas.List.{map-set}
 use Rattle.std.specs.List.{slice_get, slice_set}
+use Rattle.ada_program.specs.declared.program.ComponentKind.{ComponentKind}
 use Rattle.ada_program.specs.declared.program.Exception.TheVariants.{ConstraintError, EndError}
 use Rattle.ada_program.specs.declared.program.TypeNo.{TypeNo}
 use Rattle.ada_program.specs.declared.program.VariableKind.{VariableKind}
 use Rattle.ada_program.specs.declared.program.VariableKind.TheVariants as variable
 use Rattle.ada_program.specs.Form.{RightForm}
-use Rattle.ada_program.specs.ProgramForm.{TypeForm, ComponentForm, ProgramForm}
+use Rattle.ada_program.specs.ProgramForm.{TypeForm, ProgramForm}
 use Rattle.ada_program.specs.WellFormed.{reached_components, component_kind, kind_among, selected_kind, selectors_kind, kind_takes}
 use Rattle.ada_meaning.specs.declared.state.Id.{Id}
 use Rattle.ada_meaning.specs.declared.state.Value.{Value}
@@ -71,7 +72,7 @@ module _ (p : ProgramForm) where
       let stay : StayDesignated cells after = designated_set cells o.0 object.cell cell there refl in
       let own = filled_at p.types cells cells o.0 object.cell ready.filled there in
       let reached : reached_components p.types access.0 ≡ Some own.0 = ap (reached_components p.types) (sym (own_access s.heap o access.0 object has is)) ∙ own.1 in
-      let here : component_kind (slice_get own.0 c) ≡ Some kind = sym (ap (λ (found : Option (List ComponentForm)). kind_among found c) reached) ∙ leads in
+      let here : component_kind (slice_get own.0 c) ≡ Some kind = sym (ap (λ (found : Option (List ComponentKind)). kind_among found c) reached) ∙ leads in
       let values = kinds_later cells after stay own.0 cell.values (kinds_set cells own.0 object.cell.values c kind v own.2 here fitting) in
       record {
         filled = subst (λ (cs : Cells). AreFilled p.types cs cs) (sym are) (filled_set p.types after cells o.0 cell (filled_later cells after stay p.types cells ready.filled) (own.0, own.1, values));
@@ -91,7 +92,7 @@ module _ (p : ProgramForm) where
       let cells = cells_of s.heap in
       let own = filled_at p.types cells cells o.0 object.cell ready.filled (cell_at s.heap o.0 object is) in
       let reached : reached_components p.types access.0 ≡ Some own.0 = ap (reached_components p.types) (sym (own_access s.heap o access.0 object has is)) ∙ own.1 in
-      let here : component_kind (slice_get own.0 c) ≡ Some kind = sym (ap (λ (found : Option (List ComponentForm)). kind_among found c) reached) ∙ leads in
+      let here : component_kind (slice_get own.0 c) ≡ Some kind = sym (ap (λ (found : Option (List ComponentKind)). kind_among found c) reached) ∙ leads in
       component_held cells own.0 object.cell.values c kind own.2 here
 
   stored_fine : (o : Id) (access : TypeNo) (c : ℕ) (v : Value) (kind : VariableKind) (object : Object) (s : State) (kinds : List VariableKind) → Ready p kinds s → Designates (cells_of s.heap) access.0 o → slice_get s.heap o.0 ≡ Some object → selected_kind p.types (Some (variable.Access access)) c ≡ Some kind → HasKind (cells_of s.heap) kind v → Fits p (cells_of s.heap) kinds s.control → Fine p (stored_next named (Names o) c v (slice_get object.cell.values c) s)

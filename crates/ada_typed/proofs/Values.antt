@@ -3,12 +3,13 @@
 use Rattle.ada_typed.specs.Holding.{Cells, Designates, IsAccess, HasKind, HaveKinds, IsFilled}
 use Rattle.std.proofs.Common.{◌≡◌, ℕ, zero, suc, List, [], ◌∷◌, ◌++◌, length, map, Some, refl, ap, ◌∙◌, subst}
 use Rattle.std.specs.List.{slice_get, slice_set, slice_index_or}
+use Rattle.ada_program.specs.declared.program.ComponentKind.{ComponentKind}
 use Rattle.ada_program.specs.declared.program.ScalarType.{ScalarType}
 use Rattle.ada_program.specs.declared.program.ScalarType.TheVariants.{Integer, Boolean}
 use Rattle.ada_program.specs.declared.program.Variable.{Variable}
 use Rattle.ada_program.specs.declared.program.VariableKind.{VariableKind}
 use Rattle.ada_program.specs.declared.program.VariableKind.TheVariants as variable
-use Rattle.ada_program.specs.ProgramForm.{TypeForm, ComponentForm, VariableForm, variable_form}
+use Rattle.ada_program.specs.ProgramForm.{TypeForm, VariableForm, variable_form}
 use Rattle.ada_program.specs.WellFormed.{reached_components, held_kind, component_kind, variable_kind}
 use Rattle.ada_meaning.specs.declared.state.Id.{Id}
 use Rattle.ada_meaning.specs.declared.state.Value.{Value}
@@ -60,11 +61,11 @@ module _ (cells after : Cells) (stay : StayDesignated cells after) where
   kind_later variable.Boolean v h = h
   kind_later (variable.Access access) v h = access_later access.0 v h
 
-  pub kinds_later : (cs : List ComponentForm) (vs : List Value) → HaveKinds cells cs vs → HaveKinds after cs vs
+  pub kinds_later : (cs : List ComponentKind) (vs : List Value) → HaveKinds cells cs vs → HaveKinds after cs vs
   kinds_later [] [] h = tt
   kinds_later [] (v ∷ vs) h = h
   kinds_later (k ∷ cs) [] h = h
-  kinds_later (k ∷ cs) (v ∷ vs) h = (kind_later (held_kind k.kind) v h.0, kinds_later cs vs h.1)
+  kinds_later (k ∷ cs) (v ∷ vs) h = (kind_later (held_kind k) v h.0, kinds_later cs vs h.1)
 
   pub filled_later : (types : List TypeForm) (xs : Cells) → AreFilled types cells xs → AreFilled types after xs
   filled_later types [] h = tt
@@ -112,11 +113,11 @@ filled_set types cells (x ∷ xs) zero cell h filled = (filled, h.1)
 filled_set types cells (x ∷ xs) (suc i) cell h filled = (h.0, filled_set types cells xs i cell h.1 filled)
 
 -- A component gets another value of its kind.
-pub kinds_set : (cells : Cells) (cs : List ComponentForm) (vs : List Value) (c : ℕ) (kind : VariableKind) (v : Value) → HaveKinds cells cs vs → component_kind (slice_get cs c) ≡ Some kind → HasKind cells kind v → HaveKinds cells cs (slice_set vs c v)
+pub kinds_set : (cells : Cells) (cs : List ComponentKind) (vs : List Value) (c : ℕ) (kind : VariableKind) (v : Value) → HaveKinds cells cs vs → component_kind (slice_get cs c) ≡ Some kind → HasKind cells kind v → HaveKinds cells cs (slice_set vs c v)
 kinds_set cells [] [] c kind v h is has = tt
 kinds_set cells [] (u ∷ vs) c kind v h is has = absurd h
 kinds_set cells (k ∷ cs) [] c kind v h is has = h
-kinds_set cells (k ∷ cs) (u ∷ vs) zero kind v h is has = let one : kind ≡ held_kind k.kind = cc in (subst (λ (q : VariableKind). HasKind cells q v) one has, h.1)
+kinds_set cells (k ∷ cs) (u ∷ vs) zero kind v h is has = let one : kind ≡ held_kind k = cc in (subst (λ (q : VariableKind). HasKind cells q v) one has, h.1)
 kinds_set cells (k ∷ cs) (u ∷ vs) (suc c) kind v h is has = (h.0, kinds_set cells cs vs c kind v h.1 is has)
 
 filled_end : (types : List TypeForm) (cells : Cells) (c : Cell Value) (xs : Cells) → AreFilled types cells xs → IsFilled types cells c → AreFilled types cells (xs ++ c ∷ [])
@@ -124,7 +125,7 @@ filled_end types cells c [] h i = (i, tt)
 filled_end types cells c (x ∷ xs) h i = (h.0, filled_end types cells c xs h.1 i)
 
 -- A new object that is filled.
-pub filled_new : (types : List TypeForm) (cells : Cells) (c : Cell Value) (components : List ComponentForm) → AreFilled types cells cells → reached_components types c.access ≡ Some components → HaveKinds cells components c.values → AreFilled types (cells ++ c ∷ []) (cells ++ c ∷ [])
+pub filled_new : (types : List TypeForm) (cells : Cells) (c : Cell Value) (components : List ComponentKind) → AreFilled types cells cells → reached_components types c.access ≡ Some components → HaveKinds cells components c.values → AreFilled types (cells ++ c ∷ []) (cells ++ c ∷ [])
 filled_new types cells c components h is k =
     let stay = designated_more cells c in
     filled_end types (cells ++ c ∷ []) c cells (filled_later cells (cells ++ c ∷ []) stay types cells h) (components, is, kinds_later cells (cells ++ c ∷ []) stay components c.values k)
@@ -206,10 +207,10 @@ held_blank cells [] = tt
 held_blank cells (x ∷ xs) = (blank_kind cells x.kind, held_blank cells xs)
 
 -- Components of an object.
-pub component_held : (cells : Cells) (cs : List ComponentForm) (vs : List Value) (c : ℕ) (kind : VariableKind) → HaveKinds cells cs vs → component_kind (slice_get cs c) ≡ Some kind → (v : Value) × (slice_get vs c ≡ Some v) × HasKind cells kind v
+pub component_held : (cells : Cells) (cs : List ComponentKind) (vs : List Value) (c : ℕ) (kind : VariableKind) → HaveKinds cells cs vs → component_kind (slice_get cs c) ≡ Some kind → (v : Value) × (slice_get vs c ≡ Some v) × HasKind cells kind v
 component_held cells [] vs c kind h is = absurd (cc)
 component_held cells (k ∷ cs) [] c kind h is = absurd h
-component_held cells (k ∷ cs) (v ∷ vs) zero kind h is = let one : held_kind k.kind ≡ kind = cc in (v, refl, subst (λ (q : VariableKind). HasKind cells q v) one h.0)
+component_held cells (k ∷ cs) (v ∷ vs) zero kind h is = let one : held_kind k ≡ kind = cc in (v, refl, subst (λ (q : VariableKind). HasKind cells q v) one h.0)
 component_held cells (k ∷ cs) (v ∷ vs) (suc c) kind h is = component_held cells cs vs c kind h.1 is
 
 -- The object of a name is filled.

@@ -2,10 +2,11 @@
 
 use Rattle.std.specs.Prelude.{◌≡◌, ℕ, ℤ, List, [], ◌∷◌, map, Some}
 use Rattle.std.specs.List.{slice_get}
+use Rattle.ada_program.specs.declared.program.ComponentKind.{ComponentKind}
 use Rattle.ada_program.specs.declared.program.VariableKind.{VariableKind}
 use Rattle.ada_program.specs.declared.program.VariableKind.TheVariants as variable
 use Rattle.ada_program.specs.declared.program.Program.{Program}
-use Rattle.ada_program.specs.ProgramForm.{TypeForm, ComponentForm, program_form}
+use Rattle.ada_program.specs.ProgramForm.{TypeForm, program_form}
 use Rattle.ada_program.specs.WellFormed.{IsWellFormed, reached_components, held_kind, variable_kind}
 use Rattle.ada_values.specs.declared.value.Value.TheVariants as scalar
 use Rattle.ada_meaning.specs.declared.state.Id.{Id}
@@ -51,15 +52,15 @@ HasKind cells variable.Boolean v = IsBoolean v
 HasKind cells (variable.Access access) v = IsAccess cells access.0 v
 
 -- Values are those of the components of an object, one for each, in order.
-abbrev pub HaveKinds : Cells → List ComponentForm → List Value → Type 0
+abbrev pub HaveKinds : Cells → List ComponentKind → List Value → Type 0
 HaveKinds cells [] [] = Unit {0}
 HaveKinds cells [] (v ∷ vs) = ⊥
 HaveKinds cells (c ∷ cs) [] = ⊥
-HaveKinds cells (c ∷ cs) (v ∷ vs) = HasKind cells (held_kind c.kind) v × HaveKinds cells cs vs
+HaveKinds cells (c ∷ cs) (v ∷ vs) = HasKind cells (held_kind c) v × HaveKinds cells cs vs
 
 -- What lies in an object is what the record type has that its access type designates.
 abbrev pub IsFilled : List TypeForm → Cells → Cell Value → Type 0
-IsFilled types cells cell = (components : List ComponentForm) × (reached_components types cell.access ≡ Some components) × HaveKinds cells components cell.values
+IsFilled types cells cell = (components : List ComponentKind) × (reached_components types cell.access ≡ Some components) × HaveKinds cells components cell.values
 
 -- What lies in one object, and in all.
 abbrev pub cell_of : Object → Cell Value

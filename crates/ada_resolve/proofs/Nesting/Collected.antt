@@ -1,14 +1,14 @@
 -- Where the types of a part have ended: its collections nest in those around it, and its statements stand where all of these are open.
 
-use Rattle.std.proofs.Common.{◌≡◌, ◌∙◌, ℕ, ◌<◌, ◌≤◌, Bool, true, false, cond, List, [], ◌∷◌, ◌++◌, length, refl, sym, ap, subst, zero, suc, arith, eqb, eq-eqb}
+use Rattle.std.proofs.Common.{◌≡◌, ◌∙◌, ℕ, ◌<◌, ◌≤◌, Bool, true, false, cond, List, [], ◌∷◌, ◌++◌, length, refl, sym, ap, arith, eqb, eq-eqb}
 use Rattle.std.specs.Prelude.{Option, Some, None, ◌||◌, not, nat_le, is_some}
 use Rattle.std.specs.List.{list_all, slice_get}
 use Rattle.std.proofs.lemmas.Bool.{leb-true, leb-false}
 use Rattle.ada_program.specs.declared.program.ComponentKind.{ComponentKind}
 use Rattle.ada_program.specs.declared.program.ComponentKind.TheVariants as component
 use Rattle.ada_program.specs.Form.{DeclarationForm, collects, declares}
-use Rattle.ada_program.specs.Nested.{collected, is_one_of, kind_is_open, component_is_open, are_open, collection_nests, part_nests}
-use Rattle.ada_program.specs.ProgramForm.{ComponentForm, TypeForm, record_of, access_to}
+use Rattle.ada_program.specs.Nested.{collected, is_one_of, kind_is_open, are_open, collection_nests, part_nests}
+use Rattle.ada_program.specs.ProgramForm.{PartForm, TypeForm, record_of, access_to}
 use Rattle.ada_program.specs.WellFormed as fits
 use Rattle.ada_resolve.specs.declared.scope.Entity.{Entity}
 use Rattle.ada_resolve.specs.declared.scope.Entity.TheVariants as entity
@@ -21,7 +21,7 @@ use Rattle.ada_resolve.proofs.WellFormed.Created.{due}
 use Rattle.ada_resolve.proofs.WellFormed.Elaborated.{Late}
 use Rattle.ada_resolve.proofs.WellFormed.Growing.{AreIn}
 use Rattle.ada_resolve.proofs.WellFormed.Names.{EntityFits}
-use Rattle.ada_resolve.proofs.WellFormed.Tables.{both_parts, first_part, second_part, get_within}
+use Rattle.ada_resolve.proofs.WellFormed.Tables.{both_parts, first_part, second_part, all_get, get_within}
 
 -- the collections that declarations create are those that are collected
 collected_is : (es : List DeclarationForm) (a : ℕ) → is_one_of (collected es) a ≡ is_collected a es
@@ -63,12 +63,7 @@ collected_own m l a e f =
     collected_is m.here.elaborated a ∙
     due_is_one (is_collected a m.here.elaborated) (nat_le m.here.first_type a) (fits.is_access m.types a) (one_each m l a) e f
 
--- an element of a list all of which pass a test
-all_get : {X : Type 0} (p : X → Bool) (xs : List X) (i : ℕ) (x : X) → list_all p xs ≡ true → slice_get xs i ≡ Some x → p x ≡ true
-all_get p [] i x e is = absurd (cc is)
-all_get p (y ∷ xs) zero x e is = let same : y ≡ x = cc is in subst (λ v. p v ≡ true) same (first_part (p y) (list_all p xs) e)
-all_get p (y ∷ xs) (suc i) x e is = all_get p xs i x (second_part (p y) (list_all p xs) e) is
-
+-- a test that each element passes
 all_of : (p : ℕ → Bool) (us : List ℕ) → ((a : ℕ) → is_one_of us a ≡ true → p a ≡ true) → list_all p us ≡ true
 all_of p [] w = refl
 all_of p (u ∷ us) w =
@@ -80,15 +75,15 @@ access_there types a e = by_form (slice_get types a) refl e
   where
     by_form : (o : Option TypeForm) → slice_get types a ≡ o → is_some (fits.designated_in o) ≡ true → (name : List ℕ) × (d : ℕ) × (slice_get types a ≡ Some (access_to name d))
     by_form None is e = absurd (cc e)
-    by_form (Some (record_of name cs)) is e = absurd (cc e)
+    by_form (Some (record_of name ps cs)) is e = absurd (cc e)
     by_form (Some (access_to name d)) is e = (name, d, is)
 
-record_there : (types : List TypeForm) (d : ℕ) → fits.is_record types d ≡ true → (name : List ℕ) × (cs : List ComponentForm) × (slice_get types d ≡ Some (record_of name cs))
+record_there : (types : List TypeForm) (d : ℕ) → fits.is_record types d ≡ true → (name : List ℕ) × (ps : List PartForm) × (cs : List ComponentKind) × (slice_get types d ≡ Some (record_of name ps cs))
 record_there types d e = by_form (slice_get types d) refl e
   where
-    by_form : (o : Option TypeForm) → slice_get types d ≡ o → is_some (fits.components_in o) ≡ true → (name : List ℕ) × (cs : List ComponentForm) × (slice_get types d ≡ Some (record_of name cs))
+    by_form : (o : Option TypeForm) → slice_get types d ≡ o → is_some (fits.components_in o) ≡ true → (name : List ℕ) × (ps : List PartForm) × (cs : List ComponentKind) × (slice_get types d ≡ Some (record_of name ps cs))
     by_form None is e = absurd (cc e)
-    by_form (Some (record_of name cs)) is e = (name, cs, is)
+    by_form (Some (record_of name ps cs)) is e = (name, ps, cs, is)
     by_form (Some (access_to name d)) is e = absurd (cc e)
 
 module _ (around : List ℕ) (m : Known) (s : Sound m) (l : Late m) (w : OpenAround around m) where
@@ -108,23 +103,23 @@ module _ (around : List ℕ) (m : Known) (s : Sound m) (l : Late m) (w : OpenAro
   kind_there (component.Boolean initial) lies fit = refl
   kind_there (component.Access t) lies fit = own_there t.0 lies fit
 
-  components_there : (cs : List ComponentForm) → ComponentsLie around m.here.first_type cs → list_all (fits.component_fits m.types) cs ≡ true → list_all (component_is_open there) cs ≡ true
+  components_there : (cs : List ComponentKind) → ComponentsLie around m.here.first_type cs → list_all (fits.kind_fits m.types) cs ≡ true → list_all (kind_is_open there) cs ≡ true
   components_there [] lies fit = refl
   components_there (c ∷ cs) lies fit =
-      both_parts (component_is_open there c) (list_all (component_is_open there) cs)
-      (kind_there c.kind lies.0 (first_part (fits.component_fits m.types c) (list_all (fits.component_fits m.types) cs) fit))
-      (components_there cs lies.1 (second_part (fits.component_fits m.types c) (list_all (fits.component_fits m.types) cs) fit))
+      both_parts (kind_is_open there c) (list_all (kind_is_open there) cs)
+      (kind_there c lies.0 (first_part (fits.kind_fits m.types c) (list_all (fits.kind_fits m.types) cs) fit))
+      (components_there cs lies.1 (second_part (fits.kind_fits m.types c) (list_all (fits.kind_fits m.types) cs) fit))
 
   -- a record type of the part, or one that is open around it
-  record_own : (t : ℕ) (name : List ℕ) (cs : List ComponentForm) → m.here.first_type ≤ t → slice_get m.types t ≡ Some (record_of name cs) → RecordOpen there m.types t
-  record_own t name cs behind is =
-      (name, cs, is, components_there cs (w.forms t (record_of name cs) behind is) (all_get (fits.type_fits m.types) m.types t (record_of name cs) s.types_fit is))
+  record_own : (t : ℕ) (name : List ℕ) (ps : List PartForm) (cs : List ComponentKind) → m.here.first_type ≤ t → slice_get m.types t ≡ Some (record_of name ps cs) → RecordOpen there m.types t
+  record_own t name ps cs behind is =
+      (name, ps, cs, is, components_there cs (w.forms t (record_of name ps cs) behind is) (all_get (fits.type_fits m.types) m.types t (record_of name ps cs) s.types_fit is))
 
   record_designated : (d : ℕ) → (d < m.here.first_type → RecordOpen around m.types d) → fits.is_record m.types d ≡ true → RecordOpen there m.types d
   record_designated d lies is = by_place (nat_le m.here.first_type d) refl
     where
       by_place : (b : Bool) → nat_le m.here.first_type d ≡ b → RecordOpen there m.types d
-      by_place true behind = let r = record_there m.types d is in record_own d r.0 r.1 (leb-true m.here.first_type d behind) r.2
+      by_place true behind = let r = record_there m.types d is in record_own d r.0 r.1 r.2 (leb-true m.here.first_type d behind) r.3
       by_place false before = record_opener (collected m.here.elaborated) around m.types d (lies (leb-false m.here.first_type d before))
 
   -- the objects of a collection of the part
@@ -142,8 +137,8 @@ module _ (around : List ℕ) (m : Known) (s : Sound m) (l : Late m) (w : OpenAro
       let record_is = all_get (fits.type_fits m.types) m.types a (access_to is.0 is.1) s.types_fit is.2 in
       let r = record_designated is.1 (w.forms a (access_to is.0 is.1) own.0 is.2) record_is in
       let access_later = g a (access_to is.0 is.1) is.2 in
-      let record_later = g is.1 (record_of r.0 r.1) r.2 in
-      both_parts (not (is_one_of around a)) (are_open there (fits.reached_components types a)) (not_around a own.0) (rw (access_later, record_later) r.3)
+      let record_later = g is.1 (record_of r.0 r.1 r.2) r.3 in
+      both_parts (not (is_one_of around a)) (are_open there (fits.reached_components types a)) (not_around a own.0) (rw (access_later, record_later) r.4)
 
   -- the collections of the part nest, whatever types are declared behind it
   pub own_nests : (types : List TypeForm) → AreIn m.types types → part_nests types around m.here.elaborated ≡ true
@@ -152,7 +147,7 @@ module _ (around : List ℕ) (m : Known) (s : Sound m) (l : Late m) (w : OpenAro
   -- what a name of the part stands for
   entity_own : Complete m → (text : List ℕ) (e : Entity) → named text m.here.names ≡ Some e → IsOwnType m.here.first_type e → EntityFits m.types m.variables text e → EntityOpen there m.types e
   entity_own c text (entity.Incomplete t) is own fit = c text t is
-  entity_own c text (entity.Record t) is own fit = record_own t.0 text fit.0 own fit.1
+  entity_own c text (entity.Record t size) is own fit = record_own t.0 text fit.0 fit.1 own fit.2
   entity_own c text (entity.Access t) is own fit = own_there t.0 (λ less. absurd (omega (arith, less, own))) (rw fit.1 refl)
   entity_own c text e is own fit = tt
 

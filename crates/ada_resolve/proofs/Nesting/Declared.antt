@@ -1,16 +1,20 @@
 -- Each declaration leaves what its part names its own, or open around it.
 
 use Rattle.std.proofs.Common.{◌≡◌, ℕ, ◌<◌, ◌≤◌, Bool, true, false, List, [], ◌∷◌, ◌++◌, length, refl, sym, subst, zero, suc}
-use Rattle.std.specs.Prelude.{Option, Some, None, map}
-use Rattle.std.specs.List.{slice_get, slice_set}
+use Rattle.std.specs.Prelude.{Option, Some, None, nat_le}
+use Rattle.std.specs.List.{list_all, slice_get, slice_set}
+use Rattle.std.proofs.lemmas.Bool.{leb-true, leb-false}
 use Rattle.ada_tree.specs.Names.{Ident}
 use Rattle.ada_tree.specs.Records.{StaticTree, ComponentTree, RecordTree}
 use Rattle.ada_tree.specs.Statements.{DeclarationTree, exception_declaration, constant_declaration, incomplete_type, access_type, record_type, instance, object_declaration, borrower_declaration, DeclarationsTree, no_declarations, a_declaration}
+use Rattle.ada_program.specs.declared.program.ComponentKind.{ComponentKind}
+use Rattle.ada_program.specs.declared.program.ComponentKind.TheVariants as component
 use Rattle.ada_program.specs.declared.program.Exception.TheVariants as exception
 use Rattle.ada_program.specs.declared.program.TypeNo.{TypeNo}
 use Rattle.ada_program.specs.declared.program.VariableKind.{VariableKind}
 use Rattle.ada_program.specs.declared.program.VariableKind.TheVariants as variable
 use Rattle.ada_program.specs.Form.{PathForm, RightForm, value_of}
+use Rattle.ada_program.specs.Nested.{kind_is_open}
 use Rattle.ada_program.specs.ProgramForm.{TypeForm, record_of, access_to}
 use Rattle.ada_resolve.specs.declared.scope.Entity.{Entity}
 use Rattle.ada_resolve.specs.declared.scope.Entity.TheVariants as entity
@@ -19,7 +23,8 @@ use Rattle.ada_resolve.specs.Exceptions.{next_exception}
 use Rattle.ada_resolve.specs.Instances.{freed_found, instance_of}
 use Rattle.ada_resolve.specs.Known.{Known, Named, Part, named, entered, declared, visible, no_variable_yet}
 use Rattle.ada_resolve.specs.Objects.{object_type_found, kind_of, initial_found, ends_types, after_types, next_variable, initial_source, variable_created, object_created}
-use Rattle.ada_resolve.specs.Records.{kind_in, component_meant, components_written, record_type_known}
+use Rattle.ada_resolve.specs.Paths.{elementary_in, elementary_of}
+use Rattle.ada_resolve.specs.Records.{Composition, no_components, kind_in, kind_of_component, kinds_within, composed_with, composed, composition_of, components_written, record_type_known}
 use Rattle.ada_resolve.specs.Resolution.{gives, At, known_at, declaration_remark, declaration_known, declarations_told}
 use Rattle.ada_resolve.specs.Statics.{static_value}
 use Rattle.ada_resolve.specs.Types.{completed_type, record_in, record_found, defined, number_of, incomplete_known, access_defined}
@@ -27,6 +32,7 @@ use Rattle.ada_resolve.proofs.Nesting.Open.{RecordOpen, EntityOpen, PartsOpen, K
 use Rattle.ada_resolve.proofs.Standing.{IsBefore, PartsBefore, Sound, Keeps, outer_settled, IsSlot, slot_of, declaration_sound, declaration_keeps, declarations_done}
 use Rattle.ada_resolve.proofs.WellFormed.Names.{all_entered}
 use Rattle.ada_resolve.proofs.WellFormed.Remarks.{Quiet}
+use Rattle.ada_resolve.proofs.WellFormed.Tables.{first_part, second_part}
 
 -- a type of the parts around stays
 abbrev StaysBefore : ℕ → List TypeForm → List TypeForm → Type 0
@@ -38,7 +44,7 @@ before_stays k m s g t form less is = (g.types t form is (outer_settled k t s le
 -- so what is open around stays open
 entity_later : (around : List ℕ) (n : ℕ) (types more : List TypeForm) → StaysBefore n types more → (e : Entity) → IsBefore n e → EntityOpen around types e → EntityOpen around more e
 entity_later around n types more g (entity.Incomplete t) b w = w
-entity_later around n types more g (entity.Record t) b w = record_later around types more t.0 (λ form is. g t.0 form b is) w
+entity_later around n types more g (entity.Record t size) b w = record_later around types more t.0 (λ form is. g t.0 form b is) w
 entity_later around n types more g (entity.Access t) b w = w
 entity_later around n types more g e b w = tt
 
@@ -48,7 +54,7 @@ parts_later around n types more g (p ∷ ps) b w =
     (λ text e is. entity_later around n types more g e (b.0 text e is) (w.0 text e is), parts_later around n types more g ps b.1 w.1)
 
 form_later : (around : List ℕ) (n : ℕ) (types more : List TypeForm) → StaysBefore n types more → (form : TypeForm) → FormLies around n types form → FormLies around n more form
-form_later around n types more g (record_of name cs) w = w
+form_later around n types more g (record_of name ps cs) w = w
 form_later around n types more g (access_to name d) w = λ less. record_later around types more d (λ form is. g d form less is) (w less)
 
 -- a type that is there once one is declared or completed: that one, or another that was there
@@ -99,7 +105,7 @@ own_number k text (Some t) s slot = s.bounds.open_own text t slot
 
 -- `type T;`
 incomplete_open : (around : List ℕ) (k : Known) (name : Ident) → Sound k → OpenAround around k → Keeps k (incomplete_known k name) → OpenAround around (incomplete_known k name)
-incomplete_open around k name s w g = type_open around k name.text (entity.Incomplete (record { 0 = length k.types })) None (record_of name.text []) s w g s.bounds.first tt
+incomplete_open around k name s w g = type_open around k name.text (entity.Incomplete (record { 0 = length k.types })) None (record_of name.text [] []) s w g s.bounds.first tt
 
 -- `type A is access T;`
 found_open : (around : List ℕ) (n : ℕ) (types : List TypeForm) (o : Option Entity) (d : TypeNo) → ((e : Entity) → o ≡ Some e → EntityLies around n types e) → record_in o ≡ Some d → d.0 < n → RecordOpen around types d.0
@@ -108,7 +114,7 @@ found_open around n types (Some e) d w is = of_those e (w e refl) is
   where
     of_those : (e : Entity) → EntityLies around n types e → record_in (Some e) ≡ Some d → d.0 < n → RecordOpen around types d.0
     of_those (entity.Incomplete t) lies is = let same : t ≡ d = cc is in subst (λ (u : TypeNo). u.0 < n → RecordOpen around types u.0) same lies
-    of_those (entity.Record t) lies is = let same : t ≡ d = cc is in subst (λ (u : TypeNo). u.0 < n → RecordOpen around types u.0) same lies
+    of_those (entity.Record t size) lies is = let same : t ≡ d = cc is in subst (λ (u : TypeNo). u.0 < n → RecordOpen around types u.0) same lies
     of_those e lies is = absurd (cc is)
 
 designated_open : (around : List ℕ) (k : Known) (designated : Ident) (d : TypeNo) → OpenAround around k → record_found k designated ≡ Some d → d.0 < k.here.first_type → RecordOpen around k.types d.0
@@ -122,25 +128,61 @@ access_open_at around k name c (Some d) s w slot g lies =
     type_open around k name.text (entity.Access (number_of c k.types)) c (access_to name.text d.0) s w g (own_number k name.text c s slot) (lies d refl)
 
 -- `type T is record .. end record;`
-kind_lies : (around : List ℕ) (k : Known) (o : Option Entity) (initial : Option StaticTree) → ((e : Entity) → o ≡ Some e → EntityLies around k.here.first_type k.types e) → KindLies around k.here.first_type (kind_in o k initial)
-kind_lies around k None initial w = tt
-kind_lies around k (Some e) initial w = of_those e (w e refl)
-  where
-    of_those : (e : Entity) → EntityLies around k.here.first_type k.types e → KindLies around k.here.first_type (kind_in (Some e) k initial)
-    of_those (entity.Access t) lies = lies
-    of_those e lies = tt
+both_lie : (around : List ℕ) (n : ℕ) (own others : List ComponentKind) → ComponentsLie around n own → ComponentsLie around n others → ComponentsLie around n (own ++ others)
+both_lie around n [] others v w = w
+both_lie around n (kind ∷ own) others v w = (v.0, both_lie around n own others v.1 w)
 
-components_lie : (around : List ℕ) (k : Known) → OpenAround around k → (cs : List ComponentTree) → ComponentsLie around k.here.first_type (map (component_meant k) cs)
-unfolding component_meant
-components_lie around k w [] = tt
-components_lie around k w (c ∷ cs) =
-    (kind_lies around k (visible k c.type_name.text) c.initial (visible_lies around k w c.type_name.text), components_lie around k w cs)
+open_lie : (around : List ℕ) (n : ℕ) (kinds : List ComponentKind) → list_all (kind_is_open around) kinds ≡ true → ComponentsLie around n kinds
+open_lie around n [] e = tt
+open_lie around n (kind ∷ kinds) e =
+    (one kind (first_part (kind_is_open around kind) (list_all (kind_is_open around) kinds) e), open_lie around n kinds (second_part (kind_is_open around kind) (list_all (kind_is_open around) kinds) e))
+  where
+    one : (kind : ComponentKind) → kind_is_open around kind ≡ true → KindLies around n kind
+    one (component.Integer initial) e = tt
+    one (component.Boolean initial) e = tt
+    one (component.Access t) e = λ less. e
+
+-- the elementary components of a record type of the part, or of one that is open around it
+record_lies : (around : List ℕ) (k : Known) → OpenAround around k → (t : ℕ) → (t < k.here.first_type → RecordOpen around k.types t) → ComponentsLie around k.here.first_type (elementary_of k.types t)
+unfolding elementary_of
+record_lies around k w t lies = by_place (nat_le k.here.first_type t) refl
+  where
+    n : ℕ
+    n = k.here.first_type
+
+    own : n ≤ t → (o : Option TypeForm) → slice_get k.types t ≡ o → ComponentsLie around n (elementary_in o)
+    own behind None is = tt
+    own behind (Some (record_of name ps cs)) is = w.forms t (record_of name ps cs) behind is
+    own behind (Some (access_to name d)) is = tt
+
+    by_place : (b : Bool) → nat_le n t ≡ b → ComponentsLie around n (elementary_in (slice_get k.types t))
+    by_place true behind = own (leb-true n t behind) (slice_get k.types t) refl
+    by_place false before =
+        let r = lies (leb-false n t before) in
+        subst (λ (o : Option TypeForm). ComponentsLie around n (elementary_in o)) (sym r.3) (open_lie around n r.2 r.4)
+
+kind_lies : (around : List ℕ) (k : Known) (o : Option Entity) (initial : Option StaticTree) → OpenAround around k → ((e : Entity) → o ≡ Some e → EntityLies around k.here.first_type k.types e) → ComponentsLie around k.here.first_type (kinds_within k.types (kind_in o k initial))
+kind_lies around k None initial u w = (tt, tt)
+kind_lies around k (Some e) initial u w = of_those e (w e refl)
+  where
+    of_those : (e : Entity) → EntityLies around k.here.first_type k.types e → ComponentsLie around k.here.first_type (kinds_within k.types (kind_in (Some e) k initial))
+    of_those (entity.Access t) lies = (lies, tt)
+    of_those (entity.Record t size) lies = record_lies around k u t.0 lies
+    of_those e lies = (tt, tt)
+
+components_lie : (around : List ℕ) (k : Known) → OpenAround around k → (before : Composition) (cs : List ComponentTree) → ComponentsLie around k.here.first_type before.kinds → ComponentsLie around k.here.first_type (composed k before cs).kinds
+components_lie around k w before [] old = old
+components_lie around k w before (c ∷ cs) old =
+    components_lie around k w (composed_with k before c) cs
+    (both_lie around k.here.first_type before.kinds (kinds_within k.types (kind_of_component k c)) old
+    (kind_lies around k (visible k c.type_name.text) c.initial w (visible_lies around k w c.type_name.text)))
 
 record_type_open : (around : List ℕ) (k : Known) (name : Ident) (definition : RecordTree) → Sound k → OpenAround around k → IsSlot k name.text (completed_type k name) → Keeps k (record_type_known k name definition) → OpenAround around (record_type_known k name definition)
 record_type_open around k name definition s w slot g =
     let c = completed_type k name in
-    type_open around k name.text (entity.Record (number_of c k.types)) c (record_of name.text (map (component_meant k) (components_written definition))) s w g
-    (own_number k name.text c s slot) (components_lie around k w (components_written definition))
+    let made = composition_of k (components_written definition) in
+    type_open around k name.text (entity.Record (number_of c k.types) made.size) c (record_of name.text made.parts made.kinds) s w g
+    (own_number k name.text c s slot) (components_lie around k w no_components (components_written definition) tt)
 
 -- `procedure Free is new Ada.Unchecked_Deallocation (T, A);`
 instance_open : (around : List ℕ) (k : Known) (name : Ident) (o : Option TypeNo) → OpenAround around k → OpenAround around (instance_of k name o)

@@ -7,8 +7,8 @@ use Rattle.std.specs.List.{list_all, slice_get}
 use Rattle.ada_program.specs.declared.program.ComponentKind.{ComponentKind}
 use Rattle.ada_program.specs.declared.program.ComponentKind.TheVariants as component
 use Rattle.ada_program.specs.declared.program.Exception.TheVariants.{ConstraintError, ProgramError, StorageError}
-use Rattle.ada_program.specs.Nested.{is_one_of, kind_is_open, component_is_open}
-use Rattle.ada_program.specs.ProgramForm.{ComponentForm, TypeForm, record_of, access_to}
+use Rattle.ada_program.specs.Nested.{is_one_of, kind_is_open}
+use Rattle.ada_program.specs.ProgramForm.{PartForm, TypeForm, record_of, access_to}
 use Rattle.ada_resolve.specs.declared.scope.Entity.{Entity}
 use Rattle.ada_resolve.specs.declared.scope.Entity.TheVariants as entity
 use Rattle.ada_resolve.specs.Known.{Known, Named, Part, named, named_in, inner_first, visible, parts}
@@ -19,12 +19,12 @@ use Rattle.ada_resolve.proofs.WellFormed.Tables.{all_weaker}
 -- the record type of a number is there, and its components name collections that are open around
 abbrev pub RecordOpen : (around : List ℕ) → List TypeForm → ℕ → Type 0
 RecordOpen around types t =
-    (name : List ℕ) × (cs : List ComponentForm) × (slice_get types t ≡ Some (record_of name cs)) × (list_all (component_is_open around) cs ≡ true)
+    (name : List ℕ) × (ps : List PartForm) × (cs : List ComponentKind) × (slice_get types t ≡ Some (record_of name ps cs)) × (list_all (kind_is_open around) cs ≡ true)
 
 -- what a name of a part around stands for: an access type whose collection is open, or a record type that names such ones alone
 abbrev pub EntityOpen : (around : List ℕ) → List TypeForm → Entity → Type 0
 EntityOpen around types (entity.Incomplete t) = ⊥
-EntityOpen around types (entity.Record t) = RecordOpen around types t.0
+EntityOpen around types (entity.Record t size) = RecordOpen around types t.0
 EntityOpen around types (entity.Access t) = is_one_of around t.0 ≡ true
 EntityOpen around types e = Unit {0}
 
@@ -49,13 +49,13 @@ KindLies around n (component.Boolean initial) = Unit {0}
 KindLies around n (component.Access t) = t.0 < n → is_one_of around t.0 ≡ true
 
 -- so each component
-abbrev pub ComponentsLie : (around : List ℕ) → ℕ → List ComponentForm → Type 0
+abbrev pub ComponentsLie : (around : List ℕ) → ℕ → List ComponentKind → Type 0
 ComponentsLie around n [] = Unit {0}
-ComponentsLie around n (c ∷ cs) = KindLies around n c.kind × ComponentsLie around n cs
+ComponentsLie around n (kind ∷ kinds) = KindLies around n kind × ComponentsLie around n kinds
 
 -- a type of the part: a record type with such components, or an access type to a record type of the part or to one that is open around it
 abbrev pub FormLies : (around : List ℕ) → ℕ → List TypeForm → TypeForm → Type 0
-FormLies around n types (record_of name cs) = ComponentsLie around n cs
+FormLies around n types (record_of name ps cs) = ComponentsLie around n cs
 FormLies around n types (access_to name d) = d < n → RecordOpen around types d
 
 -- so each type of the part
@@ -65,7 +65,7 @@ FormsLie around n types = (t : ℕ) (form : TypeForm) → n ≤ t → slice_get 
 -- what a name of the part stands for: a type of the part, if it is a type
 abbrev pub IsOwnType : ℕ → Entity → Type 0
 IsOwnType n (entity.Incomplete t) = n ≤ t.0
-IsOwnType n (entity.Record t) = n ≤ t.0
+IsOwnType n (entity.Record t size) = n ≤ t.0
 IsOwnType n (entity.Access t) = n ≤ t.0
 IsOwnType n e = Unit {0}
 
@@ -80,19 +80,19 @@ pub record OpenAround (around : List ℕ) (k : Known) : Type 0 where
 -- what is visible among the declarations of a part: of the part, or open around it
 abbrev pub EntityLies : (around : List ℕ) → ℕ → List TypeForm → Entity → Type 0
 EntityLies around n types (entity.Incomplete t) = t.0 < n → RecordOpen around types t.0
-EntityLies around n types (entity.Record t) = t.0 < n → RecordOpen around types t.0
+EntityLies around n types (entity.Record t size) = t.0 < n → RecordOpen around types t.0
 EntityLies around n types (entity.Access t) = t.0 < n → is_one_of around t.0 ≡ true
 EntityLies around n types e = Unit {0}
 
 own_lies : (around : List ℕ) (n : ℕ) (types : List TypeForm) (e : Entity) → IsOwnType n e → EntityLies around n types e
 own_lies around n types (entity.Incomplete t) own = λ less. absurd (omega (arith, own, less))
-own_lies around n types (entity.Record t) own = λ less. absurd (omega (arith, own, less))
+own_lies around n types (entity.Record t size) own = λ less. absurd (omega (arith, own, less))
 own_lies around n types (entity.Access t) own = λ less. absurd (omega (arith, own, less))
 own_lies around n types e own = tt
 
 open_lies : (around : List ℕ) (n : ℕ) (types : List TypeForm) (e : Entity) → EntityOpen around types e → EntityLies around n types e
 open_lies around n types (entity.Incomplete t) w = absurd w
-open_lies around n types (entity.Record t) w = λ less. w
+open_lies around n types (entity.Record t size) w = λ less. w
 open_lies around n types (entity.Access t) w = λ less. w
 open_lies around n types e w = tt
 
@@ -163,11 +163,11 @@ kind_opener us vs (component.Access t) e = one_of_second us vs t.0 e
 
 pub record_opener : (us vs : List ℕ) (types : List TypeForm) (t : ℕ) → RecordOpen vs types t → RecordOpen (us ++ vs) types t
 record_opener us vs types t w =
-    (w.0, w.1, w.2, all_weaker (component_is_open vs) (component_is_open (us ++ vs)) (λ c. kind_opener us vs c.kind) w.1 w.3)
+    (w.0, w.1, w.2, w.3, all_weaker (kind_is_open vs) (kind_is_open (us ++ vs)) (kind_opener us vs) w.2 w.4)
 
 entity_opener : (us vs : List ℕ) (types : List TypeForm) (e : Entity) → EntityOpen vs types e → EntityOpen (us ++ vs) types e
 entity_opener us vs types (entity.Incomplete t) w = w
-entity_opener us vs types (entity.Record t) w = record_opener us vs types t.0 w
+entity_opener us vs types (entity.Record t size) w = record_opener us vs types t.0 w
 entity_opener us vs types (entity.Access t) w = one_of_second us vs t.0 w
 entity_opener us vs types e w = tt
 
@@ -177,4 +177,4 @@ parts_opener us vs types (p ∷ ps) w = (λ text e is. entity_opener us vs types
 
 -- where types stay, records stay open
 pub record_later : (around : List ℕ) (types more : List TypeForm) (t : ℕ) → ((form : TypeForm) → slice_get types t ≡ Some form → slice_get more t ≡ Some form) → RecordOpen around types t → RecordOpen around more t
-record_later around types more t g w = (w.0, w.1, g (record_of w.0 w.1) w.2, w.3)
+record_later around types more t g w = (w.0, w.1, w.2, g (record_of w.0 w.1 w.2) w.3, w.4)

@@ -30,7 +30,7 @@ use Rattle.ada_resolve.proofs.WellFormed.Tables.{both_parts, get_within}
 -- behind statements the same collections are open
 entity_later : (around : List ℕ) (types more : List TypeForm) → AreIn types more → (e : Entity) → EntityOpen around types e → EntityOpen around more e
 entity_later around types more g (entity.Incomplete t) w = w
-entity_later around types more g (entity.Record t) w = record_later around types more t.0 (g t.0) w
+entity_later around types more g (entity.Record t size) w = record_later around types more t.0 (g t.0) w
 entity_later around types more g (entity.Access t) w = w
 entity_later around types more g e w = tt
 

@@ -22,7 +22,7 @@ use Rattle.ada_resolve.specs.Exceptions.{next_exception, with_exception, excepti
 use Rattle.ada_resolve.specs.Instances.{freed_found, with_elaborated, instance_of}
 use Rattle.ada_resolve.specs.Known.{Known, Part, parts, no_variable_yet}
 use Rattle.ada_resolve.specs.Objects.{object_type_found, kind_of, initial_found, initial_source, missing_collections, ends_types, after_types, next_variable, with_variable, variable_created, object_created, object_known}
-use Rattle.ada_resolve.specs.Records.{component_meant, components_written, record_type_known, record_type_remark}
+use Rattle.ada_resolve.specs.Records.{composition_of, components_written, record_type_known, record_type_remark}
 use Rattle.ada_resolve.specs.Resolution.{known_at, declaration_remark, declaration_known}
 use Rattle.ada_resolve.specs.Statics.{static_value}
 use Rattle.ada_resolve.specs.Types.{completed_type, record_found, number_of, incomplete_known, incomplete_remark, access_remark, access_defined, access_known}
@@ -43,7 +43,7 @@ elaborated_sound es k w = record {
   variables_fit = w.variables_fit;
   names = w.names;
   exceptions = w.exceptions;
-  bounds = record { first = w.bounds.first; first_variable = w.bounds.first_variable; open_own = w.bounds.open_own; outer_before = w.bounds.outer_before };
+  bounds = record { first = w.bounds.first; first_variable = w.bounds.first_variable; open_own = w.bounds.open_own; open_unused = w.bounds.open_unused; outer_before = w.bounds.outer_before };
 }
 
 -- one more variable
@@ -53,7 +53,7 @@ entity_stays types variables v text (entity.Parameter x) f = get_more variables 
 entity_stays types variables v text e f = f
 
 parts_stay : (types : List TypeForm) (variables : List VariableForm) (v : VariableForm) (ps : List Part) → PartsFit types variables ps → PartsFit types (variables ++ v ∷ []) ps
-parts_stay types variables v [] f = tt
+parts_stay types variables v [] f = f
 parts_stay types variables v (p ∷ ps) f = (λ t x is. entity_stays types variables v t x (f.0 t x is), parts_stay types variables v ps f.1)
 
 longer_by : (variables : List VariableForm) (v : VariableForm) → length variables ≤ length (variables ++ v ∷ [])
@@ -70,6 +70,7 @@ variable_sound v k w fit = record {
     first = w.bounds.first;
     first_variable = let a = w.bounds.first_variable in let b = longer_by k.variables v in omega arith;
     open_own = w.bounds.open_own;
+    open_unused = w.bounds.open_unused;
     outer_before = w.bounds.outer_before;
   };
 }
@@ -81,14 +82,14 @@ raised_sound name k w = record {
   variables_fit = w.variables_fit;
   names = w.names;
   exceptions = raised_outer k.exceptions name (parts k) w.exceptions;
-  bounds = record { first = w.bounds.first; first_variable = w.bounds.first_variable; open_own = w.bounds.open_own; outer_before = w.bounds.outer_before };
+  bounds = record { first = w.bounds.first; first_variable = w.bounds.first_variable; open_own = w.bounds.open_own; open_unused = w.bounds.open_unused; outer_before = w.bounds.outer_before };
 }
 
 -- `type T;`
 incomplete_keeps : (k : Known) (spot : Spot) (name : Ident) → Quiet (incomplete_remark k spot name) → Keeps k (incomplete_known k name)
 incomplete_keeps k spot name q =
-    keeps_new k name.text (entity.Incomplete (record { 0 = length k.types })) (k.types ++ record_of name.text [] ∷ []) (new_slot k name spot q.1)
-    (λ t form is. get_more k.types (record_of name.text []) t form is) (one_longer k.types (record_of name.text [])) (omega arith)
+    keeps_new k name.text (entity.Incomplete (record { 0 = length k.types })) (k.types ++ record_of name.text [] [] ∷ []) (new_slot k name spot q.1)
+    (λ t form is. get_more k.types (record_of name.text [] []) t form is) (one_longer k.types (record_of name.text [] [])) (omega arith)
 
 -- `type A is access T;`
 access_keeps_at : (k : Known) (name : Ident) (o : Option TypeNo) → Sound k → IsSlot k name.text (completed_type k name) → Keeps k (access_defined k name (completed_type k name) o)
@@ -101,8 +102,9 @@ access_keeps k spot name designated aspect w q = access_keeps_at k name (record_
 -- `type T is record .. end record;`
 record_keeps : (k : Known) (spot : Spot) (name : Ident) (definition : RecordTree) → Sound k → Quiet (record_type_remark k spot name definition) → Keeps k (record_type_known k name definition)
 record_keeps k spot name definition w q =
-    keeps_defined k name.text (entity.Record (number_of (completed_type k name) k.types)) (completed_type k name)
-    (record_of name.text (map (component_meant k) (components_written definition))) w (slot_of k name spot q.1.0) refl tt
+    let made = composition_of k (components_written definition) in
+    keeps_defined k name.text (entity.Record (number_of (completed_type k name) k.types) made.size) (completed_type k name)
+    (record_of name.text made.parts made.kinds) w (slot_of k name spot q.1.0) refl tt
 
 -- `procedure Free is new Ada.Unchecked_Deallocation (T, A);`
 instance_sound_at : (k : Known) (name : Ident) (o : Option TypeNo) → Sound k → IsAccessIn k.types o → Sound (instance_of k name o)

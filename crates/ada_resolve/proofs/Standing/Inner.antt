@@ -31,14 +31,14 @@ access_within types t is = by_form (slice_get types t) refl
 -- where a part is complete, all its types are before the next one
 own_before : (k : Known) (text : List ℕ) (e : Entity) → Complete k → named text k.here.names ≡ Some e → EntityFits k.types k.variables text e → IsBefore (length k.types) e
 own_before k text (entity.Incomplete t) c is f = c text t is
-own_before k text (entity.Record t) c is f = get_within k.types t.0 _ f.1
+own_before k text (entity.Record t size) c is f = get_within k.types t.0 _ f.2
 own_before k text (entity.Access t) c is f = get_within k.types t.0 _ f.1
 own_before k text (entity.Instance t) c is f = access_within k.types t.0 f
 own_before k text e c is f = tt
 
 before_more : (n m : ℕ) (e : Entity) → n ≤ m → IsBefore n e → IsBefore m e
 before_more n m (entity.Incomplete t) le b = b
-before_more n m (entity.Record t) le b = omega (arith, le, b)
+before_more n m (entity.Record t size) le b = omega (arith, le, b)
 before_more n m (entity.Access t) le b = omega (arith, le, b)
 before_more n m (entity.Instance t) le b = omega (arith, le, b)
 before_more n m e le b = b
@@ -58,6 +58,7 @@ part_sound k s c = record {
     first = omega arith;
     first_variable = omega arith;
     open_own = λ text t is. absurd (cc is);
+    open_unused = λ text t is. absurd (cc is);
     outer_before = (λ text e is. own_before k text e c is (s.names.0 text e is), parts_before k.here.first_type (length k.types) k.outer s.bounds.first s.bounds.outer_before);
   };
 }
@@ -136,6 +137,7 @@ left_sound k m s c w outer g = record {
     first = let a = s.bounds.first in let b = more_types k m g in omega arith;
     first_variable = let a = s.bounds.first_variable in let b = more_variables k m g in omega arith;
     open_own = s.bounds.open_own;
+    open_unused = λ text t is. absurd (c text t is);
     outer_before = s.bounds.outer_before;
   };
 }

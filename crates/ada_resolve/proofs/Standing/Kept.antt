@@ -21,7 +21,7 @@ use Rattle.ada_resolve.proofs.WellFormed.Remarks.{Quiet, quiet_if}
 use Rattle.ada_resolve.proofs.WellFormed.Names.{all_entered, named_entered, text_same}
 use Rattle.ada_resolve.proofs.WellFormed.Tables.{get_more, get_last, get_set, get_other, get_within}
 use Rattle.ada_resolve.proofs.Standing.Order.{IsSettledEntity, Keeps, Sound}
-use Rattle.ada_resolve.proofs.Standing.Types.{IsOwn, length_set, one_longer}
+use Rattle.ada_resolve.proofs.Standing.Types.{IsBehind, length_set, one_longer}
 
 -- a name that is new, or that of an incomplete type that is completed
 abbrev pub IsSlot : Known → List ℕ → Option TypeNo → Type 0
@@ -64,7 +64,7 @@ other_of : (t : ℕ) (x : Entity) → ((u : TypeNo) → x ≡ entity.Incomplete 
 other_of t (entity.Incomplete u) w = w u refl
 other_of t x w = tt
 
-other_own : (t n : ℕ) (x : Entity) → t < n → IsOwn n x → IsOther t x
+other_own : (t n : ℕ) (x : Entity) → t < n → IsBehind n x → IsOther t x
 other_own t n (entity.Incomplete u) b own = λ same. omega (arith, b, own, same)
 other_own t n x b own = tt
 
@@ -73,7 +73,7 @@ settled_entered ns text e t own old other u is =
     all_entered (λ v x. IsOther t x) ns text e own (λ v x ne there. other_of t x (λ w same. old v w (there ∙ ap (λ y. Some y) same))) other (entity.Incomplete u) is
 
 -- a new name, with types that only grow; it stands for no incomplete type, or for a new one
-pub keeps_new : (k : Known) (text : List ℕ) (e : Entity) (types : List TypeForm) → named text k.here.names ≡ None → ((t : ℕ) (form : TypeForm) → slice_get k.types t ≡ Some form → slice_get types t ≡ Some form) → length k.types ≤ length types → IsOwn (length k.types) e → Keeps k (declared (record k { types = types }) text e)
+pub keeps_new : (k : Known) (text : List ℕ) (e : Entity) (types : List TypeForm) → named text k.here.names ≡ None → ((t : ℕ) (form : TypeForm) → slice_get k.types t ≡ Some form → slice_get types t ≡ Some form) → length k.types ≤ length types → IsBehind (length k.types) e → Keeps k (declared (record k { types = types }) text e)
 keeps_new k text e types none grow long own = record {
   types = λ t form is settled. (grow t form is, settled_entered k.here.names text e t (other_own t (length k.types) e (get_within k.types t form is) own) settled);
   accesses = λ t name d is. grow t (access_to name d) is;
@@ -95,7 +95,7 @@ keeps_new k text e types none grow long own = record {
     named_type t name (Some form) is so = ap (λ v. name_of_type v) (grow t form is) ∙ so
 
 -- a new name alone
-pub keeps_name : (k : Known) (text : List ℕ) (e : Entity) → named text k.here.names ≡ None → IsOwn (length k.types) e → Keeps k (declared k text e)
+pub keeps_name : (k : Known) (text : List ℕ) (e : Entity) → named text k.here.names ≡ None → IsBehind (length k.types) e → Keeps k (declared k text e)
 keeps_name k text e none own = keeps_new k text e k.types none (λ t form is. is) (omega arith) own
 
 -- a completed name
@@ -116,7 +116,7 @@ keeps_full k text e t form w there own done = record {
   procedure = refl;
 }
   where
-    old : slice_get k.types t.0 ≡ Some (record_of text [])
+    old : slice_get k.types t.0 ≡ Some (record_of text [] [])
     old = w.names.0 text (entity.Incomplete t) there
 
     no_other : (u : ℕ) (x : Entity) → IsSettledEntity x → IsOther u x
@@ -124,13 +124,13 @@ keeps_full k text e t form w there own done = record {
     no_other u x s = tt
 
     no_access : (name : List ℕ) (d : ℕ) → slice_get k.types t.0 ≡ Some (access_to name d) → ⊥
-    no_access name d is = let same : Some (access_to name d) ≡ Some (record_of text []) = sym is ∙ old in cc same
+    no_access name d is = let same : Some (access_to name d) ≡ Some (record_of text [] []) = sym is ∙ old in cc same
 
     by_number : (u : ℕ) (name : List ℕ) → name_of_type (slice_get k.types u) ≡ Some name → (b : Bool) → eqb t.0 u ≡ b → name_of_type (slice_get (slice_set k.types t.0 form) u) ≡ Some name
     by_number u name is true on =
         let same : t.0 ≡ u = eqb-true t.0 u on in
         let before : Some text ≡ Some name = sym (ap (λ o. name_of_type o) (sym (ap (λ n. slice_get k.types n) same) ∙ old)) ∙ is in
-        ap (λ o. name_of_type o) (subst (λ (n : ℕ). slice_get (slice_set k.types t.0 form) n ≡ Some form) same (get_set k.types t.0 (record_of text []) form old)) ∙ (own ∙ before)
+        ap (λ o. name_of_type o) (subst (λ (n : ℕ). slice_get (slice_set k.types t.0 form) n ≡ Some form) same (get_set k.types t.0 (record_of text [] []) form old)) ∙ (own ∙ before)
     by_number u name is false off = ap (λ o. name_of_type o) (get_other k.types t.0 u form (λ same. apart (eq-eqb t.0 u same))) ∙ is
       where
         apart : eqb t.0 u ≡ true → ⊥
@@ -148,7 +148,7 @@ keeps_full k text e t form w there own done = record {
 pub keeps_defined : (k : Known) (text : List ℕ) (e : Entity) (c : Option TypeNo) (form : TypeForm) → Sound k → IsSlot k text c → name_of_type (Some form) ≡ Some text → IsSettledEntity e → Keeps k (declared (record k { types = defined c form k.types }) text e)
 keeps_defined k text e None form w slot own done = keeps_new k text e (k.types ++ form ∷ []) slot (λ t x is. get_more k.types form t x is) (one_longer k.types form) (own_settled e done)
   where
-    own_settled : (x : Entity) → IsSettledEntity x → IsOwn (length k.types) x
+    own_settled : (x : Entity) → IsSettledEntity x → IsBehind (length k.types) x
     own_settled (entity.Incomplete u) s = absurd s
     own_settled x s = tt
 keeps_defined k text e (Some t) form w slot own done = keeps_full k text e t form w slot own done
@@ -156,7 +156,7 @@ keeps_defined k text e (Some t) form w slot own done = keeps_full k text e t for
 -- it is there
 pub defined_there : (k : Known) (text : List ℕ) (c : Option TypeNo) (form : TypeForm) → Sound k → IsSlot k text c → slice_get (defined c form k.types) (number_of c k.types).0 ≡ Some form
 defined_there k text None form w slot = get_last k.types form
-defined_there k text (Some t) form w slot = get_set k.types t.0 (record_of text []) form (w.names.0 text (entity.Incomplete t) slot)
+defined_there k text (Some t) form w slot = get_set k.types t.0 (record_of text [] []) form (w.names.0 text (entity.Incomplete t) slot)
 
 -- only what is elaborated changes
 pub keeps_elaborated : (es : List DeclarationForm) (k : Known) → Keeps k (with_elaborated es k)

@@ -1,7 +1,7 @@
 -- What is known is in order, and what of it stays as more is declared.
 
-use Rattle.std.proofs.Common.{◌≡◌, ◌∙◌, ℕ, ◌<◌, ◌≤◌, true, List, [], ◌∷◌, length, refl, sym, ap, subst, suc, arith}
-use Rattle.std.specs.Prelude.{Some, None}
+use Rattle.std.proofs.Common.{◌≡◌, ◌∙◌, ℕ, ◌<◌, ◌≤◌, true, false, List, [], ◌∷◌, length, refl, sym, ap, subst, suc, arith}
+use Rattle.std.specs.Prelude.{Bool, Option, Some, None, bytes_eq}
 use Rattle.std.specs.List.{list_all, slice_get}
 use Rattle.ada_program.specs.declared.program.TypeNo.{TypeNo}
 use Rattle.ada_program.specs.ProgramForm.{TypeForm, record_of, access_to, VariableForm}
@@ -9,16 +9,18 @@ use Rattle.ada_program.specs.WellFormed as fits
 use Rattle.ada_resolve.specs.declared.library.Withs.{Withs}
 use Rattle.ada_resolve.specs.declared.scope.Entity.{Entity}
 use Rattle.ada_resolve.specs.declared.scope.Entity.TheVariants as entity
-use Rattle.ada_resolve.specs.Known.{Known, Named, Part, named, parts}
+use Rattle.ada_resolve.specs.Known.{Known, Named, Part, named, named_in, inner_first, visible, parts}
+use Rattle.ada_resolve.specs.Library.{predefined}
 use Rattle.ada_resolve.specs.Paths.{name_of_type}
 use Rattle.ada_resolve.specs.Resolution.{known_first}
-use Rattle.ada_resolve.proofs.WellFormed.Names.{PartsFit}
+use Rattle.ada_resolve.proofs.WellFormed.Laid.{IsUnused}
+use Rattle.ada_resolve.proofs.WellFormed.Names.{EntityFits, PartsFit, first_of_two, predefined_fits}
 use Rattle.ada_resolve.proofs.WellFormed.Exceptions.{PartsRaised}
 
 -- what a name of a complete part stands for, whose types have lower numbers than this
 abbrev pub IsBefore : ℕ → Entity → Type 0
 IsBefore n (entity.Incomplete t) = ⊥
-IsBefore n (entity.Record t) = t.0 < n
+IsBefore n (entity.Record t size) = t.0 < n
 IsBefore n (entity.Access t) = t.0 < n
 IsBefore n (entity.Instance t) = t.0 < n
 IsBefore n e = Unit {0}
@@ -36,6 +38,7 @@ pub record IsBounded (k : Known) : Type 0 where
   pub first : k.here.first_type ≤ length k.types
   pub first_variable : k.here.first_variable ≤ length k.variables
   pub open_own : (text : List ℕ) (t : TypeNo) → named text k.here.names ≡ Some (entity.Incomplete t) → k.here.first_type ≤ t.0
+  pub open_unused : (text : List ℕ) (t : TypeNo) → named text k.here.names ≡ Some (entity.Incomplete t) → IsUnused k.types t.0
   pub outer_before : PartsBefore k.here.first_type k.outer
 
 -- what is known is in order, at any place
@@ -186,29 +189,52 @@ pub outer_settled : (k : Known) (t : ℕ) → Sound k → t < k.here.first_type 
 outer_settled k t s before text u there same = let own = s.bounds.open_own text u there in let no : ⊥ = omega (arith, own, same, before) in no
 
 -- so is one that a name of the part stands for, complete
-pub record_settled : (k : Known) (text : List ℕ) (t : TypeNo) → Sound k → named text k.here.names ≡ Some (entity.Record t) → IsSettled k t.0
-record_settled k text t s is other u there same =
-    let mine = s.names.0 text (entity.Record t) is in
-    let both_forms : Some (record_of text mine.0) ≡ Some (record_of other []) = sym mine.1 ∙ (ap (λ n. slice_get k.types n) (sym same) ∙ s.names.0 other (entity.Incomplete u) there) in
+pub record_settled : (k : Known) (text : List ℕ) (t : TypeNo) (size : ℕ) → Sound k → named text k.here.names ≡ Some (entity.Record t size) → IsSettled k t.0
+record_settled k text t size s is other u there same =
+    let mine = s.names.0 text (entity.Record t size) is in
+    let both_forms : Some (record_of text mine.0 mine.1) ≡ Some (record_of other [] []) = sym mine.2 ∙ (ap (λ n. slice_get k.types n) (sym same) ∙ s.names.0 other (entity.Incomplete u) there) in
     let text_is : text ≡ other = cc both_forms in
-    two_of (subst (λ (n : List ℕ). named n k.here.names ≡ Some (entity.Record t)) text_is is)
+    two_of (subst (λ (n : List ℕ). named n k.here.names ≡ Some (entity.Record t size)) text_is is)
   where
-    two_of : named other k.here.names ≡ Some (entity.Record t) → ⊥
-    two_of so = let both_names : Some (entity.Record t) ≡ Some (entity.Incomplete u) = sym so ∙ there in cc both_names
+    two_of : named other k.here.names ≡ Some (entity.Record t size) → ⊥
+    two_of so = let both_names : Some (entity.Record t size) ≡ Some (entity.Incomplete u) = sym so ∙ there in cc both_names
+
+-- what a name of the parts around stands for
+before_in : (n : ℕ) (ps : List Part) (text : List ℕ) (e : Entity) → PartsBefore n ps → named_in text ps ≡ Some e → IsBefore n e
+before_in n [] text e b is = absurd (cc is)
+before_in n (p ∷ ps) text e b is = first_of_two (IsBefore n) (named text p.names) (named_in text ps) e (b.0 text) (λ x. before_in n ps text x b.1) is
+
+-- so is one that a name stands for, complete
+pub visible_settled : (k : Known) (text : List ℕ) (t : TypeNo) (size : ℕ) → Sound k → visible k text ≡ Some (entity.Record t size) → IsSettled k t.0
+unfolding visible
+visible_settled k text t size s is = by_own (named_in text (parts k)) (bytes_eq text k.procedure) refl is
+  where
+    SettledEntity : Entity → Type 0
+    SettledEntity x = x ≡ entity.Record t size → IsSettled k t.0
+
+    by_part : (x : Entity) → named_in text (parts k) ≡ Some x → SettledEntity x
+    by_part x there = first_of_two SettledEntity (named text k.here.names) (named_in text k.outer) x
+        (λ y own same. record_settled k text t size s (own ∙ ap (λ z. Some z) same))
+        (λ y around same. outer_settled k t.0 s (subst (IsBefore k.here.first_type) same (before_in k.here.first_type k.outer text y s.bounds.outer_before around))) there
+
+    by_own : (own : Option Entity) (b : Bool) → named_in text (parts k) ≡ own → inner_first own b (predefined text) ≡ Some (entity.Record t size) → IsSettled k t.0
+    by_own (Some x) b there e = let same : x ≡ entity.Record t size = cc e in by_part x there same
+    by_own None true there e = absurd (cc e)
+    by_own None false there e = let no = predefined_fits [] [] text (entity.Record t size) e in absurd (cc (no.2))
 
 -- and one that is no record type
 pub known_settled : (k : Known) (t : ℕ) (name : List ℕ) (d : ℕ) → Sound k → slice_get k.types t ≡ Some (access_to name d) → IsSettled k t
 known_settled k t name d s is other u there same =
-    let both_forms : Some (access_to name d) ≡ Some (record_of other []) = sym is ∙ (ap (λ n. slice_get k.types n) (sym same) ∙ s.names.0 other (entity.Incomplete u) there) in cc both_forms
+    let both_forms : Some (access_to name d) ≡ Some (record_of other [] []) = sym is ∙ (ap (λ n. slice_get k.types n) (sym same) ∙ s.names.0 other (entity.Incomplete u) there) in cc both_forms
 
 -- nothing is declared at first
 pub first_sound : (withs : Withs) (procedure : List ℕ) → Sound (known_first withs procedure)
 first_sound withs procedure = record {
   types_fit = refl;
   variables_fit = refl;
-  names = (λ t x e. absurd (cc e), tt);
+  names = (λ t x e. absurd (cc e), λ t form e. absurd (cc e));
   exceptions = (λ t x e. absurd (cc e), tt);
-  bounds = record { first = omega arith; first_variable = omega arith; open_own = λ text t e. absurd (cc e); outer_before = tt };
+  bounds = record { first = omega arith; first_variable = omega arith; open_own = λ text t e. absurd (cc e); open_unused = λ text t e. absurd (cc e); outer_before = tt };
 }
 
 pub first_complete : (withs : Withs) (procedure : List ℕ) → Complete (known_first withs procedure)

@@ -39,7 +39,7 @@ texts_stay texts k s c = record {
     variables_fit = s.variables_fit;
     names = s.names;
     exceptions = s.exceptions;
-    bounds = record { first = s.bounds.first; first_variable = s.bounds.first_variable; open_own = s.bounds.open_own; outer_before = s.bounds.outer_before };
+    bounds = record { first = s.bounds.first; first_variable = s.bounds.first_variable; open_own = s.bounds.open_own; open_unused = s.bounds.open_unused; outer_before = s.bounds.outer_before };
   };
   complete = c;
   here = refl;

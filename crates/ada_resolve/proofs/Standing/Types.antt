@@ -1,30 +1,32 @@
 -- A type that is declared or completed leaves what is known in order.
 
 use Rattle.std.proofs.Common.{◌≡◌, ◌∙◌, ℕ, ◌<◌, ◌≤◌, true, false, List, [], ◌∷◌, ◌++◌, length, refl, sym, ap, zero, suc, arith}
-use Rattle.std.specs.Prelude.{Option, Some, None, bytes_eq, map}
+use Rattle.std.specs.Prelude.{Option, Some, None, bytes_eq}
 use Rattle.std.specs.List.{list_all, slice_get, slice_set}
+use Rattle.ada_program.specs.declared.program.ComponentKind.{ComponentKind}
 use Rattle.ada_program.specs.declared.program.TypeNo.{TypeNo}
-use Rattle.ada_program.specs.ProgramForm.{ComponentForm, TypeForm, record_of, access_to, VariableForm}
+use Rattle.ada_program.specs.ProgramForm.{PartForm, TypeForm, record_of, access_to, VariableForm}
 use Rattle.ada_program.specs.WellFormed as fits
 use Rattle.ada_tree.specs.Names.{Ident}
-use Rattle.ada_tree.specs.Records.{RecordTree}
+use Rattle.ada_tree.specs.Records.{ComponentTree, RecordTree}
 use Rattle.ada_resolve.specs.declared.fault.NameRule.TheVariants.{WrongType}
 use Rattle.ada_resolve.specs.declared.scope.Entity.{Entity}
 use Rattle.ada_resolve.specs.declared.scope.Entity.TheVariants as entity
-use Rattle.ada_resolve.specs.Known.{Known, Named, Part, named, entered, declared}
-use Rattle.ada_resolve.specs.Records.{component_meant, components_written, record_type_known}
+use Rattle.ada_resolve.specs.Known.{Known, Named, Part, named, entered, declared, parts}
+use Rattle.ada_resolve.specs.Records.{composition_of, no_components, components_written, record_type_known}
 use Rattle.ada_resolve.specs.Types.{incomplete_of, completed_type, record_found, is_designated, number_of, defined, incomplete_known, completion_remark, access_defined, access_known}
 use Rattle.ada_resolve.proofs.WellFormed.Remarks.{Quiet, quiet_if}
 use Rattle.ada_resolve.proofs.WellFormed.Tables as tables
 use Rattle.ada_resolve.proofs.WellFormed.Tables.{all_more, all_set, get_more, get_last, get_set, get_other, access_more, record_more, access_set, record_set, record_other, types_kept, types_without, components_kept, object_kind_kept, variable_kept, all_weaker, both_parts}
+use Rattle.ada_resolve.proofs.WellFormed.Laid.{AreRecordsLaid, IsLaid, IsUnused, Avoids, records_laid_more, records_laid_set, new_unused, unused_more, unused_set}
 use Rattle.ada_resolve.proofs.WellFormed.Exceptions.{RaisedFits, raised_entered}
-use Rattle.ada_resolve.proofs.WellFormed.Names.{EntityFits, PartsFit, all_entered, names_entered, no_text}
-use Rattle.ada_resolve.proofs.WellFormed.Types.{record_is, components_fit, IsRecordNamed, found_record}
-use Rattle.ada_resolve.proofs.Standing.Order.{IsBefore, PartsBefore, Sound}
+use Rattle.ada_resolve.proofs.WellFormed.Names.{EntityFits, PartsFit, all_entered, names_entered, no_text, laid_in}
+use Rattle.ada_resolve.proofs.WellFormed.Types.{record_is, composed_fit, composition_has, composition_laid, IsRecordNamed, found_record}
+use Rattle.ada_resolve.proofs.Standing.Order.{IsBefore, PartsBefore, Sound, visible_settled}
 
 -- the name of a type
 abbrev form_name : TypeForm → List ℕ
-form_name (record_of name cs) = name
+form_name (record_of name ps cs) = name
 form_name (access_to name d) = name
 
 -- a type of this name is declared or completed, behind so many of the parts around
@@ -34,10 +36,11 @@ pub record Grown (n : ℕ) (text : List ℕ) (types more : List TypeForm) : Type
   pub before : (t : ℕ) (form : TypeForm) → t < n → slice_get types t ≡ Some form → slice_get more t ≡ Some form
   pub longer : length types ≤ length more
   pub types_fit : list_all (fits.type_fits more) more ≡ true
+  pub laid : AreRecordsLaid more
 
 entity_kept : (n : ℕ) (types more : List TypeForm) (variables : List VariableForm) (text other : List ℕ) → Grown n text types more → (other ≡ text → ⊥) → (e : Entity) → EntityFits types variables other e → EntityFits more variables other e
-entity_kept n types more variables text other g ne (entity.Incomplete t) f = g.keeps t.0 (record_of other []) ne f
-entity_kept n types more variables text other g ne (entity.Record t) f = (f.0, g.keeps t.0 (record_of other f.0) ne f.1)
+entity_kept n types more variables text other g ne (entity.Incomplete t) f = g.keeps t.0 (record_of other [] []) ne f
+entity_kept n types more variables text other g ne (entity.Record t size) f = (f.0, f.1, g.keeps t.0 (record_of other f.0 f.1) ne f.2)
 entity_kept n types more variables text other g ne (entity.Access t) f = (f.0, g.keeps t.0 (access_to other f.0) ne f.1)
 entity_kept n types more variables text other g ne (entity.Instance t) f = g.accesses t.0 f
 entity_kept n types more variables text other g ne (entity.Variable x kind) f = (f.0, object_kind_kept types more g.accesses kind f.1)
@@ -46,33 +49,42 @@ entity_kept n types more variables text other g ne e f = f
 -- what a name of a part around stands for stays, whatever the name
 outer_kept : (n : ℕ) (types more : List TypeForm) (variables : List VariableForm) (text other : List ℕ) → Grown n text types more → (e : Entity) → IsBefore n e → EntityFits types variables other e → EntityFits more variables other e
 outer_kept n types more variables text other g (entity.Incomplete t) b f = absurd b
-outer_kept n types more variables text other g (entity.Record t) b f = (f.0, g.before t.0 (record_of other f.0) b f.1)
+outer_kept n types more variables text other g (entity.Record t size) b f = (f.0, f.1, g.before t.0 (record_of other f.0 f.1) b f.2)
 outer_kept n types more variables text other g (entity.Access t) b f = (f.0, g.before t.0 (access_to other f.0) b f.1)
 outer_kept n types more variables text other g (entity.Instance t) b f = g.accesses t.0 f
 outer_kept n types more variables text other g (entity.Variable x kind) b f = (f.0, object_kind_kept types more g.accesses kind f.1)
 outer_kept n types more variables text other g e b f = f
 
 outers_kept : (n : ℕ) (types more : List TypeForm) (variables : List VariableForm) (text : List ℕ) → Grown n text types more → (ps : List Part) → PartsBefore n ps → PartsFit types variables ps → PartsFit more variables ps
-outers_kept n types more variables text g [] b f = tt
+outers_kept n types more variables text g [] b f = g.laid
 outers_kept n types more variables text g (p ∷ ps) b f =
     (λ t x is. outer_kept n types more variables text t g x (b.0 t x is) (f.0 t x is), outers_kept n types more variables text g ps b.1 f.1)
 
+-- an incomplete type is one behind so many, and no component is a record of it
+abbrev pub IsOwn : ℕ → List TypeForm → Entity → Type 0
+IsOwn n types (entity.Incomplete t) = (n ≤ t.0) × IsUnused types t.0
+IsOwn n types e = Unit {0}
+
+own_of : (n : ℕ) (types : List TypeForm) (x : Entity) → ((t : TypeNo) → x ≡ entity.Incomplete t → (n ≤ t.0) × IsUnused types t.0) → IsOwn n types x
+own_of n types (entity.Incomplete t) w = w t refl
+own_of n types x w = tt
+
+own_entered : (n : ℕ) (types : List TypeForm) (ns : List Named) (text : List ℕ) (e : Entity) → IsOwn n types e → ((other : List ℕ) (t : TypeNo) → (other ≡ text → ⊥) → named other ns ≡ Some (entity.Incomplete t) → (n ≤ t.0) × IsUnused types t.0) → (other : List ℕ) (t : TypeNo) → named other (entered text e ns) ≡ Some (entity.Incomplete t) → (n ≤ t.0) × IsUnused types t.0
+own_entered n types ns text e own old other t is =
+    all_entered (λ u x. IsOwn n types x) ns text e own (λ u x ne there. own_of n types x (λ v same. old u v ne (there ∙ ap (λ y. Some y) same))) other (entity.Incomplete t) is
+
 -- an incomplete type is one behind so many
-abbrev pub IsOwn : ℕ → Entity → Type 0
-IsOwn n (entity.Incomplete t) = n ≤ t.0
-IsOwn n e = Unit {0}
+abbrev pub IsBehind : ℕ → Entity → Type 0
+IsBehind n (entity.Incomplete t) = n ≤ t.0
+IsBehind n e = Unit {0}
 
-own_of : (n : ℕ) (x : Entity) → ((t : TypeNo) → x ≡ entity.Incomplete t → n ≤ t.0) → IsOwn n x
-own_of n (entity.Incomplete t) w = w t refl
-own_of n x w = tt
-
-pub open_entered : (n : ℕ) (ns : List Named) (text : List ℕ) (e : Entity) → IsOwn n e → ((other : List ℕ) (t : TypeNo) → named other ns ≡ Some (entity.Incomplete t) → n ≤ t.0) → (other : List ℕ) (t : TypeNo) → named other (entered text e ns) ≡ Some (entity.Incomplete t) → n ≤ t.0
-open_entered n ns text e own old other t is =
-    all_entered (λ u x. IsOwn n x) ns text e own (λ u x ne there. own_of n x (λ v same. old u v (there ∙ ap (λ y. Some y) same))) other (entity.Incomplete t) is
+-- incomplete types of the part of other names are those of no component still
+abbrev pub OthersUnused : Known → List ℕ → List TypeForm → Type 0
+OthersUnused k text more = (other : List ℕ) (t : TypeNo) → (other ≡ text → ⊥) → named other k.here.names ≡ Some (entity.Incomplete t) → IsUnused more t.0
 
 -- the name stands for that, where a type of this name is declared or completed
-pub type_sound : (k : Known) (text : List ℕ) (e : Entity) (more : List TypeForm) → Sound k → Grown k.here.first_type text k.types more → EntityFits more k.variables text e → RaisedFits k.exceptions text e → IsOwn k.here.first_type e → Sound (declared (record k { types = more }) text e)
-type_sound k text e more w g f r own = record {
+pub type_sound : (k : Known) (text : List ℕ) (e : Entity) (more : List TypeForm) → Sound k → Grown k.here.first_type text k.types more → OthersUnused k text more → EntityFits more k.variables text e → RaisedFits k.exceptions text e → IsOwn k.here.first_type more e → Sound (declared (record k { types = more }) text e)
+type_sound k text e more w g unused f r own = record {
   types_fit = g.types_fit;
   variables_fit = all_weaker (fits.variable_fits k.types) (fits.variable_fits more) (variable_kept k.types more g.accesses) k.variables w.variables_fit;
   names = (
@@ -83,25 +95,29 @@ type_sound k text e more w g f r own = record {
   bounds = record {
     first = let a = w.bounds.first in let b = g.longer in omega arith;
     first_variable = w.bounds.first_variable;
-    open_own = open_entered k.here.first_type k.here.names text e own w.bounds.open_own;
+    open_own = λ other t is. (open_here other t is).0;
+    open_unused = λ other t is. (open_here other t is).1;
     outer_before = w.bounds.outer_before;
   };
 }
+  where
+    open_here : (other : List ℕ) (t : TypeNo) → named other (entered text e k.here.names) ≡ Some (entity.Incomplete t) → (k.here.first_type ≤ t.0) × IsUnused more t.0
+    open_here = own_entered k.here.first_type more k.here.names text e own (λ other t ne is. (w.bounds.open_own other t is, unused other t ne is))
 
 -- nothing is declared but a name
-pub name_sound : (k : Known) (text : List ℕ) (e : Entity) → Sound k → EntityFits k.types k.variables text e → RaisedFits k.exceptions text e → IsOwn k.here.first_type e → Sound (declared k text e)
-name_sound k text e w f r own = type_sound k text e k.types w same f r own
+pub name_sound : (k : Known) (text : List ℕ) (e : Entity) → Sound k → EntityFits k.types k.variables text e → RaisedFits k.exceptions text e → IsOwn k.here.first_type k.types e → Sound (declared k text e)
+name_sound k text e w f r own = type_sound k text e k.types w same (λ other t ne is. w.bounds.open_unused other t is) f r own
   where
     same : Grown k.here.first_type text k.types k.types
-    same = record { accesses = λ t is. is; keeps = λ t form ne is. is; before = λ t form b is. is; longer = omega arith; types_fit = w.types_fit }
+    same = record { accesses = λ t is. is; keeps = λ t form ne is. is; before = λ t form b is. is; longer = omega arith; types_fit = w.types_fit; laid = laid_in k.types k.variables (parts k) w.names }
 
 -- one more type of any name
 pub one_longer : (types : List TypeForm) (form : TypeForm) → length types ≤ length (types ++ form ∷ [])
 one_longer [] form = omega arith
 one_longer (x ∷ types) form = let h = one_longer types form in omega arith
 
-grown_more : (n : ℕ) (text : List ℕ) (types : List TypeForm) (form : TypeForm) → list_all (fits.type_fits types) types ≡ true → fits.type_fits (types ++ form ∷ []) form ≡ true → Grown n text types (types ++ form ∷ [])
-grown_more n text types form all own = record {
+grown_more : (n : ℕ) (text : List ℕ) (types : List TypeForm) (form : TypeForm) → list_all (fits.type_fits types) types ≡ true → fits.type_fits (types ++ form ∷ []) form ≡ true → AreRecordsLaid types → IsLaid types form → Grown n text types (types ++ form ∷ [])
+grown_more n text types form all own laid lies = record {
   accesses = access_more types form;
   keeps = λ t x ne is. get_more types form t x is;
   before = λ t x b is. get_more types form t x is;
@@ -109,6 +125,7 @@ grown_more n text types form all own = record {
   types_fit = all_more (fits.type_fits (types ++ form ∷ [])) types (form ∷ [])
       (types_kept types (types ++ form ∷ []) (access_more types form) (record_more types form) types all)
       (both_parts (fits.type_fits (types ++ form ∷ []) form) true own refl);
+  laid = records_laid_more types form laid lies;
 }
 
 -- a type that is replaced
@@ -118,32 +135,33 @@ length_set (x ∷ types) zero form = refl
 length_set (x ∷ types) (suc t) form = let h = length_set types t form in omega arith
 
 -- the types of an incomplete type's name
-grown_set : (n : ℕ) (text : List ℕ) (types : List TypeForm) (t : ℕ) (form : TypeForm) → n ≤ t → slice_get types t ≡ Some (record_of text []) → list_all (fits.type_fits (slice_set types t form)) (slice_set types t form) ≡ true → Grown n text types (slice_set types t form)
-grown_set n text types t form behind is all = record {
-  accesses = access_set types t form (record_is types t text [] is);
+grown_set : (n : ℕ) (text : List ℕ) (types : List TypeForm) (t : ℕ) (form : TypeForm) → n ≤ t → slice_get types t ≡ Some (record_of text [] []) → list_all (fits.type_fits (slice_set types t form)) (slice_set types t form) ≡ true → IsUnused types t → AreRecordsLaid types → Avoids t form → IsLaid types form → Grown n text types (slice_set types t form)
+grown_set n text types t form behind is all unused laid avoids lies = record {
+  accesses = access_set types t form (record_is types t text [] [] is);
   keeps = λ u x ne there. get_other types t u form (λ same. ne (same_name x (sym there ∙ (ap (λ v. slice_get types v) (sym same) ∙ is)))) ∙ there;
   before = λ u x b there. get_other types t u form (λ same. apart u b same) ∙ there;
   longer = let h = length_set types t form in omega arith;
   types_fit = all;
+  laid = records_laid_set types t form unused laid avoids lies;
 }
   where
-    same_name : (x : TypeForm) → Some x ≡ Some (record_of text []) → form_name x ≡ text
-    same_name (record_of name cs) e = cc e
+    same_name : (x : TypeForm) → Some x ≡ Some (record_of text [] []) → form_name x ≡ text
+    same_name (record_of name ps cs) e = cc e
     same_name (access_to name d) e = absurd (cc e)
 
     apart : (u : ℕ) → u < n → t ≡ u → ⊥
     apart u b same = omega (arith, behind, b, same)
 
--- what a declaration completes is an incomplete type of its name, behind so many
+-- what a declaration completes is an incomplete type of its name, behind so many, and no component is a record of it
 abbrev Completes : ℕ → List TypeForm → List ℕ → Option TypeNo → Type 0
 Completes n types text None = Unit {0}
-Completes n types text (Some t) = (n ≤ t.0) × (slice_get types t.0 ≡ Some (record_of text []))
+Completes n types text (Some t) = (n ≤ t.0) × (slice_get types t.0 ≡ Some (record_of text [] [])) × IsUnused types t.0
 
-incomplete_one : (n : ℕ) (types : List TypeForm) (variables : List VariableForm) (text : List ℕ) (e : Entity) → IsOwn n e → EntityFits types variables text e → Completes n types text (incomplete_of (Some e))
-incomplete_one n types variables text (entity.Incomplete t) own f = (own, f)
+incomplete_one : (n : ℕ) (types : List TypeForm) (variables : List VariableForm) (text : List ℕ) (e : Entity) → IsOwn n types e → EntityFits types variables text e → Completes n types text (incomplete_of (Some e))
+incomplete_one n types variables text (entity.Incomplete t) own f = (own.0, f, own.1)
 incomplete_one n types variables text e own f = tt
 
-incomplete_fits : (n : ℕ) (types : List TypeForm) (variables : List VariableForm) (text : List ℕ) (o : Option Entity) → ((e : Entity) → o ≡ Some e → IsOwn n e) → ((e : Entity) → o ≡ Some e → EntityFits types variables text e) → Completes n types text (incomplete_of o)
+incomplete_fits : (n : ℕ) (types : List TypeForm) (variables : List VariableForm) (text : List ℕ) (o : Option Entity) → ((e : Entity) → o ≡ Some e → IsOwn n types e) → ((e : Entity) → o ≡ Some e → EntityFits types variables text e) → Completes n types text (incomplete_of o)
 incomplete_fits n types variables text (Some e) own w = incomplete_one n types variables text e (own e refl) (w e refl)
 incomplete_fits n types variables text None own w = tt
 
@@ -151,32 +169,68 @@ completes : (k : Known) (name : Ident) → Sound k → Completes k.here.first_ty
 unfolding completed_type
 completes k name w =
     incomplete_fits k.here.first_type k.types k.variables name.text (named name.text k.here.names)
-    (λ e is. own_of k.here.first_type e (λ t same. w.bounds.open_own name.text t (is ∙ ap (λ y. Some y) same)))
+    (λ e is. own_of k.here.first_type k.types e (λ t same. let there = is ∙ ap (λ y. Some y) same in (w.bounds.open_own name.text t there, w.bounds.open_unused name.text t there)))
     (w.names.0 name.text)
+
+-- so it is with the type that is completed
+abbrev CompletedHas : (ℕ → Type 0) → Option TypeNo → Type 0
+CompletedHas P None = Unit {0}
+CompletedHas P (Some t) = P t.0
+
+completed_has : (k : Known) (name : Ident) (P : ℕ → Type 0) → ((t : TypeNo) → named name.text k.here.names ≡ Some (entity.Incomplete t) → P t.0) → CompletedHas P (completed_type k name)
+unfolding completed_type
+completed_has k name P w = by_entity (named name.text k.here.names) refl
+  where
+    by_entity : (o : Option Entity) → named name.text k.here.names ≡ o → CompletedHas P (incomplete_of o)
+    by_entity (Some (entity.Incomplete t)) is = w t is
+    by_entity (Some e) is = tt
+    by_entity None is = tt
+
+-- incomplete types of other names are those of no component of a type that is declared or completed
+unused_defined : (types : List TypeForm) (c : Option TypeNo) (form : TypeForm) (t : ℕ) → IsUnused types t → Avoids t form → IsUnused (defined c form types) t
+unused_defined types None form t unused avoids = unused_more types form t unused avoids
+unused_defined types (Some u) form t unused avoids = unused_set types u.0 form t unused avoids
 
 -- `type T;`
 pub incomplete_sound : (k : Known) (name : Ident) → Sound k → Sound (incomplete_known k name)
 incomplete_sound k name w =
-    type_sound k name.text (entity.Incomplete (record { 0 = length k.types })) (k.types ++ record_of name.text [] ∷ []) w
-    (grown_more k.here.first_type name.text k.types (record_of name.text []) w.types_fit refl) (get_last k.types (record_of name.text [])) tt w.bounds.first
+    let form = record_of name.text [] [] in
+    let laid = laid_in k.types k.variables (parts k) w.names in
+    type_sound k name.text (entity.Incomplete (record { 0 = length k.types })) (k.types ++ form ∷ []) w
+    (grown_more k.here.first_type name.text k.types form w.types_fit refl laid (refl, λ i c is. absurd (cc is)))
+    (λ other t ne is. unused_more k.types form t.0 (w.bounds.open_unused other t is) (λ i c is. absurd (cc is)))
+    (get_last k.types form) tt (w.bounds.first, unused_more k.types form (length k.types) (new_unused k.types laid) (λ i c is. absurd (cc is)))
 
 -- `type T is record .. end record;`
-record_defined : (n : ℕ) (types : List TypeForm) (variables : List VariableForm) (text : List ℕ) (cs : List ComponentForm) (c : Option TypeNo) → Completes n types text c → list_all (fits.type_fits types) types ≡ true → list_all (fits.component_fits types) cs ≡ true → Grown n text types (defined c (record_of text cs) types) × EntityFits (defined c (record_of text cs) types) variables text (entity.Record (number_of c types))
-record_defined n types variables text cs None h all own =
-    (grown_more n text types (record_of text cs) all (components_kept types (types ++ record_of text cs ∷ []) (access_more types (record_of text cs)) cs own), (cs, get_last types (record_of text cs)))
-record_defined n types variables text cs (Some t) h all own =
-    let more = slice_set types t.0 (record_of text cs) in
-    let keeps : tables.Keeps types more = access_set types t.0 (record_of text cs) (record_is types t.0 text [] h.1) in (
-      grown_set n text types t.0 (record_of text cs) h.0 h.1
-          (all_set (fits.type_fits more) types t.0 (record_of text cs) (types_kept types more keeps (record_set types t.0 text cs) types all) (components_kept types more keeps cs own)),
-      (cs, get_set types t.0 (record_of text []) (record_of text cs) h.1),
+record_defined : (n : ℕ) (types : List TypeForm) (variables : List VariableForm) (text : List ℕ) (ps : List PartForm) (cs : List ComponentKind) (size : ℕ) (c : Option TypeNo) → Completes n types text c → list_all (fits.type_fits types) types ≡ true → list_all (fits.kind_fits types) cs ≡ true → AreRecordsLaid types → IsLaid types (record_of text ps cs) → CompletedHas (λ t. Avoids t (record_of text ps cs)) c → Grown n text types (defined c (record_of text ps cs) types) × EntityFits (defined c (record_of text ps cs) types) variables text (entity.Record (number_of c types) size)
+record_defined n types variables text ps cs size None h all own laid lies avoids = (
+  grown_more n text types (record_of text ps cs) all (components_kept types (types ++ record_of text ps cs ∷ []) (access_more types (record_of text ps cs)) cs own) laid lies,
+  (ps, cs, get_last types (record_of text ps cs)),
+)
+record_defined n types variables text ps cs size (Some t) h all own laid lies avoids =
+    let more = slice_set types t.0 (record_of text ps cs) in
+    let keeps : tables.Keeps types more = access_set types t.0 (record_of text ps cs) (record_is types t.0 text [] [] h.1) in (
+      grown_set n text types t.0 (record_of text ps cs) h.0 h.1
+          (all_set (fits.type_fits more) types t.0 (record_of text ps cs) (types_kept types more keeps (record_set types t.0 text ps cs) types all) (components_kept types more keeps cs own))
+          h.2 laid avoids lies,
+      (ps, cs, get_set types t.0 (record_of text [] []) (record_of text ps cs) h.1),
     )
+
+-- no component of a new record type is a record of an incomplete type of its part
+composition_avoids : (k : Known) (text other : List ℕ) (t : TypeNo) (cs : List ComponentTree) → Sound k → named other k.here.names ≡ Some (entity.Incomplete t) → Avoids t.0 (record_of text (composition_of k cs).parts (composition_of k cs).kinds)
+composition_avoids k text other t cs w is =
+    composition_has k (λ u. u ≡ t.0 → ⊥) (λ named_so u size there same. visible_settled k named_so u size w there other t is (sym same)) cs
 
 pub record_sound : (k : Known) (name : Ident) (definition : RecordTree) → Sound k → Sound (record_type_known k name definition)
 record_sound k name definition w =
-    let cs = map (component_meant k) (components_written definition) in
-    let done = record_defined k.here.first_type k.types k.variables name.text cs (completed_type k name) (completes k name w) w.types_fit (components_fit k w.names (components_written definition)) in
-    type_sound k name.text (entity.Record (number_of (completed_type k name) k.types)) (defined (completed_type k name) (record_of name.text cs) k.types) w done.0 done.1 tt tt
+    let cs = components_written definition in
+    let made = composition_of k cs in
+    let c = completed_type k name in
+    let form = record_of name.text made.parts made.kinds in
+    let done = record_defined k.here.first_type k.types k.variables name.text made.parts made.kinds made.size c (completes k name w) w.types_fit (composed_fit k w.names w.types_fit no_components cs refl)
+    (laid_in k.types k.variables (parts k) w.names) (composition_laid k name.text cs w.names) (completed_has k name (λ t. Avoids t form) (λ t is. composition_avoids k name.text name.text t cs w is)) in
+    type_sound k name.text (entity.Record (number_of c k.types) made.size) (defined c form k.types) w done.0
+    (λ other t ne is. unused_defined k.types c form t.0 (w.bounds.open_unused other t is) (composition_avoids k name.text other t cs w is)) done.1 tt tt
 
 -- what an access type completes is another type than it designates, and nothing designates it
 abbrev MayComplete : List TypeForm → ℕ → Option TypeNo → Type 0
@@ -188,23 +242,24 @@ may_complete k name designated d None h r q = tt
 may_complete k name designated d (Some t) h r q = (
   quiet_if (is_designated t.0 k.types) name.spot WrongType q.0,
   λ same. no_text designated.text name.text (quiet_if (bytes_eq designated.text name.text) name.spot WrongType q.1)
-      (one_name r.0 (sym r.1 ∙ (ap (λ v. slice_get k.types v) (sym same) ∙ h.1))),
+      (one_name r.0 r.1 (sym r.2 ∙ (ap (λ v. slice_get k.types v) (sym same) ∙ h.1))),
 )
   where
-    one_name : (cs : List ComponentForm) → Some (record_of designated.text cs) ≡ Some (record_of name.text []) → designated.text ≡ name.text
-    one_name cs e = cc e
+    one_name : (ps : List PartForm) (cs : List ComponentKind) → Some (record_of designated.text ps cs) ≡ Some (record_of name.text [] []) → designated.text ≡ name.text
+    one_name ps cs e = cc e
 
-access_type_defined : (n : ℕ) (types : List TypeForm) (variables : List VariableForm) (text : List ℕ) (d : ℕ) (c : Option TypeNo) → Completes n types text c → MayComplete types d c → fits.is_record types d ≡ true → list_all (fits.type_fits types) types ≡ true → Grown n text types (defined c (access_to text d) types) × EntityFits (defined c (access_to text d) types) variables text (entity.Access (number_of c types))
-access_type_defined n types variables text d None h m r all =
-    (grown_more n text types (access_to text d) all (record_more types (access_to text d) d r), (d, get_last types (access_to text d)))
-access_type_defined n types variables text d (Some t) h m r all =
+access_type_defined : (n : ℕ) (types : List TypeForm) (variables : List VariableForm) (text : List ℕ) (d : ℕ) (c : Option TypeNo) → Completes n types text c → MayComplete types d c → fits.is_record types d ≡ true → list_all (fits.type_fits types) types ≡ true → AreRecordsLaid types → Grown n text types (defined c (access_to text d) types) × EntityFits (defined c (access_to text d) types) variables text (entity.Access (number_of c types))
+access_type_defined n types variables text d None h m r all laid =
+    (grown_more n text types (access_to text d) all (record_more types (access_to text d) d r) laid tt, (d, get_last types (access_to text d)))
+access_type_defined n types variables text d (Some t) h m r all laid =
     let more = slice_set types t.0 (access_to text d) in
-    let keeps : tables.Keeps types more = access_set types t.0 (access_to text d) (record_is types t.0 text [] h.1) in (
+    let keeps : tables.Keeps types more = access_set types t.0 (access_to text d) (record_is types t.0 text [] [] h.1) in (
       grown_set n text types t.0 (access_to text d) h.0 h.1
           (all_set (fits.type_fits more) types t.0 (access_to text d)
           (types_without types more t.0 keeps (λ u ne. record_other types t.0 (access_to text d) u ne) types m.0 all)
-          (record_other types t.0 (access_to text d) d m.1 r)),
-      (d, get_set types t.0 (record_of text []) (access_to text d) h.1),
+          (record_other types t.0 (access_to text d) d m.1 r))
+          h.2 laid tt tt,
+      (d, get_set types t.0 (record_of text [] []) (access_to text d) h.1),
     )
 
 access_sound_at : (k : Known) (name designated : Ident) (o : Option TypeNo) → Sound k → IsRecordNamed k.types designated.text o → Quiet (completion_remark (completed_type k name) k name designated) → Sound (access_defined k name (completed_type k name) o)
@@ -212,8 +267,9 @@ access_sound_at k name designated None w r q = w
 access_sound_at k name designated (Some d) w r q =
     let c = completed_type k name in
     let h : Completes k.here.first_type k.types name.text c = completes k name w in
-    let done = access_type_defined k.here.first_type k.types k.variables name.text d.0 c h (may_complete k name designated d c h r q) (record_is k.types d.0 designated.text r.0 r.1) w.types_fit in
-    type_sound k name.text (entity.Access (number_of c k.types)) (defined c (access_to name.text d.0) k.types) w done.0 done.1 tt tt
+    let done = access_type_defined k.here.first_type k.types k.variables name.text d.0 c h (may_complete k name designated d c h r q) (record_is k.types d.0 designated.text r.0 r.1 r.2) w.types_fit (laid_in k.types k.variables (parts k) w.names) in
+    type_sound k name.text (entity.Access (number_of c k.types)) (defined c (access_to name.text d.0) k.types) w done.0
+    (λ other t ne is. unused_defined k.types c (access_to name.text d.0) t.0 (w.bounds.open_unused other t is) tt) done.1 tt tt
 
 -- `type A is access T;`
 pub access_sound : (k : Known) (name designated : Ident) → Sound k → Quiet (completion_remark (completed_type k name) k name designated) → Sound (access_known k name designated)

@@ -26,7 +26,7 @@ use Rattle.ada_resolve.proofs.WellFormed.Values.{access_designates}
 -- the record type of a name is known
 record_in_known : (o : Option Entity) (name : Ident) → Quiet (record_wanted o name) → (t : TypeNo) × (record_in o ≡ Some t)
 record_in_known (Some (entity.Incomplete t)) name q = (t, refl)
-record_in_known (Some (entity.Record t)) name q = (t, refl)
+record_in_known (Some (entity.Record t size)) name q = (t, refl)
 record_in_known (Some e) name q = absurd q
 record_in_known None name q = absurd q
 

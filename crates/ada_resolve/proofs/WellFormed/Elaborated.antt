@@ -82,7 +82,7 @@ only_fit types variables (declares x source) e = absurd (cc e)
 -- the collections that end the types
 made_are_first : (ts : List TypeForm) (t : ℕ) (es : List DeclarationForm) → list_all is_first (collections_of t ts es) ≡ true
 made_are_first [] t es = refl
-made_are_first (record_of name cs ∷ ts) t es = made_are_first ts (t + 1) es
+made_are_first (record_of name ps cs ∷ ts) t es = made_are_first ts (t + 1) es
 made_are_first (access_to name d ∷ ts) t es = first_either (is_collected t es) (collections_of (t + 1) ts es) (made_are_first ts (t + 1) es)
   where
     first_either : (b : Bool) (fs : List DeclarationForm) → list_all is_first fs ≡ true → list_all is_first (cond b fs (collects t ∷ fs)) ≡ true
@@ -91,7 +91,7 @@ made_are_first (access_to name d ∷ ts) t es = first_either (is_collected t es)
 
 made_fit : (types ts : List TypeForm) (t : ℕ) (es : List DeclarationForm) → ((i : ℕ) → fits.is_access ts i ≡ true → fits.is_access types (t + i) ≡ true) → list_all (fits.collection_fits types) (collections_of t ts es) ≡ true
 made_fit types [] t es w = refl
-made_fit types (record_of name cs ∷ ts) t es w = made_fit types ts (t + 1) es (λ i e. let next : (t + 1) + i ≡ t + suc i = omega arith in rw next (w (suc i) e))
+made_fit types (record_of name ps cs ∷ ts) t es w = made_fit types ts (t + 1) es (λ i e. let next : (t + 1) + i ≡ t + suc i = omega arith in rw next (w (suc i) e))
 made_fit types (access_to name d ∷ ts) t es w =
     fit_either (is_collected t es) (collections_of (t + 1) ts es) (let at : t ≡ t + 0 = omega arith in rw at (w 0 refl))
     (made_fit types ts (t + 1) es (λ i e. let next : (t + 1) + i ≡ t + suc i = omega arith in rw next (w (suc i) e)))

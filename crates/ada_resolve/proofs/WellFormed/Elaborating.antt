@@ -34,7 +34,7 @@ accesses_kept k m w t e = found (slice_get k.types t) refl e
   where
     found : (o : Option TypeForm) → slice_get k.types t ≡ o → is_some (fits.designated_in o) ≡ true → fits.is_access m.types t ≡ true
     found None is e = absurd (cc e)
-    found (Some (record_of name cs)) is e = absurd (cc e)
+    found (Some (record_of name ps cs)) is e = absurd (cc e)
     found (Some (access_to name d)) is e = rw (w.accesses t name d is) refl
 
 collection_kept : (types more : List TypeForm) → Keeps types more → (e : DeclarationForm) → fits.collection_fits types e ≡ true → fits.collection_fits more e ≡ true

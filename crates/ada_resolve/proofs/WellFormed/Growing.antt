@@ -14,8 +14,8 @@ use Rattle.ada_program.specs.declared.program.VariableKind.{VariableKind}
 use Rattle.ada_program.specs.declared.program.VariableKind.TheVariants as variable
 use Rattle.ada_program.specs.declared.program.ScalarType.{ScalarType}
 use Rattle.ada_program.specs.declared.program.ScalarType.TheVariants.{Integer, Boolean}
-use Rattle.ada_program.specs.Form.{PathForm, ExpressionForm, integer, boolean, reads, is_null, applied_to, chained, LinksForm, no_more_links, a_link, ItemForm, null_item, item_of_path, item_of_value, RightForm, nothing, value_of, allocates, computes, StmtForm, skips, assigns, frees, gets, writes, writes_text, chooses, repeats, counts, exits, returns, raises, encloses, StmtsForm, no_stmts, a_stmt, BranchesForm, otherwise, a_branch, HandlersForm, no_handlers, a_handler, DeclarationForm, collects, declares}
-use Rattle.ada_program.specs.ProgramForm.{ComponentForm, TypeForm, VariableForm}
+use Rattle.ada_program.specs.Form.{PathForm, ExpressionForm, integer, boolean, reads, is_null, applied_to, chained, LinksForm, no_more_links, a_link, ItemForm, null_item, item_of_path, item_of_value, RightForm, nothing, value_of, allocates, allocates_default, computes, StmtForm, skips, assigns, frees, gets, writes, writes_text, chooses, repeats, counts, exits, returns, raises, encloses, StmtsForm, no_stmts, a_stmt, BranchesForm, otherwise, a_branch, HandlersForm, no_handlers, a_handler, DeclarationForm, collects, declares}
+use Rattle.ada_program.specs.ProgramForm.{TypeForm, VariableForm}
 use Rattle.ada_program.specs.WellFormed as fits
 use Rattle.ada_resolve.proofs.WellFormed.Tables.{both_parts, first_part, second_part, all_weaker}
 use Rattle.ada_resolve.proofs.WellFormed.Typing.{nowhere, unary_typed, left_typed, operand_typed, of_type, is_of_type}
@@ -34,14 +34,14 @@ module _ (types more : List TypeForm) (variables others : List VariableForm) (ts
       found_stays None is e = absurd (cc e)
       found_stays (Some x) is e = rw (ts t x is) e
 
-  components_stay : (t : ℕ) (cs : List ComponentForm) → fits.record_components types t ≡ Some cs → fits.record_components more t ≡ Some cs
+  components_stay : (t : ℕ) (cs : List ComponentKind) → fits.record_components types t ≡ Some cs → fits.record_components more t ≡ Some cs
   components_stay t cs e = found_stays (slice_get types t) refl e
     where
       found_stays : (o : Option TypeForm) → slice_get types t ≡ o → fits.components_in o ≡ Some cs → fits.record_components more t ≡ Some cs
       found_stays None is e = absurd (cc e)
       found_stays (Some x) is e = rw (ts t x is) e
 
-  reached_stay : (access : ℕ) (cs : List ComponentForm) → fits.reached_components types access ≡ Some cs → fits.reached_components more access ≡ Some cs
+  reached_stay : (access : ℕ) (cs : List ComponentKind) → fits.reached_components types access ≡ Some cs → fits.reached_components more access ≡ Some cs
   reached_stay access cs e = found_stay (fits.designated_type types access) refl e
     where
       found_stay : (o : Option ℕ) → fits.designated_type types access ≡ o → fits.components_reached types o ≡ Some cs → fits.reached_components more access ≡ Some cs
@@ -67,7 +67,7 @@ module _ (types more : List TypeForm) (variables others : List VariableForm) (ts
   behind_stays None c k e = absurd (cc e)
   behind_stays (Some access) c k e = found_stays (fits.reached_components types access) refl e
     where
-      found_stays : (o : Option (List ComponentForm)) → fits.reached_components types access ≡ o → fits.kind_among o c ≡ Some k → fits.kind_behind more (Some access) c ≡ Some k
+      found_stays : (o : Option (List ComponentKind)) → fits.reached_components types access ≡ o → fits.kind_among o c ≡ Some k → fits.kind_behind more (Some access) c ≡ Some k
       found_stays None is e = absurd (cc e)
       found_stays (Some cs) is e = rw (reached_stay access cs is) e
 
@@ -146,21 +146,28 @@ module _ (types more : List TypeForm) (variables others : List VariableForm) (ts
   item_stays (component.Access t) (item_of_path path) h = moved_stays path t.0 h
   item_stays (component.Access t) (item_of_value e) h = absurd (cc h)
 
-  items_stay : (cs : List ComponentForm) (items : List ItemForm) → fits.items_fit types variables cs items ≡ true → fits.items_fit more others cs items ≡ true
+  items_stay : (cs : List ComponentKind) (items : List ItemForm) → fits.items_fit types variables cs items ≡ true → fits.items_fit more others cs items ≡ true
   items_stay [] [] h = refl
   items_stay [] (i ∷ items) h = absurd (cc h)
   items_stay (c ∷ cs) [] h = absurd (cc h)
   items_stay (c ∷ cs) (i ∷ items) h =
-      both_parts (fits.item_fits more others c.kind i) (fits.items_fit more others cs items)
-      (item_stays c.kind i (first_part (fits.item_fits types variables c.kind i) (fits.items_fit types variables cs items) h))
-      (items_stay cs items (second_part (fits.item_fits types variables c.kind i) (fits.items_fit types variables cs items) h))
+      both_parts (fits.item_fits more others c i) (fits.items_fit more others cs items)
+      (item_stays c i (first_part (fits.item_fits types variables c i) (fits.items_fit types variables cs items) h))
+      (items_stay cs items (second_part (fits.item_fits types variables c i) (fits.items_fit types variables cs items) h))
 
   filled_stays : (access : ℕ) (items : List ItemForm) → fits.is_filled types variables (fits.reached_components types access) items ≡ true → fits.is_filled more others (fits.reached_components more access) items ≡ true
   filled_stays access items h = by_components (fits.reached_components types access) refl h
     where
-      by_components : (o : Option (List ComponentForm)) → fits.reached_components types access ≡ o → fits.is_filled types variables o items ≡ true → fits.is_filled more others (fits.reached_components more access) items ≡ true
+      by_components : (o : Option (List ComponentKind)) → fits.reached_components types access ≡ o → fits.is_filled types variables o items ≡ true → fits.is_filled more others (fits.reached_components more access) items ≡ true
       by_components None is h = absurd (cc h)
       by_components (Some cs) is h = rw (reached_stay access cs is) (items_stay cs items h)
+
+  there_stays : (access : ℕ) → is_some (fits.reached_components types access) ≡ true → is_some (fits.reached_components more access) ≡ true
+  there_stays access h = by_components (fits.reached_components types access) refl h
+    where
+      by_components : (o : Option (List ComponentKind)) → fits.reached_components types access ≡ o → is_some o ≡ true → is_some (fits.reached_components more access) ≡ true
+      by_components None is h = absurd (cc h)
+      by_components (Some cs) is h = rw (reached_stay access cs is) refl
 
   -- what is assigned
   access_right_stays : (access : ℕ) (s : RightForm) → fits.access_fits types variables access s ≡ true → fits.access_fits more others access s ≡ true
@@ -170,12 +177,17 @@ module _ (types more : List TypeForm) (variables others : List VariableForm) (ts
       both_parts (eqb t access) (fits.is_filled more others (fits.reached_components more access) items)
       (first_part (eqb t access) (fits.is_filled types variables (fits.reached_components types access) items) h)
       (filled_stays access items (second_part (eqb t access) (fits.is_filled types variables (fits.reached_components types access) items) h))
+  access_right_stays access (allocates_default t) h =
+      both_parts (eqb t access) (is_some (fits.reached_components more access))
+      (first_part (eqb t access) (is_some (fits.reached_components types access)) h)
+      (there_stays access (second_part (eqb t access) (is_some (fits.reached_components types access)) h))
   access_right_stays access (computes e) h = absurd (cc h)
 
   scalar_right_stays : (t : ScalarType) (s : RightForm) → fits.scalar_fits types variables t s ≡ true → fits.scalar_fits more others t s ≡ true
   scalar_right_stays t nothing h = absurd (cc h)
   scalar_right_stays t (value_of path) h = absurd (cc h)
   scalar_right_stays t (allocates a items) h = absurd (cc h)
+  scalar_right_stays t (allocates_default a) h = absurd (cc h)
   scalar_right_stays t (computes e) h = has_type_stays t e h
 
   pub taken_stays : (kind : VariableKind) (s : RightForm) → fits.kind_takes types variables kind s ≡ true → fits.kind_takes more others kind s ≡ true
@@ -213,22 +225,23 @@ module _ (types more : List TypeForm) (variables others : List VariableForm) (ts
   item_owns_stays (component.Access t) (item_of_path path) h o =
       ap (λ (b : Bool). not b) (moved_owns path t.0 h) ∙ o
 
-  items_own_stay : (cs : List ComponentForm) (items : List ItemForm) → fits.items_fit types variables cs items ≡ true → list_all (fits.item_owns variables) items ≡ true → list_all (fits.item_owns others) items ≡ true
+  items_own_stay : (cs : List ComponentKind) (items : List ItemForm) → fits.items_fit types variables cs items ≡ true → list_all (fits.item_owns variables) items ≡ true → list_all (fits.item_owns others) items ≡ true
   items_own_stay cs [] h o = refl
   items_own_stay [] (i ∷ items) h o = absurd (cc h)
   items_own_stay (c ∷ cs) (i ∷ items) h o =
       both_parts (fits.item_owns others i) (list_all (fits.item_owns others) items)
-      (item_owns_stays c.kind i (first_part (fits.item_fits types variables c.kind i) (fits.items_fit types variables cs items) h)
+      (item_owns_stays c i (first_part (fits.item_fits types variables c i) (fits.items_fit types variables cs items) h)
       (first_part (fits.item_owns variables i) (list_all (fits.item_owns variables) items) o))
-      (items_own_stay cs items (second_part (fits.item_fits types variables c.kind i) (fits.items_fit types variables cs items) h)
+      (items_own_stay cs items (second_part (fits.item_fits types variables c i) (fits.items_fit types variables cs items) h)
       (second_part (fits.item_owns variables i) (list_all (fits.item_owns variables) items) o))
 
-  filled_owns : (cs : Option (List ComponentForm)) (items : List ItemForm) → fits.is_filled types variables cs items ≡ true → list_all (fits.item_owns variables) items ≡ true → list_all (fits.item_owns others) items ≡ true
+  filled_owns : (cs : Option (List ComponentKind)) (items : List ItemForm) → fits.is_filled types variables cs items ≡ true → list_all (fits.item_owns variables) items ≡ true → list_all (fits.item_owns others) items ≡ true
   filled_owns None items h o = absurd (cc h)
   filled_owns (Some cs) items h o = items_own_stay cs items h o
 
   pub lent_stays : (kind : VariableKind) (borrows : Bool) (s : RightForm) → fits.kind_takes types variables kind s ≡ true → fits.lends_to variables borrows s ≡ true → fits.lends_to others borrows s ≡ true
   lent_stays kind borrows nothing h l = refl
+  lent_stays kind borrows (allocates_default access) h l = l
   lent_stays kind borrows (computes e) h l = refl
   lent_stays (variable.Access access) borrows (value_of path) h l =
       ap (λ (b : Bool). borrows || not b) (moved_owns path access.0 h) ∙ l

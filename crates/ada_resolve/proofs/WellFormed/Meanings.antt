@@ -31,7 +31,8 @@ use Rattle.ada_resolve.specs.Expressions.{expression_meant, expression_remark}
 use Rattle.ada_resolve.specs.Remark.{wrong, wrong_if, ◌also◌}
 use Rattle.ada_resolve.specs.Spots.{expression_spot}
 use Rattle.ada_resolve.proofs.WellFormed.Remarks.{Quiet}
-use Rattle.ada_resolve.proofs.WellFormed.Names.{EntityFits, PartsFit, visible_fits, kind_there}
+use Rattle.ada_resolve.proofs.WellFormed.Laid.{AreRecordsLaid}
+use Rattle.ada_resolve.proofs.WellFormed.Names.{EntityFits, PartsFit, visible_fits, kind_there, laid_in}
 use Rattle.ada_resolve.proofs.WellFormed.Selected.{IsReached, selectors_are}
 use Rattle.ada_resolve.proofs.WellFormed.Typing.{typed_by, joined_type}
 
@@ -48,29 +49,29 @@ reached_fits : (types : List TypeForm) (variables : List VariableForm) (path : P
 reached_fits types variables path spot (reached.Value variable.Integer) is q = rw is refl
 reached_fits types variables path spot (reached.Value variable.Boolean) is q = rw is refl
 reached_fits types variables path spot (reached.Value (variable.Access t)) is q = is
-reached_fits types variables path spot (reached.Object t) is q = absurd q
+reached_fits types variables path spot (reached.Object t first) is q = absurd q
 reached_fits types variables path spot reached.Nothing is q = absurd is
 
 -- a variable, with what is selected from it
-variable_fits : (k : Known) (x : VariableNo) (spot : Spot) (of : VariableKind) (selectors : List SelectorTree) → fits.variable_kind k.variables x.0 ≡ Some of → Quiet (variable_path_remark k spot of selectors) → MeantFits k.types k.variables (variable_meant k x spot of selectors)
-variable_fits k x spot of selectors h q =
+variable_fits : (k : Known) (x : VariableNo) (spot : Spot) (of : VariableKind) (selectors : List SelectorTree) → AreRecordsLaid k.types → fits.variable_kind k.variables x.0 ≡ Some of → Quiet (variable_path_remark k spot of selectors) → MeantFits k.types k.variables (variable_meant k x spot of selectors)
+variable_fits k x spot of selectors laid h q =
     reached_fits k.types k.variables (selected_path x spot (components_selected k (reached.Value of) selectors)) spot (selectors_reached k (reached.Value of) selectors)
-    (selectors_are k k.types (fits.variable_kind k.variables x.0) spot (reached.Value of) selectors (λ t form e. e) h q.0) q.1
+    (selectors_are k k.types (fits.variable_kind k.variables x.0) spot (reached.Value of) selectors laid (λ t form e. e) h q.0) q.1
 
 -- what a name stands for
-entity_one : (k : Known) (text : List ℕ) (e : Entity) (name : Ident) (selectors : List SelectorTree) → EntityFits k.types k.variables text e → Quiet (value_wanted k (Some e) name selectors) → MeantFits k.types k.variables (entity_meant k (Some e) name.spot selectors)
-entity_one k text (entity.Variable x of) name selectors f q = variable_fits k x name.spot of selectors (kind_there k.variables x.0 text of f.0) q
-entity_one k text (entity.Parameter x) name selectors f q =
-    variable_fits k x name.spot variable.Integer selectors (kind_there k.variables x.0 text variable.Integer (false, f)) q
-entity_one k text (entity.Number n) name [] f q = refl
-entity_one k text (entity.Number n) name (s ∷ ss) f q = absurd q
-entity_one k text (entity.Truth b) name [] f q = refl
-entity_one k text (entity.Truth b) name (s ∷ ss) f q = absurd q
-entity_one k text e name selectors f q = absurd q
+entity_one : (k : Known) (text : List ℕ) (e : Entity) (name : Ident) (selectors : List SelectorTree) → AreRecordsLaid k.types → EntityFits k.types k.variables text e → Quiet (value_wanted k (Some e) name selectors) → MeantFits k.types k.variables (entity_meant k (Some e) name.spot selectors)
+entity_one k text (entity.Variable x of) name selectors laid f q = variable_fits k x name.spot of selectors laid (kind_there k.variables x.0 text of f.0) q
+entity_one k text (entity.Parameter x) name selectors laid f q =
+    variable_fits k x name.spot variable.Integer selectors laid (kind_there k.variables x.0 text variable.Integer (false, f)) q
+entity_one k text (entity.Number n) name [] laid f q = refl
+entity_one k text (entity.Number n) name (s ∷ ss) laid f q = absurd q
+entity_one k text (entity.Truth b) name [] laid f q = refl
+entity_one k text (entity.Truth b) name (s ∷ ss) laid f q = absurd q
+entity_one k text e name selectors laid f q = absurd q
 
-entity_fits : (k : Known) (text : List ℕ) (o : Option Entity) (name : Ident) (selectors : List SelectorTree) → ((e : Entity) → o ≡ Some e → EntityFits k.types k.variables text e) → Quiet (value_wanted k o name selectors) → MeantFits k.types k.variables (entity_meant k o name.spot selectors)
-entity_fits k text None name selectors v q = absurd q
-entity_fits k text (Some e) name selectors v q = entity_one k text e name selectors (v e refl) q
+entity_fits : (k : Known) (text : List ℕ) (o : Option Entity) (name : Ident) (selectors : List SelectorTree) → AreRecordsLaid k.types → ((e : Entity) → o ≡ Some e → EntityFits k.types k.variables text e) → Quiet (value_wanted k o name selectors) → MeantFits k.types k.variables (entity_meant k o name.spot selectors)
+entity_fits k text None name selectors laid v q = absurd q
+entity_fits k text (Some e) name selectors laid v q = entity_one k text e name selectors laid (v e refl) q
 
 -- a name of the library is no value
 no_library_value : (b : Bool) (n : LibraryName) (spot : Spot) (rule_spot : Spot) → Quiet (wrong_if (not b) rule_spot UnknownName) → Quiet (library_is_no_value (if_with b n) spot) → ⊥
@@ -98,7 +99,7 @@ path_fits k path w q = path_by (is_library_root path.root.text) q
   where
     path_by : (b : Bool) → Quiet (cond b (library_path_remark k path also library_is_no_value (library_path_found k path) path.root.spot) (value_wanted k (visible k path.root.text) path.root path.selectors)) → MeantFits k.types k.variables (cond b unknown (entity_meant k (visible k path.root.text) path.root.spot path.selectors))
     path_by true q = absurd (no_library_path k path (is_name path.selectors) q.0 q.1)
-    path_by false q = entity_fits k path.root.text (visible k path.root.text) path.root path.selectors (visible_fits k w path.root.text) q
+    path_by false q = entity_fits k path.root.text (visible k path.root.text) path.root path.selectors (laid_in k.types k.variables (parts k) w) (visible_fits k w path.root.text) q
 
 -- what is wanted is there
 pub integer_is : (types : List TypeForm) (variables : List VariableForm) (m : Meant) (spot : Spot) → MeantFits types variables m → Quiet (integer_wanted m spot) → fits.type_of types variables (integer_in m) ≡ Some Integer

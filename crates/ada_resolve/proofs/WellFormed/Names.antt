@@ -5,8 +5,9 @@ use Rattle.std.specs.Prelude.{Option, Some, None, bytes_eq, codes}
 use Rattle.std.specs.List.{slice_get}
 use Rattle.std.proofs.lemmas.Bool.{false_from_ne_true}
 use Rattle.std.proofs.lemmas.Slice.Eq.{bytes_eq-Decides}
-use Rattle.ada_program.specs.ProgramForm.{ComponentForm, TypeForm, record_of, access_to, VariableForm}
+use Rattle.ada_program.specs.ProgramForm.{PartForm, TypeForm, record_of, access_to, VariableForm}
 use Rattle.ada_program.specs.WellFormed as fits
+use Rattle.ada_program.specs.declared.program.ComponentKind.{ComponentKind}
 use Rattle.ada_program.specs.declared.program.Exception.TheVariants.{ConstraintError, ProgramError, StorageError}
 use Rattle.ada_program.specs.declared.program.VariableKind.{VariableKind}
 use Rattle.ada_program.specs.declared.program.VariableKind.TheVariants as variable
@@ -15,6 +16,7 @@ use Rattle.ada_resolve.specs.declared.scope.Entity.TheVariants as entity
 use Rattle.ada_resolve.specs.Naming.{truth_name}
 use Rattle.ada_resolve.specs.Known.{Known, Named, Part, named, entered, first_named, named_in, inner_first, visible, parts}
 use Rattle.ada_resolve.specs.Library.{predefined}
+use Rattle.ada_resolve.proofs.WellFormed.Laid.{AreRecordsLaid}
 
 -- a variable of this name is there, which holds this, a borrower or not
 abbrev pub IsVariableIn : List VariableForm → List ℕ → VariableKind → ℕ → Type 0
@@ -28,8 +30,8 @@ EntityFits types variables text (entity.Truth b) = text ≡ truth_name b
 EntityFits types variables text (entity.Number n) = Unit {0}
 EntityFits types variables text (entity.Exception e) = Unit {0}
 EntityFits types variables text entity.Procedure = Unit {0}
-EntityFits types variables text (entity.Incomplete t) = slice_get types t.0 ≡ Some (record_of text [])
-EntityFits types variables text (entity.Record t) = (cs : List ComponentForm) × (slice_get types t.0 ≡ Some (record_of text cs))
+EntityFits types variables text (entity.Incomplete t) = slice_get types t.0 ≡ Some (record_of text [] [])
+EntityFits types variables text (entity.Record t size) = (ps : List PartForm) × (cs : List ComponentKind) × (slice_get types t.0 ≡ Some (record_of text ps cs))
 EntityFits types variables text (entity.Access t) = (d : ℕ) × (slice_get types t.0 ≡ Some (access_to text d))
 EntityFits types variables text (entity.Instance t) = fits.is_access types t.0 ≡ true
 EntityFits types variables text (entity.Variable x kind) = IsVariableIn variables text kind x.0 × (fits.variable_kind_fits types kind ≡ true)
@@ -38,10 +40,14 @@ EntityFits types variables text (entity.Parameter x) = slice_get variables x.0 �
 abbrev pub NamesFit : List TypeForm → List VariableForm → List Named → Type 0
 NamesFit types variables names = (text : List ℕ) (e : Entity) → named text names ≡ Some e → EntityFits types variables text e
 
--- what the names of each part stand for is there
+-- what the names of each part stand for is there, and the components of all types lie one behind the other
 abbrev pub PartsFit : List TypeForm → List VariableForm → List Part → Type 0
-PartsFit types variables [] = Unit {0}
+PartsFit types variables [] = AreRecordsLaid types
 PartsFit types variables (part ∷ outer) = NamesFit types variables part.names × PartsFit types variables outer
+
+pub laid_in : (types : List TypeForm) (variables : List VariableForm) (ps : List Part) → PartsFit types variables ps → AreRecordsLaid types
+laid_in types variables [] w = w
+laid_in types variables (part ∷ outer) w = laid_in types variables outer w.1
 
 -- two texts are the same, or are not
 pub text_same : (a b : List ℕ) → bytes_eq a b ≡ true → a ≡ b
@@ -94,7 +100,7 @@ standard_fits types variables text x false false false false false true h on off
 standard_fits types variables text x false false false false false false true on off e = let is : entity.Exception StorageError ≡ x = cc e in rw (sym is) tt
 standard_fits types variables text x false false false false false false false on off e = absurd (cc e)
 
-predefined_fits : (types : List TypeForm) (variables : List VariableForm) (text : List ℕ) (x : Entity) → predefined text ≡ Some x → EntityFits types variables text x
+pub predefined_fits : (types : List TypeForm) (variables : List VariableForm) (text : List ℕ) (x : Entity) → predefined text ≡ Some x → EntityFits types variables text x
 unfolding predefined
 predefined_fits types variables text x e =
     standard_fits types variables text x (bytes_eq text (codes "INTEGER")) (bytes_eq text (codes "BOOLEAN")) (bytes_eq text (codes "TRUE")) (bytes_eq text (codes "FALSE"))

@@ -11,10 +11,10 @@ use Rattle.ada_program.specs.declared.program.VariableKind.TheVariants as variab
 use Rattle.ada_program.specs.declared.program.ScalarType.{ScalarType}
 use Rattle.ada_program.specs.declared.program.ScalarType.TheVariants.{Integer, Boolean}
 use Rattle.ada_program.specs.declared.program.TypeNo.{TypeNo}
-use Rattle.ada_program.specs.Form.{PathForm, ExpressionForm, ItemForm, null_item, item_of_path, item_of_value, RightForm, nothing, value_of, allocates, computes, DeclarationForm, collects, declares}
+use Rattle.ada_program.specs.Form.{PathForm, ExpressionForm, ItemForm, null_item, item_of_path, item_of_value, RightForm, nothing, value_of, allocates, allocates_default, computes, DeclarationForm, collects, declares}
 use Rattle.ada_tree.specs.Names.{Ident, NameTree}
 use Rattle.ada_tree.specs.Expressions.{RightTree}
-use Rattle.ada_program.specs.ProgramForm.{ComponentForm, TypeForm, VariableForm}
+use Rattle.ada_program.specs.ProgramForm.{TypeForm, VariableForm}
 use Rattle.ada_program.specs.WellFormed as fits
 use Rattle.ada_program.specs.WellFormed.{of_variable}
 use Rattle.ada_resolve.specs.Borrowers.{borrower_remark, borrower_known}
@@ -57,15 +57,15 @@ item_is_before types variables (component.Access t) (item_of_path path) h =
     moved_before types variables path t.0 (fits.path_kind types variables path) refl h
 item_is_before types variables (component.Access t) (item_of_value e) h = absurd (cc h)
 
-items_are_before : (types : List TypeForm) (variables : List VariableForm) (cs : List ComponentForm) (items : List ItemForm) → fits.items_fit types variables cs items ≡ true → list_all (fits.item_before (length variables)) items ≡ true
+items_are_before : (types : List TypeForm) (variables : List VariableForm) (cs : List ComponentKind) (items : List ItemForm) → fits.items_fit types variables cs items ≡ true → list_all (fits.item_before (length variables)) items ≡ true
 items_are_before types variables cs [] h = refl
 items_are_before types variables [] (i ∷ items) h = absurd (cc h)
 items_are_before types variables (c ∷ cs) (i ∷ items) h =
     both_parts (fits.item_before (length variables) i) (list_all (fits.item_before (length variables)) items)
-    (item_is_before types variables c.kind i (first_part (fits.item_fits types variables c.kind i) (fits.items_fit types variables cs items) h))
-    (items_are_before types variables cs items (second_part (fits.item_fits types variables c.kind i) (fits.items_fit types variables cs items) h))
+    (item_is_before types variables c i (first_part (fits.item_fits types variables c i) (fits.items_fit types variables cs items) h))
+    (items_are_before types variables cs items (second_part (fits.item_fits types variables c i) (fits.items_fit types variables cs items) h))
 
-filled_before : (types : List TypeForm) (variables : List VariableForm) (cs : Option (List ComponentForm)) (items : List ItemForm) → fits.is_filled types variables cs items ≡ true → list_all (fits.item_before (length variables)) items ≡ true
+filled_before : (types : List TypeForm) (variables : List VariableForm) (cs : Option (List ComponentKind)) (items : List ItemForm) → fits.is_filled types variables cs items ≡ true → list_all (fits.item_before (length variables)) items ≡ true
 filled_before types variables None items h = absurd (cc h)
 filled_before types variables (Some cs) items h = items_are_before types variables cs items h
 
@@ -76,12 +76,14 @@ access_before types variables access (value_of path) h =
 access_before types variables access (allocates t items) h =
     filled_before types variables (fits.reached_components types access) items
     (second_part (eqb t access) (fits.is_filled types variables (fits.reached_components types access) items) h)
+access_before types variables access (allocates_default t) h = refl
 access_before types variables access (computes e) h = absurd (cc h)
 
 scalar_before : (types : List TypeForm) (variables : List VariableForm) (t : ScalarType) (s : RightForm) → fits.scalar_fits types variables t s ≡ true → fits.names_before (length variables) s ≡ true
 scalar_before types variables t nothing h = refl
 scalar_before types variables t (value_of path) h = absurd (cc h)
 scalar_before types variables t (allocates a items) h = absurd (cc h)
+scalar_before types variables t (allocates_default a) h = absurd (cc h)
 scalar_before types variables t (computes e) h = type_before types variables t e h
 
 source_before : (types : List TypeForm) (variables : List VariableForm) (kind : VariableKind) (s : RightForm) → fits.kind_takes types variables kind s ≡ true → fits.names_before (length variables) s ≡ true

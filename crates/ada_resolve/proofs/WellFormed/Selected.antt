@@ -1,53 +1,58 @@
 -- Where nothing is wrong with what is selected behind a variable, it is there.
 
-use Rattle.std.proofs.Common.{◌≡◌, ◌∙◌, ℕ, ◌+◌, Bool, true, false, cond, List, [], ◌∷◌, ◌++◌, refl, sym, ap, subst, suc, arith}
+use Rattle.std.proofs.Common.{◌≡◌, ◌∙◌, ℕ, ◌+◌, Bool, true, false, cond, List, [], ◌∷◌, ◌++◌, length, append_assoc, refl, sym, ap, subst, suc, arith}
 use Rattle.std.specs.Prelude.{Option, Some, None, bytes_eq}
 use Rattle.std.specs.List.{slice_get}
+use Rattle.std.proofs.lemmas.List.{length-append}
 use Rattle.ada_text.specs.declared.spot.Spot.{Spot}
 use Rattle.ada_tree.specs.Names.{Ident, SelectorTree, component, dereference}
 use Rattle.ada_program.specs.declared.program.ComponentKind.{ComponentKind}
+use Rattle.ada_program.specs.declared.program.PartKind.{PartKind}
+use Rattle.ada_program.specs.declared.program.PartKind.TheVariants as part
 use Rattle.ada_program.specs.declared.program.VariableKind.{VariableKind}
 use Rattle.ada_program.specs.declared.program.VariableKind.TheVariants as variable
 use Rattle.ada_program.specs.declared.program.TypeNo.{TypeNo}
-use Rattle.ada_program.specs.ProgramForm.{ComponentForm, TypeForm, record_of, access_to}
+use Rattle.ada_program.specs.ProgramForm.{PartForm, TypeForm, record_of, access_to}
 use Rattle.ada_program.specs.WellFormed as fits
 use Rattle.ada_resolve.specs.declared.fault.NameRule.TheVariants.{WrongType}
 use Rattle.ada_resolve.specs.declared.selectors.Reached.{Reached}
 use Rattle.ada_resolve.specs.declared.selectors.Reached.TheVariants as reached
+use Rattle.ada_resolve.specs.declared.components.KnownComponent.{KnownComponent}
 use Rattle.ada_resolve.specs.Known.{Known}
 use Rattle.ada_resolve.specs.Paths as path
-use Rattle.ada_resolve.specs.Paths.{components_of, designated_of, component_named, is_incomplete_type, component_in, component_behind, held_in, object_in, object_behind, selector_reached, selectors_reached, number_in, component_selected, components_selected, component_wanted, component_within_remark, component_behind_remark, complete_behind, all_remark, selector_remark, selectors_remark}
-use Rattle.ada_resolve.specs.Reading.{components_behind}
+use Rattle.ada_resolve.specs.Paths.{components_of, elementary_of, elementary_in, known_component, first_behind, held_by, number_by, designated_of, component_named, is_incomplete_type, component_in, component_behind, held_in, object_in, object_behind, selector_reached, selectors_reached, number_in, component_selected, components_selected, component_wanted, component_within_remark, component_behind_remark, complete_behind, all_remark, selector_remark, selectors_remark}
+use Rattle.ada_resolve.specs.Records.{kinds_within}
 use Rattle.ada_resolve.specs.Remark.{wrong, wrong_if}
 use Rattle.ada_resolve.proofs.WellFormed.Names.{text_same}
+use Rattle.ada_resolve.proofs.WellFormed.Laid.{AreRecordsLaid, append_none, elementary_is, lies}
 use Rattle.ada_resolve.proofs.WellFormed.Remarks.{Quiet}
 
 -- a component that is found by a name is one of these, by its number, and has the name
-abbrev pub IsNamedOf : List ℕ → List ComponentForm → ℕ → Option (ℕ × ComponentKind) → Type 0
+abbrev pub IsNamedOf : List ℕ → List PartForm → ℕ → Option (ℕ × KnownComponent) → Type 0
 IsNamedOf text cs at None = Unit {0}
-IsNamedOf text cs at (Some found) = (j : ℕ) × (c : ComponentForm) × (found.0 ≡ at + j) × (slice_get cs j ≡ Some c) × (c.kind ≡ found.1) × (c.name ≡ text)
+IsNamedOf text cs at (Some found) = (j : ℕ) × (c : PartForm) × (found.0 ≡ at + j) × (slice_get cs j ≡ Some c) × (known_component c ≡ found.1) × (c.name ≡ text)
 
-one_further : (text : List ℕ) (c : ComponentForm) (cs : List ComponentForm) (at : ℕ) (o : Option (ℕ × ComponentKind)) → IsNamedOf text cs (at + 1) o → IsNamedOf text (c ∷ cs) at o
+one_further : (text : List ℕ) (c : PartForm) (cs : List PartForm) (at : ℕ) (o : Option (ℕ × KnownComponent)) → IsNamedOf text cs (at + 1) o → IsNamedOf text (c ∷ cs) at o
 one_further text c cs at None h = tt
 one_further text c cs at (Some found) h = (suc h.0, h.1, h.2 ∙ omega arith, h.3, h.4, h.5)
 
-pub name_at : (at : ℕ) (text : List ℕ) (cs : List ComponentForm) → IsNamedOf text cs at (component_named at text cs)
+pub name_at : (at : ℕ) (text : List ℕ) (cs : List PartForm) → IsNamedOf text cs at (component_named at text cs)
 name_at at text [] = tt
 name_at at text (c ∷ cs) = first_or (bytes_eq text c.name) refl (name_at (at + 1) text cs)
   where
-    first_or : (b : Bool) → bytes_eq text c.name ≡ b → IsNamedOf text cs (at + 1) (component_named (at + 1) text cs) → IsNamedOf text (c ∷ cs) at (cond b (Some (at, c.kind)) (component_named (at + 1) text cs))
+    first_or : (b : Bool) → bytes_eq text c.name ≡ b → IsNamedOf text cs (at + 1) (component_named (at + 1) text cs) → IsNamedOf text (c ∷ cs) at (cond b (Some (at, known_component c)) (component_named (at + 1) text cs))
     first_or true same h = (0, c, omega arith, refl, refl, sym (text_same text c.name same))
     first_or false other h = one_further text c cs at (component_named (at + 1) text cs) h
 
 -- a component that is found is one of these, by its number
-abbrev pub IsComponentOf : List ComponentForm → ℕ → Option (ℕ × ComponentKind) → Type 0
+abbrev pub IsComponentOf : List PartForm → ℕ → Option (ℕ × KnownComponent) → Type 0
 IsComponentOf cs at None = Unit {0}
-IsComponentOf cs at (Some found) = (j : ℕ) × (c : ComponentForm) × (found.0 ≡ at + j) × (slice_get cs j ≡ Some c) × (c.kind ≡ found.1)
+IsComponentOf cs at (Some found) = (j : ℕ) × (c : PartForm) × (found.0 ≡ at + j) × (slice_get cs j ≡ Some c) × (known_component c ≡ found.1)
 
-pub named_at : (at : ℕ) (text : List ℕ) (cs : List ComponentForm) → IsComponentOf cs at (component_named at text cs)
+pub named_at : (at : ℕ) (text : List ℕ) (cs : List PartForm) → IsComponentOf cs at (component_named at text cs)
 named_at at text cs = some_name (component_named at text cs) (name_at at text cs)
   where
-    some_name : (o : Option (ℕ × ComponentKind)) → IsNamedOf text cs at o → IsComponentOf cs at o
+    some_name : (o : Option (ℕ × KnownComponent)) → IsNamedOf text cs at o → IsComponentOf cs at o
     some_name None h = tt
     some_name (Some found) h = (h.0, h.1, h.2, h.3, h.4)
 
@@ -58,30 +63,12 @@ designated_same types access = same (slice_get types access)
   where
     same : (o : Option TypeForm) → path.designated_in o ≡ fits.designated_in o
     same None = refl
-    same (Some (record_of name cs)) = refl
+    same (Some (record_of name ps cs)) = refl
     same (Some (access_to name d)) = refl
-
--- where a type has a component, it is a record type with these
-has_components : (types : List TypeForm) (d j : ℕ) (c : ComponentForm) → slice_get (components_of types d) j ≡ Some c → fits.record_components types d ≡ Some (components_of types d)
-unfolding components_of
-has_components types d j c e = by_form (slice_get types d) e
-  where
-    by_form : (o : Option TypeForm) → slice_get (path.components_in o) j ≡ Some c → fits.components_in o ≡ Some (path.components_in o)
-    by_form None e = absurd (cc e)
-    by_form (Some (record_of name cs)) e = refl
-    by_form (Some (access_to name d)) e = absurd (cc e)
 
 -- what is known of types stays, where more are declared
 abbrev pub Stays : List TypeForm → List TypeForm → Type 0
 Stays types more = (t : ℕ) (form : TypeForm) → slice_get types t ≡ Some form → slice_get more t ≡ Some form
-
-components_more : (types more : List TypeForm) (d j : ℕ) (c : ComponentForm) → Stays types more → slice_get (components_of types d) j ≡ Some c → components_of more d ≡ components_of types d
-unfolding components_of
-components_more types more d j c w e = by_form (slice_get types d) refl e
-  where
-    by_form : (o : Option TypeForm) → slice_get types d ≡ o → slice_get (path.components_in o) j ≡ Some c → path.components_in (slice_get more d) ≡ path.components_in (slice_get types d)
-    by_form None is e = absurd (cc e)
-    by_form (Some form) is e = ap (λ (o : Option TypeForm). path.components_in o) (w d form is ∙ sym is)
 
 pub designated_more : (types more : List TypeForm) (t d : ℕ) → Stays types more → designated_of types t ≡ Some d → designated_of more t ≡ Some d
 unfolding designated_of
@@ -91,65 +78,133 @@ designated_more types more t d w e = by_form (slice_get types t) refl e
     by_form None is e = absurd (cc e)
     by_form (Some form) is e = ap (λ (o : Option TypeForm). path.designated_in o) (w t form is) ∙ e
 
--- what is reached is held there, or is the object behind what is held there
+-- these elementary components lie in the object behind what is held, the first of them behind as many
+abbrev pub IsWithin : List TypeForm → Option VariableKind → List ComponentKind → ℕ → Type 0
+IsWithin types of kinds first =
+    (access : ℕ) × (d : ℕ) × (before : List ComponentKind) × (behind : List ComponentKind) × (fits.access_of of ≡ Some access) ×
+    (designated_of types access ≡ Some d) × (elementary_of types d ≡ before ++ (kinds ++ behind)) × (length before ≡ first)
+
+-- what is reached is held there, or is an object within the one behind what is held there
 abbrev pub IsReached : List TypeForm → Option VariableKind → Reached → Type 0
 IsReached types of reached.Nothing = ⊥
 IsReached types of (reached.Value kind) = of ≡ Some kind
-IsReached types of (reached.Object t) = (access : ℕ) × (fits.access_of of ≡ Some access) × (designated_of types access ≡ Some t.0)
+IsReached types of (reached.Object t first) = IsWithin types of (elementary_of types t.0) first
 
--- a component that is found is one of the object behind what is held, and has the name
-abbrev pub IsHeld : List TypeForm → Option VariableKind → List ℕ → Option (ℕ × ComponentKind) → Type 0
-IsHeld types of text None = ⊥
-IsHeld types of text (Some found) =
-    (cs : List ComponentForm) × (c : ComponentForm) × (components_behind types (fits.access_of of) ≡ Some cs) × (slice_get cs found.0 ≡ Some c) ×
-    (c.name ≡ text) × (c.kind ≡ found.1)
+-- a component that is found is one of this record type, and has the name
+abbrev pub IsPartOf : List TypeForm → ℕ → List ℕ → (ℕ × KnownComponent) → Type 0
+IsPartOf types t text found =
+    (name : List ℕ) × (parts : List PartForm) × (components : List ComponentKind) × (slice_get types t ≡ Some (record_of name parts components)) ×
+    (slice_get parts found.0 ≡ Some (record { name = text; kind = found.1.kind; first = found.1.first }))
 
-held_within : (k : Known) (types : List TypeForm) (of : Option VariableKind) (spot : Spot) (access d : ℕ) (c : Ident) → Stays k.types types → fits.access_of of ≡ Some access → designated_of types access ≡ Some d → Quiet (component_within_remark k spot (Some d) c) → IsHeld types of c.text (component_in k (Some d) c)
-held_within k types of spot access d c w a designates q = complete_or (is_incomplete_type k d) q
+-- it lies in the object behind what is held, where the record type begins behind as many elementary components
+abbrev pub IsHeld : List TypeForm → Option VariableKind → ℕ → ℕ → List ℕ → Option (ℕ × KnownComponent) → Type 0
+IsHeld types of t first text None = ⊥
+IsHeld types of t first text (Some found) = IsPartOf types t text found × IsWithin types of (kinds_within types found.1.kind) (first + found.1.first)
+
+-- where a type has a component, it is a record type with these
+pub has_record : (types : List TypeForm) (t j : ℕ) (c : PartForm) → slice_get (components_of types t) j ≡ Some c → (name : List ℕ) × (parts : List PartForm) × (components : List ComponentKind) × (slice_get types t ≡ Some (record_of name parts components)) × (slice_get parts j ≡ Some c)
+unfolding components_of
+has_record types t j c e = by_form (slice_get types t) refl e
   where
-    behind : (j : ℕ) (v : ComponentForm) → slice_get (components_of types d) j ≡ Some v → components_behind types (fits.access_of of) ≡ Some (components_of types d)
-    behind j v e =
-        let there : fits.designated_type types access ≡ Some d = sym (designated_same types access) ∙ designates in
-        rw a (rw there (has_components types d j v e))
+    by_form : (o : Option TypeForm) → slice_get types t ≡ o → slice_get (path.components_in o) j ≡ Some c → (name : List ℕ) × (parts : List PartForm) × (components : List ComponentKind) × (slice_get types t ≡ Some (record_of name parts components)) × (slice_get parts j ≡ Some c)
+    by_form None is e = absurd (cc e)
+    by_form (Some (record_of name ps cs)) is e = (name, ps, cs, is, e)
+    by_form (Some (access_to name d)) is e = absurd (cc e)
 
-    found_or : (o : Option (ℕ × ComponentKind)) → IsNamedOf c.text (components_of k.types d) 0 o → Quiet (component_wanted o c) → IsHeld types of c.text o
+-- what lies in a part of a part
+part_within : (before own middle rest behind : List ComponentKind) → before ++ ((own ++ (middle ++ rest)) ++ behind) ≡ (before ++ own) ++ (middle ++ (rest ++ behind))
+part_within before own middle rest behind =
+    ap (λ ks. before ++ ks) (append_assoc own (middle ++ rest) behind ∙ ap (λ ks. own ++ ks) (append_assoc middle rest behind)) ∙
+    sym (append_assoc before own (middle ++ (rest ++ behind)))
+
+-- a component of a record type within the object
+part_is : (types : List TypeForm) (of : Option VariableKind) (t first : ℕ) (name : List ℕ) (ps : List PartForm) (cs : List ComponentKind) (j : ℕ) (c : PartForm) → AreRecordsLaid types → IsWithin types of (elementary_of types t) first → slice_get types t ≡ Some (record_of name ps cs) → slice_get ps j ≡ Some c → IsWithin types of (kinds_within types c.kind) (first + c.first)
+part_is types of t first name ps cs j c laid w there at =
+    let own = lies types 0 ps cs j c (laid t (record_of name ps cs) there).0 at in
+    let kinds = kinds_within types c.kind in
+    let whole : elementary_of types t ≡ own.0 ++ (kinds ++ own.1) = elementary_is types t name ps cs there ∙ own.2 in
+    let place = own.3 in
+    let from = w.7 in
+    let long = length-append w.2 own.0 in
+    (w.0, w.1, w.2 ++ own.0, own.1 ++ w.3, w.4, w.5, w.6 ∙ (ap (λ ks. w.2 ++ (ks ++ w.3)) whole ∙ part_within w.2 own.0 kinds own.1 w.3), long ∙ omega (arith, place, from))
+
+held_within : (k : Known) (types : List TypeForm) (of : Option VariableKind) (spot : Spot) (t first : ℕ) (c : Ident) → AreRecordsLaid types → Stays k.types types → IsWithin types of (elementary_of types t) first → Quiet (component_within_remark k spot (Some t) c) → IsHeld types of t first c.text (component_in k (Some t) c)
+held_within k types of spot t first c laid w is q = complete_or (is_incomplete_type k t) q
+  where
+    found_or : (o : Option (ℕ × KnownComponent)) → IsNamedOf c.text (components_of k.types t) 0 o → Quiet (component_wanted o c) → IsHeld types of t first c.text o
     found_or None i q = absurd q
     found_or (Some found) i q =
         let at : found.0 ≡ i.0 = i.2 ∙ omega arith in
-        let there : slice_get (components_of types d) i.0 ≡ Some i.1 = ap (λ (cs : List ComponentForm). slice_get cs i.0) (components_more k.types types d i.0 i.1 w i.3) ∙ i.3 in
-        (components_of types d, i.1, behind i.0 i.1 there, rw at there, i.5, i.4)
+        let h = has_record k.types t i.0 i.1 i.3 in
+        let there : slice_get types t ≡ Some (record_of h.0 h.1 h.2) = w t (record_of h.0 h.1 h.2) h.3 in
+        let so : IsPartOf types t i.1.name (i.0, known_component i.1) × IsWithin types of (kinds_within types i.1.kind) (first + i.1.first) =
+        ((h.0, h.1, h.2, there, h.4), part_is types of t first h.0 h.1 h.2 i.0 i.1 laid is there h.4) in
+        subst (λ (text : List ℕ). IsHeld types of t first text (Some found)) i.5
+        (subst (λ (m : KnownComponent). IsPartOf types t i.1.name (found.0, m) × IsWithin types of (kinds_within types m.kind) (first + m.first)) i.4
+        (subst (λ (n : ℕ). IsPartOf types t i.1.name (n, known_component i.1) × IsWithin types of (kinds_within types i.1.kind) (first + i.1.first)) (sym at) so))
 
-    complete_or : (b : Bool) → Quiet (cond b (wrong spot WrongType) (component_wanted (component_named 0 c.text (components_of k.types d)) c)) → IsHeld types of c.text (cond b None (component_named 0 c.text (components_of k.types d)))
+    complete_or : (b : Bool) → Quiet (cond b (wrong spot WrongType) (component_wanted (component_named 0 c.text (components_of k.types t)) c)) → IsHeld types of t first c.text (cond b None (component_named 0 c.text (components_of k.types t)))
     complete_or true q = absurd q
-    complete_or false q = found_or (component_named 0 c.text (components_of k.types d)) (name_at 0 c.text (components_of k.types d)) q
+    complete_or false q = found_or (component_named 0 c.text (components_of k.types t)) (name_at 0 c.text (components_of k.types t)) q
 
-held_designated : (k : Known) (types : List TypeForm) (of : Option VariableKind) (spot : Spot) (t : TypeNo) (c : Ident) (o : Option ℕ) → Stays k.types types → of ≡ Some (variable.Access t) → designated_of k.types t.0 ≡ o → Quiet (component_within_remark k spot o c) → IsHeld types of c.text (component_in k o c)
-held_designated k types of spot t c None w is e q = absurd q
-held_designated k types of spot t c (Some d) w is e q = held_within k types of spot t.0 d c w (rw is refl) (designated_more k.types types t.0 d w e) q
+-- an object behind what is held
+object_behind_is : (k : Known) (types : List TypeForm) (of : Option VariableKind) (t : TypeNo) (d : ℕ) → Stays k.types types → of ≡ Some (variable.Access t) → designated_of k.types t.0 ≡ Some d → IsWithin types of (elementary_of types d) 0
+object_behind_is k types of t d w is e =
+    (t.0, d, [], [], rw is refl, designated_more k.types types t.0 d w e, sym (append_none (elementary_of types d)), refl)
 
-pub held_behind : (k : Known) (types : List TypeForm) (of : Option VariableKind) (spot : Spot) (at : Reached) (c : Ident) → Stays k.types types → IsReached types of at → Quiet (component_behind_remark k spot at c) → IsHeld types of c.text (component_behind k at c)
-held_behind k types of spot reached.Nothing c w is q = absurd is
-held_behind k types of spot (reached.Value (variable.Access t)) c w is q = held_designated k types of spot t c (designated_of k.types t.0) w is refl q
-held_behind k types of spot (reached.Object t) c w is q = held_within k types of spot is.0 t.0 c w is.1 is.2 q
-held_behind k types of spot at c w is q = absurd q
+-- the record type whose component is selected
+abbrev pub IsBehind : Known → Reached → ℕ → Type 0
+IsBehind k (reached.Value (variable.Access t)) d = designated_of k.types t.0 ≡ Some d
+IsBehind k (reached.Object t first) d = t.0 ≡ d
+IsBehind k other d = ⊥
 
--- a component holds what its kind says
-kind_behind : (types : List TypeForm) (access : Option ℕ) (cs : List ComponentForm) (n : ℕ) (c : ComponentForm) → components_behind types access ≡ Some cs → slice_get cs n ≡ Some c → fits.kind_behind types access n ≡ Some (fits.held_kind c.kind)
-kind_behind types None cs n c e there = absurd (cc e)
-kind_behind types (Some access) cs n c e there = rw e (rw there refl)
+held_designated : (k : Known) (types : List TypeForm) (of : Option VariableKind) (spot : Spot) (t : TypeNo) (c : Ident) (o : Option ℕ) → AreRecordsLaid types → Stays k.types types → of ≡ Some (variable.Access t) → designated_of k.types t.0 ≡ o → Quiet (component_within_remark k spot o c) → (d : ℕ) × (o ≡ Some d) × IsHeld types of d 0 c.text (component_in k o c)
+held_designated k types of spot t c None laid w is e q = absurd q
+held_designated k types of spot t c (Some d) laid w is e q = (d, refl, held_within k types of spot d 0 c laid w (object_behind_is k types of t d w is e) q)
 
-pub held_reached : (types : List TypeForm) (of : Option VariableKind) (text : List ℕ) (o : Option (ℕ × ComponentKind)) → IsHeld types of text o → IsReached types (fits.selectors_kind types of (number_in o)) (held_in o)
-held_reached types of text None h = absurd h
-held_reached types of text (Some found) h = kind_behind types (fits.access_of of) h.0 found.0 h.1 h.2 h.3 ∙ ap (λ (kind : ComponentKind). Some (fits.held_kind kind)) h.5
+pub held_behind : (k : Known) (types : List TypeForm) (of : Option VariableKind) (spot : Spot) (at : Reached) (c : Ident) → AreRecordsLaid types → Stays k.types types → IsReached types of at → Quiet (component_behind_remark k spot at c) → (d : ℕ) × IsBehind k at d × IsHeld types of d (first_behind at) c.text (component_behind k at c)
+held_behind k types of spot reached.Nothing c laid w is q = absurd is
+held_behind k types of spot (reached.Value (variable.Access t)) c laid w is q = held_designated k types of spot t c (designated_of k.types t.0) laid w is refl q
+held_behind k types of spot (reached.Object t first) c laid w is q = (t.0, refl, held_within k types of spot t.0 first c laid w is q)
+held_behind k types of spot at c laid w is q = absurd q
+
+-- an elementary component holds what its kind says
+get_behind : (xs ys : List ComponentKind) (kind : ComponentKind) → slice_get (xs ++ (kind ∷ ys)) (length xs) ≡ Some kind
+get_behind [] ys kind = refl
+get_behind (x ∷ xs) ys kind = get_behind xs ys kind
+
+kind_in_record : (types : List TypeForm) (d n : ℕ) (kind : ComponentKind) → slice_get (elementary_of types d) n ≡ Some kind → fits.kind_among (fits.record_components types d) n ≡ Some (fits.held_kind kind)
+unfolding elementary_of
+kind_in_record types d n kind e = by_form (slice_get types d) refl e
+  where
+    by_form : (o : Option TypeForm) → slice_get types d ≡ o → slice_get (elementary_in o) n ≡ Some kind → fits.kind_among (fits.components_in o) n ≡ Some (fits.held_kind kind)
+    by_form None is e = absurd (cc e)
+    by_form (Some (record_of name ps cs)) is e = rw e refl
+    by_form (Some (access_to name u)) is e = absurd (cc e)
+
+kind_is_behind : (types : List TypeForm) (of : Option VariableKind) (n : ℕ) (kind : ComponentKind) → IsWithin types of (kind ∷ []) n → fits.kind_behind types (fits.access_of of) n ≡ Some (fits.held_kind kind)
+kind_is_behind types of n kind w =
+    let d : fits.designated_type types w.0 ≡ Some w.1 = sym (designated_same types w.0) ∙ w.5 in
+    let there : slice_get (elementary_of types w.1) n ≡ Some kind =
+    ap (λ ks. slice_get ks n) w.6 ∙ (ap (λ m. slice_get (w.2 ++ (kind ∷ w.3)) m) (sym w.7) ∙ get_behind w.2 w.3 kind) in
+    rw w.4 (rw d (kind_in_record types w.1 n kind there))
+
+pub held_reached : (types : List TypeForm) (of : Option VariableKind) (d first : ℕ) (text : List ℕ) (o : Option (ℕ × KnownComponent)) → IsHeld types of d first text o → IsReached types (fits.selectors_kind types of (number_in first o)) (held_in first o)
+held_reached types of d first text None h = absurd h
+held_reached types of d first text (Some found) h = by_kind found.1.kind h.1
+  where
+    by_kind : (kind : PartKind) → IsWithin types of (kinds_within types kind) (first + found.1.first) → IsReached types (fits.selectors_kind types of (number_by kind (first + found.1.first))) (held_by kind (first + found.1.first))
+    by_kind (part.Elementary kind) w = kind_is_behind types of (first + found.1.first) kind w
+    by_kind (part.Record t) w = w
 
 -- `all`
 object_designated : (k : Known) (types : List TypeForm) (of : Option VariableKind) (spot : Spot) (t : TypeNo) (o : Option ℕ) → Stays k.types types → of ≡ Some (variable.Access t) → designated_of k.types t.0 ≡ o → Quiet (complete_behind k spot o) → IsReached types of (object_in k o)
 object_designated k types of spot t None w is e q = absurd q
 object_designated k types of spot t (Some d) w is e q = complete_or (is_incomplete_type k d) q
   where
-    complete_or : (b : Bool) → Quiet (wrong_if b spot WrongType) → IsReached types of (cond b reached.Nothing (reached.Object (record { 0 = d })))
+    complete_or : (b : Bool) → Quiet (wrong_if b spot WrongType) → IsReached types of (cond b reached.Nothing (reached.Object (record { 0 = d }) 0))
     complete_or true q = absurd q
-    complete_or false q = (t.0, rw is refl, designated_more k.types types t.0 d w e)
+    complete_or false q = object_behind_is k types of t d w is e
 
 pub object_is : (k : Known) (types : List TypeForm) (of : Option VariableKind) (spot : Spot) (at : Reached) → Stays k.types types → IsReached types of at → Quiet (all_remark k spot at) → IsReached types of (object_behind k at)
 object_is k types of spot reached.Nothing w is q = absurd is
@@ -157,18 +212,19 @@ object_is k types of spot (reached.Value (variable.Access t)) w is q = object_de
 object_is k types of spot at w is q = absurd q
 
 -- selectors, one behind the other
-selector_is : (k : Known) (types : List TypeForm) (of : Option VariableKind) (spot : Spot) (at : Reached) (s : SelectorTree) → Stays k.types types → IsReached types of at → Quiet (selector_remark k spot at s) → IsReached types (fits.selectors_kind types of (component_selected k at s)) (selector_reached k at s)
-selector_is k types of spot at (component c) w is q = held_reached types of c.text (component_behind k at c) (held_behind k types of spot at c w is q)
-selector_is k types of spot at (dereference all) w is q = object_is k types of spot at w is q
+selector_is : (k : Known) (types : List TypeForm) (of : Option VariableKind) (spot : Spot) (at : Reached) (s : SelectorTree) → AreRecordsLaid types → Stays k.types types → IsReached types of at → Quiet (selector_remark k spot at s) → IsReached types (fits.selectors_kind types of (component_selected k at s)) (selector_reached k at s)
+selector_is k types of spot at (component c) laid w is q =
+    let h = held_behind k types of spot at c laid w is q in held_reached types of h.0 (first_behind at) c.text (component_behind k at c) h.2
+selector_is k types of spot at (dereference all) laid w is q = object_is k types of spot at w is q
 
 kind_after : (types : List TypeForm) (of : Option VariableKind) (xs ys : List ℕ) → fits.selectors_kind types of (xs ++ ys) ≡ fits.selectors_kind types (fits.selectors_kind types of xs) ys
 kind_after types of [] ys = refl
 kind_after types of (x ∷ xs) ys = kind_after types (fits.selected_kind types of x) xs ys
 
-pub selectors_are : (k : Known) (types : List TypeForm) (of : Option VariableKind) (spot : Spot) (at : Reached) (ss : List SelectorTree) → Stays k.types types → IsReached types of at → Quiet (selectors_remark k spot at ss) → IsReached types (fits.selectors_kind types of (components_selected k at ss)) (selectors_reached k at ss)
-selectors_are k types of spot at [] w is q = is
-selectors_are k types of spot at (s ∷ ss) w is q =
+pub selectors_are : (k : Known) (types : List TypeForm) (of : Option VariableKind) (spot : Spot) (at : Reached) (ss : List SelectorTree) → AreRecordsLaid types → Stays k.types types → IsReached types of at → Quiet (selectors_remark k spot at ss) → IsReached types (fits.selectors_kind types of (components_selected k at ss)) (selectors_reached k at ss)
+selectors_are k types of spot at [] laid w is q = is
+selectors_are k types of spot at (s ∷ ss) laid w is q =
     let first = component_selected k at s in
     let next = selector_reached k at s in
     subst (λ (kind : Option VariableKind). IsReached types kind (selectors_reached k next ss)) (sym (kind_after types of first (components_selected k next ss)))
-    (selectors_are k types (fits.selectors_kind types of first) spot next ss w (selector_is k types of spot at s w is q.0) q.1)
+    (selectors_are k types (fits.selectors_kind types of first) spot next ss laid w (selector_is k types of spot at s laid w is q.0) q.1)

@@ -1,13 +1,13 @@
 -- What stays of types and objects as more of them are declared.
 
-use Rattle.std.proofs.Common.{◌≡◌, ℕ, ◌<◌, Bool, true, false, ◌&&◌, ◌||◌, List, [], ◌∷◌, ◌++◌, length, refl, zero, suc, sym, ap, eqb, eq-eqb, arith}
+use Rattle.std.proofs.Common.{◌≡◌, ℕ, ◌<◌, Bool, true, false, ◌&&◌, ◌||◌, List, [], ◌∷◌, ◌++◌, length, refl, zero, suc, sym, ap, subst, eqb, eq-eqb, arith}
 use Rattle.std.specs.Prelude.{Option, Some, None, is_some, not}
 use Rattle.std.specs.List.{list_all, slice_get, slice_set}
 use Rattle.ada_program.specs.declared.program.ComponentKind.{ComponentKind}
 use Rattle.ada_program.specs.declared.program.ComponentKind.TheVariants as kind
 use Rattle.ada_program.specs.declared.program.VariableKind.{VariableKind}
 use Rattle.ada_program.specs.declared.program.VariableKind.TheVariants as variable
-use Rattle.ada_program.specs.ProgramForm.{ComponentForm, TypeForm, record_of, access_to, VariableForm}
+use Rattle.ada_program.specs.ProgramForm.{PartForm, TypeForm, record_of, access_to, VariableForm}
 use Rattle.ada_program.specs.WellFormed as fits
 use Rattle.ada_resolve.specs.Types.{is_designated}
 
@@ -59,6 +59,26 @@ module _ {X : Type 0} where
   get_other (z ∷ xs) (suc i) zero y ne = refl
   get_other (z ∷ xs) (suc i) (suc j) y ne = get_other xs i j y (λ e. ne (ap (λ k. suc k) e))
 
+  -- each element of a longer list, and of one with another element
+  pub each_more : (P : X → Type 0) (xs : List X) (y : X) → ((i : ℕ) (x : X) → slice_get xs i ≡ Some x → P x) → P y → (i : ℕ) (x : X) → slice_get (xs ++ y ∷ []) i ≡ Some x → P x
+  each_more P [] y old new zero x e = let same : y ≡ x = cc e in subst P same new
+  each_more P [] y old new (suc i) x e = absurd (cc e)
+  each_more P (z ∷ xs) y old new zero x e = old 0 x e
+  each_more P (z ∷ xs) y old new (suc i) x e = each_more P xs y (λ j. old (suc j)) new i x e
+
+  pub each_set : (P : X → Type 0) (xs : List X) (i : ℕ) (y : X) → ((j : ℕ) (x : X) → slice_get xs j ≡ Some x → P x) → P y → (j : ℕ) (x : X) → slice_get (slice_set xs i y) j ≡ Some x → P x
+  each_set P [] i y old new j x e = absurd (cc e)
+  each_set P (z ∷ xs) zero y old new zero x e = let same : y ≡ x = cc e in subst P same new
+  each_set P (z ∷ xs) zero y old new (suc j) x e = old (suc j) x e
+  each_set P (z ∷ xs) (suc i) y old new zero x e = old 0 x e
+  each_set P (z ∷ xs) (suc i) y old new (suc j) x e = each_set P xs i y (λ n. old (suc n)) new j x e
+
+  -- each element of a list fits
+  pub all_get : (p : X → Bool) (xs : List X) (i : ℕ) (x : X) → list_all p xs ≡ true → slice_get xs i ≡ Some x → p x ≡ true
+  all_get p [] i x h e = absurd (cc e)
+  all_get p (z ∷ xs) zero x h e = let same : z ≡ x = cc e in subst (λ y. p y ≡ true) same (first_part (p z) (list_all p xs) h)
+  all_get p (z ∷ xs) (suc i) x h e = all_get p xs i x (second_part (p z) (list_all p xs) h) e
+
   pub get_within : (xs : List X) (i : ℕ) (x : X) → slice_get xs i ≡ Some x → i < length xs
   get_within [] i x e = absurd (cc e)
   get_within (z ∷ xs) zero x e = omega arith
@@ -86,13 +106,13 @@ variable_kept types more w v e =
     (object_kind_kept types more w v.kind (first_part (fits.variable_kind_fits types v.kind) borrowed e))
     (second_part (fits.variable_kind_fits types v.kind) borrowed e)
 
-pub components_kept : (types more : List TypeForm) → Keeps types more → (cs : List ComponentForm) → list_all (fits.component_fits types) cs ≡ true → list_all (fits.component_fits more) cs ≡ true
-components_kept types more w cs e = all_weaker (fits.component_fits types) (fits.component_fits more) (λ c. kind_kept types more w c.kind) cs e
+pub components_kept : (types more : List TypeForm) → Keeps types more → (cs : List ComponentKind) → list_all (fits.kind_fits types) cs ≡ true → list_all (fits.kind_fits more) cs ≡ true
+components_kept types more w cs e = all_weaker (fits.kind_fits types) (fits.kind_fits more) (kind_kept types more w) cs e
 
 -- an access type is no record type
 one_kind : (o : Option TypeForm) → is_some (fits.components_in o) ≡ true → is_some (fits.designated_in o) ≡ true → ⊥
 one_kind None a b = (cc a)
-one_kind (Some (record_of name cs)) a b = (cc b)
+one_kind (Some (record_of name ps cs)) a b = (cc b)
 one_kind (Some (access_to name d)) a b = (cc a)
 
 -- one more type
@@ -114,12 +134,12 @@ access_set (x ∷ types) zero form r (suc t) e = e
 access_set (x ∷ types) (suc i) form r zero e = e
 access_set (x ∷ types) (suc i) form r (suc t) e = access_set types i form r t e
 
-pub record_set : (types : List TypeForm) (i : ℕ) (name : List ℕ) (cs : List ComponentForm) (t : ℕ) → fits.is_record types t ≡ true → fits.is_record (slice_set types i (record_of name cs)) t ≡ true
-record_set [] i name cs t e = absurd (cc e)
-record_set (x ∷ types) zero name cs zero e = refl
-record_set (x ∷ types) zero name cs (suc t) e = e
-record_set (x ∷ types) (suc i) name cs zero e = e
-record_set (x ∷ types) (suc i) name cs (suc t) e = record_set types i name cs t e
+pub record_set : (types : List TypeForm) (i : ℕ) (name : List ℕ) (ps : List PartForm) (cs : List ComponentKind) (t : ℕ) → fits.is_record types t ≡ true → fits.is_record (slice_set types i (record_of name ps cs)) t ≡ true
+record_set [] i name ps cs t e = absurd (cc e)
+record_set (x ∷ types) zero name ps cs zero e = refl
+record_set (x ∷ types) zero name ps cs (suc t) e = e
+record_set (x ∷ types) (suc i) name ps cs zero e = e
+record_set (x ∷ types) (suc i) name ps cs (suc t) e = record_set types i name ps cs t e
 
 pub record_other : (types : List TypeForm) (i : ℕ) (form : TypeForm) (t : ℕ) → (i ≡ t → ⊥) → fits.is_record types t ≡ true → fits.is_record (slice_set types i form) t ≡ true
 record_other [] i form t ne e = absurd (cc e)
@@ -130,7 +150,7 @@ record_other (x ∷ types) (suc i) form (suc t) ne e = record_other types i form
 
 -- types that keep both kinds keep what fits
 type_kept : (types more : List TypeForm) → Keeps types more → ((t : ℕ) → fits.is_record types t ≡ true → fits.is_record more t ≡ true) → (x : TypeForm) → fits.type_fits types x ≡ true → fits.type_fits more x ≡ true
-type_kept types more a r (record_of name cs) e = components_kept types more a cs e
+type_kept types more a r (record_of name ps cs) e = components_kept types more a cs e
 type_kept types more a r (access_to name d) e = r d e
 
 pub types_kept : (types more : List TypeForm) → Keeps types more → ((t : ℕ) → fits.is_record types t ≡ true → fits.is_record more t ≡ true) → (xs : List TypeForm) → list_all (fits.type_fits types) xs ≡ true → list_all (fits.type_fits more) xs ≡ true
@@ -148,10 +168,10 @@ right_fails false b e = e
 -- a record type that no type designates becomes another
 pub types_without : (types more : List TypeForm) (i : ℕ) → Keeps types more → ((t : ℕ) → (i ≡ t → ⊥) → fits.is_record types t ≡ true → fits.is_record more t ≡ true) → (xs : List TypeForm) → is_designated i xs ≡ false → list_all (fits.type_fits types) xs ≡ true → list_all (fits.type_fits more) xs ≡ true
 types_without types more i a r [] d e = refl
-types_without types more i a r (record_of name cs ∷ xs) d e =
-    both_parts (list_all (fits.component_fits more) cs) (list_all (fits.type_fits more) xs)
-    (components_kept types more a cs (first_part (list_all (fits.component_fits types) cs) (list_all (fits.type_fits types) xs) e))
-    (types_without types more i a r xs d (second_part (list_all (fits.component_fits types) cs) (list_all (fits.type_fits types) xs) e))
+types_without types more i a r (record_of name ps cs ∷ xs) d e =
+    both_parts (list_all (fits.kind_fits more) cs) (list_all (fits.type_fits more) xs)
+    (components_kept types more a cs (first_part (list_all (fits.kind_fits types) cs) (list_all (fits.type_fits types) xs) e))
+    (types_without types more i a r xs d (second_part (list_all (fits.kind_fits types) cs) (list_all (fits.type_fits types) xs) e))
 types_without types more i a r (access_to name t ∷ xs) d e =
     both_parts (fits.is_record more t) (list_all (fits.type_fits more) xs)
     (r t (λ same. let no : eqb t i ≡ false = left_fails (eqb t i) (is_designated i xs) d in let on : eqb t i ≡ true = eq-eqb t i (sym same) in absurd (cc (no, on)))

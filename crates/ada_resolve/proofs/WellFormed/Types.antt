@@ -1,15 +1,18 @@
 -- What the names of types stand for is there, of the kind that is found.
 
-use Rattle.std.proofs.Common.{◌≡◌, ℕ, Bool, true, false, cond, List, [], ◌∷◌, refl}
-use Rattle.std.specs.Prelude.{Option, Some, None, map}
+use Rattle.std.proofs.Common.{◌≡◌, ℕ, Bool, true, false, cond, List, [], ◌∷◌, length, refl, arith}
+use Rattle.std.specs.Prelude.{Option, Some, None}
 use Rattle.std.specs.List.{list_all, slice_get}
 use Rattle.ada_text.specs.declared.spot.Spot.{Spot}
 use Rattle.ada_tree.specs.Names.{Ident, NameTree}
 use Rattle.ada_tree.specs.Records.{StaticTree, ComponentTree}
+use Rattle.ada_program.specs.declared.program.ComponentKind.{ComponentKind}
+use Rattle.ada_program.specs.declared.program.PartKind.{PartKind}
+use Rattle.ada_program.specs.declared.program.PartKind.TheVariants as part
 use Rattle.ada_program.specs.declared.program.TypeNo.{TypeNo}
 use Rattle.ada_program.specs.declared.program.VariableKind.{VariableKind}
 use Rattle.ada_program.specs.Form.{DeclarationForm}
-use Rattle.ada_program.specs.ProgramForm.{ComponentForm, TypeForm, record_of, access_to, VariableForm}
+use Rattle.ada_program.specs.ProgramForm.{PartForm, TypeForm, record_of, access_to, VariableForm}
 use Rattle.ada_program.specs.WellFormed as fits
 use Rattle.ada_resolve.specs.declared.scope.Entity.{Entity}
 use Rattle.ada_resolve.specs.declared.scope.Entity.TheVariants as entity
@@ -17,45 +20,100 @@ use Rattle.ada_resolve.specs.Instances.{access_type_in, access_if, access_in, fr
 use Rattle.ada_resolve.specs.Known.{Known, visible, parts, is_empty}
 use Rattle.ada_resolve.specs.Library.{is_library_root}
 use Rattle.ada_resolve.specs.Objects.{type_in, object_type_found, kind_of}
-use Rattle.ada_resolve.specs.Records.{kind_in, component_meant}
+use Rattle.ada_resolve.specs.Naming.{AreLaidOut}
+use Rattle.ada_resolve.specs.Paths.{elementary_of, elementary_in}
+use Rattle.ada_resolve.specs.Records.{kind_in, kind_of_component, kinds_within, Composition, no_components, component_meant, composed_with, composed, composition_of}
 use Rattle.ada_resolve.specs.Types.{record_in, record_found}
 use Rattle.ada_resolve.proofs.WellFormed.Remarks.{Quiet}
-use Rattle.ada_resolve.proofs.WellFormed.Tables.{both_parts}
+use Rattle.ada_resolve.proofs.WellFormed.Tables.{both_parts, all_more, all_get, each_more}
+use Rattle.ada_resolve.proofs.WellFormed.Laid.{OfParts, RecordHas, IsLaid, laid_more}
 use Rattle.ada_resolve.proofs.WellFormed.Names.{EntityFits, PartsFit, visible_fits}
 
 -- it is a record type
-pub record_is : (types : List TypeForm) (t : ℕ) (name : List ℕ) (cs : List ComponentForm) → slice_get types t ≡ Some (record_of name cs) → fits.is_record types t ≡ true
-record_is types t name cs is = rw is refl
+pub record_is : (types : List TypeForm) (t : ℕ) (name : List ℕ) (ps : List PartForm) (cs : List ComponentKind) → slice_get types t ≡ Some (record_of name ps cs) → fits.is_record types t ≡ true
+record_is types t name ps cs is = rw is refl
 
 -- it is an access type
 pub access_is : (types : List TypeForm) (t : ℕ) (name : List ℕ) (d : ℕ) → slice_get types t ≡ Some (access_to name d) → fits.is_access types t ≡ true
 access_is types t name d is = rw is refl
 
--- a component is of what its type's name stands for
-kind_fits : (k : Known) (text : List ℕ) (e : Entity) (initial : Option StaticTree) → EntityFits k.types k.variables text e → fits.kind_fits k.types (kind_in (Some e) k initial) ≡ true
-kind_fits k text (entity.Access t) initial f = access_is k.types t.0 text f.0 f.1
-kind_fits k text e initial f = refl
+-- the kinds of an elementary component alone
+abbrev own_kinds : PartKind → List ComponentKind
+own_kinds (part.Elementary kind) = kind ∷ []
+own_kinds (part.Record t) = []
 
-kinds_fit : (k : Known) (text : List ℕ) (o : Option Entity) (initial : Option StaticTree) → ((e : Entity) → o ≡ Some e → EntityFits k.types k.variables text e) → fits.kind_fits k.types (kind_in o k initial) ≡ true
-kinds_fit k text (Some e) initial w = kind_fits k text e initial (w e refl)
-kinds_fit k text None initial w = refl
+-- an elementary component is of what its type's name stands for, and a record is of a record type
+kind_there : (k : Known) (text : List ℕ) (e : Entity) (initial : Option StaticTree) → EntityFits k.types k.variables text e → list_all (fits.kind_fits k.types) (own_kinds (kind_in (Some e) k initial)) ≡ true
+kind_there k text (entity.Access t) initial f = both_parts (fits.is_access k.types t.0) true (access_is k.types t.0 text f.0 f.1) refl
+kind_there k text e initial f = refl
 
-pub components_fit : (k : Known) → PartsFit k.types k.variables (parts k) → (cs : List ComponentTree) → list_all (fits.component_fits k.types) (map (component_meant k) cs) ≡ true
+kinds_there : (k : Known) (text : List ℕ) (o : Option Entity) (initial : Option StaticTree) → ((e : Entity) → o ≡ Some e → EntityFits k.types k.variables text e) → list_all (fits.kind_fits k.types) (own_kinds (kind_in o k initial)) ≡ true
+kinds_there k text (Some e) initial w = kind_there k text e initial (w e refl)
+kinds_there k text None initial w = refl
+
+elementary_fit : (types : List TypeForm) (t : ℕ) → list_all (fits.type_fits types) types ≡ true → list_all (fits.kind_fits types) (elementary_of types t) ≡ true
+unfolding elementary_of
+elementary_fit types t all = by_form (slice_get types t) refl
+  where
+    by_form : (o : Option TypeForm) → slice_get types t ≡ o → list_all (fits.kind_fits types) (elementary_in o) ≡ true
+    by_form None is = refl
+    by_form (Some (record_of name ps cs)) is = all_get (fits.type_fits types) types t (record_of name ps cs) all is
+    by_form (Some (access_to name d)) is = refl
+
+within_fit : (types : List TypeForm) (kind : PartKind) → list_all (fits.type_fits types) types ≡ true → list_all (fits.kind_fits types) (own_kinds kind) ≡ true → list_all (fits.kind_fits types) (kinds_within types kind) ≡ true
+within_fit types (part.Elementary kind) all own = own
+within_fit types (part.Record t) all own = elementary_fit types t.0 all
+
+-- what a record type is made of fits
+pub composed_fit : (k : Known) → PartsFit k.types k.variables (parts k) → list_all (fits.type_fits k.types) k.types ≡ true → (before : Composition) (cs : List ComponentTree) → list_all (fits.kind_fits k.types) before.kinds ≡ true → list_all (fits.kind_fits k.types) (composed k before cs).kinds ≡ true
+composed_fit k w all before [] h = h
+composed_fit k w all before (c ∷ cs) h =
+    composed_fit k w all (composed_with k before c) cs
+    (all_more (fits.kind_fits k.types) before.kinds (kinds_within k.types (kind_of_component k c)) h
+    (within_fit k.types (kind_of_component k c) all (kinds_there k c.type_name.text (visible k c.type_name.text) c.initial (visible_fits k w c.type_name.text))))
+
+-- its components lie one behind the other
+pub composed_laid : (k : Known) (before : Composition) (cs : List ComponentTree) → AreLaidOut k.types 0 before.parts before.kinds → AreLaidOut k.types 0 (composed k before cs).parts (composed k before cs).kinds
 unfolding component_meant
-components_fit k w [] = refl
-components_fit k w (c ∷ cs) =
-    both_parts (fits.component_fits k.types (component_meant k c)) (list_all (fits.component_fits k.types) (map (component_meant k) cs))
-    (kinds_fit k c.type_name.text (visible k c.type_name.text) c.initial (visible_fits k w c.type_name.text))
-    (components_fit k w cs)
+composed_laid k before [] h = h
+composed_laid k before (c ∷ cs) h =
+    composed_laid k (composed_with k before c) cs
+    (laid_more k.types 0 before.parts before.kinds (component_meant k (length before.kinds) c) h (omega arith))
+
+-- what each of its components is
+pub composed_all : (k : Known) (P : PartKind → Type 0) → ((c : ComponentTree) → P (kind_of_component k c)) → (before : Composition) (cs : List ComponentTree) → OfParts P before.parts → OfParts P (composed k before cs).parts
+unfolding component_meant
+composed_all k P w before [] h = h
+composed_all k P w before (c ∷ cs) h =
+    composed_all k P w (composed_with k before c) cs
+    (each_more (λ (d : PartForm). P d.kind) before.parts (component_meant k (length before.kinds) c) h (w c))
+
+-- a record among them is of the type that a name stands for
+pub component_has : (k : Known) (P : ℕ → Type 0) → ((text : List ℕ) (t : TypeNo) (size : ℕ) → visible k text ≡ Some (entity.Record t size) → P t.0) → (c : ComponentTree) → RecordHas P (kind_of_component k c)
+component_has k P w c = by_entity (visible k c.type_name.text) refl
+  where
+    by_entity : (o : Option Entity) → visible k c.type_name.text ≡ o → RecordHas P (kind_in o k c.initial)
+    by_entity (Some (entity.Record t size)) is = w c.type_name.text t size is
+    by_entity (Some e) is = tt
+    by_entity None is = tt
+
+pub composition_has : (k : Known) (P : ℕ → Type 0) → ((text : List ℕ) (t : TypeNo) (size : ℕ) → visible k text ≡ Some (entity.Record t size) → P t.0) → (cs : List ComponentTree) → OfParts (RecordHas P) (composition_of k cs).parts
+composition_has k P w cs = composed_all k (RecordHas P) (component_has k P w) no_components cs (λ i c is. absurd (cc is))
+
+record_visible : (k : Known) → PartsFit k.types k.variables (parts k) → (text : List ℕ) (t : TypeNo) (size : ℕ) → visible k text ≡ Some (entity.Record t size) → fits.is_record k.types t.0 ≡ true
+record_visible k w text t size is = let f = visible_fits k w text (entity.Record t size) is in record_is k.types t.0 text f.0 f.1 f.2
+
+pub composition_laid : (k : Known) (name : List ℕ) (cs : List ComponentTree) → PartsFit k.types k.variables (parts k) → IsLaid k.types (record_of name (composition_of k cs).parts (composition_of k cs).kinds)
+composition_laid k name cs w = (composed_laid k no_components cs refl, composition_has k (λ t. fits.is_record k.types t ≡ true) (record_visible k w) cs)
 
 -- a record type that a name stands for is there, and has the name
 abbrev pub IsRecordNamed : List TypeForm → List ℕ → Option TypeNo → Type 0
 IsRecordNamed types text None = Unit {0}
-IsRecordNamed types text (Some t) = (cs : List ComponentForm) × (slice_get types t.0 ≡ Some (record_of text cs))
+IsRecordNamed types text (Some t) = (ps : List PartForm) × (cs : List ComponentKind) × (slice_get types t.0 ≡ Some (record_of text ps cs))
 
 record_one : (types : List TypeForm) (variables : List VariableForm) (text : List ℕ) (e : Entity) → EntityFits types variables text e → IsRecordNamed types text (record_in (Some e))
-record_one types variables text (entity.Incomplete t) f = ([], f)
-record_one types variables text (entity.Record t) f = f
+record_one types variables text (entity.Incomplete t) f = ([], [], f)
+record_one types variables text (entity.Record t size) f = f
 record_one types variables text e f = tt
 
 record_named : (types : List TypeForm) (variables : List VariableForm) (text : List ℕ) (o : Option Entity) → ((e : Entity) → o ≡ Some e → EntityFits types variables text e) → IsRecordNamed types text (record_in o)

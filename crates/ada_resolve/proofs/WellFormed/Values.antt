@@ -1,26 +1,28 @@
 -- What is assigned where nothing is wrong is of the type of its object.
 
-use Rattle.std.proofs.Common.{◌≡◌, ℕ, Bool, true, false, List, map, refl, sym, cond, ap, eqb, eq-eqb, eqb-true}
-use Rattle.std.specs.Prelude.{◌||◌, not, Option, Some, None}
+use Rattle.std.proofs.Common.{◌≡◌, ℕ, Bool, true, false, List, map, refl, sym, cond, ap, subst, eqb, eq-eqb, eqb-true}
+use Rattle.std.specs.Prelude.{◌||◌, not, Option, Some, None, is_some}
 use Rattle.std.specs.List.{slice_get}
 use Rattle.ada_text.specs.declared.spot.Spot.{Spot}
+use Rattle.ada_program.specs.declared.program.ComponentKind.{ComponentKind}
 use Rattle.ada_program.specs.declared.program.VariableKind.{VariableKind}
 use Rattle.ada_program.specs.declared.program.VariableKind.TheVariants as variable
 use Rattle.ada_program.specs.declared.program.ScalarType.TheVariants.{Integer, Boolean}
 use Rattle.ada_program.specs.declared.program.TypeNo.{TypeNo}
 use Rattle.ada_program.specs.Form.{PathForm, RightForm, reads}
 use Rattle.ada_tree.specs.Names.{Ident, PathTree}
-use Rattle.ada_tree.specs.Expressions.{ItemsTree, RightTree, expression_right, allocator_right, creation_right}
-use Rattle.ada_program.specs.ProgramForm.{ComponentForm, TypeForm, record_of, access_to, VariableForm}
+use Rattle.ada_tree.specs.Expressions.{ItemsTree, no_more_items, an_item, RightTree, expression_right, allocator_right, creation_right}
+use Rattle.ada_program.specs.ProgramForm.{PartForm, TypeForm, record_of, access_to, VariableForm}
 use Rattle.ada_program.specs.WellFormed as fits
 use Rattle.ada_resolve.specs.declared.fault.NameRule.TheVariants.{WrongType, NotInProfile}
 use Rattle.ada_resolve.specs.declared.scope.Entity.{Entity}
 use Rattle.ada_resolve.specs.declared.scope.Entity.TheVariants as entity
 use Rattle.ada_resolve.specs.Known.{Known, visible, is_empty, parts}
+use Rattle.ada_resolve.specs.Naming.{AreLaidOut}
 use Rattle.ada_resolve.specs.Types.{is_access_to, designates}
 use Rattle.ada_resolve.specs.Paths.{Meant, unknown, null_value, access_value, integer_value, boolean_value, path_meant, path_remark, components_of}
 use Rattle.ada_resolve.specs.Items.{items_remark, first_filling, names_component, count_remark, item_or_null, filling_of}
-use Rattle.ada_resolve.specs.Allocators.{allocated_wanted, allocated_remark, complete_in, allocated_found, filled_components, aggregate_remark, allocation, aggregate_found, is_in_use, allocator_remark, allocator_found}
+use Rattle.ada_resolve.specs.Allocators.{allocated_wanted, allocated_remark, complete_in, allocated_found, filled_components, aggregate_remark, allocation, aggregate_found, default_allocation, default_found, new_remark, new_found, is_in_use, allocator_remark, allocator_found}
 use Rattle.ada_resolve.specs.Expressions.{expression_meant}
 use Rattle.ada_resolve.specs.Assignments.{component_target, target_wanted, target_found, target_remark, variable_target, variable_wanted}
 use Rattle.ada_resolve.specs.Rights.{assigned_wanted, assigned, lent_wanted, right_remark, right_found}
@@ -28,7 +30,7 @@ use Rattle.ada_resolve.specs.Remark.{wrong, ◌also◌}
 use Rattle.ada_resolve.specs.Spots.{expression_spot}
 use Rattle.ada_resolve.proofs.WellFormed.Remarks.{Quiet, quiet_if, quiet_unless}
 use Rattle.ada_resolve.proofs.WellFormed.Tables.{both_parts}
-use Rattle.ada_resolve.proofs.WellFormed.Names.{EntityFits, PartsFit, visible_fits, kind_there}
+use Rattle.ada_resolve.proofs.WellFormed.Names.{EntityFits, PartsFit, visible_fits, kind_there, laid_in}
 use Rattle.ada_resolve.proofs.WellFormed.Typing.{is_of_type}
 use Rattle.ada_resolve.proofs.WellFormed.Meanings.{MeantFits, path_fits, expression_fits}
 use Rattle.ada_resolve.proofs.WellFormed.Items.{items_fit, items_own}
@@ -96,29 +98,30 @@ assigned_fits types variables kind borrows m spot f q r = absurd q
 -- what an access type designates
 designated_is : (o : Option TypeForm) (r : ℕ) → is_access_to o r ≡ true → fits.designated_in o ≡ Some r
 designated_is None r e = absurd (cc e)
-designated_is (Some (record_of name cs)) r e = absurd (cc e)
+designated_is (Some (record_of name ps cs)) r e = absurd (cc e)
 designated_is (Some (access_to name d)) r e = ap (λ v. Some v) (eqb-true d r e)
 
 pub access_designates : (types : List TypeForm) (access record_type : ℕ) → designates types access record_type ≡ true → fits.designated_type types access ≡ Some record_type
 unfolding designates
 access_designates types access record_type e = designated_is (slice_get types access) record_type e
 
-pub components_are : (types : List TypeForm) (t : ℕ) (name : List ℕ) (cs : List ComponentForm) → slice_get types t ≡ Some (record_of name cs) → components_of types t ≡ cs
+pub components_are : (types : List TypeForm) (t : ℕ) (name : List ℕ) (ps : List PartForm) (cs : List ComponentKind) → slice_get types t ≡ Some (record_of name ps cs) → components_of types t ≡ ps
 unfolding components_of
-components_are types t name cs e = rw e refl
+components_are types t name ps cs e = rw e refl
 
-reached_is : (types : List TypeForm) (access t : ℕ) (name : List ℕ) (cs : List ComponentForm) → fits.designated_type types access ≡ Some t → slice_get types t ≡ Some (record_of name cs) → fits.reached_components types access ≡ Some cs
-reached_is types access t name cs d e = rw d (rw e refl)
+reached_is : (types : List TypeForm) (access t : ℕ) (name : List ℕ) (ps : List PartForm) (cs : List ComponentKind) → fits.designated_type types access ≡ Some t → slice_get types t ≡ Some (record_of name ps cs) → fits.reached_components types access ≡ Some cs
+reached_is types access t name ps cs d e = rw d (rw e refl)
 
 -- a new object
 filled_one : (k : Known) (text : List ℕ) (e : Entity) (access : TypeNo) (spot end_spot : Spot) (name : Ident) (items : ItemsTree) → PartsFit k.types k.variables (parts k) → EntityFits k.types k.variables text e → Quiet (allocated_wanted (Some e) k.types (Some access) spot name) → Quiet (items_remark k (filled_components k (complete_in (Some e))) (names_component items) (first_filling (filled_components k (complete_in (Some e)))) items) → Quiet (count_remark (names_component items) (filling_of k (filled_components k (complete_in (Some e))) items) end_spot) → IsSourceFor k.types k.variables (variable.Access access) false (allocation k (Some access) (complete_in (Some e)) items)
-filled_one k text (entity.Record t) access spot end_spot name items w f q i c =
+filled_one k text (entity.Record t size) access spot end_spot name items w f q i c =
     let d : fits.designated_type k.types access.0 ≡ Some t.0 = access_designates k.types access.0 t.0 (quiet_unless (designates k.types access.0 t.0) spot WrongType q) in
-    let whole : components_of k.types t.0 ≡ f.0 = components_are k.types t.0 text f.0 f.1 in
-    let reached : fits.reached_components k.types access.0 ≡ Some f.0 = reached_is k.types access.0 t.0 text f.0 d f.1 in
+    let whole : components_of k.types t.0 ≡ f.0 = components_are k.types t.0 text f.0 f.1 f.2 in
+    let laid : AreLaidOut k.types 0 (components_of k.types t.0) f.1 = subst (λ (ps : List PartForm). AreLaidOut k.types 0 ps f.1) (sym whole) (laid_in k.types k.variables (parts k) w t.0 (record_of text f.0 f.1) f.2).0 in
+    let reached : fits.reached_components k.types access.0 ≡ Some f.1 = reached_is k.types access.0 t.0 text f.0 f.1 d f.2 in
     let made = map item_or_null (filling_of k (Some (components_of k.types t.0)) items).slots in (
       both_parts (eqb access.0 access.0) (fits.is_filled k.types k.variables (fits.reached_components k.types access.0) made) (eq-eqb access.0 access.0 refl)
-          (rw (reached, sym whole) (items_fit k (components_of k.types t.0) items end_spot w i c)),
+          (rw reached (items_fit k (components_of k.types t.0) f.1 items end_spot w i c laid)),
       items_own k (components_of k.types t.0) items w i,
     )
 filled_one k text e access spot end_spot name items w f q i c = absurd q
@@ -132,13 +135,31 @@ unfolding aggregate_remark aggregate_found allocated_remark allocated_found
 aggregate_fits k access spot type_name items w q =
     filled_named k type_name.text (visible k type_name.text) access spot type_name.spot type_name items w (visible_fits k w type_name.text) q.0 q.1.0 q.1.1
 
-allocator_by : (k : Known) (access : TypeNo) (spot : Spot) (type_name : Ident) (items : ItemsTree) (b : Bool) → PartsFit k.types k.variables (parts k) → Quiet (cond b (aggregate_remark k (Some access) spot type_name items) (wrong spot NotInProfile)) → IsSourceFor k.types k.variables (variable.Access access) false (cond b (aggregate_found k (Some access) type_name items) None)
-allocator_by k access spot type_name items true w q = aggregate_fits k access spot type_name items w q
+-- a new object without items
+default_one : (k : Known) (text : List ℕ) (o : Option Entity) (access : TypeNo) (spot : Spot) (name : Ident) → ((e : Entity) → o ≡ Some e → EntityFits k.types k.variables text e) → Quiet (allocated_wanted o k.types (Some access) spot name) → IsSourceFor k.types k.variables (variable.Access access) false (default_allocation (Some access) (complete_in o))
+default_one k text (Some (entity.Record t size)) access spot name v q =
+    let f = v (entity.Record t size) refl in
+    let d : fits.designated_type k.types access.0 ≡ Some t.0 = access_designates k.types access.0 t.0 (quiet_unless (designates k.types access.0 t.0) spot WrongType q) in
+    let reached : fits.reached_components k.types access.0 ≡ Some f.1 = reached_is k.types access.0 t.0 text f.0 f.1 d f.2 in
+    (both_parts (eqb access.0 access.0) (is_some (fits.reached_components k.types access.0)) (eq-eqb access.0 access.0 refl) (rw reached refl), refl)
+default_one k text (Some e) access spot name v q = absurd q
+default_one k text None access spot name v q = absurd q
+
+default_fits : (k : Known) (access : TypeNo) (spot : Spot) (type_name : Ident) → PartsFit k.types k.variables (parts k) → Quiet (allocated_remark k (Some access) spot type_name) → IsSourceFor k.types k.variables (variable.Access access) false (default_found k (Some access) type_name)
+unfolding allocated_remark allocated_found default_found
+default_fits k access spot type_name w q = default_one k type_name.text (visible k type_name.text) access spot type_name (visible_fits k w type_name.text) q
+
+new_fits : (k : Known) (access : TypeNo) (spot : Spot) (type_name : Ident) (items : ItemsTree) → PartsFit k.types k.variables (parts k) → Quiet (new_remark k (Some access) spot type_name items) → IsSourceFor k.types k.variables (variable.Access access) false (new_found k (Some access) type_name items)
+new_fits k access spot type_name no_more_items w q = default_fits k access spot type_name w q
+new_fits k access spot type_name (an_item label value rest) w q = aggregate_fits k access spot type_name (an_item label value rest) w q
+
+allocator_by : (k : Known) (access : TypeNo) (spot : Spot) (type_name : Ident) (items : ItemsTree) (b : Bool) → PartsFit k.types k.variables (parts k) → Quiet (cond b (new_remark k (Some access) spot type_name items) (wrong spot NotInProfile)) → IsSourceFor k.types k.variables (variable.Access access) false (cond b (new_found k (Some access) type_name items) None)
+allocator_by k access spot type_name items true w q = new_fits k access spot type_name items w q
 allocator_by k access spot type_name items false w q = absurd q
 
 allocator_fits : (k : Known) (access : TypeNo) (spot : Spot) (handle : Option Ident) (type_name : Ident) (items : ItemsTree) → PartsFit k.types k.variables (parts k) → Quiet (allocator_remark k (Some access) spot handle type_name items) → IsSourceFor k.types k.variables (variable.Access access) false (allocator_found k (Some access) handle type_name items)
 unfolding allocator_remark allocator_found
-allocator_fits k access spot handle type_name items w q = allocator_by k access spot type_name items (is_in_use handle items) w q
+allocator_fits k access spot handle type_name items w q = allocator_by k access spot type_name items (is_in_use handle) w q
 
 -- what is assigned to an object that holds this
 pub right_fits : (k : Known) (kind : VariableKind) (borrows : Bool) (right : RightTree) → PartsFit k.types k.variables (parts k) → Quiet (right_remark k (Some kind) borrows right) → IsSourceFor k.types k.variables kind borrows (right_found k (Some kind) right)

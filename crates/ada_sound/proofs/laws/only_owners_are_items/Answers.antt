@@ -13,3 +13,9 @@ returns-clause-nothing_after c = moves.items_own_nothing
 
 pub returns-clause-unchanged_where_raised : goal.returns-clause-unchanged_where_raised
 returns-clause-unchanged_where_raised c = moves.items_stay_where_raised
+
+pub returns-clause-nothing_by_default : goal.returns-clause-nothing_by_default
+returns-clause-nothing_by_default c = moves.defaults_move_nothing
+
+pub returns-clause-default_unchanged_where_raised : goal.returns-clause-default_unchanged_where_raised
+returns-clause-default_unchanged_where_raised c = moves.defaults_stay_where_raised

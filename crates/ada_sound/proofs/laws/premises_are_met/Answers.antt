@@ -43,6 +43,9 @@ returns-clause-fills c = (targets.filling, targets.filling_form, targets.filling
 pub returns-clause-owns : goal.returns-clause-owns
 returns-clause-owns c = (owners.owning, owners.owning_form, owners.owning_accepted, owners.owns)
 
+pub returns-clause-defaults : goal.returns-clause-defaults
+returns-clause-defaults c = (owners.defaulting, owners.defaulting_form, owners.defaulting_accepted, owners.defaults)
+
 pub returns-clause-walks : goal.returns-clause-walks
 returns-clause-walks c = (borrowers.walking, borrowers.walking_form, borrowers.walking_borrows, borrowers.walking_accepted, borrowers.walks)
 

@@ -1,0 +1,80 @@
+-- What the objects of allocators without items hold when they come to be.
+
+use Rattle.std.proofs.Common.{◌≡◌, ℕ, suc, subst, true, List, [], ◌∷◌, ◌++◌, length, map, take, reverse, refl, sym, ap, ◌∙◌}
+use Rattle.std.specs.Prelude.{Option, Some, None}
+use Rattle.std.proofs.lemmas.List.{reverse-reverse, length-reverse, append_assoc}
+use Rattle.std.proofs.Math.Seq.{take-append_seam}
+use Rattle.std.proofs.lemmas.Grind.{reverse_onto}
+use Rattle.ada_program.specs.declared.program.ComponentKind.{ComponentKind}
+use Rattle.ada_program.specs.declared.program.ComponentKind.TheVariants as component
+use Rattle.ada_program.specs.declared.program.TypeDefinition.{TypeDefinition}
+use Rattle.ada_program.specs.Form.{allocates_default}
+use Rattle.ada_program.specs.Typed.{reached_of}
+use Rattle.ada_meaning.specs.declared.state.Value.{Value}
+use Rattle.ada_meaning.specs.declared.state.Mode.TheVariants.{Running}
+use Rattle.ada_meaning.specs.Event.{Quiet}
+use Rattle.ada_meaning.specs.Frame.{Frame, Evaluates, Creates}
+use Rattle.ada_meaning.specs.State.{Activation, home_of}
+use Rattle.ada_meaning.specs.Step.{at, moves, new_next, new_cell, in_front, initial_value}
+use Rattle.ada_meaning.specs.Run.{Event, grants, Leads}
+use Rattle.ada_meaning.specs.Named.{Object, new_object, State, named, next}
+use Rattle.ada_meaning.specs.Defaults.{HoldsAtFirst, HoldAtFirst, MakesByDefault}
+
+-- What is kept newest first is taken back in order.
+kept_in_front : (vs os : List Value) → in_front vs os ≡ reverse vs ++ os
+kept_in_front [] os = refl
+kept_in_front (v ∷ vs) os = kept_in_front vs (v ∷ os) ∙ sym (append_assoc (reverse vs) (v ∷ []) os) ∙ ap (λ us. us ++ os) (sym (reverse_onto vs v []))
+
+taken_back : (vs os : List Value) → reverse (take (length vs) (in_front vs os)) ≡ vs
+taken_back vs os =
+    let front : take (length (reverse vs)) (reverse vs ++ os) ≡ reverse vs = take-append_seam (reverse vs) os in
+    ap (λ us. reverse (take (length vs) us)) (kept_in_front vs os) ∙
+    ap (λ n. reverse (take n (reverse vs ++ os))) (sym (length-reverse vs)) ∙
+    ap reverse front ∙ reverse-reverse vs
+
+counted : (kinds : List ComponentKind) → length (map (initial_value named) kinds) ≡ length kinds
+counted [] = refl
+counted (kind ∷ kinds) = ap suc (counted kinds)
+
+-- What is kept for a component is what it holds at first.
+holds_at_first : (kind : ComponentKind) → HoldsAtFirst kind (initial_value named kind)
+holds_at_first (component.Integer initial) = refl
+holds_at_first (component.Boolean initial) = refl
+holds_at_first (component.Access access) = refl
+
+hold_at_first : (kinds : List ComponentKind) → HoldAtFirst kinds (map (initial_value named) kinds)
+hold_at_first [] = tt
+hold_at_first (kind ∷ kinds) = (holds_at_first kind, hold_at_first kinds)
+
+-- The components that the new object takes.
+filled : (kinds : List ComponentKind) (operands : List Value) → HoldAtFirst kinds (reverse (take (length kinds) (in_front (map (initial_value named) kinds) operands)))
+filled kinds operands =
+    let vs = map (initial_value named) kinds in
+    let same : reverse (take (length kinds) (in_front vs operands)) ≡ vs = ap (λ n. reverse (take n (in_front vs operands))) (sym (counted kinds)) ∙ taken_back vs operands in
+    subst (HoldAtFirst kinds) (sym same) (hold_at_first kinds)
+
+module _ (types : List TypeDefinition) (access : ℕ) (behind : List (Frame Value)) (running : Activation Value) (suspended : List (Activation Value)) where
+  -- The state once the initial values are kept.
+  abbrev ready_to_create : List ComponentKind → State → State
+  ready_to_create kinds s = at (Creates access (length kinds) ∷ behind) (record s { mode = Running; activations = record running { operands = in_front (map (initial_value named) kinds) running.operands } ∷ suspended })
+
+  first_step : (kinds : List ComponentKind) (s : State) → reached_of types access ≡ Some kinds → s.mode ≡ Running → s.control ≡ Evaluates (allocates_default access) ∷ behind → s.activations ≡ running ∷ suspended → next types s ≡ moves Quiet (ready_to_create kinds s)
+  unfolding next
+  first_step kinds s reached runs is active = rw (runs, is, active, reached) refl
+
+  granted_makes : (kinds : List ComponentKind) (s after : State) (home : Option ℕ) (e : Event) → Leads (new_next named access (length kinds) (length kinds) home (at behind (ready_to_create kinds s))) (grants true) e after → (object : Object) × (after.heap ≡ s.heap ++ object ∷ []) × (object.cell.access ≡ access) × HoldAtFirst kinds object.cell.values
+  granted_makes kinds s after None e leads = absurd leads
+  granted_makes kinds s after (Some item) e leads =
+      let cell = new_cell named access (length kinds) item (at behind (ready_to_create kinds s)) in
+      (new_object cell, ap (λ (t : State). t.heap) leads.1, refl, filled kinds running.operands)
+
+  second_step : (kinds : List ComponentKind) (s after : State) (e : Event) → reached_of types access ≡ Some kinds → Leads (next types (ready_to_create kinds s)) (grants true) e after → (object : Object) × (after.heap ≡ s.heap ++ object ∷ []) × (object.cell.access ≡ access) × HoldAtFirst kinds object.cell.values
+  unfolding next
+  second_step kinds s after e reached leads =
+      granted_makes kinds s after (home_of access s.masters) e (rw reached at leads)
+
+pub makes_by_default : MakesByDefault
+makes_by_default program access kinds behind before mid after running suspended first second reached runs is active one two =
+    let moved = rw (first_step program.types.items access behind running suspended kinds before reached runs is active) at one in
+    second_step program.types.items access behind running suspended kinds before after second reached
+    (rw moved.1 at two)
