@@ -10,7 +10,6 @@ use Rattle.ada_program.specs.declared.program.TypeNo.{TypeNo}
 use Rattle.ada_resolve.specs.Allocators.{aggregate_found, aggregate_remark, allocated_remark, default_found, new_found, new_remark}
 use Rattle.ada_resolve.specs.Known.{Known}
 
-
 -- a list with an item is not empty
 some_items : (item : Item) (items : List Item) → (length (item ∷ items) == 0) ≡ false
 some_items item items = grind arith
