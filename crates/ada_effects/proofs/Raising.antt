@@ -6,7 +6,7 @@ use Rattle.std.proofs.Math.Path.{fun_ext}
 use Rattle.ada_effects.specs.Effects.{untaken, passes, path_raises, expression_raises, items_raise, condition_raises, right_raises, declaration_raises, declarations_raise, stmt_raises, stmts_raise, branches_raise, handlers_raise}
 use Rattle.ada_program.specs.declared.program.Exception.{Exception}
 use Rattle.ada_program.specs.declared.program.Exception.TheVariants.{ConstraintError, StorageError, EndError}
-use Rattle.ada_program.specs.Form.{RightForm, nothing, value_of, allocates, allocates_default, computes, DeclarationForm, collects, declares, StmtForm, skips, assigns, frees, gets, writes, writes_text, chooses, repeats, counts, exits, returns, raises, encloses, StmtsForm, no_stmts, a_stmt, BranchesForm, otherwise, a_branch, HandlersForm, no_handlers, a_handler}
+use Rattle.ada_program.specs.Form.{RightForm, nothing, value_of, allocates, allocates_default, computes, DeclarationForm, collects, declares, declares_record, StmtForm, skips, assigns, frees, gets, writes, writes_text, chooses, repeats, counts, exits, returns, raises, encloses, StmtsForm, no_stmts, a_stmt, BranchesForm, otherwise, a_branch, HandlersForm, no_handlers, a_handler}
 use Rattle.ada_program.specs.Handling.{is_same, is_taken}
 use Rattle.ada_effects.specs.Laws as laws
 use Rattle.ada_effects.specs.Taken.{outside, with_handlers, have_others}
@@ -58,6 +58,7 @@ right_stays p q w (computes e) h = checked p q w (expression_raises e) h
 declaration_stays : (p q : Exception → Bool) → Within p q → (d : DeclarationForm) → declaration_raises p d ≡ true → declaration_raises q d ≡ true
 declaration_stays p q w (collects access) h = cc
 declaration_stays p q w (declares x right) h = right_stays p q w right h
+declaration_stays p q w (declares_record x object) h = cc
 
 declarations_stay : (p q : Exception → Bool) → Within p q → (ds : List DeclarationForm) → declarations_raise p ds ≡ true → declarations_raise q ds ≡ true
 declarations_stay p q w [] h = cc
@@ -143,6 +144,7 @@ right_has_one p (computes e) h = one_checked p (expression_raises e) h
 declaration_has_one : (p : Exception → Bool) (d : DeclarationForm) → declaration_raises p d ≡ true → One p (λ r. declaration_raises r d)
 declaration_has_one p (collects access) h = cc
 declaration_has_one p (declares x right) h = right_has_one p right h
+declaration_has_one p (declares_record x object) h = cc
 
 declarations_have_one : (p : Exception → Bool) (ds : List DeclarationForm) → declarations_raise p ds ≡ true → One p (λ r. declarations_raise r ds)
 declarations_have_one p [] h = cc

@@ -7,7 +7,7 @@ use Rattle.ada_values.specs.declared.operator.BinaryOperator.{BinaryOperator}
 use Rattle.ada_values.specs.declared.operator.BinaryOperator.TheVariants as binary
 use Rattle.ada_program.specs.declared.program.Exception.{Exception}
 use Rattle.ada_program.specs.declared.program.Exception.TheVariants.{ConstraintError, StorageError, EndError}
-use Rattle.ada_program.specs.Form.{ExpressionForm, integer, boolean, reads, is_null, applied_to, chained, LinksForm, no_more_links, a_link, ItemForm, null_item, item_of_path, item_of_value, RightForm, nothing, value_of, allocates, allocates_default, computes, DeclarationForm, collects, declares, StmtForm, skips, assigns, frees, gets, writes, writes_text, chooses, repeats, counts, exits, returns, raises, encloses, StmtsForm, no_stmts, a_stmt, BranchesForm, otherwise, a_branch, HandlersForm, no_handlers, a_handler}
+use Rattle.ada_program.specs.Form.{ExpressionForm, integer, boolean, reads, is_null, applied_to, chained, LinksForm, no_more_links, a_link, ItemForm, null_item, item_of_path, item_of_value, RightForm, nothing, value_of, allocates, allocates_default, computes, DeclarationForm, collects, declares, declares_record, StmtForm, skips, assigns, frees, gets, writes, writes_text, chooses, repeats, counts, exits, returns, raises, encloses, StmtsForm, no_stmts, a_stmt, BranchesForm, otherwise, a_branch, HandlersForm, no_handlers, a_handler}
 use Rattle.ada_program.specs.Handling.{is_taken}
 
 -- Expressions: they raise Constraint_Error alone.
@@ -27,7 +27,7 @@ binary_raises binary.Modulo = true
 binary_raises binary.Remainder = true
 binary_raises operator = false
 
--- A path that follows an access value may find null there (4.1).
+-- A path that follows an access value may find null there (4.1). The first component of a record object counts as if it were followed to.
 abbrev pub path_raises : List ℕ → Bool
 path_raises [] = false
 path_raises (c ∷ cs) = true
@@ -77,10 +77,11 @@ right_raises among (allocates access items) = among StorageError || (among Const
 right_raises among (allocates_default access) = among StorageError
 right_raises among (computes e) = among ConstraintError && expression_raises e
 
--- Whether a declaration may raise one of these exceptions: its initial value may.
+-- Whether a declaration may raise one of these exceptions: its initial value may. A record object wants no storage of a pool.
 abbrev pub declaration_raises : (Exception → Bool) → DeclarationForm → Bool
 declaration_raises among (collects access) = false
 declaration_raises among (declares x right) = right_raises among right
+declaration_raises among (declares_record x object) = false
 
 -- Whether one of these declarations may raise one of these exceptions.
 abbrev pub declarations_raise : (Exception → Bool) → List DeclarationForm → Bool

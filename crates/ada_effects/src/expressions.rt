@@ -58,7 +58,8 @@ fn binary_raises(operator: BinaryOperator) -> bool
     )
 }
 
-/// Whether a path may find null where it follows an access value (4.1).
+/// Whether a path may find null where it follows an access value (4.1). The first component of a record object counts as if
+/// it were followed to.
 pub(crate) fn path_raises(path: &Path) -> bool
     ensures { result ≡ rules.path_raises (path_form path.now).selectors }
 {

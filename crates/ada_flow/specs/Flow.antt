@@ -6,7 +6,7 @@ use Rattle.std.proofs.Math.ListN.{replicate}
 use Rattle.ada_text.specs.declared.spot.Spot.{Spot}
 use Rattle.ada_program.specs.declared.program.Program.{Program}
 use Rattle.ada_program.specs.declared.program.VariableKind.{VariableKind}
-use Rattle.ada_program.specs.Form.{PathForm, ExpressionForm, integer, boolean, reads, is_null, applied_to, chained, LinksForm, no_more_links, a_link, ItemForm, null_item, item_of_path, item_of_value, RightForm, nothing, value_of, allocates, allocates_default, computes, StmtForm, skips, assigns, frees, gets, writes, writes_text, chooses, repeats, counts, exits, returns, raises, encloses, StmtsForm, no_stmts, a_stmt, BranchesForm, otherwise, a_branch, HandlersForm, no_handlers, a_handler, DeclarationForm, collects, declares, declaration_forms, stmt_forms, handler_forms}
+use Rattle.ada_program.specs.Form.{PathForm, ExpressionForm, integer, boolean, reads, is_null, applied_to, chained, LinksForm, no_more_links, a_link, ItemForm, null_item, item_of_path, item_of_value, RightForm, nothing, value_of, allocates, allocates_default, computes, StmtForm, skips, assigns, frees, gets, writes, writes_text, chooses, repeats, counts, exits, returns, raises, encloses, StmtsForm, no_stmts, a_stmt, BranchesForm, otherwise, a_branch, HandlersForm, no_handlers, a_handler, DeclarationForm, collects, declares, declares_record, declaration_forms, stmt_forms, handler_forms}
 use Rattle.ada_program.specs.ProgramForm.{TypeForm, type_form, VariableForm, variable_form}
 use Rattle.ada_program.specs.WellFormed.{access_of, variable_kind, selected_kind, path_access, is_this, is_borrower}
 use Rattle.ada_effects.specs.Effects.{expression_raises, path_raises, passes}
@@ -576,18 +576,19 @@ loop_flow condition leaves end_spot turn start =
 
 -- Blocks (5.6).
 
--- The access types whose collections declarations create.
+-- The access types whose collections declarations create, and the types by which the record objects are known that they create.
 abbrev pub collected : List DeclarationForm → List ℕ
 collected [] = []
 collected (collects access ∷ ds) = access ∷ collected ds
 collected (declares x right ∷ ds) = collected ds
+collected (declares_record x object ∷ ds) = object ∷ collected ds
 
 -- Is this one of them?
 abbrev pub is_among : List ℕ → Option ℕ → Bool
 is_among [] access = false
 is_among (t ∷ ts) access = is_this t access || is_among ts access
 
--- Behind a block its collections are gone: a variable of one of their access types is lost.
+-- Behind a block its collections and its record objects are gone: a variable of one of their types is lost.
 abbrev pub left : List VariableForm → (types : List ℕ) → Holds → Holds
 left [] types holds = []
 left (v ∷ vs) types [] = []
@@ -638,10 +639,11 @@ abbrev pub exit_flow : List VariableForm → Option Holds → (inside : List ℕ
 exit_flow variables None inside condition spot holds = exit_of condition holds
 exit_flow variables (Some start) inside condition spot holds = unless_worse start (left variables inside holds) spot (exit_of condition holds)
 
--- Declarations, in order (3.11).
+-- Declarations, in order (3.11). A record object owns itself as long as it is there.
 abbrev pub declaration_flow : List VariableForm → DeclarationForm → Holds → Outcome
 declaration_flow variables (collects access) holds = ends_with false holds holds
 declaration_flow variables (declares x right) holds = gives variables false x right holds
+declaration_flow variables (declares_record x object) holds = ends_with false holds (slice_set holds x (Own Whole))
 
 -- The flow of declarations, in order (3.11).
 abbrev pub declarations_flow : List VariableForm → List DeclarationForm → Holds → Outcome

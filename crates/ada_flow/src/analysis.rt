@@ -14,7 +14,7 @@ use crate::follow::follow_target;
 use crate::known::Known;
 use crate::moves::{evaluation_raises, lose_moved, right_hold, use_assignment, use_right};
 use crate::raised::Raised;
-use crate::rule::Hold;
+use crate::rule::{Hold, Region};
 use crate::statements::statements;
 use ada_program::borrowers::is_borrower;
 use ada_program::program::{Declaration, Right, Variable};
@@ -123,6 +123,13 @@ fn declaration(
             initial: None,
         } => {
             known.put(*variable, Hold::Null);
+            Ok(())
+        }
+        Declaration::Record {
+            variable,
+            object: _,
+        } => {
+            known.put(*variable, Hold::Own(Region::Whole));
             Ok(())
         }
     }

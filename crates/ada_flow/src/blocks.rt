@@ -16,7 +16,7 @@ use ada_program::program::{Declaration, Handler};
 use ada_program::{Stmt, TypeNo};
 use std::alloc::{AllocError, Global};
 
-/// The access types whose collections declarations create.
+/// The access types whose collections declarations create, and the types by which their record objects are known.
 pub(crate) fn collected(
     alloc: Global,
     declarations: &[Declaration],
@@ -26,8 +26,15 @@ pub(crate) fn collected(
 {
     let mut types = Vec::new(alloc);
     'declarations: for one in declarations {
-        if let Declaration::Collection(access) = one {
-            types.push(*access)?;
+        match one {
+            Declaration::Collection(known)
+            | Declaration::Record {
+                variable: _,
+                object: known,
+            } => {
+                types.push(*known)?;
+            }
+            Declaration::Variable { .. } => {}
         }
     }
     Ok(types)

@@ -33,7 +33,10 @@ impl Marks {
     {
         match kind {
             VariableKind::Integer | VariableKind::Boolean => false,
-            VariableKind::Access(access) => match self.at.get(access.0) {
+            VariableKind::Access(known) | VariableKind::Record(known) => match self
+                .at
+                .get(known.0)
+            {
                 Some(is_in) => *is_in,
                 None => false,
             },

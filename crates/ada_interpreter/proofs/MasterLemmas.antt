@@ -5,7 +5,7 @@ use Rattle.std.proofs.Math.ListN.{set}
 use Rattle.std.specs.List.{slice_get, slice_index_or}
 use Rattle.std.proofs.lemmas.Bool.{eq-eqb, ne_eqb, cases_eq}
 use Rattle.std.proofs.lemmas.List.{get_or-set_same, get_or-set_other}
-use Rattle.ada_meaning.specs.State.{Owned, declared, collection, Item, Master, height, collection_in, home_among, home_of}
+use Rattle.ada_meaning.specs.State.{Owned, declared, collection, record_object, Item, Master, height, collection_in, home_among, home_of}
 use Rattle.ada_meaning.specs.Step.{older, owning, shorter}
 use Rattle.ada_interpreter.specs.declared.masters.Owned.{Owned as HeldOwned}
 use Rattle.ada_interpreter.specs.declared.masters.Owned.TheVariants as held
@@ -28,6 +28,7 @@ height_is (m ∷ ms) is owned =
 -- the newest collection of a type is the one that it denotes
 one_more : (access number : ℕ) (owned : HeldOwned) (inner outer : Option ℕ) → inner ≡ outer → collection_in access (record { number = number; owned = owned_of owned }) (owned_of owned) inner ≡ newest_by access owned number outer
 one_more access number (held.Declared x) inner outer same = same
+one_more access number (held.Record t) inner outer same = same
 one_more access number (held.Collection t) inner outer same = rw same refl
 
 newest_among : (access : ℕ) (c : ℕ) (is : List HeldItem) → c ≤ length is → home_among access (take c (items_of is)) (newest_in access (drop c is)) ≡ newest_in access is
@@ -55,6 +56,7 @@ owning_owned (n ∷ ms) is m i top owned =
 
 owning_linked : (newest : List (Option ℕ)) (is : List HeldItem) (owned : HeldOwned) → AreIndexed newest is → IsLinked owned (newest_like newest owned) is
 owning_linked newest is (held.Declared x) indexed = tt
+owning_linked newest is (held.Record t) indexed = tt
 owning_linked newest is (held.Collection t) indexed = indexed t.0
 
 set_newest_at : (newest : List (Option ℕ)) (is : List HeldItem) (t access : ℕ) (number : Option ℕ) → t < length newest → AreIndexed newest is → slice_index_or (set newest t number) access None ≡ cond (eqb access t) number (newest_in access is)
@@ -65,6 +67,7 @@ set_newest_at newest is t access number room indexed = elim (cases_eq access t) 
 
 owning_indexed : (newest : List (Option ℕ)) (is : List HeldItem) (i : HeldItem) (owned : HeldOwned) → i.owned ≡ owned → HasRoom newest owned → AreIndexed newest is → AreIndexed (with_newest newest owned (Some (length is))) (i ∷ is)
 owning_indexed newest is i (held.Declared x) e room indexed access = rw e (indexed access)
+owning_indexed newest is i (held.Record t) e room indexed access = rw e (indexed access)
 owning_indexed newest is i (held.Collection t) e room indexed access = rw e (set_newest_at newest is t.0 access (Some (length is)) room indexed)
 
 pub owning_kept : (newest : List (Option ℕ)) (ms : List HeldMaster) (is : List HeldItem) (m : HeldMaster) (owned : HeldOwned) → slice_get ms 0 ≡ Some m → HasRoom newest owned → AreKept newest ms is → AreKept (with_newest newest owned (Some (length is))) (set ms 0 (record { number = m.number; count = m.count + 1 })) (record { owned = owned; previous = newest_like newest owned } ∷ is)
@@ -101,6 +104,7 @@ within_index (x ∷ newest) (suc t) n found = omega (arith, within_index newest 
 
 shorter_indexed : (newest : List (Option ℕ)) (is : List HeldItem) (i : HeldItem) (owned : HeldOwned) → i.owned ≡ owned → IsLinked owned i.previous is → AreIndexed newest (i ∷ is) → AreIndexed (with_newest newest owned i.previous) is
 shorter_indexed newest is i (held.Declared x) e linked indexed access = rw e at (indexed access)
+shorter_indexed newest is i (held.Record t) e linked indexed access = rw e at (indexed access)
 shorter_indexed newest is i (held.Collection t) e linked indexed access =
     let at_t = rw (e, eq-eqb t.0 t.0 refl) at (indexed t.0) in
     let room = within_index newest t.0 (length is) at_t in
@@ -154,6 +158,7 @@ left_kept newest ms is none kept = record { owned = left_owned ms is kept.owned 
 no_item : (master : ℕ) (item : Item) (owned : Owned) (items : List Item) (n : ℕ) → remains_at master item owned ≡ remains.NoItem n → item ∷ items ≡ []
 no_item master item (declared x) items n is = absurd (cc)
 no_item master item (collection t) items n is = absurd (cc)
+no_item master item (record_object t) items n is = absurd (cc)
 
 no_items : (master : ℕ) (items : List Item) (n : ℕ) → remains_in master items ≡ remains.NoItem n → items ≡ []
 no_items master [] n is = refl

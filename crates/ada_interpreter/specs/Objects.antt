@@ -20,6 +20,10 @@ home_form home = record { item = home.item; pool = home.pool; subpool = home.sub
 abbrev pub cell_of : HeldCell → Cell Value
 cell_of cell = record { access = cell.access.0; number = cell.number; home = home_form cell.home; values = cell.values.items }
 
+-- What lies in a record object, whose home is its own item.
+abbrev pub declared_cell : (object_type item : ℕ) → List Value → Cell Value
+declared_cell t item values = record { access = t; number = 0; home = record { item = item; pool = None; subpool = None }; values = values }
+
 -- An object, as the code keeps it.
 abbrev pub object_of : HeldObject → Object
 object_of object = record { cell = cell_of object.cell; stage = object.stage; listed = object.listed; out = object.out }

@@ -1,6 +1,6 @@
 -- A run in progress: the state that it stands for, and what a turn of it does.
 
-use Rattle.std.specs.Prelude.{◌≡◌, ℕ, pos, ◌+ℤ◌, List, [], ◌∷◌, map, Result, Ok, Err}
+use Rattle.std.specs.Prelude.{◌≡◌, ℕ, pos, ◌+ℤ◌, List, [], ◌∷◌, map, Option, Some, Result, Ok, Err}
 use Rattle.std.specs.Option.{option_copied}
 use Rattle.std.specs.declared.alloc.AllocError.{AllocError}
 use Rattle.ada_program.specs.Form.{component_number, expression_form, links_form, item_form, right_form, initial_form, condition_form, stmts_form, branches_form, handlers_form, declaration_form}
@@ -88,7 +88,7 @@ shown (Halts halt) s = halts halt
 shown (Moves e) s = moves (event_of e) s
 shown (Tells request e) s = tells (request_of request) (event_of e) s
 shown (Asks a) s = asks (Allocate (pool_of a.access.0) 0 a.words) (answered named a.access.0 a.count a.item a.words s)
-shown (Picks l) s = picks l.count (taken named (leaving l.master l.item) l.access.0 (members s.heap l.item) s)
+shown (Picks l) s = picks l.count (taken named (leaving l.master l.item) l.pool (members s.heap l.item) s)
 
 -- A halt leaves the state as it was.
 abbrev pub Stays : Turn → State → State → Type 0
@@ -136,13 +136,13 @@ abbrev pub outcome_of : Result Outcome Halt → State → Next
 outcome_of (Ok outcome) s = going_by outcome s
 outcome_of (Err halt) s = halts halt
 
--- An object is to cease to exist, and its words are to go back: it leaves its collection.
-abbrev pub ending : ValueOf → Cause → State → State
-ending v cause s = record s {
+-- An object is to cease to exist, and its storage is to go back, to a pool if it is from one: it leaves its collection.
+abbrev pub ending : ValueOf → Cause → (pool : Option ℕ) → State → State
+ending v cause pool s = record s {
   heap = on_object parted s.heap v;
-  control = frame.Ends v ∷ frame.GivesBack v cause 0 ∷ s.control;
+  control = frame.Ends v ∷ frame.GivesBack v cause pool ∷ s.control;
 }
 
 -- An object begins to end by a Free: a number is used up for it (13.11.2).
 abbrev pub releasing : ValueOf → State → State
-releasing v s = numbered (ending v (freeing s.next) s)
+releasing v s = numbered (ending v (freeing s.next) (Some 0) s)

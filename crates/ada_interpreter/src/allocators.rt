@@ -140,7 +140,7 @@ impl<'a> Process<'a> {
             number,
             home: Home {
                 item: allocation.item,
-                pool: 0,
+                pool: Some(0),
                 subpool: None,
             },
             values,

@@ -53,7 +53,7 @@ impl<'a> Process<'a> {
                 declarations,
                 statements,
                 handlers,
-            } => self.elaborate(declarations, statements, handlers),
+            } => self.elaborate(program, declarations, statements, handlers),
             Frame::Does(statements) => self.begin(statements),
             Frame::Decides {
                 statements,

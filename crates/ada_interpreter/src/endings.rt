@@ -16,14 +16,19 @@ use ada_meaning::{Cause, Event, Halt, Id, Mode, Request, Value, Why};
 use std::alloc::AllocError;
 
 impl<'a> Process<'a> {
-    /// An object leaves its collection; it is to cease to exist, and its words are to go back to the standard pool.
-    pub(crate) fn dispose(&mut self, object: Value, cause: Cause) -> Result<(), AllocError>
-        ensures { OnOk result (state_of self.new ≡ ending object cause (state_of self.old)) }
+    /// An object leaves its collection; it is to cease to exist, and its storage is to go back, to a pool if it is from one.
+    pub(crate) fn dispose(
+        &mut self,
+        object: Value,
+        cause: Cause,
+        pool: Option<usize>,
+    ) -> Result<(), AllocError>
+        ensures { OnOk result (state_of self.new ≡ ending object cause pool (state_of self.old)) }
     {
         self.push(Frame::GivesBack {
             object,
             cause,
-            pool: 0,
+            pool,
         })?;
         self.push(Frame::Ends(object))?;
         if let Value::Names(object) = object {
@@ -59,8 +64,8 @@ impl<'a> Process<'a> {
         }
     }
 
-    /// The words of an object go back (13.11.2): to another pool than its own is erroneous, and so is twice.
-    pub(crate) fn give_back(&mut self, object: Value, cause: Cause, pool: usize) -> Turn
+    /// The storage of an object goes back (13.11.2): to another pool than its own is erroneous, and so is twice.
+    pub(crate) fn give_back(&mut self, object: Value, cause: Cause, pool: Option<usize>) -> Turn
         ensures { let s = state_of self.old in
             IsTurn (step.back_next named object cause pool (lent s.heap object) (passed s))
             s result (state_of self.new) }
@@ -71,8 +76,8 @@ impl<'a> Process<'a> {
         }
     }
 
-    /// The words of the object of a name go back.
-    fn give_back_object(&mut self, object: Id, cause: Cause, pool: usize) -> Turn
+    /// The storage of the object of a name goes back. Of a declared one no pool is told.
+    fn give_back_object(&mut self, object: Id, cause: Cause, pool: Option<usize>) -> Turn
         ensures { let s = state_of self.old in let v = Value.Names object in
             IsTurn (step.back_next named v cause pool (lent s.heap v) (passed s))
             s result (state_of self.new) }
@@ -81,7 +86,7 @@ impl<'a> Process<'a> {
             return Turn::Halts(Halt::Erroneous(Why::EndsTwice));
         };
         let home = cell.home;
-        if home.pool != pool {
+        if !same_pool(pool, home.pool) {
             return Turn::Halts(Halt::Erroneous(Why::GivesElsewhere));
         }
         let event = Event::Back {
@@ -94,7 +99,10 @@ impl<'a> Process<'a> {
         };
         self.pass();
         self.objects.give_back(object);
-        Turn::Tells(Request::Back { object }, event)
+        match home.pool {
+            None => Turn::Moves(event),
+            Some(_) => Turn::Tells(Request::Back { object }, event),
+        }
     }
 
     /// The leaving of the innermost master (7.6.1), newest item first; when no item is left, it has been left.
@@ -111,11 +119,7 @@ impl<'a> Process<'a> {
                 Ok(Turn::Moves(Event::Left { master }))
             }
             Remains::Variable => self.leave_item(mode),
-            Remains::Collection {
-                master,
-                item,
-                access,
-            } => {
+            Remains::Home { master, item, pool } => {
                 let count = self.objects.count(item);
                 if count == 0 {
                     self.leave_item(mode)
@@ -124,7 +128,7 @@ impl<'a> Process<'a> {
                     Ok(Turn::Picks(Leaving {
                         master,
                         item,
-                        access,
+                        pool,
                         count,
                     }))
                 }
@@ -143,10 +147,10 @@ impl<'a> Process<'a> {
         Ok(QUIET)
     }
 
-    /// A member of the collection that is left is taken, counted from the newest: it is to end.
+    /// One of the objects of the item that is left is taken, counted from the newest: it is to end.
     pub(crate) fn take(&mut self, place: &Leaving, i: usize) -> Result<(), AllocError>
         ensures { let l = place.now in let s = state_of self.old in
-            OnOk result (state_of self.new ≡ step.taken named (leaving l.master l.item) l.access.0 (members s.heap l.item) s i) }
+            OnOk result (state_of self.new ≡ step.taken named (leaving l.master l.item) l.pool (members s.heap l.item) s i) }
     {
         let object = self.objects.member(place.item, i);
         self.dispose(
@@ -155,6 +159,20 @@ impl<'a> Process<'a> {
                 master: place.master,
                 item: place.item,
             },
+            place.pool,
         )
+    }
+}
+
+/// Are these one pool, or none?
+fn same_pool(pool: Option<usize>, other: Option<usize>) -> bool
+    ensures { result ≡ step.same_pool pool other }
+{
+    match pool {
+        None => other.is_none(),
+        Some(pool) => match other {
+            None => false,
+            Some(other) => pool == other,
+        },
     }
 }

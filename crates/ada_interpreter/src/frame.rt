@@ -109,11 +109,11 @@ pub(crate) enum Frame<'a> {
     Writes,
     /// An object ceases to exist (13.11.2).
     Ends(Value),
-    /// Its words go back to a pool (13.11.2).
+    /// Its storage goes back, to a pool if it is from one (13.11.2).
     GivesBack {
         object: Value,
         cause: Cause,
-        pool: usize,
+        pool: Option<usize>,
     },
     /// A variable becomes null: the end of a Free (13.11.2).
     Clears(VariableNo),

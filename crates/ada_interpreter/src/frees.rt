@@ -186,7 +186,7 @@ impl<'a> Process<'a> {
         let Some(next) = number.checked_add(1) else {
             return Err(AllocError);
         };
-        self.dispose(value, Cause::Freeing { number })?;
+        self.dispose(value, Cause::Freeing { number }, Some(0))?;
         self.next = next;
         Ok(())
     }

@@ -16,6 +16,8 @@ use std::marker::Model;
 pub(crate) enum Owned {
     Declared(VariableNo),
     Collection(TypeNo),
+    /// A record object, by the type that it is known by.
+    Record(TypeNo),
 }
 
 /// An item of a master. Its number is how many items are below it.
@@ -66,10 +68,11 @@ pub(crate) enum Remains {
         master: u64,
     },
     Variable,
-    Collection {
+    /// An item that is the home of objects: a collection, or a record object, which is of no pool.
+    Home {
         master: u64,
         item: usize,
-        access: TypeNo,
+        pool: Option<usize>,
     },
 }
 
@@ -150,6 +153,13 @@ impl Masters {
         self.entered.shorten();
     }
 
+    /// The number that the next item gets.
+    pub(crate) fn height(&self) -> usize
+        ensures { result ≡ height self.now }
+    {
+        self.items.len()
+    }
+
     /// The newest open collection of an access type, by its item's number.
     pub(crate) fn home(&self, access: TypeNo) -> Option<usize>
         ensures { result ≡ home_of access.0 self.now }
@@ -173,10 +183,15 @@ impl Masters {
             None => Remains::Variable,
             Some(item) => match item.owned {
                 Owned::Declared(_) => Remains::Variable,
-                Owned::Collection(access) => Remains::Collection {
+                Owned::Collection(_) => Remains::Home {
                     master: master.number,
                     item: self.items.len() - 1,
-                    access,
+                    pool: Some(0),
+                },
+                Owned::Record(_) => Remains::Home {
+                    master: master.number,
+                    item: self.items.len() - 1,
+                    pool: None,
                 },
             },
         }
@@ -199,7 +214,7 @@ fn newest_like(newest: &[Option<usize>], owned: Owned) -> Option<usize>
     ensures { result ≡ newest_like newest.now owned }
 {
     match owned {
-        Owned::Declared(_) => None,
+        Owned::Declared(_) | Owned::Record(_) => None,
         Owned::Collection(access) => newest_at(newest, access.0),
     }
 }
@@ -211,7 +226,7 @@ fn make_room(newest: &mut Vec<Option<usize>>, owned: Owned) -> Result<(), AllocE
     ensures room { OnOk result (HasRoom newest.new.items owned) }
 {
     match owned {
-        Owned::Declared(_) => Ok(()),
+        Owned::Declared(_) | Owned::Record(_) => Ok(()),
         Owned::Collection(access) => make_room_at(newest, access.0),
     }
 }

@@ -3,36 +3,39 @@
 ghost use Rattle.std.specs.Prelude.{◌≡◌, ℕ, ◌<◌, [], ◌∷◌, ◌++◌, length, reverse, map, vec_len, OnOk, OnErr, IfOk, MatchOption};
 ghost use Rattle.std.specs.List.{slice_index_or, slice_set};
 ghost use Rattle.ada_meaning.specs.Heap.{on_gone, finds};
-ghost use Rattle.ada_meaning.specs.Named.{object_at, seen, lent_by, new_object, changed, parted, finished, returned, filled, members};
-ghost use Rattle.ada_interpreter.specs.Objects.{cell_of, object_of, kept_of, kept_at, entered, discounted_at, listed_home, gone, is_member_at, members_among, Trims, IsTidied};
+ghost use Rattle.ada_meaning.specs.Step.{initial_value};
+ghost use Rattle.ada_meaning.specs.Named.{named, object_at, seen, lent_by, new_object, changed, parted, finished, returned, filled, members};
+ghost use Rattle.ada_interpreter.specs.Objects.{cell_of, declared_cell, object_of, kept_of, kept_at, entered, discounted_at, listed_home, gone, is_member_at, members_among, Trims, IsTidied};
 
-use crate::values::set_value;
+use crate::values::{initial_values, set_value};
 use ada_meaning::{Id, Stage, Value};
 use ada_program::TypeNo;
-use ada_program::program::ComponentNo;
+use ada_program::program::{ComponentKind, ComponentNo};
 use std::alloc::{AllocError, Global};
 use std::marker::Model;
 
-/// Where the words of an object lie, and with which item it goes (13.11.4).
+/// Where an object lies, and with which item it goes (13.11.4).
 #[derive(Clone, Copy)]
 pub(crate) struct Home {
-    /// The number of the collection's item.
+    /// The number of the item of its collection, or of its own item where it is declared.
     pub(crate) item: usize,
-    pub(crate) pool: usize,
+    /// None where it is declared.
+    pub(crate) pool: Option<usize>,
     pub(crate) subpool: Option<usize>,
 }
 
-/// What lies in an allocated object (4.8).
+/// What lies in an object (3.3, 4.8).
 #[derive(Drop)]
 pub(crate) struct Cell {
+    /// Its access type, or the type that a record object is known by.
     pub(crate) access: TypeNo,
-    /// The trace number: allocations are counted from 1.
+    /// The trace number: allocations are counted from 1. 0 where the object is declared.
     pub(crate) number: u64,
     pub(crate) home: Home,
     pub(crate) values: Vec<Value>,
 }
 
-/// An allocated object.
+/// An object: an allocated one, or a declared one.
 #[derive(Drop)]
 pub(crate) struct Object {
     cell: Cell,
@@ -43,7 +46,7 @@ pub(crate) struct Object {
     out: bool,
 }
 
-/// The members of one collection.
+/// The members of one collection, or the object of one declaration.
 #[derive(Drop)]
 struct Shelf {
     /// Every member is among these, oldest first. Some of them have left the collection.
@@ -52,12 +55,12 @@ struct Shelf {
     live: usize,
 }
 
-/// The objects that were ever allocated, seen as the list of them by name.
+/// The objects that were ever created, seen as the list of them by name.
 #[derive(Drop)]
 pub(crate) struct Objects {
     alloc: Global,
     objects: Vec<Object>,
-    /// By the number of a collection's item. Those behind the last one have no members.
+    /// By the number of the item that is their home. Those behind the last one have no members.
     shelves: Vec<Shelf>,
 }
 
@@ -75,7 +78,7 @@ impl Model for Objects {
 }
 
 impl Objects {
-    /// No object has been allocated. Takes no memory.
+    /// No object has been created. Takes no memory.
     pub(crate) fn new(alloc: Global) -> Objects
         ensures { result ≡ [] }
     {
@@ -125,6 +128,30 @@ impl Objects {
             out: true,
         });
         Ok(o)
+    }
+
+    /// A new record object, whose components hold what they hold at first (3.3.1); its home is an item of its own.
+    pub(crate) fn create_declared(
+        &mut self,
+        object: TypeNo,
+        item: usize,
+        components: &[ComponentKind],
+    ) -> Result<Id, AllocError>
+        ensures name { IfOk result (λ o. o ≡ record { 0 = length self.old }) }
+        ensures object { let cell = declared_cell object.0 item (map (initial_value named) components.now) in
+            OnOk result (self.new ≡ self.old ++ new_object cell ∷ []) }
+    {
+        let values = initial_values(self.alloc, components)?;
+        self.create(Cell {
+            access: object,
+            number: 0,
+            home: Home {
+                item,
+                pool: None,
+                subpool: None,
+            },
+            values,
+        })
     }
 
     /// The object of a name leaves its collection.

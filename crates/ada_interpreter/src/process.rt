@@ -34,7 +34,7 @@ pub(crate) struct Process<'a> {
     pub(crate) input: Input,
     /// The next number of a master or a cause.
     pub(crate) next: u64,
-    /// How many objects have been allocated.
+    /// How many objects have been allocated. Declared ones are not counted.
     pub(crate) allocated: u64,
     /// How many controlled values have been born. No program has one yet.
     pub(crate) born: u64,
@@ -257,6 +257,6 @@ fn blank(kind: VariableKind) -> Value
     match kind {
         VariableKind::Integer => Value::Scalar(Scalar::Integer(0)),
         VariableKind::Boolean => Value::Scalar(Scalar::Boolean(false)),
-        VariableKind::Access(_) => Value::Null,
+        VariableKind::Access(_) | VariableKind::Record(_) => Value::Null,
     }
 }

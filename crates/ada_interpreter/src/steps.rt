@@ -1,11 +1,11 @@
 //! Declarations and statements.
 
-ghost use Rattle.std.specs.Prelude.{◌≡◌, map};
+ghost use Rattle.std.specs.Prelude.{◌≡◌, map, OnOk};
 ghost use Rattle.std.specs.Option.{option_copied};
 ghost use Rattle.ada_program.specs.Form.{initial_form, right_form, stmt_form, stmts_form, handlers_form, declaration_form};
 ghost use Rattle.ada_meaning.specs.Frame as frame;
 ghost use Rattle.ada_meaning.specs.Event.{Quiet};
-ghost use Rattle.ada_meaning.specs.State.{declared};
+ghost use Rattle.ada_meaning.specs.State.{declared, record_object};
 ghost use Rattle.ada_meaning.specs.Step as step;
 ghost use Rattle.ada_meaning.specs.Named.{named, reads_integer};
 ghost use Rattle.ada_interpreter.specs.Process.{frame_of, state_of, passed, replaced, pushed, Turns, IsTurn};
@@ -16,7 +16,7 @@ use crate::process::Process;
 use crate::turn::{QUIET, Turn};
 use ada_meaning::{Event, Halt, Line, Mode, Value};
 use ada_program::program::{Declaration, Handler, Right};
-use ada_program::{Program, Stmt, VariableNo};
+use ada_program::{Program, Stmt, TypeNo, VariableNo};
 use ada_values::Value as Scalar;
 use std::alloc::AllocError;
 
@@ -24,13 +24,14 @@ impl<'a> Process<'a> {
     /// The declarations that are left (3.11). Then the statements come, with their handlers.
     pub(crate) fn elaborate(
         &mut self,
+        program: &Program,
         declarations: &'a [Declaration],
         statements: &'a [Stmt],
         handlers: &'a [Handler],
     ) -> Result<Turn, AllocError>
         ensures { let s = state_of self.old in let hs = handlers_form handlers.now in
             Turns
-            (step.declarations_next named (map declaration_form declarations.now) (stmts_form statements.now) hs (passed s))
+            (step.declarations_next named program.now.types.items (map declaration_form declarations.now) (stmts_form statements.now) hs (passed s))
             s result (state_of self.new) }
     {
         match declarations.split_first() {
@@ -43,6 +44,7 @@ impl<'a> Process<'a> {
                 Ok(QUIET)
             }
             Some((first, rest)) => self.declare(
+                program,
                 first,
                 Frame::Elaborates {
                     declarations: rest,
@@ -53,11 +55,17 @@ impl<'a> Process<'a> {
         }
     }
 
-    /// A declaration (3.11): a collection is created; a variable is created once its initial value is known.
-    fn declare(&mut self, declaration: &'a Declaration, rest: Frame<'a>) -> Result<Turn, AllocError>
+    /// A declaration (3.11): a collection is created; a variable is created once its initial value is known; a record
+    /// object is created.
+    fn declare(
+        &mut self,
+        program: &Program,
+        declaration: &'a Declaration,
+        rest: Frame<'a>,
+    ) -> Result<Turn, AllocError>
         ensures { let s = state_of self.old in
             Turns
-            (step.declaration_next named (declaration_form declaration.now) (replaced (frame_of rest.entry) s))
+            (step.declaration_next named program.now.types.items (declaration_form declaration.now) (replaced (frame_of rest.entry) s))
             s result (state_of self.new) }
     {
         match declaration {
@@ -74,7 +82,34 @@ impl<'a> Process<'a> {
                 )?;
                 Ok(QUIET)
             }
+            Declaration::Record { variable, object } => {
+                self.replace(rest)?;
+                self.make(program, *variable, *object)?;
+                Ok(QUIET)
+            }
         }
+    }
+
+    /// A record object is created, with what its components hold at first (3.3.1): its variable holds its name, and the
+    /// innermost master owns it.
+    fn make(
+        &mut self,
+        program: &Program,
+        variable: VariableNo,
+        object: TypeNo,
+    ) -> Result<(), AllocError>
+        ensures { let types = program.now.types.items in let s = state_of self.old in
+            OnOk result
+            (state_of self.new ≡ step.owned (record_object object.0) (step.made named types variable.0 object.0 s)) }
+    {
+        let components = match program.components(object) {
+            Some(components) => components,
+            None => &[],
+        };
+        let item = self.masters.height();
+        let name = self.objects.create_declared(object, item, components)?;
+        self.put(variable, Value::Names(name));
+        self.masters.own(Owned::Record(object))
     }
 
     /// The statements that are left (5.1).

@@ -17,7 +17,7 @@ pub(crate) enum Turn {
     Tells(Request, Event),
     /// A request is open.
     Asks(Allocation),
-    /// One of the members of a collection is to be taken.
+    /// One of the objects of an item that is left is to be taken.
     Picks(Leaving),
 }
 
@@ -47,14 +47,15 @@ impl Allocation {
     }
 }
 
-/// The leaving of a master, at a collection that still has members.
+/// The leaving of a master, at an item that still has objects: a collection, or a record object.
 #[derive(Clone, Copy)]
 pub(crate) struct Leaving {
     pub(crate) master: u64,
-    /// The number of the collection's item.
+    /// The number of the item.
     pub(crate) item: usize,
-    pub(crate) access: TypeNo,
-    /// How many members it has.
+    /// The pool that the words of its objects go back to; none for a record object.
+    pub(crate) pool: Option<usize>,
+    /// How many objects it has.
     pub(crate) count: usize,
     ghost some: { 0 < count },
 }

@@ -1,6 +1,6 @@
 //! Values by number: total reads and writes.
 
-ghost use Rattle.std.specs.Prelude.{◌≡◌};
+ghost use Rattle.std.specs.Prelude.{◌≡◌, map, IfOk};
 ghost use Rattle.std.specs.List.{slice_index_or, slice_set};
 ghost use Rattle.ada_meaning.specs.Step.{initial_value};
 ghost use Rattle.ada_meaning.specs.Named.{named, reads_boolean, reads_integer};
@@ -8,6 +8,7 @@ ghost use Rattle.ada_meaning.specs.Named.{named, reads_boolean, reads_integer};
 use ada_meaning::Value;
 use ada_program::program::ComponentKind;
 use ada_values::Value as Scalar;
+use std::alloc::{AllocError, Global};
 
 /// The value at a number; null, if there is none.
 pub(crate) fn value_at(values: &[Value], i: usize) -> Value
@@ -38,6 +39,21 @@ pub(crate) fn initial_value(kind: ComponentKind) -> Value
         ComponentKind::Boolean { initial } => Value::Scalar(Scalar::Boolean(initial)),
         ComponentKind::Access(_) => Value::Null,
     }
+}
+
+/// What components hold at first, in their order.
+pub(crate) fn initial_values(
+    alloc: Global,
+    components: &[ComponentKind],
+) -> Result<Vec<Value>, AllocError>
+    ensures { IfOk result (λ values. values.items ≡ map (initial_value named) components.now) }
+{
+    let mut values = Vec::new(alloc);
+    values.reserve(components.len())?;
+    for component in components {
+        values.push(initial_value(*component))?;
+    }
+    Ok(values)
 }
 
 /// The truth that a value is (3.5.3), if it is a Boolean.

@@ -4,7 +4,7 @@ use Rattle.std.proofs.Common.{◌≡◌, ℕ, ℤ, int_le, ◌==◌, Bool, true,
 use Rattle.std.specs.List.{slice_get, slice_set, slice_index_or}
 use Rattle.ada_program.specs.declared.program.Program.{Program}
 use Rattle.ada_program.specs.declared.program.TypeDefinition.{TypeDefinition}
-use Rattle.ada_program.specs.Form.{ExpressionForm, integer, boolean, reads, is_null, applied_to, chained, LinksForm, no_more_links, a_link, ItemForm, null_item, item_of_path, item_of_value, RightForm, nothing, value_of, allocates, allocates_default, computes, StmtForm, skips, assigns, frees, gets, writes, writes_text, chooses, repeats, counts, exits, raises, encloses, StmtsForm, no_stmts, a_stmt, BranchesForm, otherwise, a_branch, HandlersForm, DeclarationForm, collects, declares}
+use Rattle.ada_program.specs.Form.{ExpressionForm, integer, boolean, reads, is_null, applied_to, chained, LinksForm, no_more_links, a_link, ItemForm, null_item, item_of_path, item_of_value, RightForm, nothing, value_of, allocates, allocates_default, computes, StmtForm, skips, assigns, frees, gets, writes, writes_text, chooses, repeats, counts, exits, raises, encloses, StmtsForm, no_stmts, a_stmt, BranchesForm, otherwise, a_branch, HandlersForm, DeclarationForm, collects, declares, declares_record}
 use Rattle.ada_program.specs.Form as form
 use Rattle.ada_program.specs.Typed.{words_of}
 use Rattle.ada_values.specs.declared.operator.BinaryOperator.{BinaryOperator}
@@ -19,12 +19,12 @@ use Rattle.ada_meaning.specs.declared.event.Cause.{Cause}
 use Rattle.ada_meaning.specs.declared.event.Cause.TheVariants.{Leaving}
 use Rattle.ada_meaning.specs.declared.event.Halt.TheVariants.{Erroneous}
 use Rattle.ada_meaning.specs.declared.event.Why.TheVariants.{GivesElsewhere}
-use Rattle.ada_meaning.specs.Event.{Quiet}
+use Rattle.ada_meaning.specs.Event.{Back, Quiet}
 use Rattle.ada_meaning.specs.Frame.{Frame, is_master, is_loop, Landing, passes_on, goes_behind, goes_in, landing}
 use Rattle.ada_meaning.specs.Frame as frame
-use Rattle.ada_meaning.specs.State.{Owned, declared, collection, Item, Master, home_of}
+use Rattle.ada_meaning.specs.State.{Owned, declared, collection, record_object, Item, Master, height, home_of, pool_of}
 use Rattle.ada_meaning.specs.Heap.{Cell, Found, on_null, on_gone, on_other, finds}
-use Rattle.ada_meaning.specs.Step.{halts, moves, tells, asks, picks, at, popped, held, newest, reading, component_next, follow_next, path_next, expression_next, null_test_next, is_decided, link_next, links_next, outcome_next, item_next, items_next, answered, new_next, new_cell, right_next, free_next, end_next, given_back, back_next, before_last, last_of, assign_next, target_next, stored_next, store_next, received_next, receive_next, frees_next, freed_next, free_component_next, free_in_next, branches_next, decided_next, turn_next, repeats_next, turned_next, count_turn_next, counts_next, ranges_next, gets_next, exit_next, exited_next, stmt_next, stmts_next, line_next, declaration_next, declarations_next, members_next, item_leave_next, master_leave_next, leave_next, frame_next, landed, pass_next, running_next, jump_next, mode_next}
+use Rattle.ada_meaning.specs.Step.{same_pool, told_back, record_cell, halts, moves, tells, asks, picks, at, popped, held, newest, reading, component_next, follow_next, path_next, expression_next, null_test_next, is_decided, link_next, links_next, outcome_next, item_next, items_next, answered, new_next, new_cell, right_next, free_next, end_next, given_back, back_next, before_last, last_of, assign_next, target_next, stored_next, store_next, received_next, receive_next, frees_next, freed_next, free_component_next, free_in_next, branches_next, decided_next, turn_next, repeats_next, turned_next, count_turn_next, counts_next, ranges_next, gets_next, exit_next, exited_next, stmt_next, stmts_next, line_next, declaration_next, declarations_next, members_next, item_leave_next, master_leave_next, leave_next, frame_next, landed, pass_next, running_next, jump_next, mode_next}
 use Rattle.ada_meaning.specs.Named.{Object, State, Next, next, named, look, lent, lent_by, reads_boolean, reads_null, reads_integer, unary_given, binary_given, members, object_at, changed, on_object, new_object, parted, finished, returned, filled, an_integer}
 use Rattle.ada_meaning.specs.Run.{Event, Choice, settled, grants, takes, Leads, Step}
 use Rattle.ada_meaning.specs.Law.{back_of}
@@ -134,19 +134,23 @@ end_does v on_gone s = tt
 end_does v on_other s = tt
 end_does v (finds cell) s = finishes v refl refl
 
+told_back_does : (pool : Option ℕ) (o : Id) (cause : Cause) (object : Object) (s : State) → object_at s.heap o ≡ Some object → object.out ≡ true → Does s.heap (told_back named pool (Names o) (Back (Names o) object.cell.access object.cell.number object.cell.home.pool object.cell.home.subpool cause) (record s { heap = on_object returned s.heap (Names o) }))
+told_back_does None o cause object s is out = returns o object refl is out (ap (λ (f : Option Object). changed returned f s.heap o) is)
+told_back_does (Some pool) o cause object s is out = returns o object refl is out (ap (λ (f : Option Object). changed returned f s.heap o) is)
+
 given_back_does : (fits : Bool) (o : Id) (cause : Cause) (object : Object) (s : State) → object_at s.heap o ≡ Some object → object.out ≡ true → Does s.heap (if fits then given_back named (Names o) cause object.cell s else halts (Erroneous GivesElsewhere))
-given_back_does true o cause object s is out = returns o object refl is out (ap (λ (f : Option Object). changed returned f s.heap o) is)
+given_back_does true o cause object s is out = told_back_does object.cell.home.pool o cause object s is out
 given_back_does false o cause object s is out = tt
 
-out_does : (out : Bool) (o : Id) (cause : Cause) (pool : ℕ) (object : Object) (s : State) → object_at s.heap o ≡ Some object → object.out ≡ out → Does s.heap (back_next named (Names o) cause pool (if out then finds object.cell else on_gone) s)
-out_does true o cause pool object s is out = given_back_does (pool == object.cell.home.pool) o cause object s is out
+out_does : (out : Bool) (o : Id) (cause : Cause) (pool : Option ℕ) (object : Object) (s : State) → object_at s.heap o ≡ Some object → object.out ≡ out → Does s.heap (back_next named (Names o) cause pool (if out then finds object.cell else on_gone) s)
+out_does true o cause pool object s is out = given_back_does (same_pool pool object.cell.home.pool) o cause object s is out
 out_does false o cause pool object s is out = tt
 
-lent_does : (o : Id) (cause : Cause) (pool : ℕ) (at_o : Option Object) (s : State) → object_at s.heap o ≡ at_o → Does s.heap (back_next named (Names o) cause pool (lent_by at_o) s)
+lent_does : (o : Id) (cause : Cause) (pool : Option ℕ) (at_o : Option Object) (s : State) → object_at s.heap o ≡ at_o → Does s.heap (back_next named (Names o) cause pool (lent_by at_o) s)
 lent_does o cause pool None s is = tt
 lent_does o cause pool (Some object) s is = out_does object.out o cause pool object s is refl
 
-back_does : (v : Value) (cause : Cause) (pool : ℕ) (s : State) → Does s.heap (back_next named v cause pool (lent s.heap v) s)
+back_does : (v : Value) (cause : Cause) (pool : Option ℕ) (s : State) → Does s.heap (back_next named v cause pool (lent s.heap v) s)
 back_does Null cause pool s = tt
 back_does (Names o) cause pool s = lent_does o cause pool (object_at s.heap o) s refl
 back_does (Scalar v) cause pool s = tt
@@ -278,22 +282,24 @@ line_does : (read : Option ℤ) (s : State) → Does s.heap (line_next named rea
 line_does None s = tt
 line_does (Some i) s = same refl refl
 
-declaration_does : (d : DeclarationForm) (s : State) → Does s.heap (declaration_next named d s)
-declaration_does (collects access) s = same refl refl
-declaration_does (declares x right) s = same refl refl
+declaration_does : (types : List TypeDefinition) (d : DeclarationForm) (s : State) → Does s.heap (declaration_next named types d s)
+declaration_does types (collects access) s = same refl refl
+declaration_does types (declares x right) s = same refl refl
+declaration_does types (declares_record x t) s = adds (new_object (record_cell named types t (height s.masters))) refl refl
 
-declarations_do : (ds : List DeclarationForm) (fs : StmtsForm) (hs : HandlersForm) (s : State) → Does s.heap (declarations_next named ds fs hs s)
-declarations_do [] fs hs s = same refl refl
-declarations_do (d ∷ ds) fs hs s = declaration_does d (at (frame.Elaborates ds fs hs ∷ s.control) s)
+declarations_do : (types : List TypeDefinition) (ds : List DeclarationForm) (fs : StmtsForm) (hs : HandlersForm) (s : State) → Does s.heap (declarations_next named types ds fs hs s)
+declarations_do types [] fs hs s = same refl refl
+declarations_do types (d ∷ ds) fs hs s = declaration_does types d (at (frame.Elaborates ds fs hs ∷ s.control) s)
 
 -- The leaving of a master.
-members_do : (cause : Cause) (access : ℕ) (vs : List Value) (s : State) → Does s.heap (members_next named cause access vs s)
-members_do cause access [] s = same refl refl
-members_do cause access (v ∷ vs) s = λ i. parts (slice_index_or (v ∷ vs) i Null) refl refl
+members_do : (cause : Cause) (pool : Option ℕ) (vs : List Value) (s : State) → Does s.heap (members_next named cause pool vs s)
+members_do cause pool [] s = same refl refl
+members_do cause pool (v ∷ vs) s = λ i. parts (slice_index_or (v ∷ vs) i Null) refl refl
 
 item_leave_does : (m : ℕ) (item : Item) (owned : Owned) (s : State) → Does s.heap (item_leave_next named m item owned s)
 item_leave_does m item (declared x) s = same refl refl
-item_leave_does m item (collection access) s = members_do (Leaving m item.number) access (members s.heap item.number) s
+item_leave_does m item (collection access) s = members_do (Leaving m item.number) (Some (pool_of access)) (members s.heap item.number) s
+item_leave_does m item (record_object t) s = members_do (Leaving m item.number) None (members s.heap item.number) s
 
 master_leave_does : (mode : Mode) (m : ℕ) (items : List Item) (s : State) → Does s.heap (master_leave_next named mode m items s)
 master_leave_does mode m [] s = same refl refl
@@ -305,7 +311,7 @@ leave_does mode (m ∷ ms) s = master_leave_does mode m.number m.items s
 
 -- Each frame that is taken off.
 frame_does : (types : List TypeDefinition) (f : Frame Value) (s : State) → Does s.heap (frame_next named types f s)
-frame_does types (frame.Elaborates ds fs hs) s = declarations_do ds fs hs s
+frame_does types (frame.Elaborates ds fs hs) s = declarations_do types ds fs hs s
 frame_does types (frame.Does fs) s = stmts_do fs s
 frame_does types (frame.Decides fs branches) s = decided_does fs branches (reads_boolean (newest named s)) (popped s)
 frame_does types (frame.Repeats condition fs) s = repeats_do condition fs s

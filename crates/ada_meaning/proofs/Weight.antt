@@ -4,7 +4,7 @@ use Rattle.std.proofs.Common.{◌≡◌, ◌≢◌, ℕ, ℤ, ◌+◌, ◌<◌, 
 use Rattle.std.specs.List.{slice_get, slice_index_or}
 use Rattle.ada_program.specs.declared.program.Program.{Program}
 use Rattle.ada_program.specs.declared.program.TypeDefinition.{TypeDefinition}
-use Rattle.ada_program.specs.Form.{ExpressionForm, integer, boolean, reads, is_null, applied_to, chained, LinksForm, no_more_links, a_link, ItemForm, null_item, item_of_path, item_of_value, RightForm, nothing, value_of, allocates, allocates_default, computes, StmtForm, skips, assigns, frees, gets, writes, writes_text, chooses, repeats, counts, exits, returns, raises, encloses, StmtsForm, no_stmts, a_stmt, BranchesForm, otherwise, a_branch, HandlersForm, DeclarationForm, collects, declares}
+use Rattle.ada_program.specs.Form.{ExpressionForm, integer, boolean, reads, is_null, applied_to, chained, LinksForm, no_more_links, a_link, ItemForm, null_item, item_of_path, item_of_value, RightForm, nothing, value_of, allocates, allocates_default, computes, StmtForm, skips, assigns, frees, gets, writes, writes_text, chooses, repeats, counts, exits, returns, raises, encloses, StmtsForm, no_stmts, a_stmt, BranchesForm, otherwise, a_branch, HandlersForm, DeclarationForm, collects, declares, declares_record}
 use Rattle.ada_program.specs.Handling.{handler_of}
 use Rattle.ada_program.specs.Typed.{words_of}
 use Rattle.ada_values.specs.declared.operator.BinaryOperator.{BinaryOperator}
@@ -21,11 +21,11 @@ use Rattle.ada_meaning.specs.declared.event.Halt.TheVariants.{Erroneous, Memory}
 use Rattle.ada_meaning.specs.declared.event.Why.TheVariants.{GivesElsewhere}
 use Rattle.ada_meaning.specs.Frame.{Frame, is_master, is_loop, Landing, passes_on, goes_behind, goes_in, handler_landing, exception_landing, begins_by}
 use Rattle.ada_meaning.specs.Frame as frame
-use Rattle.ada_meaning.specs.State.{Owned, declared, collection, Item, Master, height, home_of, begins, begins_in, begins_among}
-use Rattle.ada_meaning.specs.Event.{Quiet}
+use Rattle.ada_meaning.specs.State.{Owned, declared, collection, record_object, Item, Master, height, home_of, pool_of, begins, begins_in, begins_among}
+use Rattle.ada_meaning.specs.Event.{Back, Quiet}
 use Rattle.ada_meaning.specs.Heap.{Cell, Found, on_null, on_gone, on_other, finds}
-use Rattle.ada_meaning.specs.Step.{halts, moves, tells, asks, picks, at, older, owning, shorter, popped, held, newest, reading, component_next, follow_next, path_next, expression_next, null_test_next, is_decided, link_next, links_next, outcome_next, item_next, items_next, answered, new_next, new_cell, right_next, free_next, end_next, given_back, back_next, assign_next, frees_next, freed_next, free_component_next, free_in_next, branches_next, decided_next, turn_next, repeats_next, turned_next, count_turn_next, counts_next, ranges_next, gets_next, exit_next, exited_next, stmt_next, line_next, before_last, last_of, target_next, stored_next, store_next, received_next, receive_next, declaration_next, declarations_next, members_next, item_leave_next, master_leave_next, leave_next, frame_next, pass_next, running_next, mode_next}
-use Rattle.ada_meaning.specs.Named.{State, Next, next, named, look, lent, reads_boolean, reads_null, reads_integer, unary_given, binary_given, members, new_object, an_integer}
+use Rattle.ada_meaning.specs.Step.{same_pool, told_back, record_cell, halts, moves, tells, asks, picks, at, older, owning, shorter, popped, held, newest, reading, component_next, follow_next, path_next, expression_next, null_test_next, is_decided, link_next, links_next, outcome_next, item_next, items_next, answered, new_next, new_cell, right_next, free_next, end_next, given_back, back_next, assign_next, frees_next, freed_next, free_component_next, free_in_next, branches_next, decided_next, turn_next, repeats_next, turned_next, count_turn_next, counts_next, ranges_next, gets_next, exit_next, exited_next, stmt_next, line_next, before_last, last_of, target_next, stored_next, store_next, received_next, receive_next, declaration_next, declarations_next, members_next, item_leave_next, master_leave_next, leave_next, frame_next, pass_next, running_next, mode_next}
+use Rattle.ada_meaning.specs.Named.{State, Next, next, named, look, lent, reads_boolean, reads_null, reads_integer, unary_given, binary_given, members, on_object, returned, new_object, an_integer}
 use Rattle.ada_meaning.specs.Run.{Event, Choice, settled, grants, takes, Leads, Step}
 use Rattle.ada_meaning.specs.Beginning.{BeginsStatement}
 use Rattle.ada_meaning.specs.Ending.{expression_weight, links_weight, item_weight, items_weight, right_weight, branches_weight, condition_weight, declaration_weight, declarations_weight, frame_weight, has_handlers, pass_weight, passed_weight, by_mode, behind_weight, run_weight, exit_weight, heap_weight, masters_weight, weight, GoesOn, WithinStatement, here, there}
@@ -222,15 +222,19 @@ end_lightens v on_gone s w h = λ memory. cc
 end_lightens v on_other s w h = λ memory. cc
 end_lightens v (finds cell) s w h = omega (arith, h, finished_lighter s.heap v)
 
+told_lightens : (pool : Option ℕ) (v : Value) (event : Event) (s : State) (w : ℕ) → load (running s) + 1 ≤ w → Lightens (told_back named pool v event (running (record s { heap = on_object returned s.heap v }))) w
+told_lightens None v event s w h = omega (arith, h, returned_lighter s.heap v)
+told_lightens (Some pool) v event s w h = omega (arith, h, returned_lighter s.heap v)
+
 returned_lightens : (same : Bool) (v : Value) (cause : Cause) (cell : Cell Value) (s : State) (w : ℕ) → load (running s) + 1 ≤ w → Lightens (if same then given_back named v cause cell (running s) else halts (Erroneous GivesElsewhere)) w
-returned_lightens true v cause cell s w h = omega (arith, h, returned_lighter s.heap v)
+returned_lightens true v cause cell s w h = told_lightens cell.home.pool v (Back v cell.access cell.number cell.home.pool cell.home.subpool cause) s w h
 returned_lightens false v cause cell s w h = λ memory. cc
 
-back_lightens : (v : Value) (cause : Cause) (pool : ℕ) (found : Found (Cell Value)) (s : State) (w : ℕ) → load (running s) + 1 ≤ w → Lightens (back_next named v cause pool found (running s)) w
+back_lightens : (v : Value) (cause : Cause) (pool : Option ℕ) (found : Found (Cell Value)) (s : State) (w : ℕ) → load (running s) + 1 ≤ w → Lightens (back_next named v cause pool found (running s)) w
 back_lightens v cause pool on_null s w h = λ memory. cc
 back_lightens v cause pool on_gone s w h = λ memory. cc
 back_lightens v cause pool on_other s w h = λ memory. cc
-back_lightens v cause pool (finds cell) s w h = returned_lightens (pool == cell.home.pool) v cause cell s w h
+back_lightens v cause pool (finds cell) s w h = returned_lightens (same_pool pool cell.home.pool) v cause cell s w h
 
 -- Components that are assigned to.
 target_lightens : (o : Value) (c : ℕ) (right : RightForm) (found : Found (Cell Value)) (s : State) (w : ℕ) → load (running s) + 2 + right_weight right ≤ w → Lightens (target_next named o c right found (running s)) w
@@ -331,23 +335,26 @@ line_lightens None s w h = λ memory. cc
 line_lightens (Some i) s w h = omega (arith, h)
 
 -- Declarations.
-declaration_lightens : (d : DeclarationForm) (s : State) (w : ℕ) → load (running s) + declaration_weight d ≤ w → Lightens (declaration_next named d (running s)) w
-declaration_lightens (collects access) s w h = omega (arith, h, masters_owning (record { number = height s.masters; owned = collection access }) s.masters)
-declaration_lightens (declares x right) s w h = omega (arith, h)
+declaration_lightens : (types : List TypeDefinition) (d : DeclarationForm) (s : State) (w : ℕ) → load (running s) + declaration_weight d ≤ w → Lightens (declaration_next named types d (running s)) w
+declaration_lightens types (collects access) s w h = omega (arith, h, masters_owning (record { number = height s.masters; owned = collection access }) s.masters)
+declaration_lightens types (declares x right) s w h = omega (arith, h)
+declaration_lightens types (declares_record x t) s w h =
+    omega (arith, h, masters_owning (record { number = height s.masters; owned = record_object t }) s.masters, heap_append s.heap (new_object (record_cell named types t (height s.masters)) ∷ []))
 
-declarations_lighten : (ds : List DeclarationForm) (fs : StmtsForm) (hs : HandlersForm) (s : State) (w : ℕ) → load (running s) + 5 + declarations_weight ds ≤ w → Lightens (declarations_next named ds fs hs (running s)) w
-declarations_lighten [] fs hs s w h = omega (arith, h, does_once fs (frame.Handles hs ∷ frame.Closes ∷ s.control))
-declarations_lighten (d ∷ ds) fs hs s w h = declaration_lightens d (at (frame.Elaborates ds fs hs ∷ s.control) s) w (omega (arith, h))
+declarations_lighten : (types : List TypeDefinition) (ds : List DeclarationForm) (fs : StmtsForm) (hs : HandlersForm) (s : State) (w : ℕ) → load (running s) + 5 + declarations_weight ds ≤ w → Lightens (declarations_next named types ds fs hs (running s)) w
+declarations_lighten types [] fs hs s w h = omega (arith, h, does_once fs (frame.Handles hs ∷ frame.Closes ∷ s.control))
+declarations_lighten types (d ∷ ds) fs hs s w h = declaration_lightens types d (at (frame.Elaborates ds fs hs ∷ s.control) s) w (omega (arith, h))
 
 -- The leaving of a master: `s` has its frame on top again, and weighs no more than before.
-members_lighten : (cause : Cause) (access item : ℕ) (vs : List Value) (s : State) (w : ℕ) → members s.heap item ≡ vs → masters_weight (shorter s.masters) + 1 ≡ masters_weight s.masters → load (running s) ≤ w → Lightens (members_next named cause access vs (running s)) w
-members_lighten cause access item [] s w are fewer h = omega (arith, h, fewer)
-members_lighten cause access item (v ∷ vs) s w are fewer h =
+members_lighten : (cause : Cause) (pool : Option ℕ) (item : ℕ) (vs : List Value) (s : State) (w : ℕ) → members s.heap item ≡ vs → masters_weight (shorter s.masters) + 1 ≡ masters_weight s.masters → load (running s) ≤ w → Lightens (members_next named cause pool vs (running s)) w
+members_lighten cause pool item [] s w are fewer h = omega (arith, h, fewer)
+members_lighten cause pool item (v ∷ vs) s w are fewer h =
     (omega arith, λ i lt. omega (arith, h, taken_lighter s.heap (slice_index_or (v ∷ vs) i Null) (member_listed s.heap item (v ∷ vs) i are lt)))
 
 item_leaves_lighter : (m : ℕ) (item : Item) (owned : Owned) (s : State) (w : ℕ) → masters_weight (shorter s.masters) + 1 ≡ masters_weight s.masters → load (running s) ≤ w → Lightens (item_leave_next named m item owned (running s)) w
 item_leaves_lighter m item (declared x) s w fewer h = omega (arith, h, fewer)
-item_leaves_lighter m item (collection access) s w fewer h = members_lighten (Leaving m item.number) access item.number (members s.heap item.number) s w refl fewer h
+item_leaves_lighter m item (collection access) s w fewer h = members_lighten (Leaving m item.number) (Some (pool_of access)) item.number (members s.heap item.number) s w refl fewer h
+item_leaves_lighter m item (record_object t) s w fewer h = members_lighten (Leaving m item.number) None item.number (members s.heap item.number) s w refl fewer h
 
 master_leaves_lighter : (mode : Mode) (m : Master) (ms : List Master) (items : List Item) (s : State) (w : ℕ) → s.masters ≡ m ∷ ms → m.items ≡ items → load (in_mode mode s) + 1 ≤ w → Lightens (master_leave_next named mode m.number items (running s)) w
 master_leaves_lighter mode m ms [] s w top none h =
@@ -363,7 +370,7 @@ leave_lightens mode (m ∷ ms) s w top h = master_leaves_lighter mode m ms m.ite
 
 -- Each frame that is taken off, unless a statement begins.
 frame_lightens : (types : List TypeDefinition) (f : Frame Value) (s : State) (w : ℕ) → begins_by f ≡ false → stored s + run_weight (f ∷ s.control) ≤ w → Lightens (frame_next named types f (running s)) w
-frame_lightens types (frame.Elaborates ds fs hs) s w b h = declarations_lighten ds fs hs s w (omega (arith, h))
+frame_lightens types (frame.Elaborates ds fs hs) s w b h = declarations_lighten types ds fs hs s w (omega (arith, h))
 frame_lightens types (frame.Does no_stmts) s w b h = omega (arith, h)
 frame_lightens types (frame.Does (a_stmt f fs)) s w b h = absurd (cc)
 frame_lightens types (frame.Decides fs branches) s w b h =

@@ -1,11 +1,12 @@
--- What the objects of allocators without items hold when they come to be (4.8, 3.3.1), in any run of any program.
+-- What record objects and the objects of allocators without items hold when they come to be (4.8, 3.3.1), in any run of any program.
 
-use Rattle.std.specs.Prelude.{◌≡◌, ℕ, true, List, [], ◌∷◌, ◌++◌, Option, Some}
+use Rattle.std.specs.Prelude.{◌≡◌, ℕ, true, List, [], ◌∷◌, ◌++◌, length, Option, Some, None}
+use Rattle.std.specs.List.{slice_set}
 use Rattle.ada_values.specs.declared.value.Value.TheVariants as scalar
 use Rattle.ada_program.specs.declared.program.ComponentKind.{ComponentKind}
 use Rattle.ada_program.specs.declared.program.ComponentKind.TheVariants as component
 use Rattle.ada_program.specs.declared.program.Program.{Program}
-use Rattle.ada_program.specs.Form.{allocates_default}
+use Rattle.ada_program.specs.Form.{allocates_default, DeclarationForm, declares_record, StmtsForm, HandlersForm}
 use Rattle.ada_program.specs.Typed.{reached_of}
 use Rattle.ada_meaning.specs.declared.state.Mode.TheVariants.{Running}
 use Rattle.ada_meaning.specs.declared.state.Value.{Value}
@@ -38,3 +39,16 @@ MakesByDefault =
     → before.mode ≡ Running → before.control ≡ frame.Evaluates (allocates_default access) ∷ behind → before.activations ≡ running ∷ suspended
     → Step program before settled first mid → Step program mid (grants true) second after
     → (object : Object) × (after.heap ≡ before.heap ++ object ∷ []) × (object.cell.access ≡ access) × HoldAtFirst kinds object.cell.values
+
+-- What comes to be where a record object is declared: one object more, known by its type, of no pool, whose components hold this; and its variable
+-- names it.
+abbrev pub MakesRecords : Type 0
+MakesRecords =
+    (program : Program) (x object_type : ℕ) (kinds : List ComponentKind) (ds : List DeclarationForm) (fs : StmtsForm) (hs : HandlersForm)
+    (behind : List (Frame Value)) (before after : State) (running : Activation Value) (suspended : List (Activation Value)) (event : Event)
+    → reached_of program.types.items object_type ≡ Some kinds
+    → before.mode ≡ Running → before.control ≡ frame.Elaborates (declares_record x object_type ∷ ds) fs hs ∷ behind
+    → before.activations ≡ running ∷ suspended → Step program before settled event after
+    → (object : Object) × (after.heap ≡ before.heap ++ object ∷ []) × (object.cell.access ≡ object_type) × (object.cell.home.pool ≡ None)
+    × HoldAtFirst kinds object.cell.values
+    × (after.activations ≡ record running { places = slice_set running.places x (Names (record { 0 = length before.heap })) } ∷ suspended)

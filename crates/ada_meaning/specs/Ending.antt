@@ -2,7 +2,7 @@
 
 use Rattle.std.specs.Prelude.{◌≡◌, ◌≢◌, ℕ, Bool, true, false, ◌||◌, ◌+◌, ◌<◌, ◌≤◌, if◌then◌else◌, List, [], ◌∷◌, length, Option, Some, None}
 use Rattle.ada_program.specs.declared.program.Program.{Program}
-use Rattle.ada_program.specs.Form.{PathForm, ExpressionForm, integer, boolean, reads, is_null, applied_to, chained, LinksForm, no_more_links, a_link, ItemForm, null_item, item_of_path, item_of_value, RightForm, nothing, value_of, allocates, allocates_default, computes, a_stmt, BranchesForm, otherwise, a_branch, DeclarationForm, collects, declares}
+use Rattle.ada_program.specs.Form.{PathForm, ExpressionForm, integer, boolean, reads, is_null, applied_to, chained, LinksForm, no_more_links, a_link, ItemForm, null_item, item_of_path, item_of_value, RightForm, nothing, value_of, allocates, allocates_default, computes, a_stmt, BranchesForm, otherwise, a_branch, DeclarationForm, collects, declares, declares_record}
 use Rattle.ada_meaning.specs.declared.event.Halt.TheVariants.{Memory}
 use Rattle.ada_meaning.specs.declared.state.Value.{Value}
 use Rattle.ada_meaning.specs.declared.state.Mode.{Mode}
@@ -62,10 +62,11 @@ abbrev pub condition_weight : Option ExpressionForm → ℕ
 condition_weight None = 0
 condition_weight (Some e) = 1 + expression_weight e
 
--- A declaration: the item that it makes weighs 1, since it is to be left, too.
+-- A declaration: the item that it makes weighs 1, since it is to be left, too, and a record object 3 more, since it is to be ended.
 abbrev pub declaration_weight : DeclarationForm → ℕ
 declaration_weight (collects access) = 2
 declaration_weight (declares x right) = 3 + right_weight right
+declaration_weight (declares_record x object) = 5
 
 -- Declarations, and a step where none is left.
 abbrev pub declarations_weight : List DeclarationForm → ℕ

@@ -16,7 +16,7 @@ use Rattle.ada_text.specs.declared.spot.Spot.{Spot}
 pub data Event (V : Type 0) : Type 0 where
   Born : (object : V) → (part turn type number : ℕ) → Birth → Event V
   Finalized : (object : V) → (part turn type number : ℕ) → Cause → Event V
-  Back : (object : V) → (access number pool : ℕ) → (subpool : Option ℕ) → Cause → Event V
+  Back : (object : V) → (access number : ℕ) → (pool subpool : Option ℕ) → Cause → Event V
   Followed : (object : V) → Event V
   Left : (master : ℕ) → Event V
   Line : LineOf → Event V

@@ -70,7 +70,7 @@ pub data Frame (V : Type 0) : Type 0 where
   -- an object ceases to exist (13.11.2)
   Ends : V → Frame V
   -- its words go back to a pool (13.11.2)
-  GivesBack : V → Cause → (pool : ℕ) → Frame V
+  GivesBack : V → Cause → (pool : Option ℕ) → Frame V
   -- a variable becomes null: the end of a Free (13.11.2)
   Clears : (variable : ℕ) → Frame V
   -- a component of an object becomes null: the end of a Free (13.11.2)

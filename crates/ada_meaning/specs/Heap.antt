@@ -5,13 +5,15 @@ use Rattle.ada_values.specs.declared.operator.BinaryOperator.{BinaryOperator}
 use Rattle.ada_values.specs.declared.operator.UnaryOperator.{UnaryOperator}
 use Rattle.ada_values.specs.declared.fault.OperatorFault.{OperatorFault}
 
--- Where the words of an allocated object lie, and with which item it goes: the collection, by its item's number; the pool; its subpool (13.11.4).
+-- Where an object lies, and with which item it goes: a collection or a record object, by its item's number; the pool that its words are from, none
+-- where it is declared (3.3.1); its subpool (13.11.4).
 pub record Home : Type 0 where
   pub item : ℕ
-  pub pool : ℕ
+  pub pool : Option ℕ
   pub subpool : Option ℕ
 
--- What lies in an allocated object (4.8): its access type, its trace number, its home and its components.
+-- What lies in an object (3.3, 4.8): its access type, or the type that it is known by; its trace number, 0 where it is declared; its home and its
+-- components.
 pub record Cell (V : Type 0) : Type 0 where
   pub access : ℕ
   pub number : ℕ

@@ -121,9 +121,9 @@ InReverseOrder e f = Between NeverRises (leaving_of e) (leaving_of f)
 abbrev pub LeavesHome : Home → Option AtItem → Type 0
 LeavesHome home leaving = IfSome leaving (λ at_item. at_item.item ≡ home.item)
 
--- The words of this object go back: it is there, of this access type and with this trace number, and the pool and the subpool are those of
--- its home.
-abbrev pub GoesHome : List Object → Option Id → (access number pool : ℕ) → Option ℕ → Option AtItem → Type 0
+-- The storage of this object goes back: it is there, of this access type and with this trace number, and the pool, if it is from one, and the
+-- subpool are those of its home.
+abbrev pub GoesHome : List Object → Option Id → (access number : ℕ) → (pool subpool : Option ℕ) → Option AtItem → Type 0
 GoesHome objects None access number pool subpool leaving = ⊥
 GoesHome objects (Some o) access number pool subpool leaving =
     (object : Object) × (object_at objects o ≡ Some object) × (object.cell.access ≡ access) × (object.cell.number ≡ number) × (object.cell.home.pool ≡ pool) × (object.cell.home.subpool ≡ subpool) × LeavesHome object.cell.home leaving

@@ -50,6 +50,7 @@ abbrev pub blank : VariableKind → Value
 blank variable.Integer = an_integer (pos 0)
 blank variable.Boolean = a_boolean false
 blank (variable.Access access) = Null
+blank (variable.Record object) = Null
 
 -- What lies in a variable's place before its declaration is elaborated.
 abbrev pub blank_of : Variable → Value

@@ -10,10 +10,18 @@ pub record Activation (V : Type 0) : Type 0 where
   pub places : List V
   pub operands : List V
 
--- What a master owns (7.6.1): a variable, or the collection of an access type.
+-- What a master owns (7.6.1): a variable, the collection of an access type, or the record object that is known by a type.
 pub data Owned : Type 0 where
   declared : (variable : ℕ) → Owned
   collection : (access : ℕ) → Owned
+  record_object : (object_type : ℕ) → Owned
+
+-- The type of the objects whose home an item is that owns this: the access type of a collection, or what a record object is known by. A variable is
+-- no object's home.
+abbrev pub type_housed : Owned → Option ℕ
+type_housed (declared x) = None
+type_housed (collection access) = Some access
+type_housed (record_object t) = Some t
 
 -- An item of a master, with its number: what is created later has a greater one.
 pub record Item : Type 0 where
@@ -50,6 +58,7 @@ height (m ∷ ms) = length m.items + height ms
 -- The collection that an access type denotes: the newest of it that is open (7.6.1), by its item's number.
 abbrev pub collection_in : ℕ → Item → Owned → Option ℕ → Option ℕ
 collection_in access item (declared x) outer = outer
+collection_in access item (record_object t) outer = outer
 collection_in access item (collection t) outer = if access == t then Some item.number else outer
 
 -- The number of the newest of these items that is the collection of an access type, or of an outer one.

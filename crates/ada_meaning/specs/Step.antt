@@ -9,7 +9,7 @@ use Rattle.ada_values.specs.declared.fault.OperatorFault.TheVariants.{Overflow, 
 use Rattle.ada_program.specs.declared.program.ComponentKind.{ComponentKind}
 use Rattle.ada_program.specs.declared.program.ComponentKind.TheVariants as component
 use Rattle.ada_program.specs.declared.program.TypeDefinition.{TypeDefinition}
-use Rattle.ada_program.specs.Form.{ExpressionForm, integer, boolean, reads, is_null, applied_to, chained, LinksForm, no_more_links, a_link, ItemForm, null_item, item_of_path, item_of_value, RightForm, nothing, value_of, allocates, allocates_default, computes, StmtForm, skips, assigns, frees, gets, writes, writes_text, chooses, repeats, counts, exits, returns, raises, encloses, StmtsForm, no_stmts, a_stmt, BranchesForm, otherwise, a_branch, HandlersForm, DeclarationForm, collects, declares}
+use Rattle.ada_program.specs.Form.{ExpressionForm, integer, boolean, reads, is_null, applied_to, chained, LinksForm, no_more_links, a_link, ItemForm, null_item, item_of_path, item_of_value, RightForm, nothing, value_of, allocates, allocates_default, computes, StmtForm, skips, assigns, frees, gets, writes, writes_text, chooses, repeats, counts, exits, returns, raises, encloses, StmtsForm, no_stmts, a_stmt, BranchesForm, otherwise, a_branch, HandlersForm, DeclarationForm, collects, declares, declares_record}
 use Rattle.ada_program.specs.Typed.{reached_of, words_of}
 use Rattle.ada_meaning.specs.declared.state.Mode.{Mode}
 use Rattle.ada_meaning.specs.declared.state.Mode.TheVariants.{Running, Raising, Exiting, Returning}
@@ -24,7 +24,7 @@ use Rattle.ada_meaning.specs.declared.event.Why.TheVariants.{FollowsGone, EndsTw
 use Rattle.ada_meaning.specs.Event.{Event, Back, Followed, Left, Line, Quiet, Request, Allocate, GiveBack}
 use Rattle.ada_meaning.specs.Frame.{Frame, is_master, Landing, passes_on, goes_behind, goes_in, landing}
 use Rattle.ada_meaning.specs.Frame as frame
-use Rattle.ada_meaning.specs.State.{Activation, Owned, declared, collection, Item, Master, State, height, home_of, pool_of, counted}
+use Rattle.ada_meaning.specs.State.{Activation, Owned, declared, collection, record_object, Item, Master, State, height, home_of, pool_of, counted}
 use Rattle.ada_meaning.specs.Heap.{Cell, Found, on_null, on_gone, on_other, finds, Ops}
 
 -- What a state does next: it halts; or one event comes, perhaps with something told to the pools; or a request to a pool is open; or one of
@@ -37,6 +37,13 @@ pub data Next (V H : Type 0) : Type 0 where
   picks : ℕ → (ℕ → State V H) → Next V H
 
 -- Words of a state.
+
+-- Are these one pool, or none?
+abbrev pub same_pool : Option ℕ → Option ℕ → Bool
+same_pool None None = true
+same_pool None (Some other) = false
+same_pool (Some pool) None = false
+same_pool (Some pool) (Some other) = pool == other
 
 -- The state with this left to do.
 abbrev pub at : {V H : Type 0} → List (Frame V) → State V H → State V H
@@ -235,7 +242,7 @@ module _ {V H : Type 0} (ops : Ops V H) where
   new_cell access count item s = record {
     access = access;
     number = counted s.allocated;
-    home = record { item = item; pool = pool_of access; subpool = None };
+    home = record { item = item; pool = Some (pool_of access); subpool = None };
     values = reverse (take count (operands s));
   }
 
@@ -284,7 +291,7 @@ module _ {V H : Type 0} (ops : Ops V H) where
   abbrev pub freeing : (access : ℕ) → V → (clears : Frame V) → State V H → State V H
   freeing access v clears s = numbered (record s {
     heap = ops.part s.heap v;
-    control = frame.Ends v ∷ frame.GivesBack v (Freeing s.next) (pool_of access) ∷ clears ∷ s.control;
+    control = frame.Ends v ∷ frame.GivesBack v (Freeing s.next) (Some (pool_of access)) ∷ clears ∷ s.control;
   })
 
   -- Free (X) (13.11.2): null has no effect.
@@ -301,15 +308,20 @@ module _ {V H : Type 0} (ops : Ops V H) where
   end_next v on_other s = halts Stuck
   end_next v (finds cell) s = moves Quiet (record s { heap = ops.finish s.heap v })
 
-  -- Its words go back (13.11.2): to another pool than its own is erroneous, and so is twice.
-  abbrev pub given_back : V → Cause → Cell V → State V H → Next V H
-  given_back v cause cell s = tells (GiveBack v) (Back v cell.access cell.number cell.home.pool cell.home.subpool cause) (record s { heap = ops.back s.heap v })
+  -- Its storage goes back (13.11.2): to another pool than its own is erroneous, and so is twice. Of a declared object no pool is told.
+  abbrev pub told_back : (pool : Option ℕ) → V → Event V → State V H → Next V H
+  told_back None v event s = moves event s
+  told_back (Some pool) v event s = tells (GiveBack v) event s
 
-  abbrev pub back_next : V → Cause → ℕ → Found (Cell V) → State V H → Next V H
+  abbrev pub given_back : V → Cause → Cell V → State V H → Next V H
+  given_back v cause cell s =
+      told_back cell.home.pool v (Back v cell.access cell.number cell.home.pool cell.home.subpool cause) (record s { heap = ops.back s.heap v })
+
+  abbrev pub back_next : V → Cause → Option ℕ → Found (Cell V) → State V H → Next V H
   back_next v cause pool on_null s = halts Stuck
   back_next v cause pool on_gone s = halts (Erroneous EndsTwice)
   back_next v cause pool on_other s = halts Stuck
-  back_next v cause pool (finds cell) s = if pool == cell.home.pool then given_back v cause cell s else halts (Erroneous GivesElsewhere)
+  back_next v cause pool (finds cell) s = if same_pool pool cell.home.pool then given_back v cause cell s else halts (Erroneous GivesElsewhere)
 
   -- Statements (5.1). An assignment finds its target first (5.2): a variable, or a component of the object to which the path before its last
   -- name leads. Null there raises Constraint_Error before the right side is evaluated, and a target in an object that is gone is erroneous.
@@ -448,31 +460,48 @@ module _ {V H : Type 0} (ops : Ops V H) where
   line_next None s = halts Stuck
   line_next (Some i) s = moves (Line (Image i)) s
 
-  -- Declarations (3.11): a collection is created; a variable is created once its initial value is known. Then the statements come, and their
-  -- handlers with them: these don't cover the declarations (11.4).
-  abbrev pub declaration_next : DeclarationForm → State V H → Next V H
-  declaration_next (collects access) s = moves Quiet (owned (collection access) s)
-  declaration_next (declares x right) s = moves Quiet (at (frame.Evaluates right ∷ frame.Declares x ∷ s.control) s)
-
-  abbrev pub declarations_next : List DeclarationForm → StmtsForm → HandlersForm → State V H → Next V H
-  declarations_next [] fs hs s = moves Quiet (at (frame.Does fs ∷ frame.Handles hs ∷ frame.Closes ∷ s.control) s)
-  declarations_next (d ∷ ds) fs hs s = declaration_next d (at (frame.Elaborates ds fs hs ∷ s.control) s)
-
-  -- The leaving of a master (7.6.1), newest item first: the objects of a collection go in an arbitrary order, and the collection after them;
-  -- when no item is left, the master is left. The object that is taken leaves its collection at once.
-  abbrev pub taken : Cause → (access : ℕ) → List V → State V H → ℕ → State V H
-  taken cause access vs s i = record s {
-    heap = ops.part s.heap (slice_index_or vs i ops.null);
-    control = frame.Ends (slice_index_or vs i ops.null) ∷ frame.GivesBack (slice_index_or vs i ops.null) cause (pool_of access) ∷ s.control;
+  -- A record object (3.3.1): its home is its own item, and its components hold what their declarations say.
+  abbrev pub record_cell : List TypeDefinition → (object_type item : ℕ) → Cell V
+  record_cell types t item = record {
+    access = t;
+    number = 0;
+    home = record { item = item; pool = None; subpool = None };
+    values = initial_values (reached_of types t);
   }
 
-  abbrev pub members_next : Cause → (access : ℕ) → List V → State V H → Next V H
-  members_next cause access [] s = moves Quiet (record s { masters = shorter s.masters })
-  members_next cause access (v ∷ vs) s = picks (length (v ∷ vs)) (taken cause access (v ∷ vs) s)
+  -- The variable holds the name of the object, which is there from now on.
+  abbrev pub made : List TypeDefinition → (x object_type : ℕ) → State V H → State V H
+  made types x t s =
+      put x (ops.created s.heap (words_of types t))
+      (record s { heap = ops.create s.heap (words_of types t) (record_cell types t (height s.masters)) })
+
+  -- Declarations (3.11): a collection is created; a variable is created once its initial value is known; a record object is created. Then the
+  -- statements come, and their handlers with them: these don't cover the declarations (11.4).
+  abbrev pub declaration_next : List TypeDefinition → DeclarationForm → State V H → Next V H
+  declaration_next types (collects access) s = moves Quiet (owned (collection access) s)
+  declaration_next types (declares x right) s = moves Quiet (at (frame.Evaluates right ∷ frame.Declares x ∷ s.control) s)
+  declaration_next types (declares_record x t) s = moves Quiet (owned (record_object t) (made types x t s))
+
+  abbrev pub declarations_next : List TypeDefinition → List DeclarationForm → StmtsForm → HandlersForm → State V H → Next V H
+  declarations_next types [] fs hs s = moves Quiet (at (frame.Does fs ∷ frame.Handles hs ∷ frame.Closes ∷ s.control) s)
+  declarations_next types (d ∷ ds) fs hs s = declaration_next types d (at (frame.Elaborates ds fs hs ∷ s.control) s)
+
+  -- The leaving of a master (7.6.1), newest item first: the objects of a collection go in an arbitrary order, and the collection after them, and
+  -- so does a record object; when no item is left, the master is left. The object that is taken leaves its collection at once.
+  abbrev pub taken : Cause → (pool : Option ℕ) → List V → State V H → ℕ → State V H
+  taken cause pool vs s i = record s {
+    heap = ops.part s.heap (slice_index_or vs i ops.null);
+    control = frame.Ends (slice_index_or vs i ops.null) ∷ frame.GivesBack (slice_index_or vs i ops.null) cause pool ∷ s.control;
+  }
+
+  abbrev pub members_next : Cause → (pool : Option ℕ) → List V → State V H → Next V H
+  members_next cause pool [] s = moves Quiet (record s { masters = shorter s.masters })
+  members_next cause pool (v ∷ vs) s = picks (length (v ∷ vs)) (taken cause pool (v ∷ vs) s)
 
   abbrev pub item_leave_next : ℕ → Item → Owned → State V H → Next V H
   item_leave_next m item (declared x) s = moves Quiet (record s { masters = shorter s.masters })
-  item_leave_next m item (collection access) s = members_next (Leaving m item.number) access (ops.members s.heap item.number) s
+  item_leave_next m item (collection access) s = members_next (Leaving m item.number) (Some (pool_of access)) (ops.members s.heap item.number) s
+  item_leave_next m item (record_object t) s = members_next (Leaving m item.number) None (ops.members s.heap item.number) s
 
   abbrev pub master_leave_next : Mode → ℕ → List Item → State V H → Next V H
   master_leave_next mode m [] s = moves (Left m) (record s { masters = older s.masters; mode = mode })
@@ -484,7 +513,7 @@ module _ {V H : Type 0} (ops : Ops V H) where
 
   -- What a frame does that has been taken off, where no exception is on its way.
   abbrev pub frame_next : List TypeDefinition → Frame V → State V H → Next V H
-  frame_next types (frame.Elaborates ds fs hs) s = declarations_next ds fs hs s
+  frame_next types (frame.Elaborates ds fs hs) s = declarations_next types ds fs hs s
   frame_next types (frame.Does fs) s = stmts_next fs s
   frame_next types (frame.Decides fs branches) s = decided_next fs branches (ops.reads_boolean (newest s)) (popped s)
   frame_next types (frame.Repeats condition fs) s = repeats_next condition fs s

@@ -23,14 +23,15 @@ pub enum Event {
         number: u64,
         cause: Cause,
     },
-    /// The words of an allocated object go back to a pool, or to one of its subpools (13.11.2).
+    /// The storage of an object goes back: to a pool, or to one of its subpools, where it was allocated (13.11.2).
     Back {
         object: Id,
+        /// Its access type, or the type that a record object is known by.
         access: TypeNo,
-        /// The trace number: allocations are counted from 1.
+        /// The trace number: allocations are counted from 1. 0 for a declared object.
         number: u64,
-        /// The pool's number; 0 is the standard pool.
-        pool: usize,
+        /// The pool's number; 0 is the standard pool. None for a declared object.
+        pool: Option<usize>,
         /// The number of the subpool; none yet.
         subpool: Option<usize>,
         cause: Cause,

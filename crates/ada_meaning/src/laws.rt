@@ -1,7 +1,7 @@
 //! Laws of any run of any program, by the definitions alone.
 
 ghost use Rattle.ada_meaning.specs.Beginning.{StatementsBegin};
-ghost use Rattle.ada_meaning.specs.Defaults.{MakesByDefault};
+ghost use Rattle.ada_meaning.specs.Defaults.{MakesByDefault, MakesRecords};
 ghost use Rattle.ada_meaning.specs.Life.{NamesAreUsedOnce, GoneForEver, BackOnce};
 ghost use Rattle.ada_meaning.specs.Ending.{StepsMakeLighter, StatesGoOn, StatementsEnd};
 
@@ -44,4 +44,9 @@ pub fn statements_begin()
 /// The object of an allocator without items holds, component by component, what the declarations of its type say (4.8, 3.3.1).
 pub fn makes_by_default()
     ensures { MakesByDefault }
+{}
+
+/// So does a record object where it is declared; its variable names it, and it is of no pool (3.3.1).
+pub fn makes_records()
+    ensures { MakesRecords }
 {}

@@ -31,8 +31,8 @@ Plain (f ∷ k) = IsPlain f × Plain k
 -- innermost master goes on.
 pub data Stands (ms : List Master) : Mode → Control → Type 0 where
   plainly : {mode : Mode} {k : Control} → Plain k → Stands ms mode k
-  ending : (v : Value) (m i pool : ℕ) (mode : Mode) (k : Control) → Newest m i ms → Plain k → Stands ms Running (Ends v ∷ GivesBack v (Leaving m i) pool ∷ Leaves mode ∷ k)
-  backing : (v : Value) (m i pool : ℕ) (mode : Mode) (k : Control) → Newest m i ms → Plain k → Stands ms Running (GivesBack v (Leaving m i) pool ∷ Leaves mode ∷ k)
+  ending : (v : Value) (m i : ℕ) (pool : Option ℕ) (mode : Mode) (k : Control) → Newest m i ms → Plain k → Stands ms Running (Ends v ∷ GivesBack v (Leaving m i) pool ∷ Leaves mode ∷ k)
+  backing : (v : Value) (m i : ℕ) (pool : Option ℕ) (mode : Mode) (k : Control) → Newest m i ms → Plain k → Stands ms Running (GivesBack v (Leaving m i) pool ∷ Leaves mode ∷ k)
 
 -- The innermost master is being left.
 abbrev pub LeavesFirst : Control → Type 0

@@ -62,7 +62,7 @@ abbrev of_type : ℕ → Variable
 of_type access = record { name = no_name; kind = variable.Access (record { 0 = access }); borrows = false }
 
 abbrev path : ℕ → Path
-path x = record { root = record { 0 = x }; selectors = vec [] (omega arith); spot = spot }
+path x = record { root = record { 0 = x }; of_record = false; selectors = vec [] (omega arith); spot = spot }
 
 -- A variable becomes a new object of an access type.
 abbrev makes : ℕ → ℕ → Stmt

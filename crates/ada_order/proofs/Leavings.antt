@@ -1,6 +1,6 @@
 -- Each step at the leaving of a master, and so each step.
 
-use Rattle.std.proofs.Common.{◌≡◌, ℕ, ◌==◌, Bool, true, false, if◌then◌else◌, List, [], ◌∷◌, refl, ◌⊎◌, inl, inr}
+use Rattle.std.proofs.Common.{◌≡◌, ℕ, Bool, true, false, if◌then◌else◌, List, [], ◌∷◌, Option, Some, None, refl, ◌⊎◌, inl, inr}
 use Rattle.ada_program.specs.declared.program.Program.{Program}
 use Rattle.ada_program.specs.declared.program.TypeDefinition.{TypeDefinition}
 use Rattle.ada_meaning.specs.declared.state.Value.{Value}
@@ -11,10 +11,11 @@ use Rattle.ada_meaning.specs.declared.event.Halt.TheVariants.{Erroneous}
 use Rattle.ada_meaning.specs.declared.event.Why.TheVariants.{GivesElsewhere}
 use Rattle.ada_meaning.specs.Frame.{Frame, Leaves, Ends, GivesBack}
 use Rattle.ada_meaning.specs.Heap.{Cell, Found, on_null, on_gone, on_other, finds}
-use Rattle.ada_meaning.specs.State.{Owned, declared, collection, Item, Master}
-use Rattle.ada_meaning.specs.Step.{halts, end_next, given_back, back_next, members_next, item_leave_next, master_leave_next, leave_next, running_next, mode_next}
-use Rattle.ada_meaning.specs.Named.{State, Next, look, lent, members, named, next}
+use Rattle.ada_meaning.specs.State.{Owned, declared, collection, record_object, Item, Master, pool_of}
+use Rattle.ada_meaning.specs.Step.{halts, end_next, same_pool, told_back, given_back, back_next, members_next, item_leave_next, master_leave_next, leave_next, running_next, mode_next}
+use Rattle.ada_meaning.specs.Named.{Object, State, Next, look, lent, members, named, next}
 use Rattle.ada_meaning.specs.Run.{Event, Choice, Step}
+use Rattle.ada_meaning.specs.Law.{leaving_of, left_by}
 use Rattle.ada_order.proofs.Numbers.{Newest}
 use Rattle.ada_order.proofs.Controls.{Control, IsPlain, Plain, Stands, plainly, ending, backing, LeavesFirst, IsLeaving, Work, Leave, waits, shortens, gives, left, Deed, works, leaves, Does, does_map, led}
 use Rattle.ada_order.proofs.Works.{IsWork, frame_works, jump_works}
@@ -33,15 +34,16 @@ module _ (mode : Mode) (k : Control) (p : Plain k) (s : State) (m : ℕ) (ms : L
   left_with : List Item → Control → State
   left_with items control = record s { masters = record { number = m; items = items } ∷ ms; control = control; mode = Running }
 
-  members_leave : (item : Item) (items : List Item) (access : ℕ) (vs : List Value) → LeavesBy (left_with (item ∷ items) k) (members_next named (Leaving m item.number) access vs (left_with (item ∷ items) (Leaves mode ∷ k)))
+  members_leave : (item : Item) (items : List Item) (pool : Option ℕ) (vs : List Value) → LeavesBy (left_with (item ∷ items) k) (members_next named (Leaving m item.number) pool vs (left_with (item ∷ items) (Leaves mode ∷ k)))
   unfolding left_with
-  members_leave item items access [] = shortens refl (refl, tt) (tt, p) refl refl
-  members_leave item items access (v ∷ vs) = λ i. waits refl (refl, tt) (ending _ m item.number _ mode k (refl, refl) p) refl refl
+  members_leave item items pool [] = shortens refl (refl, tt) (tt, p) refl refl
+  members_leave item items pool (v ∷ vs) = λ i. waits refl (refl, tt) (ending _ m item.number _ mode k (refl, refl) p) refl refl
 
   item_leaves : (item : Item) (items : List Item) (what : Owned) → LeavesBy (left_with (item ∷ items) k) (item_leave_next named m item what (left_with (item ∷ items) (Leaves mode ∷ k)))
   unfolding left_with
   item_leaves item items (declared x) = shortens refl (refl, tt) (tt, p) refl refl
-  item_leaves item items (collection access) = members_leave item items access (members s.heap item.number)
+  item_leaves item items (collection access) = members_leave item items (Some (pool_of access)) (members s.heap item.number)
+  item_leaves item items (record_object t) = members_leave item items None (members s.heap item.number)
 
   master_leaves : (items : List Item) → LeavesBy (left_with items k) (master_leave_next named mode m items (left_with items k))
   unfolding left_with
@@ -54,22 +56,26 @@ leave_leaves mode k [] s p = tt
 leave_leaves mode k (m ∷ ms) s p = master_leaves mode k p s m.number ms m.items
 
 -- An object of the newest item ends, and its words go back.
-module _ (v : Value) (m i pool : ℕ) (mode : Mode) (k : Control) (s : State) (newest : Newest m i s.masters) (p : Plain k) where
+module _ (v : Value) (m i : ℕ) (pool : Option ℕ) (mode : Mode) (k : Control) (s : State) (newest : Newest m i s.masters) (p : Plain k) where
   end_leaves : (found : Found (Cell Value)) → LeavesBy s (end_next named v found (running (GivesBack v (Leaving m i) pool ∷ Leaves mode ∷ k) s))
   end_leaves on_null = tt
   end_leaves on_gone = tt
   end_leaves on_other = tt
   end_leaves (finds cell) = waits refl (refl, tt) (backing v m i pool mode k newest p) refl refl
 
+  told_leaves : (own : Option ℕ) (e : Event) (h : List Object) → leaving_of e ≡ Some (record { master = m; item = i }) → left_by e ≡ Some m → LeavesBy s (told_back named own v e (running (Leaves mode ∷ k) (record s { heap = h })))
+  told_leaves None e h at_item tells = gives m i at_item tells newest (refl, tt) (tt, p) refl refl
+  told_leaves (Some own) e h at_item tells = gives m i at_item tells newest (refl, tt) (tt, p) refl refl
+
   given_leaves : (fits : Bool) (cell : Cell Value) → LeavesBy s (if fits then given_back named v (Leaving m i) cell (running (Leaves mode ∷ k) s) else halts (Erroneous GivesElsewhere))
-  given_leaves true cell = gives m i refl refl newest (refl, tt) (tt, p) refl refl
+  given_leaves true cell = told_leaves cell.home.pool _ _ refl refl
   given_leaves false cell = tt
 
   back_leaves : (found : Found (Cell Value)) → LeavesBy s (back_next named v (Leaving m i) pool found (running (Leaves mode ∷ k) s))
   back_leaves on_null = tt
   back_leaves on_gone = tt
   back_leaves on_other = tt
-  back_leaves (finds cell) = given_leaves (pool == cell.home.pool) cell
+  back_leaves (finds cell) = given_leaves (same_pool pool cell.home.pool) cell
 
 -- A master is being left, or another frame is next.
 leaves_or_works : (f : Frame Value) → IsPlain f → ((mode : Mode) × (f ≡ Leaves mode)) ⊎ IsWork f

@@ -1,10 +1,10 @@
 -- Each step that leaves no master.
 
-use Rattle.std.proofs.Common.{◌≡◌, ℕ, ℤ, ◌==◌, Bool, true, false, if◌then◌else◌, List, [], ◌∷◌, Option, Some, None, Result, Ok, Err, refl}
+use Rattle.std.proofs.Common.{◌≡◌, ℕ, ℤ, Bool, true, false, if◌then◌else◌, List, [], ◌∷◌, Option, Some, None, Result, Ok, Err, refl}
 use Rattle.std.specs.Prelude.{int_le}
 use Rattle.std.specs.List.{slice_get}
 use Rattle.ada_program.specs.declared.program.TypeDefinition.{TypeDefinition}
-use Rattle.ada_program.specs.Form.{ExpressionForm, integer, boolean, reads, is_null, applied_to, chained, LinksForm, no_more_links, a_link, ItemForm, null_item, item_of_path, item_of_value, RightForm, nothing, value_of, allocates, allocates_default, computes, StmtForm, skips, assigns, frees, gets, writes, writes_text, chooses, repeats, counts, exits, raises, encloses, StmtsForm, no_stmts, a_stmt, BranchesForm, otherwise, a_branch, HandlersForm, DeclarationForm, collects, declares}
+use Rattle.ada_program.specs.Form.{ExpressionForm, integer, boolean, reads, is_null, applied_to, chained, LinksForm, no_more_links, a_link, ItemForm, null_item, item_of_path, item_of_value, RightForm, nothing, value_of, allocates, allocates_default, computes, StmtForm, skips, assigns, frees, gets, writes, writes_text, chooses, repeats, counts, exits, raises, encloses, StmtsForm, no_stmts, a_stmt, BranchesForm, otherwise, a_branch, HandlersForm, DeclarationForm, collects, declares, declares_record}
 use Rattle.ada_program.specs.Form as form
 use Rattle.ada_program.specs.Typed.{words_of}
 use Rattle.ada_values.specs.declared.operator.BinaryOperator.{BinaryOperator}
@@ -20,10 +20,10 @@ use Rattle.ada_meaning.specs.declared.event.Why.TheVariants.{GivesElsewhere}
 use Rattle.ada_meaning.specs.Event.{Quiet}
 use Rattle.ada_meaning.specs.Frame.{Frame, is_master, Landing, passes_on, goes_behind, goes_in, landing}
 use Rattle.ada_meaning.specs.Frame as frame
-use Rattle.ada_meaning.specs.State.{declared, collection, home_of}
+use Rattle.ada_meaning.specs.State.{declared, collection, record_object, home_of}
 use Rattle.ada_meaning.specs.Heap.{Cell, Found, on_null, on_gone, on_other, finds}
-use Rattle.ada_meaning.specs.Step.{halts, at, popped, held, newest, reading, component_next, follow_next, path_next, expression_next, null_test_next, is_decided, link_next, links_next, outcome_next, item_next, items_next, answered, new_next, right_next, free_next, end_next, given_back, back_next, before_last, last_of, assign_next, target_next, stored_next, store_next, received_next, receive_next, frees_next, freed_next, free_component_next, free_in_next, branches_next, decided_next, turn_next, repeats_next, turned_next, count_turn_next, counts_next, ranges_next, gets_next, exit_next, exited_next, stmt_next, stmts_next, line_next, declaration_next, declarations_next, frame_next, landed, pass_next, jump_next}
-use Rattle.ada_meaning.specs.Named.{State, Next, named, look, lent, reads_boolean, reads_null, reads_integer, unary_given, binary_given}
+use Rattle.ada_meaning.specs.Step.{halts, at, popped, held, newest, reading, component_next, follow_next, path_next, expression_next, null_test_next, is_decided, link_next, links_next, outcome_next, item_next, items_next, answered, new_next, right_next, free_next, end_next, same_pool, told_back, given_back, back_next, before_last, last_of, assign_next, target_next, stored_next, store_next, received_next, receive_next, frees_next, freed_next, free_component_next, free_in_next, branches_next, decided_next, turn_next, repeats_next, turned_next, count_turn_next, counts_next, ranges_next, gets_next, exit_next, exited_next, stmt_next, stmts_next, line_next, declaration_next, declarations_next, frame_next, landed, pass_next, jump_next}
+use Rattle.ada_meaning.specs.Named.{Object, State, Next, named, look, lent, reads_boolean, reads_null, reads_integer, unary_given, binary_given}
 use Rattle.ada_meaning.specs.Run.{Event}
 use Rattle.ada_meaning.specs.Law.{left_by}
 use Rattle.ada_order.proofs.Controls.{IsPlain, Plain, Work, stays, numbers, owns, enters, Does}
@@ -116,18 +116,22 @@ end_works v on_gone s p = tt
 end_works v on_other s p = tt
 end_works v (finds cell) s p = stays refl p refl refl
 
-given_works : (fits : Bool) (v : Value) (cause : Cause) (pool : ℕ) (cell : Cell Value) (s : State) → IsPlain (frame.GivesBack v cause pool) → Plain s.control → Works s (if fits then given_back named v cause cell s else halts (Erroneous GivesElsewhere))
+told_works : (pool : Option ℕ) (v : Value) (e : Event) (s : State) (h : List Object) → left_by e ≡ None → Plain s.control → Works s (told_back named pool v e (record s { heap = h }))
+told_works None v e s h tells p = stays tells p refl refl
+told_works (Some pool) v e s h tells p = stays tells p refl refl
+
+given_works : (fits : Bool) (v : Value) (cause : Cause) (pool : Option ℕ) (cell : Cell Value) (s : State) → IsPlain (frame.GivesBack v cause pool) → Plain s.control → Works s (if fits then given_back named v cause cell s else halts (Erroneous GivesElsewhere))
 given_works true v (Leaving m i) pool cell s is p = absurd is
-given_works true v (Freeing number) pool cell s is p = stays refl p refl refl
-given_works true v (Assigning number) pool cell s is p = stays refl p refl refl
-given_works true v (Undoing number) pool cell s is p = stays refl p refl refl
+given_works true v (Freeing number) pool cell s is p = told_works cell.home.pool v _ s _ refl p
+given_works true v (Assigning number) pool cell s is p = told_works cell.home.pool v _ s _ refl p
+given_works true v (Undoing number) pool cell s is p = told_works cell.home.pool v _ s _ refl p
 given_works false v cause pool cell s is p = tt
 
-back_works : (v : Value) (cause : Cause) (pool : ℕ) (found : Found (Cell Value)) (s : State) → IsPlain (frame.GivesBack v cause pool) → Plain s.control → Works s (back_next named v cause pool found s)
+back_works : (v : Value) (cause : Cause) (pool : Option ℕ) (found : Found (Cell Value)) (s : State) → IsPlain (frame.GivesBack v cause pool) → Plain s.control → Works s (back_next named v cause pool found s)
 back_works v cause pool on_null s is p = tt
 back_works v cause pool on_gone s is p = tt
 back_works v cause pool on_other s is p = tt
-back_works v cause pool (finds cell) s is p = given_works (pool == cell.home.pool) v cause pool cell s is p
+back_works v cause pool (finds cell) s is p = given_works (same_pool pool cell.home.pool) v cause pool cell s is p
 
 -- Statements and declarations.
 assign_works : (cs : List ℕ) (x : ℕ) (right : RightForm) (s : State) → Plain s.control → Works s (assign_next named cs x right s)
@@ -259,13 +263,14 @@ line_works : (read : Option ℤ) (s : State) → Plain s.control → Works s (li
 line_works None s p = tt
 line_works (Some i) s p = stays refl p refl refl
 
-declaration_works : (d : DeclarationForm) (s : State) → Plain s.control → Works s (declaration_next named d s)
-declaration_works (collects access) s p = owns (collection access) refl p refl refl
-declaration_works (declares x right) s p = stays refl (tt, (tt, p)) refl refl
+declaration_works : (types : List TypeDefinition) (d : DeclarationForm) (s : State) → Plain s.control → Works s (declaration_next named types d s)
+declaration_works types (collects access) s p = owns (collection access) refl p refl refl
+declaration_works types (declares x right) s p = stays refl (tt, (tt, p)) refl refl
+declaration_works types (declares_record x t) s p = owns (record_object t) refl p refl refl
 
-declarations_work : (ds : List DeclarationForm) (fs : StmtsForm) (hs : HandlersForm) (s : State) → Plain s.control → Works s (declarations_next named ds fs hs s)
-declarations_work [] fs hs s p = stays refl (tt, (tt, (tt, p))) refl refl
-declarations_work (d ∷ ds) fs hs s p = declaration_works d (at (frame.Elaborates ds fs hs ∷ s.control) s) (tt, p)
+declarations_work : (types : List TypeDefinition) (ds : List DeclarationForm) (fs : StmtsForm) (hs : HandlersForm) (s : State) → Plain s.control → Works s (declarations_next named types ds fs hs s)
+declarations_work types [] fs hs s p = stays refl (tt, (tt, (tt, p))) refl refl
+declarations_work types (d ∷ ds) fs hs s p = declaration_works types d (at (frame.Elaborates ds fs hs ∷ s.control) s) (tt, p)
 
 -- A frame at which no master is being left.
 abbrev pub IsWork : Frame Value → Type 0
@@ -273,7 +278,7 @@ IsWork (frame.Leaves mode) = ⊥
 IsWork (frame.GivesBack v (Leaving m i) pool) = ⊥
 IsWork f = Unit {0}
 
-back_is_plain : (v : Value) (cause : Cause) (pool : ℕ) → IsWork (frame.GivesBack v cause pool) → IsPlain (frame.GivesBack v cause pool)
+back_is_plain : (v : Value) (cause : Cause) (pool : Option ℕ) → IsWork (frame.GivesBack v cause pool) → IsPlain (frame.GivesBack v cause pool)
 back_is_plain v (Leaving m i) pool is = absurd is
 back_is_plain v (Freeing number) pool is = tt
 back_is_plain v (Assigning number) pool is = tt
@@ -281,7 +286,7 @@ back_is_plain v (Undoing number) pool is = tt
 
 -- Each such frame that is taken off.
 pub frame_works : (types : List TypeDefinition) (f : Frame Value) (s : State) → IsWork f → Plain s.control → Works s (frame_next named types f s)
-frame_works types (frame.Elaborates ds fs hs) s is p = declarations_work ds fs hs s p
+frame_works types (frame.Elaborates ds fs hs) s is p = declarations_work types ds fs hs s p
 frame_works types (frame.Does fs) s is p = stmts_work fs s p
 frame_works types (frame.Decides fs branches) s is p = decided_works fs branches (reads_boolean (newest named s)) (popped s) p
 frame_works types (frame.Repeats condition fs) s is p = repeats_work condition fs s p

@@ -1,6 +1,6 @@
 -- A program whose blocks nest, and what its run shows.
 
-use Rattle.std.specs.Prelude.{◌≡◌, ℕ, ℤ, Bool, true, false, List, [], ◌∷◌, map, None, pos}
+use Rattle.std.specs.Prelude.{◌≡◌, ℕ, ℤ, Bool, true, false, List, [], ◌∷◌, map, Some, None, pos}
 use Rattle.std.specs.List.{filter}
 use Rattle.ada_program.specs.declared.program.Program.{Program}
 use Rattle.ada_program.specs.Form.{PathForm, integer, item_of_value, nothing, allocates, StmtForm, skips, assigns, writes, returns, encloses, StmtsForm, no_stmts, a_stmt, no_handlers, collects, declares, stmt_forms}
@@ -30,7 +30,7 @@ is_seen e = true
 
 -- A variable of the example, by its number.
 abbrev pub variable_at : ℕ → PathForm
-variable_at x = record { root = x; selectors = []; spot = record { line = 1; column = 1 } }
+variable_at x = record { root = x; of_record = false; selectors = []; spot = record { line = 1; column = 1 } }
 
 -- It becomes a new object of an access type.
 abbrev pub new_to : (x access : ℕ) → StmtForm
@@ -64,11 +64,11 @@ nested_stmts = a_stmt (encloses [] (a_stmt skips no_stmts) no_handlers) (a_stmt 
 abbrev pub nested_events : List Event
 nested_events =
     Left 1
-    ∷ Back (Names (record { 0 = 3 })) 3 4 0 None (Leaving 3 4)
-    ∷ Back (Names (record { 0 = 2 })) 2 3 0 None (Leaving 3 2)
-    ∷ Back (Names (record { 0 = 1 })) 2 2 0 None (Leaving 3 2)
+    ∷ Back (Names (record { 0 = 3 })) 3 4 (Some 0) None (Leaving 3 4)
+    ∷ Back (Names (record { 0 = 2 })) 2 3 (Some 0) None (Leaving 3 2)
+    ∷ Back (Names (record { 0 = 1 })) 2 2 (Some 0) None (Leaving 3 2)
     ∷ Left 3
-    ∷ Back (Names (record { 0 = 0 })) 1 1 0 None (Leaving 2 0)
+    ∷ Back (Names (record { 0 = 0 })) 1 1 (Some 0) None (Leaving 2 0)
     ∷ Left 2
     ∷ Left 0
     ∷ []

@@ -7,7 +7,7 @@ use Rattle.ada_text.specs.declared.spot.Spot.{Spot}
 use Rattle.ada_values.specs.declared.operator.UnaryOperator.{UnaryOperator}
 use Rattle.ada_values.specs.declared.operator.BinaryOperator.{BinaryOperator}
 use Rattle.ada_program.specs.declared.program.Declaration.{Declaration}
-use Rattle.ada_program.specs.declared.program.Declaration.TheVariants.{Collection, Variable}
+use Rattle.ada_program.specs.declared.program.Declaration.TheVariants.{Collection, Variable, Record}
 use Rattle.ada_program.specs.declared.program.Expression.{Expression, Integer, Boolean, Path as Reads, NullTest, Unary, Chain, Unary', Chain', Row_of-Link, end_of-Link, more_of-Link, items-the_row-Link, items_hidden-the_row-Link-0}
 use Rattle.ada_program.specs.declared.program.Expression.TheBlock.{hidden-the_row-Link-0}
 use Rattle.ada_program.specs.declared.program.Item.{Item}
@@ -29,10 +29,11 @@ use Rattle.ada_program.specs.declared.program.TextNo.{TextNo}
 use Rattle.ada_program.specs.declared.program.Link.{Link}
 use Rattle.ada_program.specs.declared.program.Path.{Path}
 
--- A path (4.1): the variable that it begins with, the components named behind it, each of the object that the value before it gives access
--- to, and where the path stands.
+-- A path (4.1): the variable that it begins with, whether that is a record object, the components named behind it, each of the object that the
+-- value before it gives access to, and where the path stands. The first component of a record object is its own: nothing is followed to it.
 pub record PathForm : Type 0 where
   pub root : ℕ
+  pub of_record : Bool
   pub selectors : List ℕ
   pub spot : Spot
 
@@ -67,10 +68,12 @@ pub data RightForm : Type 0 where
   allocates_default : (access : ℕ) → RightForm
   computes : ExpressionForm → RightForm
 
--- A declaration (3.11): its elaboration creates the collection of an access type (7.6.1), or a variable with its initial value (3.3.1).
+-- A declaration (3.11): its elaboration creates the collection of an access type (7.6.1), a variable with its initial value, or a record object,
+-- whose components hold what their declarations say (3.3.1).
 pub data DeclarationForm : Type 0 where
   collects : (access : ℕ) → DeclarationForm
   declares : (variable : ℕ) → RightForm → DeclarationForm
+  declares_record : (variable object_type : ℕ) → DeclarationForm
 
 mutual
   -- A statement (5.1): what it assigns to what (5.2), what it frees by the instance for which access type (13.11.2), to what the next number
@@ -113,7 +116,7 @@ component_number c = c.0
 
 -- A path: the number of its variable, those of the components, and where it stands.
 abbrev pub path_form : Path → PathForm
-path_form p = record { root = p.root.0; selectors = map component_number p.selectors.items; spot = p.spot }
+path_form p = record { root = p.root.0; of_record = p.of_record; selectors = map component_number p.selectors.items; spot = p.spot }
 
 unfoldable mutual
   -- An expression.
@@ -158,6 +161,7 @@ initial_form (Some value) = right_form value
 abbrev pub declaration_form : Declaration → DeclarationForm
 declaration_form (Collection access) = collects access.0
 declaration_form (Variable variable initial) = declares variable.0 (initial_form initial)
+declaration_form (Record variable object) = declares_record variable.0 object.0
 
 -- The condition of a loop or of an exit, where there is one.
 abbrev pub condition_form : Option Expression → Option ExpressionForm

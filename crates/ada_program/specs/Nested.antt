@@ -4,7 +4,7 @@ use Rattle.std.specs.Prelude.{◌≡◌, ℕ, Bool, true, false, ◌&&◌, ◌||
 use Rattle.std.specs.List.{list_all}
 use Rattle.ada_program.specs.declared.program.ComponentKind.{ComponentKind}
 use Rattle.ada_program.specs.declared.program.ComponentKind.TheVariants as component
-use Rattle.ada_program.specs.Form.{DeclarationForm, collects, declares, StmtForm, skips, assigns, frees, gets, writes, writes_text, chooses, repeats, counts, exits, returns, raises, encloses, StmtsForm, no_stmts, a_stmt, BranchesForm, otherwise, a_branch, HandlersForm, no_handlers, a_handler}
+use Rattle.ada_program.specs.Form.{DeclarationForm, collects, declares, declares_record, StmtForm, skips, assigns, frees, gets, writes, writes_text, chooses, repeats, counts, exits, returns, raises, encloses, StmtsForm, no_stmts, a_stmt, BranchesForm, otherwise, a_branch, HandlersForm, no_handlers, a_handler}
 use Rattle.ada_program.specs.ProgramForm.{TypeForm, ProgramForm}
 use Rattle.ada_program.specs.WellFormed.{reached_components}
 
@@ -13,6 +13,14 @@ abbrev pub collected : List DeclarationForm → List ℕ
 collected [] = []
 collected (collects access ∷ ds) = access ∷ collected ds
 collected (declares x right ∷ ds) = collected ds
+collected (declares_record x object ∷ ds) = collected ds
+
+-- The types by which the record objects are known that declarations create.
+abbrev pub record_objects : List DeclarationForm → List ℕ
+record_objects [] = []
+record_objects (collects access ∷ ds) = record_objects ds
+record_objects (declares x right ∷ ds) = record_objects ds
+record_objects (declares_record x object ∷ ds) = object ∷ record_objects ds
 
 -- Is the number one of these?
 abbrev pub is_one_of : List ℕ → ℕ → Bool
@@ -35,9 +43,14 @@ are_open there (Some components) = list_all (kind_is_open there) components
 abbrev pub collection_nests : List TypeForm → (around there : List ℕ) → (access : ℕ) → Bool
 collection_nests types around there access = not (is_one_of around access) && are_open there (reached_components types access)
 
--- So are all collections of a declarative part.
+-- What the components of a record object name lies in collections that are open.
+abbrev pub record_nests : List TypeForm → (there : List ℕ) → (object : ℕ) → Bool
+record_nests types there object = are_open there (reached_components types object)
+
+-- So it is of all collections and all record objects of a declarative part.
 abbrev pub part_nests : List TypeForm → (around : List ℕ) → List DeclarationForm → Bool
-part_nests types around ds = list_all (collection_nests types around (collected ds ++ around)) (collected ds)
+part_nests types around ds =
+    list_all (collection_nests types around (collected ds ++ around)) (collected ds) && list_all (record_nests types (collected ds ++ around)) (record_objects ds)
 
 abbrev mutual
   -- So are the collections of the blocks in a statement (5.6), where these are open around it.

@@ -18,11 +18,12 @@ pub record PartForm : Type 0 where
   pub kind : PartKind
   pub first : ℕ
 
--- A type (3.2.1): a record type, its components as they are declared and its elementary components at any depth, each in order; or an access type
--- and the type that it designates.
+-- A type (3.2.1): a record type, its components as they are declared and its elementary components at any depth, each in order; an access type
+-- and the type that it designates; or what one record object is known by, and its record type.
 pub data TypeForm : Type 0 where
   record_of : List ℕ → (parts : List PartForm) → (components : List ComponentKind) → TypeForm
   access_to : List ℕ → ℕ → TypeForm
+  object_of : (record_type : ℕ) → TypeForm
 
 -- A variable: its name, what it holds (3.3.1), and whether it is a borrower: one of an anonymous access type (3.10).
 pub record VariableForm : Type 0 where
@@ -48,6 +49,7 @@ part_form p = record { name = string_bytes p.name; kind = p.kind; first = p.firs
 abbrev pub type_form : TypeDefinition → TypeForm
 type_form (definition.Record name parts components) = record_of (string_bytes name) (map part_form parts.items) components.items
 type_form (definition.Access name designated) = access_to (string_bytes name) designated.0
+type_form (definition.Object record_type) = object_of record_type.0
 
 -- A variable, as the program keeps it.
 abbrev pub variable_form : Variable → VariableForm

@@ -6,13 +6,15 @@ use Rattle.ada_program.specs.declared.program.ComponentKind.{ComponentKind}
 use Rattle.ada_program.specs.declared.program.TypeDefinition.{TypeDefinition}
 use Rattle.ada_program.specs.declared.program.TypeDefinition.TheVariants as definition
 
--- The record type that a type designates (3.10): none, if it is no access type.
+-- The record type of the objects that values of a type name (3.10): those that an access type designates, or the one record object that is known by
+-- the type. None, if it is a record type.
 abbrev pub designated_by : Option TypeDefinition → Option ℕ
 designated_by None = None
 designated_by (Some (definition.Record name parts components)) = None
 designated_by (Some (definition.Access name designated)) = Some designated.0
+designated_by (Some (definition.Object record_type)) = Some record_type.0
 
--- The type that the access type of a number designates (3.10).
+-- The record type of the objects that values of the type of a number name (3.10).
 abbrev pub designated_of : List TypeDefinition → ℕ → Option ℕ
 designated_of types t = designated_by (slice_get types t)
 
@@ -21,6 +23,7 @@ abbrev pub components_by : Option TypeDefinition → Option (List ComponentKind)
 components_by None = None
 components_by (Some (definition.Record name parts components)) = Some components.items
 components_by (Some (definition.Access name designated)) = None
+components_by (Some (definition.Object record_type)) = None
 
 -- The components of the record type of a number (3.8).
 abbrev pub components_of : List TypeDefinition → ℕ → Option (List ComponentKind)

@@ -16,14 +16,15 @@ use Rattle.ada_program.specs.declared.program.VariableKind.{VariableKind}
 use Rattle.ada_program.specs.declared.program.VariableKind.TheVariants as variable
 use Rattle.ada_program.specs.declared.program.ScalarType.{ScalarType}
 use Rattle.ada_program.specs.declared.program.ScalarType.TheVariants.{Integer, Boolean}
-use Rattle.ada_program.specs.Form.{PathForm, ExpressionForm, integer, boolean, reads, is_null, applied_to, chained, LinksForm, no_more_links, a_link, ItemForm, null_item, item_of_path, item_of_value, RightForm, nothing, value_of, allocates, allocates_default, computes, StmtForm, skips, assigns, frees, gets, writes, writes_text, chooses, repeats, counts, exits, returns, raises, encloses, StmtsForm, no_stmts, a_stmt, BranchesForm, otherwise, a_branch, HandlersForm, no_handlers, a_handler, DeclarationForm, collects, declares}
-use Rattle.ada_program.specs.ProgramForm.{TypeForm, record_of, access_to, VariableForm, ProgramForm}
+use Rattle.ada_program.specs.Form.{PathForm, ExpressionForm, integer, boolean, reads, is_null, applied_to, chained, LinksForm, no_more_links, a_link, ItemForm, null_item, item_of_path, item_of_value, RightForm, nothing, value_of, allocates, allocates_default, computes, StmtForm, skips, assigns, frees, gets, writes, writes_text, chooses, repeats, counts, exits, returns, raises, encloses, StmtsForm, no_stmts, a_stmt, BranchesForm, otherwise, a_branch, HandlersForm, no_handlers, a_handler, DeclarationForm, collects, declares, declares_record}
+use Rattle.ada_program.specs.ProgramForm.{TypeForm, record_of, access_to, object_of, VariableForm, ProgramForm}
 
 -- The type that an access type designates (3.10): none, if it is no access type.
 abbrev pub designated_in : Option TypeForm → Option ℕ
 designated_in None = None
 designated_in (Some (record_of name parts components)) = None
 designated_in (Some (access_to name designated)) = Some designated
+designated_in (Some (object_of record_type)) = None
 
 -- The type that the access type of a number designates (3.10).
 abbrev pub designated_type : List TypeForm → ℕ → Option ℕ
@@ -34,19 +35,34 @@ abbrev pub components_in : Option TypeForm → Option (List ComponentKind)
 components_in None = None
 components_in (Some (record_of name parts components)) = Some components
 components_in (Some (access_to name designated)) = None
+components_in (Some (object_of record_type)) = None
 
 -- The components of the record type of a number (3.8).
 abbrev pub record_components : List TypeForm → ℕ → Option (List ComponentKind)
 record_components types t = components_in (slice_get types t)
 
--- The components of the objects that an access type's values designate (3.10).
+-- The record type that one record object is known by a type for (3.3.1): none, if the type is another one.
+abbrev pub object_in : Option TypeForm → Option ℕ
+object_in None = None
+object_in (Some (record_of name parts components)) = None
+object_in (Some (access_to name designated)) = None
+object_in (Some (object_of record_type)) = Some record_type
+
+-- The record type of the objects that values of a type name: those that an access type designates (3.10), or one record object.
+abbrev pub named_in : Option TypeForm → Option ℕ
+named_in None = None
+named_in (Some (record_of name parts components)) = None
+named_in (Some (access_to name designated)) = Some designated
+named_in (Some (object_of record_type)) = Some record_type
+
+-- The components of objects of a record type, where there is one.
 abbrev pub components_reached : List TypeForm → Option ℕ → Option (List ComponentKind)
 components_reached types None = None
 components_reached types (Some t) = record_components types t
 
--- The components of the objects that the values of the access type of a number designate (3.10).
+-- The components of the objects that values of the type of a number name (3.10).
 abbrev pub reached_components : List TypeForm → ℕ → Option (List ComponentKind)
-reached_components types access = components_reached types (designated_type types access)
+reached_components types access = components_reached types (named_in (slice_get types access))
 
 -- Whether a number is that of an access type.
 abbrev pub is_access : List TypeForm → ℕ → Bool
@@ -56,28 +72,35 @@ is_access types t = is_some (designated_type types t)
 abbrev pub is_record : List TypeForm → ℕ → Bool
 is_record types t = is_some (record_components types t)
 
+-- Whether a record object is known by the type of a number.
+abbrev pub is_object_type : List TypeForm → ℕ → Bool
+is_object_type types t = is_some (object_in (slice_get types t))
+
 -- An elementary component is an Integer or a Boolean, or of an access type (3.6, 3.8).
 abbrev pub kind_fits : List TypeForm → ComponentKind → Bool
 kind_fits types (component.Integer initial) = true
 kind_fits types (component.Boolean initial) = true
 kind_fits types (component.Access access) = is_access types access.0
 
--- A type has such components, or designates a record type (3.10).
+-- A type has such components, or designates a record type (3.10), or one record object is known by it.
 abbrev pub type_fits : List TypeForm → TypeForm → Bool
 type_fits types (record_of name parts components) = list_all (kind_fits types) components
 type_fits types (access_to name designated) = is_record types designated
+type_fits types (object_of record_type) = is_record types record_type
 
--- A variable is an Integer or a Boolean, or of an access type (3.3.1).
+-- A variable is an Integer or a Boolean, or of an access type, or a record object (3.3.1).
 abbrev pub variable_kind_fits : List TypeForm → VariableKind → Bool
 variable_kind_fits types variable.Integer = true
 variable_kind_fits types variable.Boolean = true
 variable_kind_fits types (variable.Access access) = is_access types access.0
+variable_kind_fits types (variable.Record object) = is_object_type types object.0
 
 -- A variable holds access values (3.10).
 abbrev pub is_access_kind : VariableKind → Bool
 is_access_kind variable.Integer = false
 is_access_kind variable.Boolean = false
 is_access_kind (variable.Access access) = true
+is_access_kind (variable.Record object) = false
 
 -- A variable's kind fits (3.3.1), and what borrows holds access values.
 abbrev pub variable_fits : List TypeForm → VariableForm → Bool
@@ -92,6 +115,7 @@ pub data Creation : Type 0 where
 abbrev pub creation : DeclarationForm → Creation
 creation (collects access) = of_collection access
 creation (declares x right) = of_variable x
+creation (declares_record x object) = of_variable x
 
 abbrev mutual
   -- What a statement creates, in the order of the text.
@@ -139,17 +163,20 @@ creates_from count k (of_variable x ∷ cs) = (x == k) && creates_from count (k 
 abbrev pub is_object : DeclarationForm → Bool
 is_object (collects access) = false
 is_object (declares x right) = true
+is_object (declares_record x object) = true
 
 -- In each part collections are created before the first variable (3.11).
 abbrev pub collections_first : List DeclarationForm → Bool
 collections_first [] = true
 collections_first (collects access ∷ ds) = collections_first ds
 collections_first (declares x right ∷ ds) = list_all is_object ds
+collections_first (declares_record x object ∷ ds) = list_all is_object ds
 
 -- A collection is that of an access type (7.6.1).
 abbrev pub collection_fits : List TypeForm → DeclarationForm → Bool
 collection_fits types (collects access) = is_access types access
 collection_fits types (declares x right) = true
+collection_fits types (declares_record x object) = true
 
 -- Whether the collection of this access type is created.
 abbrev pub is_collection : ℕ → Creation → Bool
@@ -161,6 +188,7 @@ abbrev pub has_collections : List Creation → ℕ → List TypeForm → Bool
 has_collections cs t [] = true
 has_collections cs t (record_of name parts components ∷ types) = has_collections cs (t + 1) types
 has_collections cs t (access_to name designated ∷ types) = (count_by (is_collection t) cs == 1) && has_collections cs (t + 1) types
+has_collections cs t (object_of record_type ∷ types) = has_collections cs (t + 1) types
 
 -- What a variable holds (3.3.1).
 abbrev pub kind_in : Option VariableForm → Option VariableKind
@@ -180,12 +208,13 @@ borrows_in (Some x) = x.borrows
 abbrev pub is_borrower : List VariableForm → ℕ → Bool
 is_borrower variables x = borrows_in (slice_get variables x)
 
--- The access type of a value (3.10): none, if it is an Integer or a Boolean.
+-- The type of what names an object: an access value's (3.10), or that by which a record object is known. None, if a value is an Integer or a Boolean.
 abbrev pub access_of : Option VariableKind → Option ℕ
 access_of None = None
 access_of (Some variable.Integer) = None
 access_of (Some variable.Boolean) = None
 access_of (Some (variable.Access access)) = Some access.0
+access_of (Some (variable.Record object)) = Some object.0
 
 -- Integer or Boolean, whichever a value is (3.5.4, 3.5.3): none, if it is an access value.
 abbrev pub scalar_of : Option VariableKind → Option ScalarType
@@ -193,6 +222,7 @@ scalar_of None = None
 scalar_of (Some variable.Integer) = Some Integer
 scalar_of (Some variable.Boolean) = Some Boolean
 scalar_of (Some (variable.Access access)) = None
+scalar_of (Some (variable.Record object)) = None
 
 -- What a component holds, whatever it holds at first (3.8).
 abbrev pub held_kind : ComponentKind → VariableKind
@@ -225,13 +255,29 @@ abbrev pub selectors_kind : List TypeForm → Option VariableKind → List ℕ �
 selectors_kind types kind [] = kind
 selectors_kind types kind (c ∷ selectors) = selectors_kind types (selected_kind types kind c) selectors
 
+-- What a path begins with: a variable that is a record object, or one that is none, as the path says.
+abbrev pub root_kind : (of_record : Bool) → Option VariableKind → Option VariableKind
+root_kind of_record None = None
+root_kind of_record (Some variable.Integer) = if of_record then None else Some variable.Integer
+root_kind of_record (Some variable.Boolean) = if of_record then None else Some variable.Boolean
+root_kind of_record (Some (variable.Access access)) = if of_record then None else Some (variable.Access access)
+root_kind of_record (Some (variable.Record object)) = if of_record then Some (variable.Record object) else None
+
 -- What is held where a path leads (4.1): none, if it leads nowhere.
 abbrev pub path_kind : List TypeForm → List VariableForm → PathForm → Option VariableKind
-path_kind types variables path = selectors_kind types (variable_kind variables path.root) path.selectors
+path_kind types variables path = selectors_kind types (root_kind path.of_record (variable_kind variables path.root)) path.selectors
+
+-- The access type of an access value (3.10): none, if a value is an Integer or a Boolean, or a record object.
+abbrev pub value_access : Option VariableKind → Option ℕ
+value_access None = None
+value_access (Some variable.Integer) = None
+value_access (Some variable.Boolean) = None
+value_access (Some (variable.Access access)) = Some access.0
+value_access (Some (variable.Record object)) = None
 
 -- The access type of the value where a path leads.
 abbrev pub path_access : List TypeForm → List VariableForm → PathForm → Option ℕ
-path_access types variables path = access_of (path_kind types variables path)
+path_access types variables path = value_access (path_kind types variables path)
 
 -- Whether there is a type, and it is the one with this number.
 abbrev pub is_this : ℕ → Option ℕ → Bool
@@ -358,11 +404,12 @@ scalar_fits types variables type (allocates t items) = false
 scalar_fits types variables type (allocates_default t) = false
 scalar_fits types variables type (computes e) = has_type types variables type e
 
--- What is assigned fits what is held there (5.2).
+-- What is assigned fits what is held there (5.2): no record object is assigned as a whole yet.
 abbrev pub kind_takes : List TypeForm → List VariableForm → VariableKind → RightForm → Bool
 kind_takes types variables variable.Integer right = scalar_fits types variables Integer right
 kind_takes types variables variable.Boolean right = scalar_fits types variables Boolean right
 kind_takes types variables (variable.Access access) right = access_fits types variables access.0 right
+kind_takes types variables (variable.Record object) right = false
 
 -- There is something to assign to, and what is assigned fits it (5.2).
 abbrev pub right_fits : List TypeForm → List VariableForm → Option VariableKind → RightForm → Bool
@@ -417,11 +464,20 @@ names_before x (allocates t items) = list_all (item_before x) items
 names_before x (allocates_default t) = true
 names_before x (computes e) = expression_before x e
 
--- An initial value names what is declared before, and is one that could be assigned (3.3.1).
+-- Whether a variable is the record object that is known by this type.
+abbrev pub is_record_object : (object_type : ℕ) → Option VariableKind → Bool
+is_record_object t None = false
+is_record_object t (Some variable.Integer) = false
+is_record_object t (Some variable.Boolean) = false
+is_record_object t (Some (variable.Access access)) = false
+is_record_object t (Some (variable.Record object)) = object.0 == t
+
+-- An initial value names what is declared before, and is one that could be assigned (3.3.1); a record object is known by its own type.
 abbrev pub initial_fits : List TypeForm → List VariableForm → DeclarationForm → Bool
 initial_fits types variables (collects access) = true
 initial_fits types variables (declares x right) =
     names_before x right && right_fits types variables (variable_kind variables x) right && lends_to variables (is_borrower variables x) right
+initial_fits types variables (declares_record x object) = is_record_object object (variable_kind variables x)
 
 -- Two access types designate one record type (13.11.2): the types that they designate, if any, are the same.
 abbrev pub same_record : Option ℕ → Option ℕ → Bool
@@ -515,7 +571,7 @@ abbrev mutual
 pub record IsWellFormed (p : ProgramForm) : Type 0 where
   -- components and designated types are types of the program of the right kind (3.8, 3.10)
   pub types_fit : list_all (type_fits p.types) p.types ≡ true
-  -- variables are Integers or Booleans, or of access types (3.3.1), and only the last are borrowers
+  -- variables are Integers or Booleans, of access types, or record objects (3.3.1), and only those of access types are borrowers
   pub variables_fit : list_all (variable_fits p.types) p.variables ≡ true
   -- each variable is created once, in the order of the text (3.11)
   pub creates_in_order : creates_from (length p.variables) 0 (creations p) ≡ true

@@ -70,6 +70,10 @@ impl Seen {
             Declaration::Variable {
                 variable,
                 initial: _,
+            }
+            | Declaration::Record {
+                variable,
+                object: _,
             } => self.after_variable(variable.0),
         }
     }
@@ -105,7 +109,7 @@ pub(crate) fn has_collections(program: &Program) -> bool
     let types = &program.types;
     for (access, definition) in types.iter().enumerate() {
         let has_one = match definition {
-            TypeDefinition::Record { .. } => true,
+            TypeDefinition::Record { .. } | TypeDefinition::Object { .. } => true,
             TypeDefinition::Access { .. } => has_collection(access, program),
         };
         if !has_one {

@@ -6,7 +6,7 @@ ghost use Rattle.ada_program.specs.ProgramForm.{type_form, variable_form};
 ghost use Rattle.ada_program.specs.Kept.{types_in};
 ghost use Rattle.ada_program.specs.WellFormed as fits;
 
-use crate::lookup::{is_access, is_record};
+use crate::lookup::{is_access, is_object_type, is_record};
 use crate::program::{ComponentKind, TypeDefinition, Variable, VariableKind};
 
 /// Whether each component and each designated type is of the right kind (3.8, 3.10).
@@ -31,6 +31,7 @@ fn type_fits(types: &[TypeDefinition], definition: &TypeDefinition) -> bool
             name: _,
             designated,
         } => is_record(types, designated.0),
+        TypeDefinition::Object { record } => is_record(types, record.0),
     }
 }
 
@@ -73,17 +74,18 @@ fn is_access_kind(kind: VariableKind) -> bool
     ensures { result ≡ fits.is_access_kind kind }
 {
     match kind {
-        VariableKind::Integer | VariableKind::Boolean => false,
+        VariableKind::Integer | VariableKind::Boolean | VariableKind::Record(_) => false,
         VariableKind::Access(_) => true,
     }
 }
 
-/// Whether a variable is an Integer or a Boolean, or of an access type (3.3.1).
+/// Whether a variable is an Integer or a Boolean, or of an access type, or a record object (3.3.1).
 fn variable_kind_fits(types: &[TypeDefinition], kind: VariableKind) -> bool
     ensures { result ≡ fits.variable_kind_fits (types_in types.now) kind }
 {
     match kind {
         VariableKind::Integer | VariableKind::Boolean => true,
         VariableKind::Access(access) => is_access(types, access.0),
+        VariableKind::Record(object) => is_object_type(types, object.0),
     }
 }

@@ -1,5 +1,6 @@
 //! What the numbers of a program stand for: types, components, variables, and where a path leads.
 
+ghost use Rattle.std.specs.List.{slice_get};
 ghost use Rattle.std.specs.Prelude.{◌≡◌, map, option_map, option_copied};
 ghost use Rattle.ada_program.specs.Form.{path_form};
 ghost use Rattle.ada_program.specs.Kept as kept;
@@ -19,6 +20,32 @@ pub(crate) fn designated_type(types: &[TypeDefinition], number: usize) -> Option
                 designated,
             },
         ) => Some(designated.0),
+        Some(TypeDefinition::Record { .. } | TypeDefinition::Object { .. }) | None => None,
+    }
+}
+
+/// Whether a record object is known by the type of a number.
+pub(crate) fn is_object_type(types: &[TypeDefinition], number: usize) -> bool
+    ensures { result ≡ fits.is_object_type (types_in types.now) number }
+{
+    match types.get(number) {
+        Some(TypeDefinition::Object { .. }) => true,
+        Some(TypeDefinition::Record { .. } | TypeDefinition::Access { .. }) | None => false,
+    }
+}
+
+/// The record type of the objects that values of a type name: none, if it is a record type.
+fn named_type(types: &[TypeDefinition], number: usize) -> Option<usize>
+    ensures { result ≡ fits.named_in (slice_get (types_in types.now) number) }
+{
+    match types.get(number) {
+        Some(
+            TypeDefinition::Access {
+                name: _,
+                designated,
+            },
+        ) => Some(designated.0),
+        Some(TypeDefinition::Object { record }) => Some(record.0),
         Some(TypeDefinition::Record { .. }) | None => None,
     }
 }
@@ -36,18 +63,18 @@ pub(crate) fn is_record(types: &[TypeDefinition], number: usize) -> bool
 {
     match types.get(number) {
         Some(TypeDefinition::Record { .. }) => true,
-        Some(TypeDefinition::Access { .. }) | None => false,
+        Some(TypeDefinition::Access { .. } | TypeDefinition::Object { .. }) | None => false,
     }
 }
 
-/// The components of the objects that an access type's values designate (3.10).
+/// The components of the objects that values of a type name (3.10).
 pub(crate) fn reached_components<'p>(
     types: &'p [TypeDefinition],
     access: usize,
 ) -> Option<&'p [ComponentKind]>
     ensures { option_copied result ≡ fits.reached_components (types_in types.now) access }
 {
-    match types.get(designated_type(types, access)?) {
+    match types.get(named_type(types, access)?) {
         Some(
             TypeDefinition::Record {
                 name: _,
@@ -55,7 +82,7 @@ pub(crate) fn reached_components<'p>(
                 components,
             },
         ) => Some(components),
-        Some(TypeDefinition::Access { .. }) | None => None,
+        Some(TypeDefinition::Access { .. } | TypeDefinition::Object { .. }) | None => None,
     }
 }
 
@@ -69,12 +96,14 @@ pub fn variable_kind(variables: &[Variable], number: usize) -> Option<VariableKi
     }
 }
 
-/// The access type of a value: none, if it is an Integer or a Boolean.
+/// The type of what names an object: an access value's, or that by which a record object is known. None, if a value is an
+/// Integer or a Boolean.
 pub fn access_of(kind: Option<VariableKind>) -> Option<usize>
     ensures { result ≡ fits.access_of kind }
 {
     match kind? {
         VariableKind::Access(access) => Some(access.0),
+        VariableKind::Record(object) => Some(object.0),
         VariableKind::Integer | VariableKind::Boolean => None,
     }
 }
@@ -86,7 +115,7 @@ pub(crate) fn scalar_of(kind: Option<VariableKind>) -> Option<ScalarType>
     match kind? {
         VariableKind::Integer => Some(ScalarType::Integer),
         VariableKind::Boolean => Some(ScalarType::Boolean),
-        VariableKind::Access(_) => None,
+        VariableKind::Access(_) | VariableKind::Record(_) => None,
     }
 }
 
@@ -116,6 +145,18 @@ pub fn selected_kind(
     }
 }
 
+/// What a path begins with: a variable that is a record object, or one that is none, as the path says.
+fn root_kind(of_record: bool, kind: Option<VariableKind>) -> Option<VariableKind>
+    ensures { result ≡ fits.root_kind of_record kind }
+{
+    let kind = kind?;
+    if of_record == matches!(kind, VariableKind::Record(_)) {
+        Some(kind)
+    } else {
+        None
+    }
+}
+
 /// What is held where a path leads (4.1): none, if it leads nowhere.
 pub(crate) fn path_kind(
     types: &[TypeDefinition],
@@ -124,18 +165,28 @@ pub(crate) fn path_kind(
 ) -> Option<VariableKind>
     ensures { result ≡ kept.path_kind types.now variables.now path.now }
 {
-    let mut kind = variable_kind(variables, path.root.0);
+    let mut kind = root_kind(path.of_record, variable_kind(variables, path.root.0));
     'selectors: for component in &path.selectors {
         kind = selected_kind(types, kind, component.0);
     }
     kind
 }
 
+/// The access type of an access value: none, if a value is an Integer or a Boolean, or a record object.
+fn value_access(kind: Option<VariableKind>) -> Option<usize>
+    ensures { result ≡ fits.value_access kind }
+{
+    match kind? {
+        VariableKind::Access(access) => Some(access.0),
+        VariableKind::Integer | VariableKind::Boolean | VariableKind::Record(_) => None,
+    }
+}
+
 /// The access type of the value where a path leads.
 pub fn path_access(types: &[TypeDefinition], variables: &[Variable], path: &Path) -> Option<usize>
     ensures { result ≡ kept.path_access types.now variables.now path.now }
 {
-    access_of(path_kind(types, variables, path))
+    value_access(path_kind(types, variables, path))
 }
 
 /// Whether a path is a variable, and no component.

@@ -55,6 +55,10 @@ pub enum TypeDefinition {
         name: String,
         designated: TypeNo,
     },
+    /// What one record object is known by (3.3.1), and its record type. Its variable alone is of this type.
+    Object {
+        record: TypeNo,
+    },
 }
 
 /// A component of a record type, as it is declared.
@@ -100,6 +104,8 @@ pub enum VariableKind {
     Boolean,
     /// A value of an access type.
     Access(TypeNo),
+    /// A record object, known by the type that is its own. It is the same one as long as the variable is there.
+    Record(TypeNo),
 }
 
 /// A type that an expression can have (3.5.3, 3.5.4).
@@ -135,6 +141,12 @@ pub enum Declaration {
     Variable {
         variable: VariableNo,
         initial: Option<Right>,
+    },
+    /// A record object is created, known by a type of its own. Its components get what they hold at first where no value
+    /// is given (3.3.1).
+    Record {
+        variable: VariableNo,
+        object: TypeNo,
     },
 }
 
@@ -271,41 +283,50 @@ pub struct Link {
 }
 
 /// A path (4.1): a variable, and the components named behind it, each of the object that the value before it gives
-/// access to. `X.C` and `X.all.C` are one path.
+/// access to. `X.C` and `X.all.C` are one path. Where the variable is a record object, the first component is its own, and
+/// nothing is followed to it.
 #[derive(Drop)]
 pub struct Path {
     pub root: VariableNo,
+    /// Whether the variable is a record object.
+    pub of_record: bool,
     pub selectors: Vec<ComponentNo>,
     /// Where its first name stands.
     pub spot: Spot,
 }
 
 impl Program {
-    ghost use Rattle.std.specs.Prelude.{◌≡◌, option_copied};
-    ghost use Rattle.ada_program.specs.Typed.{reached_of, words_of};
+    ghost use Rattle.std.specs.Prelude.{◌≡◌, option_copied, option_map};
+    ghost use Rattle.ada_program.specs.Typed.{designated_of, reached_of, words_of};
 
-    /// The elementary components of the objects that the access type's values name, in order.
-    /// None, if the type is no access type to a record type.
+    /// The elementary components of the objects that the type's values name, in order.
+    /// None, if the type is neither an access type to a record type nor that of a record object.
     pub fn components(&self, access: TypeNo) -> Option<&[ComponentKind]>
         ensures { option_copied result ≡ reached_of self.now.types.items access.0 }
     {
-        match self.types.get(access.0) {
+        match self.types.get(self.record_of(access)?.0) {
             Some(
-                TypeDefinition::Access {
+                TypeDefinition::Record {
                     name: _,
-                    designated,
+                    parts: _,
+                    components,
                 },
-            ) => match self.types.get(designated.0) {
-                Some(
-                    TypeDefinition::Record {
-                        name: _,
-                        parts: _,
-                        components,
-                    },
-                ) => Some(components),
-                _ => None,
-            },
+            ) => Some(components),
             _ => None,
+        }
+    }
+
+    /// The record type of the objects that the type's values name.
+    fn record_of(&self, access: TypeNo) -> Option<TypeNo>
+        ensures { option_map (λ t. t.0) result ≡ designated_of self.now.types.items access.0 }
+    {
+        match self.types.get(access.0)? {
+            TypeDefinition::Access {
+                name: _,
+                designated,
+            } => Some(*designated),
+            TypeDefinition::Object { record } => Some(*record),
+            TypeDefinition::Record { .. } => None,
         }
     }
 

@@ -27,6 +27,7 @@ pub(crate) fn right_fits(
         Some(VariableKind::Integer) => scalar_fits(types, variables, ScalarType::Integer, value),
         Some(VariableKind::Boolean) => scalar_fits(types, variables, ScalarType::Boolean, value),
         Some(VariableKind::Access(access)) => access_fits(types, variables, access.0, value),
+        Some(VariableKind::Record(_)) => false,
     }
 }
 

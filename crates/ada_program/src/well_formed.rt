@@ -11,10 +11,10 @@ ghost use Rattle.ada_program.specs.WellFormed as fits;
 use crate::borrowers::{is_borrower, lends_to, names_borrower};
 use crate::creations::{creates_in_order, has_collections};
 use crate::kinds::{types_fit, variables_fit};
-use crate::lookup::{access_of, is_access, path_access, path_kind, scalar_of, variable_kind};
+use crate::lookup::{is_access, path_access, path_kind, scalar_of, variable_kind};
 use crate::program::{
     Branch, Choice, Declaration, Exception, Expression, Handler, Program, ScalarType, Stmt,
-    TypeDefinition, Variable,
+    TypeDefinition, TypeNo, Variable, VariableKind,
 };
 use crate::targets::{is_freed_by, is_integer_target};
 use crate::typing::{has_type, is_type};
@@ -67,7 +67,7 @@ fn collections_first(declarations: &[Declaration]) -> bool
                     return false;
                 }
             }
-            Declaration::Variable { .. } => in_front = false,
+            Declaration::Variable { .. } | Declaration::Record { .. } => in_front = false,
         }
     }
     true
@@ -88,7 +88,7 @@ fn collection_fits(types: &[TypeDefinition], declaration: &Declaration) -> bool
 {
     match declaration {
         Declaration::Collection(access) => is_access(types, access.0),
-        Declaration::Variable { .. } => true,
+        Declaration::Variable { .. } | Declaration::Record { .. } => true,
     }
 }
 
@@ -114,7 +114,10 @@ fn initial_fits(types: &[TypeDefinition], variables: &[Variable], declaration: &
         Declaration::Variable {
             variable,
             initial: None,
-        } => access_of(variable_kind(variables, variable.0)).is_some(),
+        } => matches!(
+            variable_kind(variables, variable.0),
+            Some(VariableKind::Access(_))
+        ),
         Declaration::Variable {
             variable,
             initial: Some(value),
@@ -126,6 +129,19 @@ fn initial_fits(types: &[TypeDefinition], variables: &[Variable], declaration: &
                 value,
             )
             && lends_to(variables, is_borrower(variables, variable.0), value),
+        Declaration::Record { variable, object } => {
+            is_record_object(*object, variable_kind(variables, variable.0))
+        }
+    }
+}
+
+/// Whether a variable is the record object that is known by this type.
+fn is_record_object(object: TypeNo, kind: Option<VariableKind>) -> bool
+    ensures { result ≡ fits.is_record_object object.0 kind }
+{
+    match kind {
+        Some(VariableKind::Record(own)) => own.0 == object.0,
+        _ => false,
     }
 }
 

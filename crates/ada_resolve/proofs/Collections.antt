@@ -4,7 +4,7 @@ use Rattle.std.proofs.Common.{◌≡◌, ℕ, ◌+◌, zero, suc, Bool, true, fa
 use Rattle.ada_program.specs.Form.{DeclarationForm, collects, declaration_form}
 use Rattle.ada_program.specs.declared.program.Declaration.{Declaration}
 use Rattle.ada_program.specs.declared.program.Declaration.TheVariants.{Collection}
-use Rattle.ada_program.specs.ProgramForm.{TypeForm, record_of, access_to}
+use Rattle.ada_program.specs.ProgramForm.{TypeForm, record_of, access_to, object_of}
 use Rattle.ada_resolve.specs.Instances.{is_collected}
 use Rattle.ada_resolve.specs.Objects.{collections_of, lacks_collection}
 use Rattle.ada_resolve.specs.Paths.{designated_of}
@@ -16,6 +16,7 @@ unfolding designated_of
 skip_at [] es zero n e = refl
 skip_at [] es (suc i) n e = refl
 skip_at (record_of name ps cs ∷ ts) es zero n e = refl
+skip_at (object_of r ∷ ts) es zero n e = refl
 skip_at (access_to name d ∷ ts) es zero n e = by_test (is_collected n es) e
   where
     by_test : (b : Bool) → (true && not b) ≡ false → cond b (collections_of (n + 1) ts es) (collects n ∷ collections_of (n + 1) ts es) ≡ collections_of (n + 1) ts es
@@ -28,6 +29,7 @@ made_at : (types : List TypeForm) (es : List DeclarationForm) (i n : ℕ) → (i
 unfolding designated_of
 made_at [] es i n e = absurd (cc e)
 made_at (record_of name ps cs ∷ ts) es zero n e = absurd (cc e)
+made_at (object_of r ∷ ts) es zero n e = absurd (cc e)
 made_at (access_to name d ∷ ts) es zero n e = by_test (is_collected n es) e
   where
     by_test : (b : Bool) → (true && not b) ≡ true → cond b (collections_of (n + 1) ts es) (collects n ∷ collections_of (n + 1) ts es) ≡ collects n ∷ collections_of (n + 1) ts es

@@ -15,8 +15,8 @@ use Rattle.ada_program.specs.declared.program.Exception.TheVariants as exception
 use Rattle.ada_program.specs.declared.program.TypeNo.{TypeNo}
 use Rattle.ada_program.specs.declared.program.VariableKind.{VariableKind}
 use Rattle.ada_program.specs.declared.program.VariableKind.TheVariants as variable
-use Rattle.ada_program.specs.Form.{RightForm, value_of, DeclarationForm, collects, declares}
-use Rattle.ada_program.specs.ProgramForm.{TypeForm, record_of, access_to, VariableForm}
+use Rattle.ada_program.specs.Form.{value_of, DeclarationForm, collects, declares, declares_record}
+use Rattle.ada_program.specs.ProgramForm.{TypeForm, record_of, access_to, object_of, VariableForm}
 use Rattle.ada_program.specs.WellFormed as well
 use Rattle.ada_resolve.specs.declared.fault.NameRule.TheVariants.{Layout}
 use Rattle.ada_resolve.specs.Borrowers.{borrower_remark, borrower_known}
@@ -28,10 +28,10 @@ use Rattle.ada_resolve.specs.Exceptions.{next_exception}
 use Rattle.ada_resolve.specs.Statics.{static_value}
 use Rattle.ada_resolve.specs.Records.{components_written, composition_of, record_type_remark, record_type_known}
 use Rattle.ada_resolve.specs.Instances.{freed_found, generic_remark, is_collected, instance_of, with_elaborated}
-use Rattle.ada_resolve.specs.Objects.{missing_collections, ends_types, after_types, next_variable, object_remark, variable_created, object_created, object_known, kind_of, object_type_found, initial_found, initial_source}
+use Rattle.ada_resolve.specs.Objects.{missing_collections, ends_types, after_types, next_variable, next_record, object_remark, variable_created, record_created, created_of, object_known, kind_of, object_type_found, initial_found, initial_source}
 use Rattle.ada_resolve.specs.Resolution.{gives, At, known_at, declaration_remark, declaration_known, declarations_told}
-use Rattle.ada_resolve.specs.Naming.{Context, Place, Meaning, an_incomplete_type, a_type, a_number, an_exception, an_instance, a_variable, meaning_among, IsTypeRead, IsInstanceRead, IsKindNamed}
-use Rattle.ada_resolve.specs.Reading.{read_at, IsNew, with_binding, with_incomplete_type, with_new_type, with_new_exception, with_new_variable, IsInitialRead, AreObjectsRead, is_one_of, AreCompleted, declared_type, IsPartRead, part_incomplete_type, part_completion, part_new_type, part_number, part_exception, part_instance, part_objects}
+use Rattle.ada_resolve.specs.Naming.{Context, Place, Meaning, an_incomplete_type, a_type, a_number, an_exception, an_instance, a_variable, meaning_among, IsTypeRead, IsInstanceRead}
+use Rattle.ada_resolve.specs.Reading.{read_at, IsNew, with_binding, with_incomplete_type, with_new_type, with_new_exception, with_new_variable, with_new_record, AreObjectsRead, is_one_of, AreCompleted, declared_type, IsPartRead, part_incomplete_type, part_completion, part_new_type, part_number, part_exception, part_instance, part_objects}
 use Rattle.ada_resolve.proofs.WellFormed.Remarks.{Quiet, quiet_unless}
 use Rattle.ada_resolve.proofs.WellFormed.Borrowers.{lent_of, borrower_is}
 use Rattle.ada_resolve.proofs.WellFormed.Names.{named_entered, same_text}
@@ -39,7 +39,7 @@ use Rattle.ada_resolve.proofs.WellFormed.Tables.{get_last}
 use Rattle.ada_resolve.proofs.Standing.{Sound, Complete, Grows, Keeps, complete_grows, record_settled, longer, declaration_sound, declaration_keeps, ended_sound, declarations_done, declarations_keep, IsSlot, new_slot, slot_of, old_name, defined_there}
 use Rattle.ada_resolve.proofs.Agreeing.{bound_to, Stands, Agrees, Ahead, Readable, stands_entered, agrees_same, not_predefined}
 use Rattle.ada_resolve.proofs.Keeping.{Lasts, lasts_ahead, lasts_on}
-use Rattle.ada_resolve.proofs.Written.{Legible, static_read, all_read, all_laid, all_apart, FoundRecord, record_read, designated_read, FoundAccess, access_read, generic_read, object_read, object_kind}
+use Rattle.ada_resolve.proofs.Written.{Legible, static_read, all_read, all_laid, all_apart, FoundRecord, record_read, designated_read, FoundAccess, access_read, generic_read, ObjectRead, RecordRead, TypeRead, object_read, IsObjectType, object_type_is}
 use Rattle.ada_resolve.proofs.Lent.{borrower_read}
 use Rattle.ada_resolve.proofs.Others.{others_of}
 
@@ -168,74 +168,136 @@ full_on k m s f off =
 no_types : (k : Known) (spot : Spot) → no_variable_yet k ≡ false → Quiet (type_begins k spot) → ⊥
 no_types k spot e q = both_ways (no_variable_yet k) e (quiet_unless (no_variable_yet k) spot Layout q.1)
 
--- a declaration that makes a variable, an object or a borrower, and how it is read with the objects behind it
+-- what is known once a variable is declared, and the part elaborates it so, with these types
+abbrev with_made : Known → Ident → List TypeForm → VariableForm → DeclarationForm → Known
+with_made k name types v form =
+    declared (record k { types = types; variables = k.variables ++ v ∷ []; here = record k.here { elaborated = k.here.elaborated ++ form ∷ [] } }) name.text
+    (entity.Variable (next_variable k) v.kind)
+
+-- a declaration that makes a variable, an object or a borrower: what is known behind it, the place there, and how it is read with the objects
+-- behind it
 record Made (d : DeclarationTree) (name : Ident) (k m : Known) : Type 0 where
-  borrows : Bool
-  of : VariableKind
-  source : RightForm
-  is : m ≡ variable_created k name borrows of source
+  v : VariableForm
+  types : List TypeForm
+  form : DeclarationForm
+  place : Place → Place
+  is : m ≡ with_made k name types v form
   new : Quiet (new_name_remark k name name.spot)
-  read : (p : Context) (ds : DeclarationsTree) (forms : List DeclarationForm) (end : Place) → Readable k p →
-      slice_get p.variables (length k.variables) ≡ Some (record { name = name.text; kind = of; borrows = borrows }) →
-      length k.variables ≡ p.place.variables → IsNew p.place name → AreObjectsRead (read_at (with_new_variable name p.place) p) ds forms end →
-      AreObjectsRead p (a_declaration d ds) (declares (length k.variables) source ∷ forms) end
+  agrees : (at : Place) → Agrees k at → Agrees m (place at)
+  read : (p : Context) (ds : DeclarationsTree) (forms : List DeclarationForm) (end : Place) → Readable k p → Ahead m p → IsNew p.place name →
+      AreObjectsRead (read_at (place p.place) p) ds forms end → AreObjectsRead p (a_declaration d ds) (form ∷ forms) end
+
+-- the variable is that of the program
+variable_there : (k m : Known) (p : Context) (name : Ident) (types : List TypeForm) (v : VariableForm) (form : DeclarationForm) → m ≡ with_made k name types v form → Ahead m p → slice_get p.variables (length k.variables) ≡ Some v
+variable_there k m p name types v form is ahead =
+    ahead.variables (length k.variables) v (ap (λ (u : Known). slice_get u.variables (length k.variables)) is ∙ get_last k.variables v)
+
+variable_agrees : (k m : Known) (at : Place) (name : Ident) (v : VariableForm) (form : DeclarationForm) → m ≡ with_made k name k.types v form → Agrees k at → Agrees m (with_new_variable name at)
+variable_agrees k m at name v form is w =
+    subst (λ u. Agrees u (with_new_variable name at)) (sym is)
+    (agrees_declared k at name (entity.Variable (next_variable k) v.kind) (a_variable at.variables) k.types (k.variables ++ v ∷ []) k.exceptions (k.here.elaborated ++ form ∷ [])
+    at.types (at.variables + 1) at.exceptions (ap (λ (n : ℕ). Some (a_variable n)) (sym w.variables)) w.types (one_longer k.variables v at.variables w.variables) w.exceptions w)
 
 -- `X : T := ..;`
-object_says : (k : Known) (p : Context) (name : Ident) (type_name : NameTree) (initial : Option RightTree) (of : VariableKind) → Readable k p → Quiet (object_remark k name type_name initial) → kind_of (object_type_found k type_name) ≡ Some of → IsKindNamed p type_name of × IsInitialRead p of initial (initial_source (initial_found k (Some of) initial))
-object_says k p name type_name initial of w q is =
-    let r = object_read k p name type_name initial w q.1.1.0 q.1.1.1.0 q.1.1.1.1 in
-    let kinds : Some r.of ≡ Some of = sym r.is ∙ is in
-    let same : r.of ≡ of = cc kinds in
-    let starts = subst (λ (o : Option VariableKind). IsInitialRead p r.of initial (initial_source (initial_found k o initial))) is r.starts in
-    (subst (λ (v : VariableKind). IsKindNamed p type_name v) same r.kind_named, subst (λ (v : VariableKind). IsInitialRead p v initial (initial_source (initial_found k (Some of) initial))) same starts)
+value_made : (name : Ident) (type_name : NameTree) (initial : Option RightTree) (of : VariableKind) (k m : Known) → Quiet (new_name_remark k name name.spot) → ((p : Context) → Readable k p → ObjectRead k p type_name initial of) → m ≡ variable_created k name false of (initial_source (initial_found k (Some of) initial)) → Made (object_declaration name type_name initial) name k m
+value_made name type_name initial of k m new said is =
+    let v : VariableForm = record { name = name.text; kind = of; borrows = false } in
+    let source = initial_source (initial_found k (Some of) initial) in
+    record {
+      v = v;
+      types = k.types;
+      form = declares (length k.variables) source;
+      place = with_new_variable name;
+      is = is;
+      new = new;
+      agrees = λ at w. variable_agrees k m at name v (declares (length k.variables) source) is w;
+      read = λ p ds forms end w ahead new rest.
+          let r = said p w in (
+            sym w.agrees.variables,
+            new,
+            record { kind = of; there = variable_there k m p name k.types v (declares (length k.variables) source) is ahead; kind_named = r.kind_named; starts = r.starts },
+            rest,
+          );
+    }
+
+-- `R : T;`
+record_made : (name : Ident) (type_name : NameTree) (initial : Option RightTree) (t : TypeNo) (k m : Known) → Quiet (new_name_remark k name name.spot) → ((p : Context) → Readable k p → RecordRead p type_name initial t.0) → m ≡ record_created k name t → Made (object_declaration name type_name initial) name k m
+record_made name type_name initial t k m new said is =
+    let v : VariableForm = record { name = name.text; kind = next_record k; borrows = false } in
+    let types = k.types ++ object_of t.0 ∷ [] in
+    let form = declares_record (length k.variables) (length k.types) in
+    record {
+      v = v;
+      types = types;
+      form = form;
+      place = with_new_record name;
+      is = is;
+      new = new;
+      agrees = λ at w. subst (λ u. Agrees u (with_new_record name at)) (sym is)
+          (agrees_declared k at name (entity.Variable (next_variable k) (next_record k)) (a_variable at.variables) types (k.variables ++ v ∷ []) k.exceptions (k.here.elaborated ++ form ∷ [])
+          (at.types + 1) (at.variables + 1) at.exceptions (ap (λ (n : ℕ). Some (a_variable n)) (sym w.variables)) (one_longer k.types (object_of t.0) at.types w.types)
+          (one_longer k.variables v at.variables w.variables) w.exceptions w);
+      read = λ p ds forms end w ahead new rest.
+          let r = said p w in
+          let known_by : slice_get m.types (length k.types) ≡ Some (object_of t.0) = ap (λ (u : Known). slice_get u.types (length k.types)) is ∙ get_last k.types (object_of t.0) in (
+            sym w.agrees.variables,
+            sym w.agrees.types,
+            new,
+            record {
+              there = variable_there k m p name types v form is ahead;
+              t = t.0;
+              known_by = ahead.types (length k.types) (object_of t.0) known_by;
+              alone = r.alone;
+              record_named = r.record_named;
+              starts = r.starts;
+            },
+            rest,
+          );
+    }
+
+-- an object of either sort
+object_made_of : (name : Ident) (type_name : NameTree) (initial : Option RightTree) (k m : Known) (o : Option Entity) → Quiet (new_name_remark k name name.spot) → IsObjectType o → ((p : Context) → Readable k p → TypeRead k p type_name initial o) → m ≡ created_of k name o (initial_found k (kind_of o) initial) → Made (object_declaration name type_name initial) name k m
+object_made_of name type_name initial k m (Some entity.Integer) new typed said is = value_made name type_name initial variable.Integer k m new said is
+object_made_of name type_name initial k m (Some entity.Boolean) new typed said is = value_made name type_name initial variable.Boolean k m new said is
+object_made_of name type_name initial k m (Some (entity.Access t)) new typed said is = value_made name type_name initial (variable.Access t) k m new said is
+object_made_of name type_name initial k m (Some (entity.Record t size)) new typed said is = record_made name type_name initial t k m new said is
+object_made_of name type_name initial k m o new typed said is = absurd typed
 
 object_made : (name : Ident) (type_name : NameTree) (initial : Option RightTree) (k m : Known) → Quiet (object_remark k name type_name initial) → m ≡ object_known k name type_name initial → Made (object_declaration name type_name initial) name k m
 object_made name type_name initial k m q is =
-    let kind = object_kind k name type_name initial q.1.1.0 q.1.1.1.1 in
-    record {
-      borrows = false;
-      of = kind.0;
-      source = initial_source (initial_found k (Some kind.0) initial);
-      is = is ∙ ap (λ (o : Option VariableKind). object_created k name o (initial_found k o initial)) kind.1;
-      new = q.1.0;
-      read = λ p ds forms end w there place new rest.
-          let said = object_says k p name type_name initial kind.0 w q kind.1 in
-          (place, new, record { kind = kind.0; there = there; kind_named = said.0; starts = said.1 }, rest);
-    }
+    object_made_of name type_name initial k m (object_type_found k type_name) q.1.0 (object_type_is k type_name q.1.1.0)
+    (λ p w. object_read k p name type_name initial w q.1.1.0 q.1.1.1.0 q.1.1.1.1) is
 
 -- `B : access T := P;`
 borrower_made : (name designated : Ident) (initial : Option RightTree) (k m : Known) → Sound k → Quiet (borrower_remark k name designated initial) → m ≡ borrower_known k name initial → Made (borrower_declaration name designated initial) name k m
 borrower_made name designated initial k m s q is =
     let r = lent_of k name designated initial s.names q in
+    let v : VariableForm = record { name = name.text; kind = variable.Access r.access; borrows = true } in
+    let form = declares (length k.variables) (value_of r.path) in
+    let is_so : m ≡ with_made k name k.types v form = is ∙ borrower_is k name designated initial r in
     record {
-      borrows = true;
-      of = variable.Access r.access;
-      source = value_of r.path;
-      is = is ∙ borrower_is k name designated initial r;
+      v = v;
+      types = k.types;
+      form = form;
+      place = with_new_variable name;
+      is = is_so;
       new = q.1.0;
-      read = λ p ds forms end w there place new rest. (place, new, borrower_read k p name designated initial (length k.variables) w q.1.1.0 r there, rest);
+      agrees = λ at w. variable_agrees k m at name v form is_so w;
+      read = λ p ds forms end w ahead new rest.
+          (sym w.agrees.variables, new, borrower_read k p name designated initial (length k.variables) w q.1.1.0 r (variable_there k m p name k.types v form is_so ahead), rest);
     }
 
 made_full : (d : DeclarationTree) (name : Ident) (k m : Known) → k.here.first_variable ≤ length k.variables → Made d name k m → no_variable_yet m ≡ false
 made_full d name k m le r =
-    let v : VariableForm = record { name = name.text; kind = r.of; borrows = r.borrows } in
-    let more = length-append k.variables (v ∷ []) in
-    let off : (length (k.variables ++ v ∷ []) == k.here.first_variable) ≡ false = ne_eqb (length (k.variables ++ v ∷ [])) k.here.first_variable (omega (arith, more, le)) in
+    let more = length-append k.variables (r.v ∷ []) in
+    let off : (length (k.variables ++ r.v ∷ []) == k.here.first_variable) ≡ false = ne_eqb (length (k.variables ++ r.v ∷ [])) k.here.first_variable (omega (arith, more, le)) in
     ap (λ (z : Known). no_variable_yet z) r.is ∙ off
 
 made_open : (d : DeclarationTree) (name : Ident) (k m : Known) → Made d name k m → Complete m → Complete k
 made_open d name k m r c text u is =
     let none = new_slot k name name.spot r.new in
-    let there = old_name k.here.names name.text text (entity.Variable (next_variable k) r.of) (entity.Incomplete u) none is in
+    let there = old_name k.here.names name.text text (entity.Variable (next_variable k) r.v.kind) (entity.Incomplete u) none is in
     c text u (ap (λ (z : Known). named text z.here.names) r.is ∙ there)
-
-made_agrees : (k : Known) (place : Place) (d : DeclarationTree) (name : Ident) (m : Known) → Agrees k place → Made d name k m → Agrees m (with_new_variable name place)
-made_agrees k place d name m w r =
-    let v : VariableForm = record { name = name.text; kind = r.of; borrows = r.borrows } in
-    subst (λ u. Agrees u (with_new_variable name place)) (sym r.is)
-    (agrees_declared k place name (entity.Variable (next_variable k) r.of) (a_variable place.variables) k.types (k.variables ++ v ∷ []) k.exceptions
-    (k.here.elaborated ++ declares (length k.variables) r.source ∷ [])
-    place.types (place.variables + 1) place.exceptions (ap (λ (n : ℕ). Some (a_variable n)) (sym w.variables)) w.types (one_longer k.variables v place.variables w.variables) w.exceptions w)
 
 complete_before : (k : Known) → Complete (after_types k) → Complete k
 complete_before k c text u is = c text u (ap (λ (ns : List Named). named text ns) (after_names k) ∙ is)
@@ -304,22 +366,15 @@ behind_one : {X : Type 0} (xs zs forms : List X) (x : X) → zs ≡ (xs ++ x ∷
 behind_one xs zs forms x all = all ∙ append_assoc xs (x ∷ []) forms
 
 -- a variable, and those behind it
-variable_first : (k : Known) (p : Context) (d : DeclarationTree) (name : Ident) (ds : DeclarationsTree) (m z : Known) → Readable k p → (r : Made d name k m) → Ahead m p → ObjectsRead (read_at (with_new_variable name p.place) p) ds m z → ObjectsRead p (a_declaration d ds) k z
+variable_first : (k : Known) (p : Context) (d : DeclarationTree) (name : Ident) (ds : DeclarationsTree) (m z : Known) → Readable k p → (r : Made d name k m) → Ahead m p → ObjectsRead (read_at (r.place p.place) p) ds m z → ObjectsRead p (a_declaration d ds) k z
 variable_first k p d name ds m z w r ahead on = record {
-  forms = declares (length k.variables) r.source ∷ on.forms;
+  forms = r.form ∷ on.forms;
   end = on.end;
-  elaborated = behind_one k.here.elaborated z.here.elaborated on.forms (declares (length k.variables) r.source)
-      (on.elaborated ∙ ap (λ (u : Known). u.here.elaborated ++ on.forms) r.is);
+  elaborated = behind_one k.here.elaborated z.here.elaborated on.forms r.form (on.elaborated ∙ ap (λ (u : Known). u.here.elaborated ++ on.forms) r.is);
   full = on.full;
-  read = r.read p ds on.forms on.end w there (sym w.agrees.variables) (new_there k p.place name name.spot w.agrees r.new) on.read;
+  read = r.read p ds on.forms on.end w ahead (new_there k p.place name name.spot w.agrees r.new) on.read;
   agrees = on.agrees;
 }
-  where
-    v : VariableForm
-    v = record { name = name.text; kind = r.of; borrows = r.borrows }
-
-    there : slice_get p.variables (length k.variables) ≡ Some v
-    there = ahead.variables (length k.variables) v (ap (λ (u : Known). slice_get u.variables (length k.variables)) r.is ∙ get_last k.variables v)
 
 -- at an object no type is incomplete, if none is at the end
 readable_at : (k : Known) (p : Context) (z : Known) → Sound k → Agrees k p.place → Complete k → Keeps k z → Ahead z p → Readable (after_types k) p
@@ -334,7 +389,7 @@ record VariableRead (p : Context) (d : DeclarationTree) (ds : DeclarationsTree) 
   open_so : Complete k
   objects : ObjectsRead p (a_declaration d ds) (after_types k) z
 
-variable_read : (p : Context) (d : DeclarationTree) (name : Ident) (ds : DeclarationsTree) (at after : At) → Sound at.0 → Agrees at.0 p.place → Complete after.0 → Ahead after.0 p → (e : declarations_told (a_declaration d ds) at ≡ gives after) → (next : Next d ds at after) → Made d name (after_types at.0) next.then.0 → (Agrees next.then.0 (with_new_variable name p.place) → no_variable_yet next.then.0 ≡ false → ObjectsRead (read_at (with_new_variable name p.place) p) ds next.then.0 after.0) → VariableRead p d ds at.0 after.0
+variable_read : (p : Context) (d : DeclarationTree) (name : Ident) (ds : DeclarationsTree) (at after : At) → Sound at.0 → Agrees at.0 p.place → Complete after.0 → Ahead after.0 p → (e : declarations_told (a_declaration d ds) at ≡ gives after) → (next : Next d ds at after) → (r : Made d name (after_types at.0) next.then.0) → (Agrees next.then.0 (r.place p.place) → no_variable_yet next.then.0 ≡ false → ObjectsRead (read_at (r.place p.place) p) ds next.then.0 after.0) → VariableRead p d ds at.0 after.0
 variable_read p d name ds at after s w c ahead e next r rest =
     let k = after_types at.0 in
     let filled = made_full d name k next.then.0 (ended_sound at.0 s).bounds.first_variable r in
@@ -344,7 +399,7 @@ variable_read p d name ds at after s w c ahead e next r rest =
     let last = ahead_on next.then.0 after.0 p (complete_grows next.then.0 after.0 inner next.to_end) ahead in
     record {
       open_so = open_so;
-      objects = variable_first k p d name ds next.then.0 after.0 readable r last (rest (made_agrees k p.place d name next.then.0 readable.agrees r) filled);
+      objects = variable_first k p d name ds next.then.0 after.0 readable r last (rest (r.agrees p.place readable.agrees) filled);
     }
 
 objects_read : (p : Context) (ds : DeclarationsTree) (at after : At) → Sound at.0 → Agrees at.0 p.place → no_variable_yet at.0 ≡ false → Complete after.0 → Ahead after.0 p → declarations_told ds at ≡ gives after → ObjectsRead p ds at.0 after.0
@@ -360,15 +415,17 @@ objects_read p no_declarations at after s w full c ahead e =
 objects_read p (a_declaration (object_declaration name type_name initial) ds) at after s w full c ahead e =
     let d = object_declaration name type_name initial in
     let next = next_of d ds at after s e in
-    let place = with_new_variable name p.place in
-    let on = variable_read p d name ds at after s w c ahead e next (object_made name type_name initial (after_types at.0) next.then.0 next.quiet next.is)
+    let made = object_made name type_name initial (after_types at.0) next.then.0 next.quiet next.is in
+    let place = made.place p.place in
+    let on = variable_read p d name ds at after s w c ahead e next made
     (λ agrees filled. objects_read (read_at place p) ds next.then after next.sound agrees filled c (ahead_at after.0 p place ahead) next.rest) in
     subst (λ u. ObjectsRead p (a_declaration d ds) u after.0) (after_full at.0 full) on.objects
 objects_read p (a_declaration (borrower_declaration name designated initial) ds) at after s w full c ahead e =
     let d = borrower_declaration name designated initial in
     let next = next_of d ds at after s e in
-    let place = with_new_variable name p.place in
-    let on = variable_read p d name ds at after s w c ahead e next (borrower_made name designated initial (after_types at.0) next.then.0 (ended_sound at.0 s) next.quiet next.is)
+    let made = borrower_made name designated initial (after_types at.0) next.then.0 (ended_sound at.0 s) next.quiet next.is in
+    let place = made.place p.place in
+    let on = variable_read p d name ds at after s w c ahead e next made
     (λ agrees filled. objects_read (read_at place p) ds next.then after next.sound agrees filled c (ahead_at after.0 p place ahead) next.rest) in
     subst (λ u. ObjectsRead p (a_declaration d ds) u after.0) (after_full at.0 full) on.objects
 objects_read p (a_declaration (incomplete_type spot name) ds) at after s w full c ahead e = absurd (no_types at.0 spot full (next_of (incomplete_type spot name) ds at after s e).quiet.0)
@@ -512,6 +569,7 @@ collected_more (collects s ∷ es) t u = rw (collected_more es t u) (turn (eqb s
     turn true false c = refl
     turn false b c = refl
 collected_more (declares x value ∷ es) t u = collected_more es t u
+collected_more (declares_record x object ∷ es) t u = collected_more es t u
 
 instance_first : (k m z : Known) (p : Context) (spot : Spot) (name : Ident) (generic : NameTree) (object access : Ident) (ds : DeclarationsTree) (r : Freed k m p name object access) → IsNew p.place name → IsInstanceRead p generic object access r.t.0 → PartRead (read_at (with_binding name (an_instance r.t.0) p.place) p) ds m z → PartRead p (a_declaration (instance spot name generic object access) ds) k z
 instance_first k m z p spot name generic object access ds r new own on = record {
@@ -613,15 +671,17 @@ part_read p (a_declaration (instance spot name generic object access) ds) at aft
 part_read p (a_declaration (object_declaration name type_name initial) ds) at after s w none c ahead fit e =
     let d = object_declaration name type_name initial in
     let next = next_of d ds at after s e in
-    let place = with_new_variable name p.place in
-    let on = variable_read p d name ds at after s w c ahead e next (object_made name type_name initial (after_types at.0) next.then.0 next.quiet next.is)
+    let made = object_made name type_name initial (after_types at.0) next.then.0 next.quiet next.is in
+    let place = made.place p.place in
+    let on = variable_read p d name ds at after s w c ahead e next made
     (λ agrees filled. objects_read (read_at place p) ds next.then after next.sound agrees filled c (ahead_at after.0 p place ahead) next.rest) in
     variables_left p d ds at after s w none ahead e on
 part_read p (a_declaration (borrower_declaration name designated initial) ds) at after s w none c ahead fit e =
     let d = borrower_declaration name designated initial in
     let next = next_of d ds at after s e in
-    let place = with_new_variable name p.place in
-    let on = variable_read p d name ds at after s w c ahead e next (borrower_made name designated initial (after_types at.0) next.then.0 (ended_sound at.0 s) next.quiet next.is)
+    let made = borrower_made name designated initial (after_types at.0) next.then.0 (ended_sound at.0 s) next.quiet next.is in
+    let place = made.place p.place in
+    let on = variable_read p d name ds at after s w c ahead e next made
     (λ agrees filled. objects_read (read_at place p) ds next.then after next.sound agrees filled c (ahead_at after.0 p place ahead) next.rest) in
     variables_left p d ds at after s w none ahead e on
 part_read p (a_declaration d ds) at after s w none c ahead fit e = absurd (next_of d ds at after s e).quiet

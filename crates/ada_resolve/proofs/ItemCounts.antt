@@ -7,7 +7,6 @@ use Rattle.std.proofs.Math.ListN.{replicate}
 use Rattle.std.proofs.lemmas.List.{length-map}
 use Rattle.ada_tree.specs.Names.{Ident}
 use Rattle.ada_tree.specs.Expressions.{ExpressionTree, ItemsTree, no_more_items, an_item}
-use Rattle.ada_program.specs.declared.program.ComponentKind.{ComponentKind}
 use Rattle.ada_program.specs.Form.{ItemForm}
 use Rattle.ada_program.specs.ProgramForm.{PartForm, VariableForm}
 use Rattle.ada_resolve.specs.declared.fault.NameRule.TheVariants.{WrongType}

@@ -9,7 +9,7 @@ use Rattle.ada_program.specs.declared.program.TypeNo.{TypeNo}
 use Rattle.ada_program.specs.declared.program.VariableKind.{VariableKind}
 use Rattle.ada_program.specs.declared.program.VariableKind.TheVariants as variable
 use Rattle.ada_program.specs.Form.{value_of}
-use Rattle.ada_program.specs.WellFormed.{access_of}
+use Rattle.ada_program.specs.WellFormed.{value_access}
 use Rattle.ada_resolve.specs.Known.{Known}
 use Rattle.ada_resolve.specs.Naming.{Context, IsRecordNamed}
 use Rattle.ada_resolve.specs.Paths.{Meant}
@@ -39,7 +39,7 @@ borrower_read k p name designated initial x w q r there = record {
   written = r.written;
   starts = refl;
   lent = subst (λ (m : Meant). MeantRead p (path_expression r.tree) m) r.meant (path_read k p r.tree w r.fine);
-  typed = ap (λ (o : Option VariableKind). access_of o)
+  typed = ap (λ (o : Option VariableKind). value_access o)
       (path_stays k.types p.types k.variables p.variables w.ahead.types w.ahead.variables r.path (variable.Access r.access) r.typed);
   designates = type_designated k p r.access.0 r.of.0 w.ahead r.designates;
   record_named = record_there k p designated r.of w

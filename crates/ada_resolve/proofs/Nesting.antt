@@ -35,6 +35,7 @@ first_open withs procedure = record {
   outer = tt;
   own = λ text e is. absurd (cc is);
   forms = λ t form behind is. absurd (cc is);
+  objects = λ o e. absurd (cc e);
 }
 
 -- what is known where the statements of a program begin

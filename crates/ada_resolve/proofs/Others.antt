@@ -7,8 +7,7 @@ use Rattle.std.proofs.Math.ListN.{drop}
 use Rattle.std.proofs.lemmas.Bool.{ne_eqb, leb-true, leb-false, le-ltb, lt-ltb}
 use Rattle.std.proofs.lemmas.Option.{slice_get_cases}
 use Rattle.ada_program.specs.Form.{DeclarationForm, collects}
-use Rattle.ada_program.specs.declared.program.ComponentKind.{ComponentKind}
-use Rattle.ada_program.specs.ProgramForm.{PartForm, TypeForm, record_of, access_to}
+use Rattle.ada_program.specs.ProgramForm.{TypeForm, record_of, access_to, object_of}
 use Rattle.ada_program.specs.WellFormed as fits
 use Rattle.ada_resolve.specs.Objects.{collections_of, missing_collections}
 use Rattle.ada_resolve.specs.Instances.{is_collected}
@@ -47,17 +46,18 @@ record Rest (t : ℕ) (ts : List TypeForm) (es : List DeclarationForm) : Type 0 
 further : (t : ℕ) (x : TypeForm) (ts : List TypeForm) (es : List DeclarationForm) (r : Rest (t + 1) ts es) (i : ℕ) → is_one_of (t + suc i) r.others ≡ (fits.is_access (x ∷ ts) (suc i) && not (is_collected (t + suc i) es))
 further t x ts es r i = let next : t + suc i ≡ (t + 1) + i = omega arith in rw next (r.each i)
 
-past_record : (t : ℕ) (name : List ℕ) (ps : List PartForm) (cs : List ComponentKind) (ts : List TypeForm) (es : List DeclarationForm) → Rest (t + 1) ts es → Rest t (record_of name ps cs ∷ ts) es
-past_record t name ps cs ts es r = record {
+-- a type that is no access type
+past_other : (t : ℕ) (form : TypeForm) (ts : List TypeForm) (es : List DeclarationForm) → collections_of t (form ∷ ts) es ≡ collections_of (t + 1) ts es → fits.is_access (form ∷ ts) 0 ≡ false → Rest (t + 1) ts es → Rest t (form ∷ ts) es
+past_other t form ts es same off r = record {
   others = r.others;
-  these = r.these;
+  these = same ∙ r.these;
   from = rise_before (t + 1) t r.others (omega arith) r.from;
   each = each;
 }
   where
-    each : (i : ℕ) → is_one_of (t + i) r.others ≡ (fits.is_access (record_of name ps cs ∷ ts) i && not (is_collected (t + i) es))
-    each zero = below (t + 1) (t + 0) r.others (omega arith) r.from
-    each (suc i) = further t (record_of name ps cs) ts es r i
+    each : (i : ℕ) → is_one_of (t + i) r.others ≡ (fits.is_access (form ∷ ts) i && not (is_collected (t + i) es))
+    each zero = below (t + 1) (t + 0) r.others (omega arith) r.from ∙ ap (λ (b : Bool). b && not (is_collected (t + 0) es)) (sym off)
+    each (suc i) = further t form ts es r i
 
 past_access : (t : ℕ) (name : List ℕ) (d : ℕ) (ts : List TypeForm) (es : List DeclarationForm) → Rest (t + 1) ts es → (b : Bool) → is_collected t es ≡ b → Rest t (access_to name d ∷ ts) es
 past_access t name d ts es r true is = record {
@@ -89,7 +89,8 @@ past_access t name d ts es r false is = record {
 
 rest_of : (t : ℕ) (ts : List TypeForm) (es : List DeclarationForm) → Rest t ts es
 rest_of t [] es = record { others = []; these = refl; from = tt; each = λ i. refl }
-rest_of t (record_of name ps cs ∷ ts) es = past_record t name ps cs ts es (rest_of (t + 1) ts es)
+rest_of t (record_of name ps cs ∷ ts) es = past_other t (record_of name ps cs) ts es refl refl (rest_of (t + 1) ts es)
+rest_of t (object_of record_type ∷ ts) es = past_other t (object_of record_type) ts es refl refl (rest_of (t + 1) ts es)
 rest_of t (access_to name d ∷ ts) es = past_access t name d ts es (rest_of (t + 1) ts es) (is_collected t es) refl
 
 -- a type of the part is one of those from its first type on

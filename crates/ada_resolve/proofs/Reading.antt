@@ -24,7 +24,7 @@ use Rattle.ada_program.specs.declared.program.VariableKind.TheVariants as variab
 use Rattle.ada_program.specs.declared.program.VariableNo.{VariableNo}
 use Rattle.ada_program.specs.declared.program.TypeNo.{TypeNo}
 use Rattle.ada_program.specs.Form.{PathForm, reads, ItemForm, RightForm, allocates, StmtForm}
-use Rattle.ada_program.specs.ProgramForm.{PartForm, TypeForm, VariableForm, record_of}
+use Rattle.ada_program.specs.ProgramForm.{PartForm, TypeForm, VariableForm, record_of, access_to, object_of}
 use Rattle.ada_program.specs.WellFormed as fits
 use Rattle.ada_resolve.specs.declared.components.KnownComponent.{KnownComponent}
 use Rattle.ada_resolve.specs.declared.scope.Entity.{Entity}
@@ -34,7 +34,7 @@ use Rattle.ada_resolve.specs.declared.selectors.Reached.TheVariants as reached
 use Rattle.ada_resolve.specs.declared.fault.NameRule.TheVariants.{UnknownName, WrongType, NotInProfile}
 use Rattle.ada_resolve.specs.Known.{Known, parts, visible, is_empty, is_with, if_with, parts_of, library_wrong, library_remark, library_found, library_path_remark, library_path_found}
 use Rattle.ada_resolve.specs.Library.{is_library_root, library_name}
-use Rattle.ada_resolve.specs.Paths.{component_at, component_in, component_named, component_wanted, component_within_remark, complete_behind, held_by, known_component, number_by, Meant, unknown, null_value, access_value, integer_value, boolean_value, selected_path, variable_path, components_of, designated_of, is_incomplete_type, held_in, object_in, selectors_reached, number_in, components_selected, reached_meant, variable_meant, entity_meant, named_meant, path_meant, selectors_remark, no_object, variable_path_remark, value_wanted, named_remark, path_remark}
+use Rattle.ada_resolve.specs.Paths.{component_at, component_in, component_named, component_wanted, component_within_remark, complete_behind, held_by, known_component, number_by, Meant, unknown, null_value, access_value, integer_value, boolean_value, selected_path, variable_path, components_of, record_known_by, record_of_object, whole_object, designated_of, is_incomplete_type, held_in, object_in, selectors_reached, number_in, components_selected, reached_meant, variable_meant, entity_meant, named_meant, path_meant, selectors_remark, no_object, variable_path_remark, value_wanted, named_remark, path_remark}
 use Rattle.ada_resolve.specs.Operators.{Signature, arithmetic, ordering, equality, logical, signature_of, integer_in, boolean_in, asks_equal, equality_meant, binary_by, unary_meant, integer_wanted, boolean_wanted, equal_wanted, operands_by, operand_remark}
 use Rattle.ada_resolve.specs.Expressions.{expression_meant, expression_remark}
 use Rattle.ada_resolve.specs.declared.library.LibraryName.{LibraryName}
@@ -47,7 +47,7 @@ use Rattle.ada_resolve.specs.Exceptions.{exception_of_library, end_error_wanted,
 use Rattle.ada_resolve.specs.Lines.{line_remark, line_found, put_line_remark, put_line_found}
 use Rattle.ada_resolve.specs.Arguments.{image_wanted, image_remark, image_value_remark}
 use Rattle.ada_resolve.specs.Naming.{Context, IsExceptionNamed, IsInstanceNamed, IsVariableNamed, IsObjectNamed}
-use Rattle.ada_resolve.specs.Reading.{IsPutLine, IsGet, IsImage, type_behind, at_value, at_object, IsComponentNamed, AreSelectorsRead, at_end, by_all, by_value, to_value, to_record, IsPathRead, IsTargetRead, IsValueRead, read_path, read_number, read_truth, AsksEqual, null_on_right, null_on_left, IsExpressionRead, IsNull, IsMoveRead, IsConditionRead, IsItemRead, IsItemFor, at_place, by_name, further, AreItemsRead, IsAllocationRead, IsRightRead, IsSimpleRead, IsChoiceRead, AreChoicesRead}
+use Rattle.ada_resolve.specs.Reading.{IsPutLine, IsGet, IsImage, type_behind, at_value, at_object, IsBegun, IsComponentNamed, AreSelectorsRead, at_end, by_all, by_value, to_value, to_record, IsPathRead, IsTargetRead, IsValueRead, read_path, read_number, read_truth, AsksEqual, null_on_right, null_on_left, IsExpressionRead, IsNull, IsMoveRead, IsConditionRead, IsItemRead, IsItemFor, at_place, by_name, further, AreItemsRead, IsAllocationRead, IsRightRead, IsSimpleRead, IsChoiceRead, AreChoicesRead}
 use Rattle.ada_resolve.specs.Allocators.{allocated_wanted, allocated_remark, complete_in, allocated_found, filled_components, aggregate_remark, allocation, aggregate_found, default_allocation, default_found, allocator_remark, allocator_found}
 use Rattle.ada_resolve.specs.Rights.{assigned_wanted, assigned, right_remark, right_found}
 use Rattle.ada_resolve.specs.Assignments.{variable_target, component_target, target_found, variable_wanted, target_wanted, target_remark, kind_of_target, target_borrows, assignment_remark, assignment_of, assignment_found}
@@ -59,7 +59,7 @@ use Rattle.ada_resolve.specs.Items.{Filling, component_for, item_meant, fits_rem
 use Rattle.ada_resolve.proofs.Agreeing.{Agrees, Ahead, EntityRead, Readable, visible_read, parameter_visible}
 use Rattle.ada_resolve.proofs.WellFormed.Remarks.{Quiet, quiet_unless}
 use Rattle.ada_resolve.proofs.WellFormed.Values.{access_designates, components_are}
-use Rattle.ada_resolve.proofs.WellFormed.Names.{EntityFits, PartsFit, visible_fits, kind_there, text_same}
+use Rattle.ada_resolve.proofs.WellFormed.Names.{EntityFits, IsVariableIn, PartsFit, visible_fits, kind_there, text_same}
 use Rattle.ada_resolve.proofs.WellFormed.Meanings.{MeantFits, expression_fits, path_fits}
 use Rattle.ada_resolve.proofs.WellFormed.Selected.{IsNamedOf, name_at, has_record, designated_same, designated_more}
 use Rattle.ada_resolve.proofs.WellFormed.Tables.{get_other}
@@ -200,31 +200,96 @@ selectors_read k p spot (reached.Value (variable.Access t)) (dereference all ∷
 selectors_read k p spot at (component c ∷ ss) w q e there = absurd q.0
 selectors_read k p spot at (dereference all ∷ ss) w q e there = absurd q.0
 
+-- what a variable that is no record object holds
+abbrev HoldsValue : VariableKind → Type 0
+HoldsValue (variable.Record object) = ⊥
+HoldsValue of = Unit {0}
+
+-- a path of it begins at its value
+value_begun : (types : List TypeForm) (of : VariableKind) → HoldsValue of → IsBegun types (Some of) false (at_value (Some of))
+value_begun types variable.Integer h = (refl, refl)
+value_begun types variable.Boolean h = (refl, refl)
+value_begun types (variable.Access t) h = (refl, refl)
+value_begun types (variable.Record object) h = absurd h
+
+-- what a path that is read means, by what it reaches
+meant_whole : (p : Context) (tree : PathTree) (path : PathForm) → IsPathRead p tree path → (at : Reached) → MeantRead p (path_expression tree) (reached_meant path at)
+meant_whole p tree path whole (reached.Value variable.Integer) = read_path whole
+meant_whole p tree path whole (reached.Value variable.Boolean) = read_path whole
+meant_whole p tree path whole (reached.Value (variable.Access t)) = whole
+meant_whole p tree path whole at = tt
+
+-- a variable that holds a value, and what is selected behind that
+value_path_read : (k : Known) (p : Context) (x : VariableNo) (name : Ident) (of : VariableKind) (ss : List SelectorTree) → HoldsValue of → Ahead k p → IsObjectNamed p name.text x.0 → fits.variable_kind p.variables x.0 ≡ Some of → Quiet (selectors_remark k name.spot (reached.Value of) ss) → Quiet (no_object (selectors_reached k (reached.Value of) ss) name.spot) → IsPathRead p (record { root = name; selectors = ss }) (selected_path x false name.spot (components_selected k (reached.Value of) ss))
+value_path_read k p x name of ss h w b v q e = record {
+  root = b;
+  way = at_value (Some of);
+  begins = subst (λ (o : Option VariableKind). IsBegun p.types o false (at_value (Some of))) (sym v) (value_begun p.types of h);
+  selectors = selectors_read k p name.spot (reached.Value of) ss w q e tt;
+  spot = refl;
+}
+
 -- a variable alone
-variable_read : (p : Context) (x : VariableNo) (name : Ident) → IsObjectNamed p name.text x.0 → IsPathRead p (record { root = name; selectors = [] }) (variable_path x name.spot)
-variable_read p x name b = record { root = b; selectors = at_end; spot = refl }
+variable_read : (p : Context) (x : VariableNo) (name : Ident) (of : VariableKind) → HoldsValue of → IsObjectNamed p name.text x.0 → fits.variable_kind p.variables x.0 ≡ Some of → IsPathRead p (record { root = name; selectors = [] }) (variable_path x name.spot)
+variable_read p x name of h b v = record {
+  root = b;
+  way = at_value (Some of);
+  begins = subst (λ (o : Option VariableKind). IsBegun p.types o false (at_value (Some of))) (sym v) (value_begun p.types of h);
+  selectors = at_end;
+  spot = refl;
+}
+
+-- a component of a record object, and what is selected behind it
+object_path_read : (k : Known) (p : Context) (x : VariableNo) (name : Ident) (object : TypeNo) (t : ℕ) (ss : List SelectorTree) → Ahead k p → IsObjectNamed p name.text x.0 → fits.variable_kind p.variables x.0 ≡ Some (variable.Record object) → slice_get k.types object.0 ≡ Some (object_of t) → Quiet (selectors_remark k name.spot (reached.Object (record { 0 = t }) 0) ss) → Quiet (no_object (selectors_reached k (reached.Object (record { 0 = t }) 0) ss) name.spot) → IsPathRead p (record { root = name; selectors = ss }) (selected_path x true name.spot (components_selected k (reached.Object (record { 0 = t }) 0) ss))
+object_path_read k p x name object t ss w b v is q e = record {
+  root = b;
+  way = at_object t 0;
+  begins = subst (λ (o : Option VariableKind). IsBegun p.types o true (at_object t 0)) (sym v) (refl, t, w.types object.0 (object_of t) is, refl);
+  selectors = selectors_read k p name.spot (reached.Object (record { 0 = t }) 0) ss w q e tt;
+  spot = refl;
+}
+
+-- nothing is selected from what is neither an object nor an access value
+unknown_read : (k : Known) (p : Context) (name : Ident) (path : PathForm) (object : TypeNo) (ss : List SelectorTree) → Quiet (selectors_remark k name.spot (reached.Value (variable.Record object)) ss) → MeantRead p (path_expression (record { root = name; selectors = ss })) (reached_meant path (selectors_reached k (reached.Value (variable.Record object)) ss))
+unknown_read k p name path object [] q = tt
+unknown_read k p name path object (component c ∷ ss) q = absurd q.0
+unknown_read k p name path object (dereference all ∷ ss) q = absurd q.0
+
+record_place_read : (k : Known) (p : Context) (x : VariableNo) (name : Ident) (object : TypeNo) (ss : List SelectorTree) → Ahead k p → IsObjectNamed p name.text x.0 → fits.variable_kind p.variables x.0 ≡ Some (variable.Record object) → Quiet (variable_path_remark k name.spot (variable.Record object) ss) → MeantRead p (path_expression (record { root = name; selectors = ss })) (variable_meant k x name.spot (variable.Record object) ss)
+unfolding record_of_object
+record_place_read k p x name object ss w b v q = by_form (slice_get k.types object.0) refl q
+  where
+    tree : PathTree
+    tree = record { root = name; selectors = ss }
+
+    by_form : (o : Option TypeForm) → slice_get k.types object.0 ≡ o → Quiet (selectors_remark k name.spot (whole_object (record_known_by o) (variable.Record object)) ss also no_object (selectors_reached k (whole_object (record_known_by o) (variable.Record object)) ss) name.spot) → MeantRead p (path_expression tree) (reached_meant (selected_path x true name.spot (components_selected k (whole_object (record_known_by o) (variable.Record object)) ss)) (selectors_reached k (whole_object (record_known_by o) (variable.Record object)) ss))
+    by_form (Some (object_of t)) is q =
+        let at = reached.Object (record { 0 = t }) 0 in
+        meant_whole p tree (selected_path x true name.spot (components_selected k at ss)) (object_path_read k p x name object t ss w b v is q.0 q.1) (selectors_reached k at ss)
+    by_form (Some (record_of n ps cs)) is q = unknown_read k p name (selected_path x true name.spot (components_selected k (reached.Value (variable.Record object)) ss)) object ss q.0
+    by_form (Some (access_to n d)) is q = unknown_read k p name (selected_path x true name.spot (components_selected k (reached.Value (variable.Record object)) ss)) object ss q.0
+    by_form None is q = unknown_read k p name (selected_path x true name.spot (components_selected k (reached.Value (variable.Record object)) ss)) object ss q.0
 
 place_read : (k : Known) (p : Context) (x : VariableNo) (name : Ident) (of : VariableKind) (ss : List SelectorTree) → Ahead k p → IsObjectNamed p name.text x.0 → fits.variable_kind p.variables x.0 ≡ Some of → Quiet (variable_path_remark k name.spot of ss) → MeantRead p (path_expression (record { root = name; selectors = ss })) (variable_meant k x name.spot of ss)
-place_read k p x name of ss w b v q = by_reached (selectors_reached k (reached.Value of) ss)
-  where
-    whole : IsPathRead p (record { root = name; selectors = ss }) (selected_path x name.spot (components_selected k (reached.Value of) ss))
-    whole = record {
-      root = b;
-      selectors = subst (λ (o : Option VariableKind). AreSelectorsRead p (at_value o) ss (components_selected k (reached.Value of) ss)) (sym v)
-          (selectors_read k p name.spot (reached.Value of) ss w q.0 q.1 tt);
-      spot = refl;
-    }
+place_read k p x name variable.Integer ss w b v q =
+    meant_whole p (record { root = name; selectors = ss }) (selected_path x false name.spot (components_selected k (reached.Value variable.Integer) ss))
+    (value_path_read k p x name variable.Integer ss tt w b v q.0 q.1) (selectors_reached k (reached.Value variable.Integer) ss)
+place_read k p x name variable.Boolean ss w b v q =
+    meant_whole p (record { root = name; selectors = ss }) (selected_path x false name.spot (components_selected k (reached.Value variable.Boolean) ss))
+    (value_path_read k p x name variable.Boolean ss tt w b v q.0 q.1) (selectors_reached k (reached.Value variable.Boolean) ss)
+place_read k p x name (variable.Access t) ss w b v q =
+    meant_whole p (record { root = name; selectors = ss }) (selected_path x false name.spot (components_selected k (reached.Value (variable.Access t)) ss))
+    (value_path_read k p x name (variable.Access t) ss tt w b v q.0 q.1) (selectors_reached k (reached.Value (variable.Access t)) ss)
+place_read k p x name (variable.Record object) ss w b v q = record_place_read k p x name object ss w b v q
 
-    by_reached : (at : Reached) → MeantRead p (path_expression (record { root = name; selectors = ss })) (reached_meant (selected_path x name.spot (components_selected k (reached.Value of) ss)) at)
-    by_reached (reached.Value variable.Integer) = read_path whole
-    by_reached (reached.Value variable.Boolean) = read_path whole
-    by_reached (reached.Value (variable.Access t)) = whole
-    by_reached at = tt
+-- what a variable is known to hold
+declared_kind : (k : Known) (p : Context) (x : VariableNo) (text : List ℕ) (of : VariableKind) → Ahead k p → IsVariableIn k.variables text of x.0 → fits.variable_kind p.variables x.0 ≡ Some of
+declared_kind k p x text of w f = kind_there p.variables x.0 text of (f.0, w.variables x.0 (record { name = text; kind = of; borrows = f.0 }) f.1)
 
 -- what a name stands for
 entity_read : (k : Known) (p : Context) (e : Entity) (name : Ident) (ss : List SelectorTree) → Ahead k p → EntityFits k.types k.variables name.text e → EntityRead p name.text e → Quiet (value_wanted k (Some e) name ss) → MeantRead p (path_expression (record { root = name; selectors = ss })) (entity_meant k (Some e) name.spot ss)
 entity_read k p (entity.Variable x of) name ss w f t q =
-    place_read k p x name of ss w (inl t) (kind_there p.variables x.0 name.text of (f.0.0, w.variables x.0 (record { name = name.text; kind = of; borrows = f.0.0 }) f.0.1)) q
+    place_read k p x name of ss w (inl t) (declared_kind k p x name.text of w f.0) q
 entity_read k p (entity.Parameter x) name ss w f t q =
     place_read k p x name variable.Integer ss w (inr t) (kind_there p.variables x.0 name.text variable.Integer (false, w.variables x.0 (record { name = name.text; kind = variable.Integer; borrows = false }) f)) q
 entity_read k p (entity.Number n) name [] w f t q = read_number refl t
@@ -499,6 +564,7 @@ right_read k p of borrows (expression_right e) w q =
 right_read k p (variable.Access access) borrows (allocator_right at handle name items) w q = allocator_read k p access at handle name items w q.1.1
 right_read k p variable.Integer borrows (allocator_right at handle name items) w q = absurd q.0
 right_read k p variable.Boolean borrows (allocator_right at handle name items) w q = absurd q.0
+right_read k p (variable.Record object) borrows (allocator_right at handle name items) w q = absurd q.0
 right_read k p of borrows (creation_right function argument) w q = absurd q
 
 -- a statement
@@ -514,13 +580,15 @@ abbrev FoundTarget : Context → PathTree → Option (PathForm × VariableKind) 
 FoundTarget p target None = ⊥
 FoundTarget p target (Some found) = IsTargetRead p target found.0
 
-variable_target_one : (p : Context) (e : Entity) (root : Ident) → EntityRead p root.text e → Quiet (variable_wanted (Some e) root) → FoundTarget p (record { root = root; selectors = [] }) (variable_target root.spot (Some e))
-variable_target_one p (entity.Variable x of) root f q = (variable_read p x root (inl f), f)
-variable_target_one p e root f q = absurd q
+variable_target_one : (k : Known) (p : Context) (e : Entity) (root : Ident) → Ahead k p → EntityFits k.types k.variables root.text e → EntityRead p root.text e → Quiet (variable_wanted (Some e) root) → FoundTarget p (record { root = root; selectors = [] }) (variable_target root.spot (Some e))
+variable_target_one k p (entity.Variable x variable.Integer) root w f t q = (variable_read p x root variable.Integer tt (inl t) (declared_kind k p x root.text variable.Integer w f.0), t)
+variable_target_one k p (entity.Variable x variable.Boolean) root w f t q = (variable_read p x root variable.Boolean tt (inl t) (declared_kind k p x root.text variable.Boolean w f.0), t)
+variable_target_one k p (entity.Variable x (variable.Access a)) root w f t q = (variable_read p x root (variable.Access a) tt (inl t) (declared_kind k p x root.text (variable.Access a) w f.0), t)
+variable_target_one k p e root w f t q = absurd q
 
-variable_target_read : (p : Context) (o : Option Entity) (root : Ident) → ((e : Entity) → o ≡ Some e → EntityRead p root.text e) → Quiet (variable_wanted o root) → FoundTarget p (record { root = root; selectors = [] }) (variable_target root.spot o)
-variable_target_read p None root v q = absurd q
-variable_target_read p (Some e) root v q = variable_target_one p e root (v e refl) q
+variable_target_read : (k : Known) (p : Context) (o : Option Entity) (root : Ident) → Ahead k p → ((e : Entity) → o ≡ Some e → EntityFits k.types k.variables root.text e) → ((e : Entity) → o ≡ Some e → EntityRead p root.text e) → Quiet (variable_wanted o root) → FoundTarget p (record { root = root; selectors = [] }) (variable_target root.spot o)
+variable_target_read k p None root w f t q = absurd q
+variable_target_read k p (Some e) root w f t q = variable_target_one k p e root w (f e refl) (t e refl) q
 
 -- what has components is no loop parameter
 no_part_of_parameter : (k : Known) (o : Option Entity) (root : Ident) (s : SelectorTree) (ss : List SelectorTree) (n : VariableNo) → o ≡ Some (entity.Parameter n) → Quiet (value_wanted k o root (s ∷ ss)) → ⊥
@@ -547,7 +615,7 @@ component_target_read p tree m spot f r target q = absurd q
 
 found_target_read : (k : Known) (p : Context) (root : Ident) (ss : List SelectorTree) → Readable k p → Quiet (target_remark k (record { root = root; selectors = ss })) → FoundTarget p (record { root = root; selectors = ss }) (target_found k (record { root = root; selectors = ss }))
 unfolding target_remark target_found
-found_target_read k p root [] w q = variable_target_read p (visible k root.text) root (visible_read k p w.agrees root.text) q
+found_target_read k p root [] w q = variable_target_read k p (visible k root.text) root w.ahead (visible_fits k w.fits root.text) (visible_read k p w.agrees root.text) q
 found_target_read k p root (s ∷ ss) w q = longer_at (eqb (length (s ∷ ss)) 0) (ne_eqb (length (s ∷ ss)) 0 (omega arith)) q
   where
     tree : PathTree

@@ -1,7 +1,7 @@
 -- What each declaration writes is what is known after it.
 
-use Rattle.std.proofs.Common.{◌≡◌, ◌∙◌, zero, suc, inl, inr, ℕ, ◌+◌, Bool, true, false, ◌||◌, cond, List, [], ◌∷◌, ◌++◌, length, append_assoc, refl, sym, ap, subst, eqb-true}
-use Rattle.std.specs.Prelude.{Option, Some, None, codes, bytes_eq, is_some, map}
+use Rattle.std.proofs.Common.{◌≡◌, ◌∙◌, zero, suc, inl, inr, ℕ, Bool, true, false, ◌||◌, cond, List, [], ◌∷◌, ◌++◌, length, append_assoc, refl, sym, ap, subst, eqb-true}
+use Rattle.std.specs.Prelude.{Option, Some, None, codes, bytes_eq, is_some}
 use Rattle.std.specs.List.{slice_get, list_all}
 use Rattle.ada_text.specs.declared.spot.Spot.{Spot}
 use Rattle.ada_tree.specs.Names.{Ident, NameTree}
@@ -12,7 +12,7 @@ use Rattle.ada_program.specs.declared.program.TypeNo.{TypeNo}
 use Rattle.ada_program.specs.declared.program.VariableKind.{VariableKind}
 use Rattle.ada_program.specs.declared.program.VariableKind.TheVariants as variable
 use Rattle.ada_program.specs.Form.{RightForm}
-use Rattle.ada_program.specs.ProgramForm.{PartForm, TypeForm, record_of, access_to}
+use Rattle.ada_program.specs.ProgramForm.{PartForm, TypeForm, record_of, access_to, object_of}
 use Rattle.ada_program.specs.WellFormed as well
 use Rattle.ada_resolve.specs.declared.fault.NameRule.TheVariants.{UnknownName, DeclaredTwice, WrongType}
 use Rattle.ada_resolve.specs.declared.library.LibraryName.{LibraryName}
@@ -29,7 +29,7 @@ use Rattle.ada_resolve.specs.Records.{integer_remark, boolean_remark, no_value_r
 use Rattle.ada_resolve.specs.Instances.{deallocation_wanted, no_generic, generic_remark, access_if, access_in, access_wanted, freed_found, freed_remark}
 use Rattle.ada_resolve.specs.Paths.{library_is_no_value}
 use Rattle.ada_resolve.specs.Objects.{initial_remark, initial_found, initial_wanted, type_in, type_wanted, object_type_found, object_type_remark, kind_of, initial_source}
-use Rattle.ada_resolve.specs.Naming.{Context, IsNumberNamed, IsStaticRead, IsKindRead, AreComponentsRead, AreNamedApart, AreLaidOut, IsFullTypeNamed, IsTypeNamed, IsRecordNamed, IsKindNamed, truth_name}
+use Rattle.ada_resolve.specs.Naming.{Context, IsNumberNamed, IsStaticRead, IsKindRead, AreComponentsRead, AreNamedApart, AreLaidOut, IsFullTypeNamed, IsTypeNamed, IsRecordNamed, IsFullRecordNamed, IsKindNamed, truth_name}
 use Rattle.ada_resolve.specs.Reading.{IsInitialRead}
 use Rattle.ada_resolve.specs.Paths.{name_of_type, elementary_of}
 use Rattle.ada_resolve.proofs.WellFormed.Remarks.{Quiet, quiet_if, quiet_unless}
@@ -202,6 +202,7 @@ record_there types text d None there same is = absurd (cc is)
 record_there types text d (Some (record_of name ps cs)) there same is =
     let name_is : name ≡ text = cc same in (ps, cs, subst (λ (n : List ℕ). slice_get types d ≡ Some (record_of n ps cs)) name_is there)
 record_there types text d (Some (access_to name u)) there same is = absurd (cc is)
+record_there types text d (Some (object_of record_type)) there same is = absurd (cc is)
 
 pub designated_read : (p : Context) (text designated : List ℕ) (t d : ℕ) → list_all (well.type_fits p.types) p.types ≡ true → slice_get p.types t ≡ Some (access_to text d) → HasName p.types designated d → IsTypeNamed p designated d → IsRecordNamed p designated d
 designated_read p text designated t d all there same named_so =
@@ -257,47 +258,59 @@ generic_read k generic q = by_root (is_library_root generic.first.text) q
     by_root true q = generic_is k.withs (library_name generic.first.text generic.rest) generic.first.spot q.0 q.1
     by_root false q = absurd (by_entity (visible k generic.first.text) q)
 
--- the type of an object, and its initial value
-pub record ObjectRead (k : Known) (p : Context) (type_name : NameTree) (initial : Option RightTree) (kind : Option VariableKind) (value : Option RightForm) : Type 0 where
-  pub of : VariableKind
-  pub is : kind ≡ Some of
+-- what an object holds, and its initial value
+pub record ObjectRead (k : Known) (p : Context) (type_name : NameTree) (initial : Option RightTree) (of : VariableKind) : Type 0 where
   pub kind_named : IsKindNamed p type_name of
-  pub starts : IsInitialRead p of initial (initial_source value)
+  pub starts : IsInitialRead p of initial (initial_source (initial_found k (Some of) initial))
+
+-- the record type of a record object, which has no initial value
+pub record RecordRead (p : Context) (type_name : NameTree) (initial : Option RightTree) (t : ℕ) : Type 0 where
+  pub alone : type_name.rest ≡ []
+  pub record_named : IsFullRecordNamed p type_name.first.text t
+  pub starts : initial ≡ None
+
+-- the type of an object
+abbrev pub TypeRead : Known → Context → NameTree → Option RightTree → Option Entity → Type 0
+TypeRead k p type_name initial (Some entity.Integer) = ObjectRead k p type_name initial variable.Integer
+TypeRead k p type_name initial (Some entity.Boolean) = ObjectRead k p type_name initial variable.Boolean
+TypeRead k p type_name initial (Some (entity.Access t)) = ObjectRead k p type_name initial (variable.Access t)
+TypeRead k p type_name initial (Some (entity.Record t size)) = RecordRead p type_name initial t.0
+TypeRead k p type_name initial other = ⊥
 
 starts_read : (k : Known) (p : Context) (of : VariableKind) (right : RightTree) (o : Option RightForm) → FoundRight p right o → IsInitialRead p of (Some right) (initial_source o)
 starts_read k p of right None f = absurd f
 starts_read k p of right (Some form) f = f
 
-object_at : (k : Known) (p : Context) (name : Ident) (type_name : NameTree) (initial : Option RightTree) (e : Entity) → Readable k p → type_name.rest ≡ [] → EntityFits k.types k.variables type_name.first.text e → EntityRead p type_name.first.text e → Quiet (initial_remark k (kind_of (Some e)) initial) → Quiet (initial_wanted (Some e) name initial) → ObjectRead k p type_name initial (kind_of (Some e)) (initial_found k (kind_of (Some e)) initial)
+object_at : (k : Known) (p : Context) (name : Ident) (type_name : NameTree) (initial : Option RightTree) (e : Entity) → Readable k p → type_name.rest ≡ [] → EntityFits k.types k.variables type_name.first.text e → EntityRead p type_name.first.text e → Quiet (initial_remark k (kind_of (Some e)) initial) → Quiet (initial_wanted (Some e) name initial) → TypeRead k p type_name initial (Some e)
 object_at k p name type_name None entity.Integer w alone f t q g = absurd g
 object_at k p name type_name None entity.Boolean w alone f t q g = absurd g
 object_at k p name type_name (Some right) entity.Integer w alone f t q g = record {
-  of = variable.Integer;
-  is = refl;
   kind_named = (alone, t);
   starts = starts_read k p variable.Integer right (initial_found k (Some variable.Integer) (Some right)) (right_read k p variable.Integer false right w q);
 }
 object_at k p name type_name (Some right) entity.Boolean w alone f t q g = record {
-  of = variable.Boolean;
-  is = refl;
   kind_named = (alone, t);
   starts = starts_read k p variable.Boolean right (initial_found k (Some variable.Boolean) (Some right)) (right_read k p variable.Boolean false right w q);
 }
-object_at k p name type_name None (entity.Access a) w alone f t q g = record { of = variable.Access a; is = refl; kind_named = (alone, (t, f.0, w.ahead.types a.0 (access_to type_name.first.text f.0) f.1)); starts = tt }
+object_at k p name type_name None (entity.Access a) w alone f t q g = record { kind_named = (alone, (t, f.0, w.ahead.types a.0 (access_to type_name.first.text f.0) f.1)); starts = tt }
 object_at k p name type_name (Some right) (entity.Access a) w alone f t q g = record {
-  of = variable.Access a;
-  is = refl;
   kind_named = (alone, (t, f.0, w.ahead.types a.0 (access_to type_name.first.text f.0) f.1));
   starts = starts_read k p (variable.Access a) right (initial_found k (Some (variable.Access a)) (Some right)) (right_read k p (variable.Access a) false right w q);
 }
+object_at k p name type_name None (entity.Record u size) w alone f t q g = record {
+  alone = alone;
+  record_named = (t, f.0, f.1, w.ahead.types u.0 (record_of type_name.first.text f.0 f.1) f.2);
+  starts = refl;
+}
+object_at k p name type_name (Some right) (entity.Record u size) w alone f t q g = absurd g
 object_at k p name type_name initial e w alone f t q g = absurd g
 
-object_typed : (k : Known) (p : Context) (name : Ident) (type_name : NameTree) (initial : Option RightTree) (o : Option Entity) → Readable k p → type_name.rest ≡ [] → ((e : Entity) → o ≡ Some e → EntityFits k.types k.variables type_name.first.text e) → ((e : Entity) → o ≡ Some e → EntityRead p type_name.first.text e) → Quiet (type_wanted o true type_name.first) → Quiet (initial_remark k (kind_of (type_in o)) initial) → Quiet (initial_wanted (type_in o) name initial) → ObjectRead k p type_name initial (kind_of (type_in o)) (initial_found k (kind_of (type_in o)) initial)
+object_typed : (k : Known) (p : Context) (name : Ident) (type_name : NameTree) (initial : Option RightTree) (o : Option Entity) → Readable k p → type_name.rest ≡ [] → ((e : Entity) → o ≡ Some e → EntityFits k.types k.variables type_name.first.text e) → ((e : Entity) → o ≡ Some e → EntityRead p type_name.first.text e) → Quiet (type_wanted o true type_name.first) → Quiet (initial_remark k (kind_of (type_in o)) initial) → Quiet (initial_wanted (type_in o) name initial) → TypeRead k p type_name initial (type_in o)
 object_typed k p name type_name initial None w alone f t r q g = absurd r
 object_typed k p name type_name initial (Some entity.Integer) w alone f t r q g = object_at k p name type_name initial entity.Integer w alone (f entity.Integer refl) (t entity.Integer refl) q g
 object_typed k p name type_name initial (Some entity.Boolean) w alone f t r q g = object_at k p name type_name initial entity.Boolean w alone (f entity.Boolean refl) (t entity.Boolean refl) q g
 object_typed k p name type_name initial (Some (entity.Access a)) w alone f t r q g = object_at k p name type_name initial (entity.Access a) w alone (f (entity.Access a) refl) (t (entity.Access a) refl) q g
-object_typed k p name type_name initial (Some (entity.Record u size)) w alone f t r q g = absurd g
+object_typed k p name type_name initial (Some (entity.Record u size)) w alone f t r q g = object_at k p name type_name initial (entity.Record u size) w alone (f (entity.Record u size) refl) (t (entity.Record u size) refl) q g
 object_typed k p name type_name initial (Some e) w alone f t r q g = absurd r.1
 
 -- a name of the library is no type
@@ -309,35 +322,43 @@ not_alone : (o : Option Entity) (name : Ident) → Quiet (type_wanted o false na
 not_alone (Some e) name q = q.0
 not_alone None name q = q
 
-pub object_read : (k : Known) (p : Context) (name : Ident) (type_name : NameTree) (initial : Option RightTree) → Readable k p → Quiet (object_type_remark k type_name) → Quiet (initial_remark k (kind_of (object_type_found k type_name)) initial) → Quiet (initial_wanted (object_type_found k type_name) name initial) → ObjectRead k p type_name initial (kind_of (object_type_found k type_name)) (initial_found k (kind_of (object_type_found k type_name)) initial)
+pub object_read : (k : Known) (p : Context) (name : Ident) (type_name : NameTree) (initial : Option RightTree) → Readable k p → Quiet (object_type_remark k type_name) → Quiet (initial_remark k (kind_of (object_type_found k type_name)) initial) → Quiet (initial_wanted (object_type_found k type_name) name initial) → TypeRead k p type_name initial (object_type_found k type_name)
 unfolding object_type_found object_type_remark
 object_read k p name type_name initial w r q g = by_root (is_library_root type_name.first.text) r q g
   where
-    by_rest : (b : Bool) → is_empty type_name.rest ≡ b → Quiet (type_wanted (visible k type_name.first.text) b type_name.first) → Quiet (initial_remark k (kind_of (cond b (type_in (visible k type_name.first.text)) None)) initial) → Quiet (initial_wanted (cond b (type_in (visible k type_name.first.text)) None) name initial) → ObjectRead k p type_name initial (kind_of (cond b (type_in (visible k type_name.first.text)) None)) (initial_found k (kind_of (cond b (type_in (visible k type_name.first.text)) None)) initial)
+    by_rest : (b : Bool) → is_empty type_name.rest ≡ b → Quiet (type_wanted (visible k type_name.first.text) b type_name.first) → Quiet (initial_remark k (kind_of (cond b (type_in (visible k type_name.first.text)) None)) initial) → Quiet (initial_wanted (cond b (type_in (visible k type_name.first.text)) None) name initial) → TypeRead k p type_name initial (cond b (type_in (visible k type_name.first.text)) None)
     by_rest true is r q g = object_typed k p name type_name initial (visible k type_name.first.text) w (empty_is type_name.rest is) (visible_fits k w.fits type_name.first.text) (visible_read k p w.agrees type_name.first.text) r q g
     by_rest false is r q g = absurd (not_alone (visible k type_name.first.text) type_name.first r)
 
-    by_root : (b : Bool) → Quiet (cond b (library_remark k type_name.first type_name.rest also library_is_no_value (if_with (is_with k.withs (library_name type_name.first.text type_name.rest)) (library_name type_name.first.text type_name.rest)) type_name.first.spot) (type_wanted (visible k type_name.first.text) (is_empty type_name.rest) type_name.first)) → Quiet (initial_remark k (kind_of (cond b None (cond (is_empty type_name.rest) (type_in (visible k type_name.first.text)) None))) initial) → Quiet (initial_wanted (cond b None (cond (is_empty type_name.rest) (type_in (visible k type_name.first.text)) None)) name initial) → ObjectRead k p type_name initial (kind_of (cond b None (cond (is_empty type_name.rest) (type_in (visible k type_name.first.text)) None))) (initial_found k (kind_of (cond b None (cond (is_empty type_name.rest) (type_in (visible k type_name.first.text)) None))) initial)
+    by_root : (b : Bool) → Quiet (cond b (library_remark k type_name.first type_name.rest also library_is_no_value (if_with (is_with k.withs (library_name type_name.first.text type_name.rest)) (library_name type_name.first.text type_name.rest)) type_name.first.spot) (type_wanted (visible k type_name.first.text) (is_empty type_name.rest) type_name.first)) → Quiet (initial_remark k (kind_of (cond b None (cond (is_empty type_name.rest) (type_in (visible k type_name.first.text)) None))) initial) → Quiet (initial_wanted (cond b None (cond (is_empty type_name.rest) (type_in (visible k type_name.first.text)) None)) name initial) → TypeRead k p type_name initial (cond b None (cond (is_empty type_name.rest) (type_in (visible k type_name.first.text)) None))
     by_root true r q g = absurd (no_library k.withs (library_name type_name.first.text type_name.rest) type_name.first.spot (if_with (is_with k.withs (library_name type_name.first.text type_name.rest)) (library_name type_name.first.text type_name.rest)) refl r.0 r.1)
     by_root false r q g = by_rest (is_empty type_name.rest) refl r q g
 
--- what an object holds is known
-pub object_kind : (k : Known) (name : Ident) (type_name : NameTree) (initial : Option RightTree) → Quiet (object_type_remark k type_name) → Quiet (initial_wanted (object_type_found k type_name) name initial) → (of : VariableKind) × (kind_of (object_type_found k type_name) ≡ Some of)
+-- an object may be of this type
+abbrev pub IsObjectType : Option Entity → Type 0
+IsObjectType (Some entity.Integer) = Unit {0}
+IsObjectType (Some entity.Boolean) = Unit {0}
+IsObjectType (Some (entity.Access t)) = Unit {0}
+IsObjectType (Some (entity.Record t size)) = Unit {0}
+IsObjectType other = ⊥
+
+-- an object with whose type nothing is wrong is of one of these
+pub object_type_is : (k : Known) (type_name : NameTree) → Quiet (object_type_remark k type_name) → IsObjectType (object_type_found k type_name)
 unfolding object_type_found object_type_remark
-object_kind k name type_name initial r g = by_root (is_library_root type_name.first.text) r g
+object_type_is k type_name r = by_root (is_library_root type_name.first.text) r
   where
-    by_entity : (o : Option Entity) → Quiet (type_wanted o true type_name.first) → Quiet (initial_wanted (type_in o) name initial) → (of : VariableKind) × (kind_of (type_in o) ≡ Some of)
-    by_entity None r g = absurd r
-    by_entity (Some entity.Integer) r g = (variable.Integer, refl)
-    by_entity (Some entity.Boolean) r g = (variable.Boolean, refl)
-    by_entity (Some (entity.Access a)) r g = (variable.Access a, refl)
-    by_entity (Some (entity.Record u size)) r g = absurd g
-    by_entity (Some e) r g = absurd r.1
+    by_entity : (o : Option Entity) → Quiet (type_wanted o true type_name.first) → IsObjectType (type_in o)
+    by_entity None r = absurd r
+    by_entity (Some entity.Integer) r = tt
+    by_entity (Some entity.Boolean) r = tt
+    by_entity (Some (entity.Access a)) r = tt
+    by_entity (Some (entity.Record u size)) r = tt
+    by_entity (Some e) r = absurd r.1
 
-    by_rest : (b : Bool) → Quiet (type_wanted (visible k type_name.first.text) b type_name.first) → Quiet (initial_wanted (cond b (type_in (visible k type_name.first.text)) None) name initial) → (of : VariableKind) × (kind_of (cond b (type_in (visible k type_name.first.text)) None) ≡ Some of)
-    by_rest true r g = by_entity (visible k type_name.first.text) r g
-    by_rest false r g = absurd (not_alone (visible k type_name.first.text) type_name.first r)
+    by_rest : (b : Bool) → Quiet (type_wanted (visible k type_name.first.text) b type_name.first) → IsObjectType (cond b (type_in (visible k type_name.first.text)) None)
+    by_rest true r = by_entity (visible k type_name.first.text) r
+    by_rest false r = absurd (not_alone (visible k type_name.first.text) type_name.first r)
 
-    by_root : (b : Bool) → Quiet (cond b (library_remark k type_name.first type_name.rest also library_is_no_value (if_with (is_with k.withs (library_name type_name.first.text type_name.rest)) (library_name type_name.first.text type_name.rest)) type_name.first.spot) (type_wanted (visible k type_name.first.text) (is_empty type_name.rest) type_name.first)) → Quiet (initial_wanted (cond b None (cond (is_empty type_name.rest) (type_in (visible k type_name.first.text)) None)) name initial) → (of : VariableKind) × (kind_of (cond b None (cond (is_empty type_name.rest) (type_in (visible k type_name.first.text)) None)) ≡ Some of)
-    by_root true r g = absurd (no_library k.withs (library_name type_name.first.text type_name.rest) type_name.first.spot (if_with (is_with k.withs (library_name type_name.first.text type_name.rest)) (library_name type_name.first.text type_name.rest)) refl r.0 r.1)
-    by_root false r g = by_rest (is_empty type_name.rest) r g
+    by_root : (b : Bool) → Quiet (cond b (library_remark k type_name.first type_name.rest also library_is_no_value (if_with (is_with k.withs (library_name type_name.first.text type_name.rest)) (library_name type_name.first.text type_name.rest)) type_name.first.spot) (type_wanted (visible k type_name.first.text) (is_empty type_name.rest) type_name.first)) → IsObjectType (cond b None (cond (is_empty type_name.rest) (type_in (visible k type_name.first.text)) None))
+    by_root true r = absurd (no_library k.withs (library_name type_name.first.text type_name.rest) type_name.first.spot (if_with (is_with k.withs (library_name type_name.first.text type_name.rest)) (library_name type_name.first.text type_name.rest)) refl r.0 r.1)
+    by_root false r = by_rest (is_empty type_name.rest) r

@@ -9,7 +9,7 @@ use Rattle.ada_program.specs.ProgramForm.{VariableForm}
 use Rattle.ada_program.specs.WellFormed.{names_borrower}
 use Rattle.ada_program.specs.declared.program.VariableKind.{VariableKind}
 use Rattle.ada_program.specs.declared.program.VariableKind.TheVariants as variable
-use Rattle.ada_resolve.specs.declared.fault.NameRule.TheVariants.{WrongType}
+use Rattle.ada_resolve.specs.declared.fault.NameRule.TheVariants.{WrongType, NotInProfile}
 use Rattle.ada_resolve.specs.declared.scope.Entity.{Entity}
 use Rattle.ada_resolve.specs.declared.scope.Entity.TheVariants as entity
 use Rattle.ada_resolve.specs.Known.{Known, visible, missing, is_empty}
@@ -17,9 +17,12 @@ use Rattle.ada_resolve.specs.Paths.{Meant, access_value, boolean_value, integer_
 use Rattle.ada_resolve.specs.Remark.{Remark, fine, wrong, node, ◌also◌}
 use Rattle.ada_resolve.specs.Rights.{right_found, right_remark}
 
--- A variable as a target: its path, which stands at the spot, and what it holds.
+-- A variable as a target: its path, which stands at the spot, and what it holds. No record object is one as a whole.
 abbrev pub variable_target : Spot → Option Entity → Option (PathForm × VariableKind)
-variable_target spot (Some (entity.Variable x kind)) = Some (variable_path x spot, kind)
+variable_target spot (Some (entity.Variable x variable.Integer)) = Some (variable_path x spot, variable.Integer)
+variable_target spot (Some (entity.Variable x variable.Boolean)) = Some (variable_path x spot, variable.Boolean)
+variable_target spot (Some (entity.Variable x (variable.Access t))) = Some (variable_path x spot, variable.Access t)
+variable_target spot (Some (entity.Variable x (variable.Record object))) = None
 variable_target spot (Some other) = None
 variable_target spot None = None
 
@@ -42,9 +45,12 @@ target_found known target =
     then variable_target target.root.spot (visible known target.root.text)
     else component_target (path_meant known target)
 
--- A variable is wanted: another thing of that name is of the wrong kind (8.6).
+-- A variable is wanted: another thing of that name is of the wrong kind (8.6). No record object is in the profile yet as a whole.
 abbrev pub variable_wanted : Option Entity → Ident → Remark
-variable_wanted (Some (entity.Variable x kind)) name = fine
+variable_wanted (Some (entity.Variable x variable.Integer)) name = fine
+variable_wanted (Some (entity.Variable x variable.Boolean)) name = fine
+variable_wanted (Some (entity.Variable x (variable.Access t))) name = fine
+variable_wanted (Some (entity.Variable x (variable.Record object))) name = wrong name.spot NotInProfile
 variable_wanted (Some other) name = wrong name.spot WrongType
 variable_wanted None name = missing None name
 

@@ -2,7 +2,7 @@
 
 use Rattle.std.specs.Prelude.{ℕ, Bool, true, false, ◌||◌, ◌==◌, nat_lt, not, if◌then◌else◌, List, [], ◌∷◌, ◌++◌, Option, Some, None}
 use Rattle.ada_text.specs.declared.spot.Spot.{Spot}
-use Rattle.ada_program.specs.Form.{DeclarationForm, collects, declares}
+use Rattle.ada_program.specs.Form.{DeclarationForm, collects, declares, declares_record}
 use Rattle.ada_tree.specs.Names.{Ident, NameTree}
 use Rattle.ada_program.specs.ProgramForm.{TypeForm}
 use Rattle.ada_program.specs.declared.program.TypeNo.{TypeNo}
@@ -75,6 +75,7 @@ abbrev pub is_collected : ℕ → List DeclarationForm → Bool
 is_collected access [] = false
 is_collected access (collects t ∷ es) = t == access || is_collected access es
 is_collected access (declares place value ∷ es) = is_collected access es
+is_collected access (declares_record place object ∷ es) = is_collected access es
 
 -- The access type that a name stands for, whatever it designates.
 abbrev pub access_type_in : Option Entity → Option TypeNo

@@ -25,7 +25,7 @@ use Rattle.ada_tree.specs.declared.records.StaticValue.{StaticValue}
 use Rattle.ada_tree.specs.declared.statements.Branch.{Branch}
 use Rattle.ada_tree.specs.declared.statements.Handler.{Handler}
 use Rattle.ada_tree.specs.declared.unit.Unit.{Unit as UnitOf}
-use Rattle.ada_program.specs.Form.{BranchesForm, DeclarationForm, component_number, declaration_form, declares}
+use Rattle.ada_program.specs.Form.{BranchesForm, DeclarationForm, component_number, declaration_form, declares, declares_record}
 use Rattle.ada_program.specs.Kept.{variables_in}
 use Rattle.ada_program.specs.ProgramForm.{ProgramForm, VariableForm}
 use Rattle.ada_program.specs.declared.program.Branch.{Branch as BranchOf}
@@ -56,7 +56,7 @@ use Rattle.ada_resolve.specs.Instances.{with_elaborated}
 use Rattle.ada_resolve.specs.Items.{Filling, after_item, first_filling, for_remark, item_remark}
 use Rattle.ada_resolve.specs.Kept.{composition_in, kept_with, known_type_form}
 use Rattle.ada_resolve.specs.Known.{Known, entered, new_name_remark, visible}
-use Rattle.ada_resolve.specs.Objects.{initial_source, variable_created}
+use Rattle.ada_resolve.specs.Objects.{initial_source, record_created, variable_created}
 use Rattle.ada_resolve.specs.Records.{Composition, further_component_remark}
 use Rattle.ada_resolve.specs.Remark.{Remark, noted}
 use Rattle.ada_resolve.specs.Resolution.{At, Others, Told, branches_told, end_told, procedure_from, program_of, told_of, with_parameter}
@@ -228,6 +228,10 @@ with_type completes definition = with_definition completes (known_type_form defi
 abbrev pub with_object : Identifier → (borrows : Bool) → VariableKind → Option RightOf → Known → Known
 with_object name borrows kind value known = variable_created known (ident_of name) borrows kind (initial_source (right_in value))
 
+-- What is known once a record object of a type is declared (3.3.1): it is named, is a variable, and is created.
+abbrev pub with_record_of : Identifier → TypeNo → Known → Known
+with_record_of name t known = record_created known (ident_of name) t
+
 -- A variable of this name.
 abbrev pub new_variable : Identifier → (borrows : Bool) → VariableKind → VariableForm
 new_variable name borrows kind = record { name = name.text.now; kind = kind; borrows = borrows }
@@ -235,6 +239,10 @@ new_variable name borrows kind = record { name = name.text.now; kind = kind; bor
 -- What is known once a variable is created with its initial value.
 abbrev pub with_created : VariableNo → Option RightOf → Known → Known
 with_created variable value = with_elaborated (declares variable.0 (initial_source (right_in value)) ∷ [])
+
+-- What is known once a record object is created, which is known by this type.
+abbrev pub with_object_created : VariableNo → TypeNo → Known → Known
+with_object_created variable object = with_elaborated (declares_record variable.0 object.0 ∷ [])
 
 -- What is known once these declarations are elaborated too.
 abbrev pub with_declarations : Vec Declaration → Known → Known

@@ -185,11 +185,12 @@ abbrev pub IsInstanceRead : Context → NameTree → Ident → Ident → ℕ →
 IsInstanceRead p generic object access t =
     (library_name generic.first.text generic.rest ≡ UncheckedDeallocation) × IsAccessTo p access.text object.text t
 
--- What a variable is declared to hold (3.3.1): the type has the name that is written, and no more than that.
+-- What a variable is declared to hold (3.3.1): the type has the name that is written, and no more than that. A record object holds no value.
 abbrev pub IsKindNamed : Context → NameTree → VariableKind → Type 0
 IsKindNamed p name variable.Integer = (name.rest ≡ []) × (name.first.text ≡ codes "INTEGER")
 IsKindNamed p name variable.Boolean = (name.rest ≡ []) × (name.first.text ≡ codes "BOOLEAN")
 IsKindNamed p name (variable.Access t) = (name.rest ≡ []) × IsAccessNamed p name.first.text t.0
+IsKindNamed p name (variable.Record object) = ⊥
 
 -- A name is that of an exception: of a predefined one (11.1), of End_Error in Run_Input, or of one that the program declares.
 abbrev pub IsExceptionNamed : Context → NameTree → Exception → Type 0

@@ -1,10 +1,11 @@
 -- Object declarations: what is wrong with each, and what is known after it.
 
 use Rattle.std.specs.Prelude.{ℕ, ◌+◌, Bool, true, false, ◌&&◌, not, if◌then◌else◌, List, [], ◌∷◌, ◌++◌, length, drop, Option, Some, None, is_none, is_some}
-use Rattle.ada_program.specs.Form.{RightForm, nothing, DeclarationForm, collects, declares}
+use Rattle.ada_program.specs.Form.{RightForm, nothing, DeclarationForm, collects, declares, declares_record}
 use Rattle.ada_tree.specs.Names.{Ident, NameTree}
 use Rattle.ada_tree.specs.Expressions.{RightTree}
-use Rattle.ada_program.specs.ProgramForm.{TypeForm, VariableForm, record_of, access_to}
+use Rattle.ada_program.specs.ProgramForm.{TypeForm, VariableForm, record_of, access_to, object_of}
+use Rattle.ada_program.specs.declared.program.TypeNo.{TypeNo}
 use Rattle.ada_program.specs.declared.program.VariableKind.{VariableKind}
 use Rattle.ada_program.specs.declared.program.VariableNo.{VariableNo}
 use Rattle.ada_program.specs.declared.program.VariableKind.TheVariants as variable
@@ -17,6 +18,7 @@ use Rattle.ada_resolve.specs.Remark.{Remark, fine, wrong, node, ◌also◌, wron
 use Rattle.ada_resolve.specs.Instances.{is_collected, with_elaborated}
 use Rattle.ada_resolve.specs.Paths.{designated_of, library_is_no_value}
 use Rattle.ada_resolve.specs.Rights.{right_found, right_remark}
+use Rattle.ada_resolve.specs.Types.{with_definition}
 
 -- What is wrong with an initial value, where one is written.
 abbrev pub initial_remark : Known → Option VariableKind → Option RightTree → Remark
@@ -57,7 +59,7 @@ object_type_remark known type_name =
     library_is_no_value (library_found known type_name.first type_name.rest) type_name.first.spot
     else type_wanted (visible known type_name.first.text) (is_empty type_name.rest) type_name.first
 
--- What an object of a type holds: no record object is in the profile yet.
+-- What an object of a type holds to which a value can be given: a record object gets none as a whole.
 abbrev pub kind_of : Option Entity → Option VariableKind
 kind_of (Some entity.Integer) = Some variable.Integer
 kind_of (Some entity.Boolean) = Some variable.Boolean
@@ -65,13 +67,14 @@ kind_of (Some (entity.Access t)) = Some (variable.Access t)
 kind_of (Some other) = None
 kind_of None = None
 
--- An Integer or a Boolean has an initial value (the profile's); objects of other types than these and access types are not in the profile yet.
+-- An Integer or a Boolean has an initial value (the profile's); a record object has none in the profile yet: its components hold theirs (3.3.1).
 abbrev pub initial_wanted : Option Entity → Ident → Option RightTree → Remark
 initial_wanted (Some entity.Integer) name None = wrong name.spot NoInitialValue
 initial_wanted (Some entity.Boolean) name None = wrong name.spot NoInitialValue
 initial_wanted (Some entity.Integer) name (Some right) = fine
 initial_wanted (Some entity.Boolean) name (Some right) = fine
 initial_wanted (Some (entity.Access t)) name initial = fine
+initial_wanted (Some (entity.Record t size)) name None = fine
 initial_wanted (Some other) name initial = wrong name.spot NotInProfile
 initial_wanted None name initial = fine
 
@@ -90,6 +93,7 @@ collections_of t [] elaborated = []
 collections_of t (record_of name parts components ∷ types) elaborated = collections_of (t + 1) types elaborated
 collections_of t (access_to name designated ∷ types) elaborated =
     if is_collected t elaborated then collections_of (t + 1) types elaborated else collects t ∷ collections_of (t + 1) types elaborated
+collections_of t (object_of record_type ∷ types) elaborated = collections_of (t + 1) types elaborated
 
 -- Whether the type of a number is an access type whose collection isn't created yet.
 abbrev pub lacks_collection : List TypeForm → List DeclarationForm → ℕ → Bool
@@ -138,8 +142,32 @@ abbrev pub object_created : Known → Ident → Option VariableKind → Option R
 object_created known name (Some kind) value = variable_created known name false kind (initial_source value)
 object_created known name None value = known
 
+-- The number of the next type.
+abbrev pub next_type : Known → TypeNo
+next_type known = record { 0 = length known.types }
+
+-- What a record object is that is known by the next type.
+abbrev pub next_record : Known → VariableKind
+next_record known = variable.Record (next_type known)
+
+-- What is known once the part elaborates a record object, which is known by a type of its own.
+abbrev pub with_record_object : Known → Ident → (record_type : TypeNo) → Known
+with_record_object known name record_type =
+    with_elaborated (declares_record (length known.variables) (length known.types) ∷ [])
+    (with_variable (record { name = name.text; kind = next_record known; borrows = false }) (with_definition None (object_of record_type.0) known))
+
+-- What is known once a record object is declared, and is created: its components hold what their declarations say (3.3.1).
+abbrev pub record_created : Known → Ident → (record_type : TypeNo) → Known
+record_created known name record_type =
+    declared (with_record_object known name record_type) name.text (entity.Variable (next_variable known) (next_record known))
+
+-- After the declaration of an object of this type, it is known and created.
+abbrev pub created_of : Known → Ident → Option Entity → Option RightForm → Known
+created_of known name (Some (entity.Record t size)) value = record_created known name t
+created_of known name found value = object_created known name (kind_of found) value
+
 -- What is known after the declaration of an object.
 abbrev pub object_known : Known → Ident → NameTree → Option RightTree → Known
 object_known known name type_name initial =
-    object_created known name (kind_of (object_type_found known type_name))
+    created_of known name (object_type_found known type_name)
     (initial_found known (kind_of (object_type_found known type_name)) initial)

@@ -1,10 +1,10 @@
 -- What paths mean where a value is wanted, and what is wrong with each.
 
-use Rattle.std.specs.Prelude.{ℕ, ◌+◌, Bool, false, ◌||◌, ◌==◌, if◌then◌else◌, List, [], ◌∷◌, ◌++◌, slice_get, Option, Some, None, bytes_eq}
+use Rattle.std.specs.Prelude.{ℕ, ◌+◌, Bool, true, false, ◌||◌, ◌==◌, if◌then◌else◌, List, [], ◌∷◌, ◌++◌, slice_get, Option, Some, None, bytes_eq}
 use Rattle.ada_text.specs.declared.spot.Spot.{Spot}
 use Rattle.ada_tree.specs.Names.{Ident, SelectorTree, component, dereference, PathTree}
 use Rattle.ada_program.specs.Form.{PathForm, ExpressionForm, integer, boolean, reads}
-use Rattle.ada_program.specs.ProgramForm.{PartForm, TypeForm, record_of, access_to}
+use Rattle.ada_program.specs.ProgramForm.{PartForm, TypeForm, record_of, access_to, object_of}
 use Rattle.ada_program.specs.declared.program.ComponentKind.{ComponentKind}
 use Rattle.ada_program.specs.declared.program.PartKind.{PartKind}
 use Rattle.ada_program.specs.declared.program.PartKind.TheVariants as part
@@ -33,18 +33,20 @@ pub data Meant : Type 0 where
   integer_value : ExpressionForm → Meant
   boolean_value : ExpressionForm → Meant
 
--- The path of the components that are selected, one behind the other, from a variable, which stands at the spot (4.1.3).
-abbrev pub selected_path : VariableNo → Spot → List ℕ → PathForm
-selected_path x spot components = record { root = x.0; selectors = components; spot = spot }
+-- The path of the components that are selected, one behind the other, from a variable, which is a record object or not and stands at the spot
+-- (4.1.3).
+abbrev pub selected_path : VariableNo → (of_record : Bool) → Spot → List ℕ → PathForm
+selected_path x of_record spot components = record { root = x.0; of_record = of_record; selectors = components; spot = spot }
 
--- The path of a variable, which stands at the spot (4.1).
+-- The path of a variable that is no record object, which stands at the spot (4.1).
 abbrev pub variable_path : VariableNo → Spot → PathForm
-variable_path x spot = selected_path x spot []
+variable_path x spot = selected_path x false spot []
 
 -- The components of a record type as they are declared (3.8); none, if it is no record type.
 abbrev pub components_in : Option TypeForm → List PartForm
 components_in (Some (record_of name parts components)) = parts
 components_in (Some (access_to name designated)) = []
+components_in (Some (object_of record_type)) = []
 components_in None = []
 
 -- The components of a type by its number, as they are declared, in order.
@@ -55,6 +57,7 @@ components_of types t = components_in (slice_get types t)
 abbrev pub elementary_in : Option TypeForm → List ComponentKind
 elementary_in (Some (record_of name parts components)) = components
 elementary_in (Some (access_to name designated)) = []
+elementary_in (Some (object_of record_type)) = []
 elementary_in None = []
 
 -- The elementary components of a type by its number, at any depth, in order.
@@ -65,11 +68,23 @@ elementary_of types t = elementary_in (slice_get types t)
 abbrev pub designated_in : Option TypeForm → Option ℕ
 designated_in (Some (access_to name designated)) = Some designated
 designated_in (Some (record_of name parts components)) = None
+designated_in (Some (object_of record_type)) = None
 designated_in None = None
 
 -- The type that the access type of a number designates.
 unfoldable pub designated_of : List TypeForm → ℕ → Option ℕ
 designated_of types access = designated_in (slice_get types access)
+
+-- The record type of the record object that is known by a type (3.3.1).
+abbrev pub record_known_by : Option TypeForm → Option ℕ
+record_known_by (Some (object_of record_type)) = Some record_type
+record_known_by (Some (record_of name parts components)) = None
+record_known_by (Some (access_to name designated)) = None
+record_known_by None = None
+
+-- The record type of the record object that is known by the type of a number.
+unfoldable pub record_of_object : List TypeForm → ℕ → Option ℕ
+record_of_object types object = record_known_by (slice_get types object)
 
 -- What a component is, and the number of its first elementary component in the record type.
 abbrev pub known_component : PartForm → KnownComponent
@@ -89,6 +104,7 @@ component_named at text (c ∷ cs) = if bytes_eq text c.name then Some (at, know
 abbrev pub name_of_type : Option TypeForm → Option (List ℕ)
 name_of_type (Some (record_of name parts components)) = Some name
 name_of_type (Some (access_to name designated)) = Some name
+name_of_type (Some (object_of record_type)) = None
 name_of_type None = None
 
 -- Whether a name stands for this type, incomplete.
@@ -177,6 +193,25 @@ abbrev pub components_selected : Known → Reached → List SelectorTree → Lis
 components_selected known at [] = []
 components_selected known at (s ∷ ss) = component_selected known at s ++ components_selected known (selector_reached known at s) ss
 
+-- Whether a variable is a record object (3.3.1).
+abbrev pub is_record_kind : VariableKind → Bool
+is_record_kind variable.Integer = false
+is_record_kind variable.Boolean = false
+is_record_kind (variable.Access access) = false
+is_record_kind (variable.Record object) = true
+
+-- A record object as a whole, where its record type is known: its first elementary component is its own.
+abbrev pub whole_object : Option ℕ → VariableKind → Reached
+whole_object (Some t) kind = reached.Object (record { 0 = t }) 0
+whole_object None kind = reached.Value kind
+
+-- What the name of a variable reaches (4.1): its value, or the record object that it is.
+abbrev pub variable_reached : Known → VariableKind → Reached
+variable_reached known variable.Integer = reached.Value variable.Integer
+variable_reached known variable.Boolean = reached.Value variable.Boolean
+variable_reached known (variable.Access access) = reached.Value (variable.Access access)
+variable_reached known (variable.Record object) = whole_object (record_of_object known.types object.0) (variable.Record object)
+
 -- What a path means, by what it reaches: no whole object is a value in the profile yet.
 abbrev pub reached_meant : PathForm → Reached → Meant
 reached_meant path (reached.Value variable.Integer) = integer_value (reads path)
@@ -187,8 +222,8 @@ reached_meant path other = unknown
 -- A variable, by what it holds and what is selected from it.
 abbrev pub variable_meant : Known → VariableNo → Spot → VariableKind → List SelectorTree → Meant
 variable_meant known x spot kind selectors =
-    reached_meant (selected_path x spot (components_selected known (reached.Value kind) selectors))
-    (selectors_reached known (reached.Value kind) selectors)
+    reached_meant (selected_path x (is_record_kind kind) spot (components_selected known (variable_reached known kind) selectors))
+    (selectors_reached known (variable_reached known kind) selectors)
 
 -- What a name stands for, with what is selected from it.
 abbrev pub entity_meant : Known → Option Entity → Spot → List SelectorTree → Meant
@@ -253,13 +288,14 @@ selectors_remark known spot at (s ∷ ss) =
 -- No whole object is in the profile yet where a value is wanted.
 abbrev pub no_object : Reached → Spot → Remark
 no_object (reached.Object t first) spot = wrong spot NotInProfile
+no_object (reached.Value (variable.Record object)) spot = wrong spot NotInProfile
 no_object other spot = fine
 
 -- What is wrong with what is selected from a variable.
 abbrev pub variable_path_remark : Known → Spot → VariableKind → List SelectorTree → Remark
 variable_path_remark known spot kind selectors =
-    selectors_remark known spot (reached.Value kind) selectors also
-    no_object (selectors_reached known (reached.Value kind) selectors) spot
+    selectors_remark known spot (variable_reached known kind) selectors also
+    no_object (selectors_reached known (variable_reached known kind) selectors) spot
 
 -- A value is wanted: another thing of that name is of the wrong kind (8.6).
 abbrev pub value_wanted : Known → Option Entity → Ident → List SelectorTree → Remark

@@ -18,9 +18,9 @@ use Rattle.ada_program.specs.declared.program.PartKind.TheVariants as part
 use Rattle.ada_program.specs.declared.program.TypeNo.{TypeNo}
 use Rattle.ada_program.specs.declared.program.VariableKind.{VariableKind}
 use Rattle.ada_program.specs.declared.program.VariableKind.TheVariants as variable
-use Rattle.ada_program.specs.Form.{DeclarationForm, collects, declares, PathForm, ExpressionForm, integer, boolean, reads, is_null, applied_to, ItemForm, null_item, item_of_path, item_of_value, RightForm, nothing, value_of, allocates, allocates_default, computes, StmtForm, skips, assigns, frees, gets, writes, writes_text, chooses, repeats, counts, exits, returns, raises, encloses, StmtsForm, no_stmts, a_stmt, BranchesForm, otherwise, HandlersForm}
+use Rattle.ada_program.specs.Form.{DeclarationForm, collects, declares, declares_record, PathForm, ExpressionForm, integer, boolean, reads, is_null, applied_to, ItemForm, null_item, item_of_path, item_of_value, RightForm, nothing, value_of, allocates, allocates_default, computes, StmtForm, skips, assigns, frees, gets, writes, writes_text, chooses, repeats, counts, exits, returns, raises, encloses, StmtsForm, no_stmts, a_stmt, BranchesForm, otherwise, HandlersForm}
 use Rattle.ada_program.specs.Form as form
-use Rattle.ada_program.specs.ProgramForm.{PartForm, TypeForm, record_of, ProgramForm}
+use Rattle.ada_program.specs.ProgramForm.{PartForm, TypeForm, record_of, object_of, ProgramForm}
 use Rattle.ada_program.specs.WellFormed as fits
 use Rattle.ada_resolve.specs.Library.{library_name}
 use Rattle.ada_resolve.specs.declared.library.LibraryName.TheVariants.{PutLine, Get}
@@ -36,7 +36,7 @@ type_behind types (Some (variable.Access access)) = fits.designated_type types a
 type_behind types (Some other) = None
 
 -- Where selectors have led (4.1): to a value, or to an object of a record type, whose first elementary component has this number in the object
--- that the last access value gives access to.
+-- that the last access value gives access to, or in the record object with which the path begins.
 pub data Way : Type 0 where
   at_value : Option VariableKind → Way
   at_object : (t first : ℕ) → Way
@@ -69,10 +69,19 @@ pub data AreSelectorsRead (p : Context) : Way → List SelectorTree → List ℕ
       IsComponentNamed p t i.text (part.Record inner) first → AreSelectorsRead p (at_object inner.0 (before + first)) selectors cs →
       AreSelectorsRead p (at_object t before) (component i ∷ selectors) cs
 
+-- Where a path begins (4.1), before its first selector: in a record object, if its variable is one, else at the value of its variable. The path
+-- says which.
+abbrev pub IsBegun : List TypeForm → Option VariableKind → (of_record : Bool) → Way → Type 0
+IsBegun types (Some (variable.Record object)) of_record way =
+    (of_record ≡ true) × (t : ℕ) × (slice_get types object.0 ≡ Some (object_of t)) × (way ≡ at_object t 0)
+IsBegun types kind of_record way = (of_record ≡ false) × (way ≡ at_value kind)
+
 -- A path (4.1): its object has the name that is written, so have its components, and it stands where its first name does.
 pub record IsPathRead (p : Context) (tree : PathTree) (path : PathForm) : Type 0 where
   pub root : IsObjectNamed p tree.root.text path.root
-  pub selectors : AreSelectorsRead p (at_value (fits.variable_kind p.variables path.root)) tree.selectors path.selectors
+  pub way : Way
+  pub begins : IsBegun p.types (fits.variable_kind p.variables path.root) path.of_record way
+  pub selectors : AreSelectorsRead p way tree.selectors path.selectors
   pub spot : path.spot ≡ tree.root.spot
 
 -- A path whose object is assigned, read from the input or freed: it begins at a variable, since a constant keeps its value (3.3, 5.2, 6.4.1).
@@ -272,6 +281,10 @@ with_new_variable name place = record (with_binding name (a_variable place.varia
 abbrev pub with_loop_parameter : Ident → Place → Place
 with_loop_parameter name place = record (with_binding name (a_parameter place.variables) place) { variables = place.variables + 1 }
 
+-- The place once the next variable is a record object of the name, and the next type is what it is known by.
+abbrev pub with_new_record : Ident → Place → Place
+with_new_record name place = record (with_new_variable name place) { types = place.types + 1 }
+
 -- The initial value of a variable (3.3.1): what is written; an access value is null where nothing is (3.10).
 abbrev pub IsInitialRead : Context → VariableKind → Option RightTree → RightForm → Type 0
 IsInitialRead p kind (Some right) form = IsRightRead p right form
@@ -284,6 +297,16 @@ pub record IsObjectRead (p : Context) (name : Ident) (type_name : NameTree) (ini
   pub there : slice_get p.variables x ≡ Some (record { name = name.text; kind = kind; borrows = false })
   pub kind_named : IsKindNamed p type_name kind
   pub starts : IsInitialRead p kind initial form
+
+-- A record object of a number, by its declaration (3.3.1): its name, no initial value, and the type by which it is known, whose record type has the
+-- name that is written and is complete there.
+pub record IsRecordObjectRead (p : Context) (name : Ident) (type_name : NameTree) (initial : Option RightTree) (x object_type : ℕ) : Type 0 where
+  pub there : slice_get p.variables x ≡ Some (record { name = name.text; kind = variable.Record (record { 0 = object_type }); borrows = false })
+  pub t : ℕ
+  pub known_by : slice_get p.types object_type ≡ Some (object_of t)
+  pub alone : type_name.rest ≡ []
+  pub record_named : IsFullRecordNamed p type_name.first.text t
+  pub starts : initial ≡ None
 
 -- A borrower of a number, by its declaration (3.10): its name, the path that is written as its initial value, and its type, which is that of the
 -- path and designates the record type of the other name.
@@ -300,12 +323,16 @@ pub record IsBorrowerRead (p : Context) (name designated : Ident) (initial : Opt
   pub designates : fits.designated_type p.types access.0 ≡ Some t
   pub record_named : IsRecordNamed p designated.text t
 
--- Objects and borrowers, one for one (3.11), up to the end of a part: each is the next variable, of a new name, and nothing else follows.
+-- Objects and borrowers, one for one (3.11), up to the end of a part: each is the next variable, of a new name, and nothing else follows. A record
+-- object is known by the next type, which so is that of no other object and of no declared type.
 abbrev pub AreObjectsRead : Context → DeclarationsTree → List DeclarationForm → (end : Place) → Type 0
 AreObjectsRead p no_declarations [] end = end ≡ p.place
 AreObjectsRead p (a_declaration (object_declaration name type_name initial) ds) (declares x form ∷ forms) end =
     (x ≡ p.place.variables) × IsNew p.place name × IsObjectRead p name type_name initial x form ×
     AreObjectsRead (read_at (with_new_variable name p.place) p) ds forms end
+AreObjectsRead p (a_declaration (object_declaration name type_name initial) ds) (declares_record x t ∷ forms) end =
+    (x ≡ p.place.variables) × (t ≡ p.place.types) × IsNew p.place name × IsRecordObjectRead p name type_name initial x t ×
+    AreObjectsRead (read_at (with_new_record name p.place) p) ds forms end
 AreObjectsRead p (a_declaration (borrower_declaration name designated initial) ds) (declares x form ∷ forms) end =
     (x ≡ p.place.variables) × IsNew p.place name × IsBorrowerRead p name designated initial x form ×
     AreObjectsRead (read_at (with_new_variable name p.place) p) ds forms end

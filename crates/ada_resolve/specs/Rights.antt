@@ -22,13 +22,16 @@ abbrev pub access_kind : Option VariableKind → Option TypeNo
 access_kind (Some (variable.Access t)) = Some t
 access_kind (Some variable.Integer) = None
 access_kind (Some variable.Boolean) = None
+access_kind (Some (variable.Record object)) = None
 access_kind None = None
 
--- What is assigned is of the object's type, where that is known: to an access object null, or a value of that very type.
+-- What is assigned is of the object's type, where that is known: to an access object null, or a value of that very type. No whole record is in the
+-- profile yet.
 abbrev pub assigned_wanted : Option VariableKind → Meant → Spot → Remark
 assigned_wanted (Some variable.Integer) value spot = integer_wanted value spot
 assigned_wanted (Some variable.Boolean) value spot = boolean_wanted value spot
 assigned_wanted (Some (variable.Access t)) value spot = access_wanted t value spot
+assigned_wanted (Some (variable.Record object)) value spot = wrong spot NotInProfile
 assigned_wanted None value spot = fine
 
 -- What a borrower holds goes to borrowers only (3.10.2): where the object's kind is known, and it is none, no borrower is assigned to it.
@@ -36,11 +39,12 @@ abbrev pub lent_wanted : List VariableForm → Option VariableKind → (borrows 
 lent_wanted variables (Some kind) false value spot = owner_wanted variables value spot
 lent_wanted variables kind borrows value spot = fine
 
--- No allocator is an Integer or a Boolean.
+-- No allocator is an Integer, a Boolean or a record.
 abbrev pub access_object_wanted : Option VariableKind → Spot → Remark
 access_object_wanted (Some variable.Integer) spot = wrong spot WrongType
 access_object_wanted (Some variable.Boolean) spot = wrong spot WrongType
 access_object_wanted (Some (variable.Access t)) spot = fine
+access_object_wanted (Some (variable.Record object)) spot = wrong spot WrongType
 access_object_wanted None spot = fine
 
 -- What is wrong with what is assigned to an object, where what that holds is known, and whether it is a borrower: a new object goes to none. No

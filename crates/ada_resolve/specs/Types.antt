@@ -4,7 +4,7 @@ use Rattle.std.specs.Prelude.{ℕ, Bool, false, ◌||◌, ◌==◌, List, [], �
 use Rattle.ada_text.specs.declared.spot.Spot.{Spot}
 use Rattle.ada_tree.specs.Names.{Ident}
 use Rattle.ada_tree.specs.Declarations.{AspectTree}
-use Rattle.ada_program.specs.ProgramForm.{TypeForm, record_of, access_to}
+use Rattle.ada_program.specs.ProgramForm.{TypeForm, record_of, access_to, object_of}
 use Rattle.ada_program.specs.declared.program.TypeNo.{TypeNo}
 use Rattle.ada_resolve.specs.declared.fault.NameRule.TheVariants.{WrongType, NotInProfile}
 use Rattle.ada_resolve.specs.declared.scope.Entity.{Entity}
@@ -48,6 +48,7 @@ record_remark known name = record_wanted (visible known name.text) name
 abbrev pub is_access_to : Option TypeForm → ℕ → Bool
 is_access_to (Some (access_to name designated)) wanted = designated == wanted
 is_access_to (Some (record_of name parts components)) wanted = false
+is_access_to (Some (object_of record_type)) wanted = false
 is_access_to None wanted = false
 
 -- Whether an access type, by its number, designates the record type.
@@ -59,6 +60,7 @@ abbrev pub is_designated : ℕ → List TypeForm → Bool
 is_designated t [] = false
 is_designated t (record_of name parts components ∷ types) = is_designated t types
 is_designated t (access_to name designated ∷ types) = designated == t || is_designated t types
+is_designated t (object_of record_type ∷ types) = is_designated t types
 
 -- The number of the type that a declaration defines: that of the incomplete type that it completes, else the next.
 abbrev pub number_of : Option TypeNo → List TypeForm → TypeNo

@@ -63,7 +63,7 @@ impl<'t> Resolver<'t> {
         Ok(component_target(meant, root.spot, notes))
     }
 
-    /// The variable of a name.
+    /// The variable of a name. No record object is in use as a whole.
     fn variable_target(
         &self,
         name: Identifier<'t>,
@@ -75,9 +75,19 @@ impl<'t> Resolver<'t> {
             (variable_wanted (entity_of self name.entry) (ident_of name.entry)) }
     {
         match self.lookup(name, notes) {
+            Some(
+                Entity::Variable {
+                    variable: _,
+                    kind: VariableKind::Record(_),
+                },
+            ) => {
+                notes.note(name.spot, NameRule::NotInProfile);
+                None
+            }
             Some(Entity::Variable { variable, kind }) => {
                 let path = program::Path {
                     root: variable,
+                    of_record: false,
                     selectors: Vec::new(self.alloc),
                     spot: name.spot,
                 };

@@ -45,6 +45,10 @@ pub(crate) enum KnownType<'t> {
         name: &'t str,
         designated: TypeNo,
     },
+    /// What one record object is known by (3.3.1), and its record type.
+    Object {
+        record: TypeNo,
+    },
 }
 
 impl<'t> Components<'t> {
@@ -196,6 +200,7 @@ impl<'t> KnownType<'t> {
                 name: String::from_str(alloc, *name)?,
                 designated: *designated,
             }),
+            KnownType::Object { record } => Ok(TypeDefinition::Object { record: *record }),
         }
     }
 }

@@ -5,7 +5,7 @@ ghost use Rattle.ada_tree.specs.ExpressionView.{optional_right_of};
 ghost use Rattle.ada_tree.specs.Names.{ident_of, name_of};
 ghost use Rattle.ada_program.specs.Form.{declaration_form};
 ghost use Rattle.ada_resolve.specs.Look.{Looks, initial_look};
-ghost use Rattle.ada_resolve.specs.Method.{known, Finds, IsNoted, Changes, object_tree, Declares, each, new_variable, with_created, with_declarations, with_object};
+ghost use Rattle.ada_resolve.specs.Method.{known, Finds, IsNoted, Changes, object_tree, Declares, each, new_variable, with_created, with_declarations, with_object, with_object_created, with_record_of};
 ghost use Rattle.ada_resolve.specs.Objects.{type_in, object_type_found, object_type_remark, kind_of, initial_wanted, after_types, with_variable, missing_collections, lacks_collection, next_variable};
 ghost use Rattle.ada_resolve.specs.Paths.{designated_of};
 ghost use Rattle.ada_resolve.specs.View.{known_of, right_in};
@@ -39,10 +39,23 @@ impl<'t> Resolver<'t> {
         let value = self.initial(initial, kind, notes)?;
         initial_wanted(found, name, initial, notes);
         notes.settle()?;
-        match kind {
-            Some(kind) => self.create(name, false, kind, value),
-            None => Ok(()),
+        match (found, kind) {
+            (Some(Entity::Record { number, size: _ }), _) => self.create_record(name, number),
+            (_, Some(kind)) => self.create(name, false, kind, value),
+            (_, None) => Ok(()),
         }
+    }
+
+    /// A record object is known, by a type of its own, and is created: its components hold what their declarations say.
+    fn create_record(&mut self, name: Identifier<'t>, number: TypeNo) -> Result<(), NameFault>
+        ensures known { OnOk result (Changes self (with_record_of name.entry number)) }
+        ensures memory { IfErr result (λ e. e ≡ NameFault.NoMemory) }
+    {
+        let object = self.add_type(KnownType::Object { record: number })?;
+        let kind = VariableKind::Record(object);
+        let variable = self.add_variable(name, false, kind)?;
+        self.add_record(variable, object)?;
+        self.declare(name.text, Entity::Variable { variable, kind })
     }
 
     /// A variable is known, a borrower or not, and is created with its initial value.
@@ -94,6 +107,15 @@ impl<'t> Resolver<'t> {
         ensures memory { IfErr result (λ e. e ≡ NameFault.NoMemory) }
     {
         self.here.add_object(variable, initial)
+    }
+
+    /// A record object is created, known by this type.
+    #[tactic(auto, unfolding(crate::specs::View::known_of))]
+    fn add_record(&mut self, variable: VariableNo, object: TypeNo) -> Result<(), NameFault>
+        ensures known { OnOk result (Changes self (with_object_created variable object)) }
+        ensures memory { IfErr result (λ e. e ≡ NameFault.NoMemory) }
+    {
+        self.here.add_record(variable, object)
     }
 
     /// The initial value, where one is written.
@@ -205,7 +227,7 @@ fn type_in(found: Entity) -> Option<Entity>
     }
 }
 
-/// What an object of a type holds: no record object is in use.
+/// What an object of a type holds to which a value can be given: a record object gets none as a whole.
 fn kind_of(found: Option<Entity>) -> Option<VariableKind>
     ensures { result ≡ kind_of found }
 {
@@ -217,7 +239,7 @@ fn kind_of(found: Option<Entity>) -> Option<VariableKind>
     }
 }
 
-/// An Integer or a Boolean has an initial value; objects of other types than these and access types are not in use.
+/// An Integer or a Boolean has an initial value; no record object has one yet.
 fn initial_wanted(
     found: Option<Entity>,
     name: Identifier<'_>,
@@ -232,6 +254,11 @@ fn initial_wanted(
             initial.is_none(),
             name.spot,
             NameRule::NoInitialValue,
+        ),
+        Some(Entity::Record { .. }) => notes.note_if(
+            initial.is_some(),
+            name.spot,
+            NameRule::NotInProfile,
         ),
         Some(Entity::Access(_)) | None => {}
         Some(_) => notes.note(name.spot, NameRule::NotInProfile),

@@ -1,7 +1,7 @@
 //! A declarative part: what it declares so far, and what names stand for in it.
 
 ghost use Rattle.std.specs.Prelude.{◌≡◌, map, reverse, length, OnOk, IfErr, [], ◌∷◌};
-ghost use Rattle.ada_program.specs.Form.{collects, declares, declaration_form};
+ghost use Rattle.ada_program.specs.Form.{collects, declares, declares_record, declaration_form};
 ghost use Rattle.ada_resolve.specs.Instances.{is_collected};
 ghost use Rattle.ada_resolve.specs.Known.{named, named_in, part_from};
 ghost use Rattle.ada_resolve.specs.Method.{each, Elaborates, Enters};
@@ -127,6 +127,22 @@ impl<'t> Part<'t> {
     {
         self.declarations
             .push(Declaration::Variable { variable, initial })?;
+        Ok(())
+    }
+
+    /// A record object is created, known by this type.
+    #[tactic(auto, unfolding(crate::specs::View::part_of), using(crate::proofs::Names::map_snoc))]
+    pub(crate) fn add_record(
+        &mut self,
+        variable: VariableNo,
+        object: TypeNo,
+    ) -> Result<(), NameFault>
+        ensures known { OnOk result
+            (Elaborates self (declares_record variable.0 object.0 ∷ [])) }
+        ensures memory { IfErr result (λ e. e ≡ NameFault.NoMemory) }
+    {
+        self.declarations
+            .push(Declaration::Record { variable, object })?;
         Ok(())
     }
 

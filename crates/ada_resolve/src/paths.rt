@@ -7,7 +7,7 @@ ghost use Rattle.ada_resolve.specs.Kept.{forms_in, kinds_in};
 ghost use Rattle.ada_resolve.specs.Known.{parts_of};
 ghost use Rattle.ada_resolve.specs.Look.{Looks, library_path_look, named_look, path_look, variable_look};
 ghost use Rattle.ada_resolve.specs.Method.{known, Finds, each};
-ghost use Rattle.ada_resolve.specs.Paths.{component_named, components_of, designated_of, elementary_of, is_incomplete_type, name_of_type, reached_meant};
+ghost use Rattle.ada_resolve.specs.Paths.{component_named, components_of, designated_of, elementary_of, is_incomplete_type, is_record_kind, name_of_type, reached_meant, record_of_object, variable_reached};
 ghost use Rattle.ada_resolve.specs.View.{meant_of, optional_number, itself};
 
 use crate::components::{Components, KnownComponent, KnownType};
@@ -86,7 +86,7 @@ impl<'t> Resolver<'t> {
     {
         let mut components = Vec::new(self.alloc);
         let reached = self.selectors(
-            Reached::Value(kind),
+            self.variable_reached(kind),
             spot,
             selectors,
             &mut components,
@@ -97,10 +97,34 @@ impl<'t> Resolver<'t> {
             reached,
             program::Path {
                 root,
+                of_record: is_record_kind(kind),
                 selectors: components,
                 spot,
             },
         ))
+    }
+
+    /// What the name of a variable reaches: its value, or the record object that it is.
+    fn variable_reached(&self, kind: VariableKind) -> Reached
+        ensures { result ≡ variable_reached (known self) kind }
+    {
+        if let VariableKind::Record(object) = kind
+            && let Some(number) = self.record_of_object(object)
+        {
+            return Reached::Object { number, first: 0 };
+        }
+        Reached::Value(kind)
+    }
+
+    /// The record type of the record object that is known by a type.
+    #[tactic(auto, unfolding(crate::specs::View::known_of, crate::specs::Paths::record_of_object), using(crate::proofs::Names::map_get))]
+    fn record_of_object(&self, object: TypeNo) -> Option<TypeNo>
+        ensures { optional_number result ≡ record_of_object (known self).types object.0 }
+    {
+        match self.types.get(object.0) {
+            Some(KnownType::Object { record }) => Some(*record),
+            _ => None,
+        }
     }
 
     /// The component of a name in a type: its place, and what it is.
@@ -170,7 +194,7 @@ impl<'t> Resolver<'t> {
     {
         match self.types.get(number.0) {
             Some(KnownType::Record { name, .. } | KnownType::Access { name, .. }) => Some(*name),
-            None => None,
+            Some(KnownType::Object { .. }) | None => None,
         }
     }
 
@@ -215,6 +239,15 @@ fn reached_meant(reached: Reached, path: program::Path) -> Meant
         Reached::Value(VariableKind::Integer) => Meant::Integer(Expression::Path(path)),
         Reached::Value(VariableKind::Boolean) => Meant::Boolean(Expression::Path(path)),
         Reached::Value(VariableKind::Access(access)) => Meant::Access(path, access),
-        Reached::Object { .. } | Reached::Nothing => Meant::Unknown,
+        Reached::Value(VariableKind::Record(_)) | Reached::Object { .. } | Reached::Nothing => {
+            Meant::Unknown
+        }
     }
+}
+
+/// Whether a variable is a record object.
+fn is_record_kind(kind: VariableKind) -> bool
+    ensures { result ≡ is_record_kind kind }
+{
+    matches!(kind, VariableKind::Record(_))
 }

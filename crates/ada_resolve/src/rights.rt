@@ -78,6 +78,7 @@ fn assigned_wanted(kind: Option<VariableKind>, value: &Meant, spot: Spot, notes:
         Some(VariableKind::Integer) => value.integer_wanted(spot, notes),
         Some(VariableKind::Boolean) => value.boolean_wanted(spot, notes),
         Some(VariableKind::Access(access)) => value.access_wanted(access, spot, notes),
+        Some(VariableKind::Record(_)) => notes.note(spot, NameRule::NotInProfile),
         None => {}
     }
 }
@@ -99,11 +100,11 @@ fn lent_wanted(
     }
 }
 
-/// No allocator is an Integer or a Boolean.
+/// No allocator is an Integer, a Boolean or a record.
 fn access_object_wanted(kind: Option<VariableKind>, spot: Spot, notes: &mut Notes)
     ensures { IsNoted notes (rules.access_object_wanted kind spot) }
 {
-    if let Some(VariableKind::Integer | VariableKind::Boolean) = kind {
+    if let Some(VariableKind::Integer | VariableKind::Boolean | VariableKind::Record(_)) = kind {
         notes.note(spot, NameRule::WrongType);
     }
 }

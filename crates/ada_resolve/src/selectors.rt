@@ -24,10 +24,11 @@ pub(crate) enum Reached {
     Nothing,
     /// The value of a variable or of a component.
     Value(VariableKind),
-    /// A whole object of this record type: the one to which the last access value gives access, or a component of it.
+    /// A whole object of this record type: the one to which the last access value gives access, the record object with which the path begins, or a
+    /// component of it.
     Object {
         number: TypeNo,
-        /// The number of its first elementary component in the object to which the value gives access.
+        /// The number of its first elementary component in the one to which the value gives access, or with which the path begins.
         first: usize,
     },
 }
@@ -105,7 +106,9 @@ impl<'t> Resolver<'t> {
             Reached::Object { number, first: _ } => {
                 self.component_in(Some(number), spot, name, notes)
             }
-            Reached::Value(VariableKind::Integer | VariableKind::Boolean) => {
+            Reached::Value(
+                VariableKind::Integer | VariableKind::Boolean | VariableKind::Record(_),
+            ) => {
                 notes.note(spot, NameRule::WrongType);
                 None
             }
@@ -151,7 +154,7 @@ impl<'t> Resolver<'t> {
             Reached::Value(VariableKind::Access(access)) => {
                 self.object_in(self.designated_type(access), spot, notes)
             }
-            Reached::Value(VariableKind::Integer | VariableKind::Boolean)
+            Reached::Value(VariableKind::Integer | VariableKind::Boolean | VariableKind::Record(_))
             | Reached::Object { .. } => {
                 notes.note(spot, NameRule::WrongType);
                 Reached::Nothing
@@ -194,7 +197,7 @@ impl Reached {
     pub(crate) fn no_object(self, spot: Spot, notes: &mut Notes)
         ensures { IsNoted notes (no_object self spot) }
     {
-        if let Reached::Object { .. } = self {
+        if let Reached::Object { .. } | Reached::Value(VariableKind::Record(_)) = self {
             notes.note(spot, NameRule::NotInProfile);
         }
     }

@@ -10,14 +10,15 @@ use Rattle.ada_program.specs.declared.program.ComponentKind.TheVariants as compo
 use Rattle.ada_program.specs.declared.program.TypeNo.{TypeNo}
 use Rattle.ada_program.specs.declared.program.VariableKind.TheVariants as variable
 use Rattle.ada_program.specs.ProgramForm.{TypeForm, program_form}
-use Rattle.ada_program.specs.WellFormed.{reached_components, held_kind, component_kind, kind_among}
+use Rattle.ada_program.specs.WellFormed.{is_access, reached_components, held_kind, component_kind, kind_among}
+use Rattle.ada_program.specs.Nested.{are_open}
 use Rattle.ada_meaning.specs.declared.state.Id.{Id}
 use Rattle.ada_meaning.specs.declared.state.Value.{Value}
 use Rattle.ada_meaning.specs.declared.state.Value.TheVariants.{Names}
 use Rattle.ada_meaning.specs.Heap.{Cell}
 use Rattle.ada_meaning.specs.Frame.{Frame}
 use Rattle.ada_meaning.specs.Frame as frame
-use Rattle.ada_meaning.specs.State.{Owned, declared, collection, Item, Master}
+use Rattle.ada_meaning.specs.State.{Owned, declared, collection, record_object, type_housed, Item, Master}
 use Rattle.ada_meaning.specs.Step.{older}
 use Rattle.ada_meaning.specs.Named.{Object, State, object_at}
 use Rattle.ada_meaning.specs.Law.{Differ, items_of, Falls}
@@ -27,8 +28,8 @@ use Rattle.ada_typed.proofs.Runs.{objects_have_their_kinds}
 use Rattle.ada_order.proofs.Orders as orders
 use Rattle.ada_scopes.specs.Scopes.{type_collected, CollectTwoTypes, TypesHaveOneCollection, is_number_of, lasting, IsOpenIn, is_leaving, is_innermost, IsGoing, IsListed, ObjectsLieInCollections, HoldsNames, ComponentsAreOutlived, HeldOutside, NamesStayOutside, InnermostHeldInside, InnermostIsNotNamed}
 use Rattle.ada_scopes.proofs.Counts.{one, times, times_append, target_open, opened_by, opened, Scopes, scopes, all_of, opened_all}
-use Rattle.ada_scopes.proofs.Homes.{HasItem, has_split, has_opened, Housed, housed_after}
-use Rattle.ada_scopes.proofs.Control.{Goes, AreOpen, Lone, Begins, Nested, standing, beginning, parting}
+use Rattle.ada_scopes.proofs.Homes.{HasItem, has_split, opened_here, opened_later, ItemsFit, fit_before, fit_after, opened_fits, has_opened, Housed, housed_after}
+use Rattle.ada_scopes.proofs.Control.{Goes, NeedsOpen, AreOpen, RecordNeeds, RecordsNeed, RecordsOpen, Lone, Begins, Nested, standing, beginning, parting}
 use Rattle.ada_scopes.proofs.Runs.{state_nested}
 
 -- No access type is opened twice.
@@ -46,12 +47,14 @@ lone_in types s (parting p runs goes) = p.lone
 
 differ_by : (t : ℕ) (owned : Owned) (us : List ℕ) → times t (opened_by owned us) ≡ 0 → Differ (Some t) (type_collected owned)
 differ_by t (declared x) us none = tt
+differ_by t (record_object u) us none = tt
 differ_by t (collection access) us none = λ same.
     let found : one (access == t) ≡ 1 = ap one (eq-eqb access t (sym same)) in
     omega (arith, none, found)
 
 none_behind : (t : ℕ) (owned : Owned) (us : List ℕ) → times t (opened_by owned us) ≡ 0 → times t us ≡ 0
 none_behind t (declared x) us none = none
+none_behind t (record_object u) us none = none
 none_behind t (collection access) us none = omega (arith, none)
 
 none_of_type : (t : ℕ) (is : List Item) → times t (opened is) ≡ 0 → All (λ j. Differ (Some t) (type_collected j.owned)) is
@@ -61,6 +64,7 @@ none_of_type t (i ∷ is) none =
 
 newest_alone : (owned : Owned) (is : List Item) → ((t : ℕ) → times t (opened_by owned (opened is)) ≤ 1) → All (λ j. Differ (type_collected owned) (type_collected j.owned)) is
 newest_alone (declared x) is lone = λ k d lt. tt
+newest_alone (record_object u) is lone = λ k d lt. tt
 newest_alone (collection access) is lone =
     let le = lone access in
     let found : one (access == access) ≡ 1 = ap one (eq-eqb access access refl) in
@@ -68,6 +72,7 @@ newest_alone (collection access) is lone =
 
 behind_alone : (owned : Owned) (us : List ℕ) → ((t : ℕ) → times t (opened_by owned us) ≤ 1) → (t : ℕ) → times t us ≤ 1
 behind_alone (declared x) us lone t = lone t
+behind_alone (record_object u) us lone t = lone t
 behind_alone (collection access) us lone t = let le = lone t in omega (arith, le)
 
 two_types : (is : List Item) → ((t : ℕ) → times t (opened is) ≤ 1) → AllPairs CollectTwoTypes is
@@ -86,7 +91,13 @@ housed_in types s (beginning b) =
     subst (λ (ms : List Master). Housed s.heap (items_of ms)) (sym b.masters) (housed_after s.heap b.m.items (items_of b.rest) b.growing.housed)
 housed_in types s (parting p runs goes) = p.housed
 
-contains_item : (n access : ℕ) (is : List Item) → HasItem n access is → (i : Item) × Contains is i × (i.number ≡ n) × (i.owned ≡ collection access)
+-- Items fit the types of the program.
+fit_in : (types : List TypeForm) (s : State) → Nested types s → ItemsFit types (items_of s.masters)
+fit_in types s (standing w n) = w.fit
+fit_in types s (beginning b) = subst (λ (ms : List Master). ItemsFit types (items_of ms)) (sym b.masters) b.growing.fit
+fit_in types s (parting p runs goes) = p.fit
+
+contains_item : (n access : ℕ) (is : List Item) → HasItem n access is → (i : Item) × Contains is i × (i.number ≡ n) × (type_housed i.owned ≡ Some access)
 contains_item n access [] h = absurd h
 contains_item n access (i ∷ is) (inl e) = (i, (zero, omega arith, refl), e.0, e.1)
 contains_item n access (i ∷ is) (inr h) =
@@ -112,6 +123,7 @@ opened_item t (i ∷ is) le = opened_first t i is i.owned refl le (opened_item t
 
     opened_first : (x : ℕ) (j : Item) (js : List Item) (owned : Owned) → j.owned ≡ owned → 1 ≤ times x (opened_by owned (opened js)) → (1 ≤ times x (opened js) → (i : Item) × Contains js i × (i.owned ≡ collection x)) → (i : Item) × Contains (j ∷ js) i × (i.owned ≡ collection x)
     opened_first x j js (declared y) own more k = later x j js (k more)
+    opened_first x j js (record_object y) own more k = later x j js (k more)
     opened_first x j js (collection access) own more k = first_or_later x j js access (access == x) refl own more k
 
 open_in : (t : ℕ) (ms : List Master) → 1 ≤ times t (all_of (scopes ms)) → IsOpenIn ms t
@@ -167,20 +179,36 @@ has_number n access [] h = absurd h
 has_number n access (i ∷ is) (inl e) = number_here (i.number == n) (is_number_of is n) (eq-eqb i.number n e.0)
 has_number n access (i ∷ is) (inr h) = number_by (i.number == n) (is_number_of is n) (has_number n access is h)
 
+-- What the components of objects name lies in open collections, where such objects are housed.
+item_opens_by : (types : List TypeForm) (there us : List ℕ) (owned : Owned) (access : ℕ) → type_housed owned ≡ Some access → NeedsOpen types (opened_by owned us) there → RecordNeeds types there owned → are_open there (reached_components types access) ≡ true
+item_opens_by types there us (declared x) access same needs record_needs = absurd (cc)
+item_opens_by types there us (collection t) access same needs record_needs =
+    let one_type : t ≡ access = cc in
+    needs access (opened_here (collection t) access us (ap collection one_type))
+item_opens_by types there us (record_object t) access same needs record_needs =
+    let one_type : t ≡ access = cc in
+    subst (λ (u : ℕ). are_open there (reached_components types u) ≡ true) one_type record_needs
+
+item_opens : (types : List TypeForm) (there : List ℕ) (n access : ℕ) (is : List Item) → NeedsOpen types (opened is) there → RecordsNeed types there is → HasItem n access is → are_open there (reached_components types access) ≡ true
+item_opens types there n access [] needs records has = absurd has
+item_opens types there n access (i ∷ is) needs records (inl e) = item_opens_by types there (opened is) i.owned access e.1 needs records.0
+item_opens types there n access (i ∷ is) needs records (inr has) =
+    item_opens types there n access is (λ t le. needs t (opened_later i.owned t (opened is) le)) records.1 has
+
 -- What a component names lies in a collection of such a master.
-target_in : (types : List TypeForm) (n access c : ℕ) (target : TypeNo) (ms : List Master) → AreOpen types (scopes ms) → HoldsNames types access c target → HasItem n access (items_of ms) → 1 ≤ times target.0 (all_of (scopes (lasting n ms)))
-target_in types n access c target [] opens names has = absurd has
-target_in types n access c target (m ∷ ms) opens names has = elim (has_split n access m.items (items_of ms) has) [ inl own ↦ here own | inr outer ↦ lasting_more n target.0 m ms (target_in types n access c target ms opens.1 names outer) ]
+target_in : (types : List TypeForm) (n access c : ℕ) (target : TypeNo) (ms : List Master) → AreOpen types (scopes ms) → RecordsOpen types ms → HoldsNames types access c target → HasItem n access (items_of ms) → 1 ≤ times target.0 (all_of (scopes (lasting n ms)))
+target_in types n access c target [] opens records names has = absurd has
+target_in types n access c target (m ∷ ms) opens records names has = elim (has_split n access m.items (items_of ms) has) [ inl own ↦ here own | inr outer ↦ lasting_more n target.0 m ms (target_in types n access c target ms opens.1 records.1 names outer) ]
   where
     here : HasItem n access m.items → 1 ≤ times target.0 (all_of (scopes (lasting n (m ∷ ms))))
     here own =
-        let needed = opens.0 access (has_opened n access m.items own) in
+        let needed = item_opens types (opened m.items ++ all_of (scopes ms)) n access m.items opens.0 records.0 own in
         subst (λ (xs : List Master). 1 ≤ times target.0 (all_of (scopes xs))) (sym (lasting_here n m ms (has_number n access m.items own)))
         (target_open (opened m.items ++ all_of (scopes ms)) (reached_components types access) c target names needed)
 
-target_parting : (types : List TypeForm) (n access c : ℕ) (target : TypeNo) (ms : List Master) → AreOpen types (older (scopes ms)) → HoldsNames types access c target → HasItem n access (items_of ms) → (is_innermost ms n ≡ true) ⊎ (1 ≤ times target.0 (all_of (scopes (lasting n ms))))
-target_parting types n access c target [] opens names has = absurd has
-target_parting types n access c target (m ∷ ms) opens names has = elim (has_split n access m.items (items_of ms) has) [ inl own ↦ inl (has_number n access m.items own) | inr outer ↦ inr (lasting_more n target.0 m ms (target_in types n access c target ms opens names outer)) ]
+target_parting : (types : List TypeForm) (n access c : ℕ) (target : TypeNo) (ms : List Master) → AreOpen types (older (scopes ms)) → RecordsOpen types (older ms) → HoldsNames types access c target → HasItem n access (items_of ms) → (is_innermost ms n ≡ true) ⊎ (1 ≤ times target.0 (all_of (scopes (lasting n ms))))
+target_parting types n access c target [] opens records names has = absurd has
+target_parting types n access c target (m ∷ ms) opens records names has = elim (has_split n access m.items (items_of ms) has) [ inl own ↦ inl (has_number n access m.items own) | inr outer ↦ inr (lasting_more n target.0 m ms (target_in types n access c target ms opens records names outer)) ]
 
 goes_leaving : (types : List TypeForm) (ss : Scopes) (k : List (Frame Value)) → Goes types ss k → is_leaving k ≡ true
 goes_leaving types ss [] goes = absurd goes
@@ -191,12 +219,12 @@ goes_leaving types ss (f ∷ k) goes = absurd goes
 
 target_nested : (types : List TypeForm) (s : State) (o : Id) (x : Object) (c : ℕ) (target : TypeNo) → Nested types s → IsListed s.heap o x → HoldsNames types x.cell.access c target → IsGoing s x.cell.home.item ⊎ (1 ≤ times target.0 (all_of (scopes (lasting x.cell.home.item s.masters))))
 target_nested types s o x c target (standing w n) listed names =
-    inr (target_in types x.cell.home.item x.cell.access c target s.masters w.needs names (w.housed o x listed.0 listed.1))
+    inr (target_in types x.cell.home.item x.cell.access c target s.masters w.needs w.records names (w.housed o x listed.0 listed.1))
 target_nested types s o x c target (beginning b) listed names =
     inr (subst (λ (ms : List Master). 1 ≤ times target.0 (all_of (scopes (lasting x.cell.home.item ms)))) (sym b.masters)
-    (lasting_more x.cell.home.item target.0 b.m b.rest (target_in types x.cell.home.item x.cell.access c target b.rest b.growing.outer names (b.growing.housed o x listed.0 listed.1))))
+    (lasting_more x.cell.home.item target.0 b.m b.rest (target_in types x.cell.home.item x.cell.access c target b.rest b.growing.outer b.growing.records names (b.growing.housed o x listed.0 listed.1))))
 target_nested types s o x c target (parting p runs goes) listed names =
-    elim (target_parting types x.cell.home.item x.cell.access c target s.masters p.needs names (p.housed o x listed.0 listed.1)) [
+    elim (target_parting types x.cell.home.item x.cell.access c target s.masters p.needs p.records names (p.housed o x listed.0 listed.1)) [
       | inl innermost ↦ inl (goes_leaving types (scopes s.masters) s.control goes, innermost)
       | inr later ↦ inr later
     ]
@@ -225,9 +253,9 @@ component_named cells (k ∷ cs) (v ∷ vs) zero p have is =
 component_named cells (k ∷ cs) (v ∷ vs) (suc c) p have is = component_named cells cs vs c p have.1 is
 
 -- The one collection of its type is where what is named lies.
-not_twice : (access m : ℕ) (x : Master) (ms : List Master) (le : ℕ) → le ≤ times access (all_of (scopes ms)) → 1 ≤ le → Lone (scopes (x ∷ ms)) → HasItem m access x.items → ⊥
-not_twice access m x ms le fewer some lone own =
-    let first = has_opened m access x.items own in
+not_twice : (types : List TypeForm) (access m : ℕ) (x : Master) (ms : List Master) (le : ℕ) → ItemsFit types x.items → is_access types access ≡ true → le ≤ times access (all_of (scopes ms)) → 1 ≤ le → Lone (scopes (x ∷ ms)) → HasItem m access x.items → ⊥
+not_twice types access m x ms le fit known fewer some lone own =
+    let first = has_opened types m access x.items fit known own in
     let all = lone access in
     let sum = times_append access (opened x.items) (all_of (scopes ms)) in
     omega (arith, some, fewer, first, all, sum)
@@ -235,28 +263,31 @@ not_twice access m x ms le fewer some lone own =
 lone_behind : (x : Master) (ms : List Master) → Lone (scopes (x ∷ ms)) → Lone (scopes ms)
 lone_behind x ms lone t = let all = lone t in let sum = times_append t (opened x.items) (all_of (scopes ms)) in omega (arith, all, sum)
 
-stays_at : (n m access : ℕ) (x : Master) (ms : List Master) (b : Bool) → is_number_of x.items n ≡ b → Lone (scopes (x ∷ ms)) → 1 ≤ times access (all_of (scopes (lasting n (x ∷ ms)))) → HasItem m access x.items ⊎ HasItem m access (items_of ms) → (1 ≤ times access (all_of (scopes (lasting n ms))) → HasItem m access (items_of ms) → is_number_of (items_of (lasting n ms)) m ≡ true) → is_number_of (items_of (lasting n (x ∷ ms))) m ≡ true
-stays_at n m access x ms true is lone le (inl own) later = subst (λ (xs : List Master). is_number_of (items_of xs) m ≡ true) (sym (lasting_here n x ms is)) (number_before m x.items (items_of ms) (has_number m access x.items own))
-stays_at n m access x ms true is lone le (inr outer) later = subst (λ (xs : List Master). is_number_of (items_of xs) m ≡ true) (sym (lasting_here n x ms is)) (number_after m x.items (items_of ms) (has_number m access (items_of ms) outer))
-stays_at n m access x ms false is lone le (inl own) later =
+stays_at : (types : List TypeForm) (n m access : ℕ) (x : Master) (ms : List Master) (b : Bool) → ItemsFit types x.items → is_access types access ≡ true → is_number_of x.items n ≡ b → Lone (scopes (x ∷ ms)) → 1 ≤ times access (all_of (scopes (lasting n (x ∷ ms)))) → HasItem m access x.items ⊎ HasItem m access (items_of ms) → (1 ≤ times access (all_of (scopes (lasting n ms))) → HasItem m access (items_of ms) → is_number_of (items_of (lasting n ms)) m ≡ true) → is_number_of (items_of (lasting n (x ∷ ms))) m ≡ true
+stays_at types n m access x ms true fit known is lone le (inl own) later = subst (λ (xs : List Master). is_number_of (items_of xs) m ≡ true) (sym (lasting_here n x ms is)) (number_before m x.items (items_of ms) (has_number m access x.items own))
+stays_at types n m access x ms true fit known is lone le (inr outer) later = subst (λ (xs : List Master). is_number_of (items_of xs) m ≡ true) (sym (lasting_here n x ms is)) (number_after m x.items (items_of ms) (has_number m access (items_of ms) outer))
+stays_at types n m access x ms false fit known is lone le (inl own) later =
     let behind : 1 ≤ times access (all_of (scopes (lasting n ms))) = subst (λ (xs : List Master). 1 ≤ times access (all_of (scopes xs))) (lasting_behind n x ms is) le in
-    absurd (not_twice access m x ms (times access (all_of (scopes (lasting n ms)))) (lasting_fewer n access ms) behind lone own)
-stays_at n m access x ms false is lone le (inr outer) later =
+    absurd (not_twice types access m x ms (times access (all_of (scopes (lasting n ms)))) fit known (lasting_fewer n access ms) behind lone own)
+stays_at types n m access x ms false fit known is lone le (inr outer) later =
     let behind : 1 ≤ times access (all_of (scopes (lasting n ms))) = subst (λ (xs : List Master). 1 ≤ times access (all_of (scopes xs))) (lasting_behind n x ms is) le in
     subst (λ (xs : List Master). is_number_of (items_of xs) m ≡ true) (sym (lasting_behind n x ms is)) (later behind outer)
 
-stays_in : (n m access : ℕ) (ms : List Master) → Lone (scopes ms) → 1 ≤ times access (all_of (scopes (lasting n ms))) → HasItem m access (items_of ms) → is_number_of (items_of (lasting n ms)) m ≡ true
-stays_in n m access [] lone le has = absurd has
-stays_in n m access (x ∷ ms) lone le has =
-    stays_at n m access x ms (is_number_of x.items n) refl lone le (has_split m access x.items (items_of ms) has) (λ behind outer. stays_in n m access ms (lone_behind x ms lone) behind outer)
+stays_in : (types : List TypeForm) (n m access : ℕ) (ms : List Master) → ItemsFit types (items_of ms) → is_access types access ≡ true → Lone (scopes ms) → 1 ≤ times access (all_of (scopes (lasting n ms))) → HasItem m access (items_of ms) → is_number_of (items_of (lasting n ms)) m ≡ true
+stays_in types n m access [] fit known lone le has = absurd has
+stays_in types n m access (x ∷ ms) fit known lone le has =
+    stays_at types n m access x ms (is_number_of x.items n) (fit_before types x.items (items_of ms) fit) known refl lone le (has_split m access x.items (items_of ms) has) (λ behind outer. stays_in types n m access ms (fit_after types x.items (items_of ms) fit) known (lone_behind x ms lone) behind outer)
 
 lasting_all : (n : ℕ) (ms : List Master) → is_innermost ms n ≡ true → lasting n ms ≡ ms
 lasting_all n [] is = refl
 lasting_all n (m ∷ ms) is = lasting_here n m ms is
 
-stays_by : (s : State) (n m access : ℕ) → Lone (scopes s.masters) → HasItem m access (items_of s.masters) → IsGoing s n ⊎ (1 ≤ times access (all_of (scopes (lasting n s.masters)))) → is_number_of (items_of (lasting n s.masters)) m ≡ true
-stays_by s n m access lone has (inl going) = subst (λ (ms : List Master). is_number_of (items_of ms) m ≡ true) (sym (lasting_all n s.masters going.1)) (has_number m access (items_of s.masters) has)
-stays_by s n m access lone has (inr le) = stays_in n m access s.masters lone le has
+stays_by : (types : List TypeForm) (s : State) (n m access : ℕ) → ItemsFit types (items_of s.masters) → Lone (scopes s.masters) → HasItem m access (items_of s.masters) → IsGoing s n ⊎ (1 ≤ times access (all_of (scopes (lasting n s.masters)))) → is_number_of (items_of (lasting n s.masters)) m ≡ true
+stays_by types s n m access fit lone has (inl going) = subst (λ (ms : List Master). is_number_of (items_of ms) m ≡ true) (sym (lasting_all n s.masters going.1)) (has_number m access (items_of s.masters) has)
+stays_by types s n m access fit lone has (inr le) =
+    let fewer = lasting_fewer n access s.masters in
+    let some : 1 ≤ times access (opened (items_of s.masters)) = subst (λ (us : List ℕ). 1 ≤ times access us) (sym (opened_all s.masters)) (omega (arith, le, fewer)) in
+    stays_in types n m access s.masters fit (opened_fits types access (items_of s.masters) fit some) lone le has
 
 -- A state that nests, and in which objects have values of the kinds of their components.
 abbrev pub AreOfKinds : List TypeForm → State → Type 0
@@ -276,7 +307,7 @@ held_outside types s nested kinds holder held holds =
     let one_cell : named.2.0 ≡ held.cell = cc in
     let access : held.cell.access ≡ named.0.0 = ap (λ (x : Cell Value). x.access) (sym one_cell) ∙ named.2.2 in
     let has = housed_in types s nested p held own.0 own.1 in
-    stays_by s holder.cell.home.item held.cell.home.item named.0.0 (lone_in types s nested) (subst (λ (a : ℕ). HasItem held.cell.home.item a (items_of s.masters)) access has)
+    stays_by types s holder.cell.home.item held.cell.home.item named.0.0 (fit_in types s nested) (lone_in types s nested) (subst (λ (a : ℕ). HasItem held.cell.home.item a (items_of s.masters)) access has)
     (target_nested types s o holder holds.2 named.0 nested listed names)
 
 pub outside : NamesStayOutside

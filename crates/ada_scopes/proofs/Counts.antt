@@ -9,7 +9,7 @@ use Rattle.ada_program.specs.declared.program.TypeNo.{TypeNo}
 use Rattle.ada_program.specs.declared.program.VariableKind.TheVariants as variable
 use Rattle.ada_program.specs.WellFormed.{held_kind, component_kind, kind_among}
 use Rattle.ada_program.specs.Nested.{is_one_of, kind_is_open, are_open}
-use Rattle.ada_meaning.specs.State.{Owned, declared, collection, Item, Master}
+use Rattle.ada_meaning.specs.State.{Owned, declared, collection, record_object, Item, Master}
 use Rattle.ada_meaning.specs.Step.{older, owning, shorter}
 use Rattle.ada_meaning.specs.Law.{items_of}
 
@@ -111,6 +111,7 @@ target_open us (Some cs) c target is opens = component_open us cs c target is op
 abbrev pub opened_by : Owned → List ℕ → List ℕ
 opened_by (declared x) us = us
 opened_by (collection access) us = access ∷ us
+opened_by (record_object t) us = us
 
 abbrev pub opened : List Item → List ℕ
 opened [] = []
@@ -130,6 +131,7 @@ all_of (us ∷ uss) = us ++ all_of uss
 
 opened_append_by : (owned : Owned) (us vs ws : List ℕ) → us ≡ vs ++ ws → opened_by owned us ≡ opened_by owned vs ++ ws
 opened_append_by (declared x) us vs ws is = is
+opened_append_by (record_object t) us vs ws is = is
 opened_append_by (collection access) us vs ws is = ap (λ (xs : List ℕ). access ∷ xs) is
 
 opened_append : (is js : List Item) → opened (is ++ js) ≡ opened is ++ opened js
@@ -140,15 +142,20 @@ pub opened_all : (ms : List Master) → opened (items_of ms) ≡ all_of (scopes 
 opened_all [] = refl
 opened_all (m ∷ ms) = opened_append m.items (items_of ms) ∙ ap (λ (us : List ℕ). opened m.items ++ us) (opened_all ms)
 
--- A variable opens no collection.
+-- A variable opens no collection, and neither does a record object.
 pub scopes_declared : (number x : ℕ) (ms : List Master) → scopes (owning (record { number = number; owned = declared x }) ms) ≡ scopes ms
 scopes_declared number x [] = refl
 scopes_declared number x (m ∷ ms) = refl
+
+pub scopes_recorded : (number t : ℕ) (ms : List Master) → scopes (owning (record { number = number; owned = record_object t }) ms) ≡ scopes ms
+scopes_recorded number t [] = refl
+scopes_recorded number t (m ∷ ms) = refl
 
 -- An item goes.
 fewer_by : (t : ℕ) (owned : Owned) (us : List ℕ) → times t us ≤ times t (opened_by owned us)
 fewer_by t (declared x) us = omega arith
 fewer_by t (collection access) us = omega arith
+fewer_by t (record_object u) us = omega arith
 
 fewer_opened : (t : ℕ) (is : List Item) → times t (opened (older is)) ≤ times t (opened is)
 fewer_opened t [] = omega arith

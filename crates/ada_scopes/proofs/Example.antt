@@ -28,7 +28,7 @@ use Rattle.ada_program.specs.ProgramForm.{program_form}
 use Rattle.ada_program.specs.WellFormed.{Creation, creation, created_by_all, created_by_handlers, creates_from, has_collections, IsWellFormed, stmts_fit}
 use Rattle.ada_program.specs.Nested.{collected, statements_nest, CollectionsNest}
 use Rattle.ada_meaning.specs.declared.state.Id.{Id}
-use Rattle.ada_meaning.specs.State.{Owned, declared, collection, Item}
+use Rattle.ada_meaning.specs.State.{Owned, declared, collection, record_object, Item}
 use Rattle.ada_meaning.specs.Named.{Object, State, next}
 use Rattle.ada_meaning.specs.Run.{Choice, settled, grants}
 use Rattle.ada_order.specs.Example.{InSomeRun}
@@ -187,6 +187,7 @@ opened_one t i is own =
 
 opened_more : (t : ℕ) (owned : Owned) (us : List ℕ) → 1 ≤ times t us → 1 ≤ times t (opened_by owned us)
 opened_more t (declared x) us le = le
+opened_more t (record_object u) us le = le
 opened_more t (collection access) us le = omega (arith, le)
 
 contains_opened : (t : ℕ) (is : List Item) (i : Item) (k : ℕ) → k < length is → slice_index_or is k i ≡ i → i.owned ≡ collection t → 1 ≤ times t (opened is)

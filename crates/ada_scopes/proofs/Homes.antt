@@ -1,22 +1,24 @@
 -- Objects and their homes: whatever is in its collection has that collection among the items of masters.
 
-use Rattle.std.proofs.Common.{◌≡◌, ℕ, zero, suc, ◌≤◌, ◌==◌, Bool, true, false, if◌then◌else◌, List, [], ◌∷◌, ◌++◌, map, Option, Some, None, arith, refl, sym, ap, ◌∙◌, subst, ◌⊎◌, inl, inr}
+use Rattle.std.proofs.Common.{◌≡◌, ℕ, zero, suc, ◌+◌, ◌≤◌, ◌==◌, Bool, true, false, if◌then◌else◌, List, [], ◌∷◌, ◌++◌, map, Option, Some, None, arith, refl, sym, ap, ◌∙◌, subst, ◌⊎◌, inl, inr}
 use Rattle.std.proofs.lemmas.Bool.{eqb-true, eq-eqb}
 use Rattle.std.specs.List.{slice_get, slice_set}
+use Rattle.ada_program.specs.ProgramForm.{TypeForm}
+use Rattle.ada_program.specs.WellFormed.{is_access}
 use Rattle.ada_meaning.specs.declared.state.Id.{Id}
 use Rattle.ada_meaning.specs.declared.state.Value.{Value}
 use Rattle.ada_meaning.specs.declared.state.Value.TheVariants.{Null, Names, Scalar}
 use Rattle.ada_meaning.specs.Heap.{Cell}
-use Rattle.ada_meaning.specs.State.{Owned, declared, collection, Item, Master, collection_in, home_among, home_of}
+use Rattle.ada_meaning.specs.State.{Owned, declared, collection, record_object, type_housed, Item, Master, collection_in, home_among, home_of}
 use Rattle.ada_meaning.specs.Step.{owning, shorter}
 use Rattle.ada_meaning.specs.Named.{Object, object_at, new_object, changed, on_object, is_member, members_from, members}
 use Rattle.ada_meaning.specs.Law.{items_of}
 use Rattle.ada_scopes.proofs.Counts.{one, times, opened_by, opened}
 
--- The collection of this number and of this access type is among these items.
+-- The item of this number, which houses objects of this type, is among these items.
 abbrev pub HasItem : (n access : ℕ) → List Item → Type 0
 HasItem n access [] = ⊥
-HasItem n access (i ∷ is) = ((i.number ≡ n) × (i.owned ≡ collection access)) ⊎ HasItem n access is
+HasItem n access (i ∷ is) = ((i.number ≡ n) × (type_housed i.owned ≡ Some access)) ⊎ HasItem n access is
 
 pub has_after : (n access : ℕ) (is js : List Item) → HasItem n access js → HasItem n access (is ++ js)
 has_after n access [] js h = h
@@ -32,21 +34,66 @@ has_owning n access item [] h = h
 has_owning n access item (m ∷ ms) h = inr h
 
 -- Such a collection is opened.
-opened_here : (owned : Owned) (access : ℕ) (us : List ℕ) → owned ≡ collection access → 1 ≤ times access (opened_by owned us)
+pub opened_here : (owned : Owned) (access : ℕ) (us : List ℕ) → owned ≡ collection access → 1 ≤ times access (opened_by owned us)
 opened_here owned access us is =
     let self : (access == access) ≡ true = eq-eqb access access refl in
     let once : one (access == access) ≡ 1 = ap one self in
     let here : 1 ≤ times access (opened_by (collection access) us) = omega (arith, once) in
     subst (λ (o : Owned). 1 ≤ times access (opened_by o us)) (sym is) here
 
-opened_later : (owned : Owned) (access : ℕ) (us : List ℕ) → 1 ≤ times access us → 1 ≤ times access (opened_by owned us)
+pub opened_later : (owned : Owned) (access : ℕ) (us : List ℕ) → 1 ≤ times access us → 1 ≤ times access (opened_by owned us)
 opened_later (declared x) access us le = le
 opened_later (collection t) access us le = omega (arith, le)
+opened_later (record_object t) access us le = le
 
-pub has_opened : (n access : ℕ) (is : List Item) → HasItem n access is → 1 ≤ times access (opened is)
-has_opened n access [] h = absurd h
-has_opened n access (i ∷ is) (inl e) = opened_here i.owned access (opened is) e.1
-has_opened n access (i ∷ is) (inr h) = opened_later i.owned access (opened is) (has_opened n access is h)
+-- Collections are those of access types, and record objects are known by other types.
+abbrev pub OwnedFits : List TypeForm → Owned → Type 0
+OwnedFits types (declared x) = Unit {0}
+OwnedFits types (collection access) = is_access types access ≡ true
+OwnedFits types (record_object t) = is_access types t ≡ false
+
+abbrev pub ItemsFit : List TypeForm → List Item → Type 0
+ItemsFit types [] = Unit {0}
+ItemsFit types (i ∷ is) = OwnedFits types i.owned × ItemsFit types is
+
+pub fit_before : (types : List TypeForm) (is js : List Item) → ItemsFit types (is ++ js) → ItemsFit types is
+fit_before types [] js h = tt
+fit_before types (i ∷ is) js h = (h.0, fit_before types is js h.1)
+
+pub fit_after : (types : List TypeForm) (is js : List Item) → ItemsFit types (is ++ js) → ItemsFit types js
+fit_after types [] js h = h
+fit_after types (i ∷ is) js h = fit_after types is js h.1
+
+pub fit_owning : (types : List TypeForm) (item : Item) (ms : List Master) → OwnedFits types item.owned → ItemsFit types (items_of ms) → ItemsFit types (items_of (owning item ms))
+fit_owning types item [] own h = h
+fit_owning types item (m ∷ ms) own h = (own, h)
+
+access_opened : (types : List TypeForm) (t u n : ℕ) (b : Bool) → (u == t) ≡ b → is_access types u ≡ true → (1 ≤ n → is_access types t ≡ true) → 1 ≤ one b + n → is_access types t ≡ true
+access_opened types t u n true same is later le = subst (λ x. is_access types x ≡ true) (eqb-true u t same) is
+access_opened types t u n false same is later le = later (omega (arith, le))
+
+opened_fits_by : (types : List TypeForm) (t : ℕ) (owned : Owned) (us : List ℕ) → OwnedFits types owned → (1 ≤ times t us → is_access types t ≡ true) → 1 ≤ times t (opened_by owned us) → is_access types t ≡ true
+opened_fits_by types t (declared x) us fits later le = later le
+opened_fits_by types t (collection access) us fits later le = access_opened types t access (times t us) (access == t) refl fits later le
+opened_fits_by types t (record_object u) us fits later le = later le
+
+pub opened_fits : (types : List TypeForm) (t : ℕ) (is : List Item) → ItemsFit types is → 1 ≤ times t (opened is) → is_access types t ≡ true
+opened_fits types t [] fits le = absurd (omega (arith, le))
+opened_fits types t (i ∷ is) fits le = opened_fits_by types t i.owned (opened is) fits.0 (λ more. opened_fits types t is fits.1 more) le
+
+-- What houses objects of an access type is its collection.
+housing_opened : (types : List TypeForm) (owned : Owned) (access : ℕ) (us : List ℕ) → OwnedFits types owned → is_access types access ≡ true → type_housed owned ≡ Some access → 1 ≤ times access (opened_by owned us)
+housing_opened types (declared x) access us fits is same = absurd (cc)
+housing_opened types (collection t) access us fits is same = let one_type : t ≡ access = cc in opened_here (collection t) access us (ap collection one_type)
+housing_opened types (record_object t) access us fits is same =
+    let one_type : t ≡ access = cc in
+    let never : true ≡ false = sym is ∙ ap (is_access types) (sym one_type) ∙ fits in
+    absurd (cc)
+
+pub has_opened : (types : List TypeForm) (n access : ℕ) (is : List Item) → ItemsFit types is → is_access types access ≡ true → HasItem n access is → 1 ≤ times access (opened is)
+has_opened types n access [] fits known h = absurd h
+has_opened types n access (i ∷ is) fits known (inl e) = housing_opened types i.owned access (opened is) fits.0 known e.1
+has_opened types n access (i ∷ is) fits known (inr h) = opened_later i.owned access (opened is) (has_opened types n access is fits.1 known h)
 
 -- The collection that an access type denotes is an item, and is of that type.
 HasSome : ℕ → Option ℕ → List Item → Type 0
@@ -65,7 +112,8 @@ some_more access i is (Some n) h = inr h
 
 collection_has : (access : ℕ) (i : Item) (owned : Owned) → i.owned ≡ owned → (is : List Item) (outer : Option ℕ) → HasSome access outer (i ∷ is) → HasSome access (collection_in access i owned outer) (i ∷ is)
 collection_has access i (declared x) e is outer o = o
-collection_has access i (collection t) e is outer o = has_one access (access == t) i.number (i ∷ is) outer (λ same. inl (refl, e ∙ ap collection (sym (eqb-true access t same)))) o
+collection_has access i (record_object t) e is outer o = o
+collection_has access i (collection t) e is outer o = has_one access (access == t) i.number (i ∷ is) outer (λ same. inl (refl, ap type_housed e ∙ ap Some (sym (eqb-true access t same)))) o
 
 among_has : (access : ℕ) (is js : List Item) (outer : Option ℕ) → HasSome access outer js → HasSome access (home_among access is outer) (is ++ js)
 among_has access [] js outer o = o
@@ -80,7 +128,7 @@ pub home_has : (access item : ℕ) (ms : List Master) → home_of access ms ≡ 
 unfolding HasSome
 home_has access item ms e = rw e at (of_has access ms)
 
--- The home of an object is the collection of its access type.
+-- The home of an object is the collection of its access type, or the record object that it is.
 abbrev pub IsAtHome : List Item → Object → Type 0
 IsAtHome is x = HasItem x.cell.home.item x.cell.access is
 
@@ -155,14 +203,16 @@ none_from item n (y ∷ xs) (suc k) x none is m = none_from item (suc n) xs k x 
 none_is_left : (item : ℕ) (heap : List Object) (o : Id) (x : Object) → members heap item ≡ [] → object_at heap o ≡ Some x → x.listed ≡ true → x.cell.home.item ≡ item → ⊥
 none_is_left item heap o x none is listed home = none_from item 0 heap o.0 x none is (rw (listed, home) (eq-eqb item item refl))
 
--- The newest item goes: it is no collection, or none is left in it.
+-- The newest item goes: it houses no objects, or none is left in it.
 abbrev pub IsEmpty : List Object → Item → Owned → Type 0
 IsEmpty heap item (declared x) = Unit {0}
 IsEmpty heap item (collection access) = members heap item.number ≡ []
+IsEmpty heap item (record_object t) = members heap item.number ≡ []
 
-not_there : (heap : List Object) (item : Item) (owned : Owned) (o : Id) (x : Object) → item.owned ≡ owned → IsEmpty heap item owned → object_at heap o ≡ Some x → x.listed ≡ true → item.number ≡ x.cell.home.item → owned ≡ collection x.cell.access → ⊥
+not_there : (heap : List Object) (item : Item) (owned : Owned) (o : Id) (x : Object) → item.owned ≡ owned → IsEmpty heap item owned → object_at heap o ≡ Some x → x.listed ≡ true → item.number ≡ x.cell.home.item → type_housed owned ≡ Some x.cell.access → ⊥
 not_there heap item (declared y) o x is empty at listed home own = absurd (cc)
 not_there heap item (collection access) o x is empty at listed home own = none_is_left item.number heap o x empty at listed (sym home)
+not_there heap item (record_object t) o x is empty at listed home own = none_is_left item.number heap o x empty at listed (sym home)
 
 housed_behind : (heap : List Object) (item : Item) (items js : List Item) → IsEmpty heap item item.owned → Housed heap ((item ∷ items) ++ js) → Housed heap (items ++ js)
 housed_behind heap item items js empty h o x at listed = elim (h o x at listed) [ inl e ↦ absurd (not_there heap item item.owned o x refl empty at listed e.0 e.1) | inr g ↦ g ]

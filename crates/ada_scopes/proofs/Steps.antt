@@ -2,14 +2,15 @@
 
 use Rattle.std.proofs.Common.{◌≡◌, ℕ, ℤ, ◌<◌, ◌≤◌, ◌+◌, ◌==◌, Bool, true, false, if◌then◌else◌, List, [], ◌∷◌, ◌++◌, Option, Some, None, Result, Ok, Err, arith, refl, sym, ap, subst}
 use Rattle.std.specs.Prelude.{int_le}
+use Rattle.std.proofs.lemmas.Bool.{eq-eqb}
 use Rattle.std.specs.List.{slice_get, slice_index_or, list_all}
 use Rattle.ada_program.specs.declared.program.TypeDefinition.{TypeDefinition}
 use Rattle.ada_program.specs.declared.program.Exception.{Exception}
-use Rattle.ada_program.specs.Form.{ExpressionForm, integer, boolean, reads, is_null, applied_to, chained, LinksForm, no_more_links, a_link, ItemForm, null_item, item_of_path, item_of_value, RightForm, nothing, value_of, allocates, allocates_default, computes, StmtForm, skips, assigns, frees, gets, writes, writes_text, chooses, repeats, counts, exits, returns, raises, encloses, StmtsForm, no_stmts, a_stmt, BranchesForm, otherwise, a_branch, HandlersForm, no_handlers, a_handler, DeclarationForm, collects, declares}
+use Rattle.ada_program.specs.Form.{ExpressionForm, integer, boolean, reads, is_null, applied_to, chained, LinksForm, no_more_links, a_link, ItemForm, null_item, item_of_path, item_of_value, RightForm, nothing, value_of, allocates, allocates_default, computes, StmtForm, skips, assigns, frees, gets, writes, writes_text, chooses, repeats, counts, exits, returns, raises, encloses, StmtsForm, no_stmts, a_stmt, BranchesForm, otherwise, a_branch, HandlersForm, no_handlers, a_handler, DeclarationForm, collects, declares, declares_record}
 use Rattle.ada_program.specs.Handling.{some_takes, handler_of}
 use Rattle.ada_program.specs.ProgramForm.{TypeForm}
 use Rattle.ada_program.specs.Typed.{words_of}
-use Rattle.ada_program.specs.WellFormed.{reached_components, is_object}
+use Rattle.ada_program.specs.WellFormed.{is_access, reached_components, is_object}
 use Rattle.ada_program.specs.Nested.{collected, are_open}
 use Rattle.ada_values.specs.declared.operator.BinaryOperator.{BinaryOperator}
 use Rattle.ada_values.specs.declared.fault.OperatorFault.{OperatorFault}
@@ -22,18 +23,19 @@ use Rattle.ada_meaning.specs.declared.event.Cause.{Cause}
 use Rattle.ada_meaning.specs.declared.event.Cause.TheVariants.{Leaving}
 use Rattle.ada_meaning.specs.declared.event.Halt.TheVariants.{Erroneous}
 use Rattle.ada_meaning.specs.declared.event.Why.TheVariants.{GivesElsewhere}
-use Rattle.ada_meaning.specs.Event.{Quiet}
+use Rattle.ada_meaning.specs.Event.{Back, Quiet}
 use Rattle.ada_meaning.specs.Frame.{Frame, is_master, is_loop, Landing, passes_on, goes_behind, goes_in, handler_landing, landing}
 use Rattle.ada_meaning.specs.Frame as frame
-use Rattle.ada_meaning.specs.State.{Owned, declared, collection, Item, Master, height, home_of}
+use Rattle.ada_meaning.specs.State.{Owned, declared, collection, record_object, Item, Master, height, home_of, pool_of}
 use Rattle.ada_meaning.specs.Heap.{Cell, Found, on_null, on_gone, on_other, finds}
-use Rattle.ada_meaning.specs.Step.{halts, moves, tells, asks, picks, at, older, owning, shorter, popped, held, newest, reading, component_next, follow_next, path_next, expression_next, null_test_next, is_decided, link_next, links_next, outcome_next, item_next, items_next, new_cell, answered, new_next, right_next, free_next, end_next, given_back, back_next, before_last, last_of, assign_next, target_next, stored_next, store_next, freeing, frees_next, freed_next, free_component_next, free_in_next, branches_next, decided_next, turn_next, repeats_next, turned_next, count_turn_next, ranges_next, gets_next, received_next, receive_next, exit_next, exited_next, stmt_next, stmts_next, line_next, declarations_next, members_next, item_leave_next, master_leave_next, leave_next, frame_next, landed, pass_next, running_next, jump_next, mode_next}
+use Rattle.ada_meaning.specs.Step.{halts, moves, tells, asks, picks, at, older, owning, shorter, popped, held, newest, reading, component_next, follow_next, path_next, expression_next, null_test_next, is_decided, link_next, links_next, outcome_next, item_next, items_next, new_cell, answered, new_next, right_next, free_next, end_next, same_pool, told_back, record_cell, given_back, back_next, before_last, last_of, assign_next, target_next, stored_next, store_next, freeing, frees_next, freed_next, free_component_next, free_in_next, branches_next, decided_next, turn_next, repeats_next, turned_next, count_turn_next, ranges_next, gets_next, received_next, receive_next, exit_next, exited_next, stmt_next, stmts_next, line_next, declarations_next, members_next, item_leave_next, master_leave_next, leave_next, frame_next, landed, pass_next, running_next, jump_next, mode_next}
 use Rattle.ada_meaning.specs.Named.{Object, State, Next, next, named, look, lent, an_integer, parted, finished, filled, returned, on_object, reads_boolean, reads_null, reads_integer, unary_given, binary_given, members}
+use Rattle.ada_meaning.specs.Run.{Event}
 use Rattle.ada_meaning.specs.Law.{items_of}
-use Rattle.ada_scopes.proofs.Counts.{one, times, opened, scopes, all_of, older_shorter, scopes_older}
+use Rattle.ada_scopes.proofs.Counts.{one, times, opened, Scopes, scopes, all_of, older_shorter, scopes_older}
 use Rattle.ada_scopes.proofs.Texts.{StatementNests, StatementsNest, BranchesNest, HandlersNest}
 use Rattle.ada_scopes.proofs.Homes.{KeepsHome, IsEmpty, home_has, housed_on, housed_new, housed_shorter}
-use Rattle.ada_scopes.proofs.Control.{Alike, Where, FrameNests, behind, Nests, Goes, Whole, Parting, Growing, Begins, Nested, standing, beginning, parting, lone_shorter, whole_declared, nests_declared, whole_heap, parting_heap, whole_parts, grows, grown}
+use Rattle.ada_scopes.proofs.Control.{Alike, Where, HasOne, FrameNests, behind, Nests, Goes, Whole, Parting, Growing, Begins, Nested, standing, beginning, parting, lone_shorter, whole_declared, nests_declared, whole_recorded, nests_recorded, whole_heap, parting_heap, whole_parts, grows, grown}
 
 -- What comes next nests, whatever is answered.
 abbrev pub Good : List TypeForm → Next → Type 0
@@ -177,15 +179,19 @@ module _ (types : List TypeForm) where
   end_good v on_other s h = tt
   end_good v (finds cell) s h = standing (whole_on finished v s keeps_finished h.0) h.1
 
+  told_good : (pool : Option ℕ) (v : Value) (event : Event) (s : State) → Stands types s → Good types (told_back named pool v event (record s { heap = on_object returned s.heap v }))
+  told_good None v event s h = standing (whole_on returned v s keeps_returned h.0) h.1
+  told_good (Some pool) v event s h = standing (whole_on returned v s keeps_returned h.0) h.1
+
   given_good : (fits : Bool) (v : Value) (cause : Cause) (cell : Cell Value) (s : State) → Stands types s → Good types (if fits then given_back named v cause cell s else halts (Erroneous GivesElsewhere))
-  given_good true v cause cell s h = standing (whole_on returned v s keeps_returned h.0) h.1
+  given_good true v cause cell s h = told_good cell.home.pool v (Back v cell.access cell.number cell.home.pool cell.home.subpool cause) s h
   given_good false v cause cell s h = tt
 
-  back_good : (v : Value) (cause : Cause) (pool : ℕ) (found : Found (Cell Value)) (s : State) → Stands types s → Good types (back_next named v cause pool found s)
+  back_good : (v : Value) (cause : Cause) (pool : Option ℕ) (found : Found (Cell Value)) (s : State) → Stands types s → Good types (back_next named v cause pool found s)
   back_good v cause pool on_null s h = tt
   back_good v cause pool on_gone s h = tt
   back_good v cause pool on_other s h = tt
-  back_good v cause pool (finds cell) s h = given_good (pool == cell.home.pool) v cause cell s h
+  back_good v cause pool (finds cell) s h = given_good (same_pool pool cell.home.pool) v cause cell s h
 
   -- Statements: what they hold was written where these collections are open.
   abbrev StatementsHere : State → StmtsForm → Type 0
@@ -314,14 +320,19 @@ module _ (types : List TypeForm) where
   line_good (Some i) s h = standing h.0 h.1
 
   -- Declarations of a part whose collections have all been created.
-  elaborated_good : (ds : List DeclarationForm) (fs : StmtsForm) (hs : HandlersForm) (s : State) → Whole types s.masters s.heap → FrameNests types (all_of (scopes s.masters)) (frame.Elaborates ds fs hs) → Nests types (older (scopes s.masters)) s.control → Good types (declarations_next named ds fs hs s)
-  elaborated_good [] fs hs s w nest n = standing w ((nest.1.0, nest.1.1, nest.1.2.0), ((nest.1.0, nest.1.1, nest.1.2.1), (tt, n)))
-  elaborated_good (collects access ∷ ds) fs hs s w nest n = absurd (cc (nest.0))
-  elaborated_good (declares x right ∷ ds) fs hs s w nest n = standing w (tt, (tt, ((nest.0, nest.1), n)))
+  elaborated_good : (definitions : List TypeDefinition) (ds : List DeclarationForm) (fs : StmtsForm) (hs : HandlersForm) (s : State) → Whole types s.masters s.heap → FrameNests types (scopes s.masters) (frame.Elaborates ds fs hs) → Nests types (older (scopes s.masters)) s.control → Good types (declarations_next named definitions ds fs hs s)
+  elaborated_good definitions [] fs hs s w nest n = standing w ((nest.1.0, nest.1.1, nest.1.2.0), ((nest.1.0, nest.1.1, nest.1.2.1), (tt, n)))
+  elaborated_good definitions (collects access ∷ ds) fs hs s w nest n = absurd (cc (nest.0))
+  elaborated_good definitions (declares x right ∷ ds) fs hs s w nest n = standing w (tt, (tt, ((nest.0, nest.1, nest.2), n)))
+  elaborated_good definitions (declares_record x t ∷ ds) fs hs s w nest n =
+      let open_there = nest.1.2.2 in
+      standing
+      (whole_recorded types (height s.masters) t s.masters s.heap (record_cell named definitions t (height s.masters)) nest.1.0 nest.2 refl refl nest.1.1 open_there.0 open_there.1 w)
+      (nests_recorded types (height s.masters) t s.masters (frame.Elaborates ds fs hs ∷ s.control) ((nest.0, (nest.1.0, nest.1.1, (nest.1.2.0, nest.1.2.1, open_there.2)), nest.2), n))
 
   -- Each frame that is taken off.
-  frame_good : (definitions : List TypeDefinition) (f : Frame Value) (s : State) → s.mode ≡ Running → Whole types s.masters s.heap → FrameNests types (all_of (scopes s.masters)) f → Nests types (behind (is_master f) (scopes s.masters)) s.control → Good types (frame_next named definitions f s)
-  frame_good definitions (frame.Elaborates ds fs hs) s runs w nest n = elaborated_good ds fs hs s w nest n
+  frame_good : (definitions : List TypeDefinition) (f : Frame Value) (s : State) → s.mode ≡ Running → Whole types s.masters s.heap → FrameNests types (scopes s.masters) f → Nests types (behind (is_master f) (scopes s.masters)) s.control → Good types (frame_next named definitions f s)
+  frame_good definitions (frame.Elaborates ds fs hs) s runs w nest n = elaborated_good definitions ds fs hs s w nest n
   frame_good definitions (frame.Does fs) s runs w nest n = stmts_good fs s runs nest (w, n)
   frame_good definitions (frame.Decides fs branches) s runs w nest n = decided_good fs branches (reads_boolean (newest named s)) (popped s) nest (w, n)
   frame_good definitions (frame.Repeats condition fs) s runs w nest n = repeats_good condition fs s nest (w, n)
@@ -373,19 +384,19 @@ module _ (types : List TypeForm) where
   handlers_land us around e (a_handler choices fs hs) alike nest =
       handler_here us around (some_takes e choices) fs (handler_of e hs) alike nest.0 (handlers_land us around e hs alike nest.1)
 
-  raised_lands : (us : List ℕ) (e : Exception) (f : Frame Value) → FrameNests types us f → LandsHere us (landing (Raising e) f)
-  raised_lands us e (frame.Handles hs) nest = handlers_land us nest.0 e hs nest.1 nest.2
-  raised_lands us e f nest = tt
+  raised_lands : (ss : Scopes) (e : Exception) (f : Frame Value) → FrameNests types ss f → LandsHere (all_of ss) (landing (Raising e) f)
+  raised_lands ss e (frame.Handles hs) nest = handlers_land (all_of ss) nest.0 e hs nest.1 nest.2
+  raised_lands ss e f nest = tt
 
   exit_lands : (us : List ℕ) (loop : Bool) → LandsHere us (if loop then goes_behind else passes_on)
   exit_lands us true = tt
   exit_lands us false = tt
 
-  lands : (us : List ℕ) (mode : Mode) (f : Frame Value) → FrameNests types us f → LandsHere us (landing mode f)
-  lands us Running f nest = tt
-  lands us (Raising e) f nest = raised_lands us e f nest
-  lands us Exiting f nest = exit_lands us (is_loop f)
-  lands us Returning f nest = tt
+  lands : (ss : Scopes) (mode : Mode) (f : Frame Value) → FrameNests types ss f → LandsHere (all_of ss) (landing mode f)
+  lands ss Running f nest = tt
+  lands ss (Raising e) f nest = raised_lands ss e f nest
+  lands ss Exiting f nest = exit_lands (all_of ss) (is_loop f)
+  lands ss Returning f nest = tt
 
   landed_good : (l : Landing) (s : State) → LandsHere (all_of (scopes s.masters)) l → Stands types s → Good types (landed named l s)
   landed_good passes_on s lands h = standing h.0 h.1
@@ -399,7 +410,7 @@ module _ (types : List TypeForm) where
 
   jump_good : (mode : Mode) (k : List (Frame Value)) (s : State) → Whole types s.masters s.heap → Nests types (scopes s.masters) k → Good types (jump_next named mode k s)
   jump_good mode [] s w n = tt
-  jump_good mode (f ∷ k) s w n = pass_good (is_master f) (landing mode f) mode (at k s) (lands (all_of (scopes s.masters)) mode f n.0) w n.1
+  jump_good mode (f ∷ k) s w n = pass_good (is_master f) (landing mode f) mode (at k s) (lands (scopes s.masters) mode f n.0) w n.1
 
   standing_good : (definitions : List TypeDefinition) (mode : Mode) (s : State) → s.mode ≡ mode → Stands types s → Good types (mode_next named definitions mode s)
   standing_good definitions Running s is h = stands_good definitions s.control s is h.0 h.1
@@ -413,6 +424,8 @@ module _ (types : List TypeForm) where
     lone = lone_shorter (record { number = m; items = item ∷ items } ∷ ms) p.lone;
     needs = p.needs;
     housed = housed_shorter heap m item items ms empty p.housed;
+    fit = p.fit.1;
+    records = p.records;
   }
 
   shorter_good : (mode : Mode) (m : ℕ) (item : Item) (items : List Item) (ms : List Master) (s : State) → s.masters ≡ record { number = m; items = item ∷ items } ∷ ms → IsEmpty s.heap item item.owned → Parting types s.masters s.heap → s.mode ≡ Running → Nests types (older (scopes s.masters)) s.control → Nested types (record (at (frame.Leaves mode ∷ s.control) s) { masters = shorter s.masters })
@@ -420,20 +433,21 @@ module _ (types : List TypeForm) where
       parting (subst (λ (xs : List Master). Parting types (shorter xs) s.heap) (sym is) (parting_shorter m item items ms s.heap empty (subst (λ (xs : List Master). Parting types xs s.heap) is p))) runs
       (rw (older_shorter s.masters) n)
 
-  members_good : (mode : Mode) (m access : ℕ) (item : Item) (items : List Item) (ms : List Master) (vs : List Value) (s : State) → item.owned ≡ collection access → members s.heap item.number ≡ vs → s.masters ≡ record { number = m; items = item ∷ items } ∷ ms → Parting types s.masters s.heap → s.mode ≡ Running → Nests types (older (scopes s.masters)) s.control → Good types (members_next named (Leaving m item.number) access vs (at (frame.Leaves mode ∷ s.control) s))
-  members_good mode m access item items ms [] s own none is p runs n =
-      shorter_good mode m item items ms s is (subst (λ (o : Owned). IsEmpty s.heap item o) (sym own) none) p runs n
-  members_good mode m access item items ms (v ∷ vs) s own some is p runs n =
+  members_good : (mode : Mode) (m : ℕ) (pool : Option ℕ) (item : Item) (items : List Item) (ms : List Master) (vs : List Value) (s : State) → (members s.heap item.number ≡ [] → IsEmpty s.heap item item.owned) → members s.heap item.number ≡ vs → s.masters ≡ record { number = m; items = item ∷ items } ∷ ms → Parting types s.masters s.heap → s.mode ≡ Running → Nests types (older (scopes s.masters)) s.control → Good types (members_next named (Leaving m item.number) pool vs (at (frame.Leaves mode ∷ s.control) s))
+  members_good mode m pool item items ms [] s own none is p runs n = shorter_good mode m item items ms s is (own none) p runs n
+  members_good mode m pool item items ms (v ∷ vs) s own some is p runs n =
       λ i lt. parting (parting_on parted (slice_index_or (v ∷ vs) i Null) s keeps_parted p) runs n
 
   item_leave_good : (mode : Mode) (m : ℕ) (item : Item) (items : List Item) (ms : List Master) (owned : Owned) (s : State) → item.owned ≡ owned → s.masters ≡ record { number = m; items = item ∷ items } ∷ ms → Parting types s.masters s.heap → s.mode ≡ Running → Nests types (older (scopes s.masters)) s.control → Good types (item_leave_next named m item owned (at (frame.Leaves mode ∷ s.control) s))
   item_leave_good mode m item items ms (declared x) s own is p runs n =
       shorter_good mode m item items ms s is (subst (λ (o : Owned). IsEmpty s.heap item o) (sym own) tt) p runs n
   item_leave_good mode m item items ms (collection access) s own is p runs n =
-      members_good mode m access item items ms (members s.heap item.number) s own refl is p runs n
+      members_good mode m (Some (pool_of access)) item items ms (members s.heap item.number) s (λ none. subst (λ (o : Owned). IsEmpty s.heap item o) (sym own) none) refl is p runs n
+  item_leave_good mode m item items ms (record_object t) s own is p runs n =
+      members_good mode m None item items ms (members s.heap item.number) s (λ none. subst (λ (o : Owned). IsEmpty s.heap item o) (sym own) none) refl is p runs n
 
   whole_left : (m : ℕ) (ms : List Master) (heap : List Object) → Parting types (record { number = m; items = [] } ∷ ms) heap → Whole types ms heap
-  whole_left m ms heap p = record { lone = p.lone; needs = p.needs; housed = p.housed }
+  whole_left m ms heap p = record { lone = p.lone; needs = p.needs; housed = p.housed; fit = p.fit; records = p.records }
 
   master_leave_good : (mode : Mode) (m : ℕ) (items : List Item) (ms : List Master) (s : State) → s.masters ≡ record { number = m; items = items } ∷ ms → Parting types s.masters s.heap → s.mode ≡ Running → Nests types (older (scopes s.masters)) s.control → Good types (master_leave_next named mode m items s)
   master_leave_good mode m [] ms s is p runs n =
@@ -452,15 +466,19 @@ module _ (types : List TypeForm) where
   ending_good v on_other s h = tt
   ending_good v (finds cell) s h = parting (parting_on finished v s keeps_finished h.0) h.1 h.2
 
+  telling_good : (pool : Option ℕ) (v : Value) (event : Event) (s : State) → Parts types s → Good types (told_back named pool v event (record s { heap = on_object returned s.heap v }))
+  telling_good None v event s h = parting (parting_on returned v s keeps_returned h.0) h.1 h.2
+  telling_good (Some pool) v event s h = parting (parting_on returned v s keeps_returned h.0) h.1 h.2
+
   giving_good : (fits : Bool) (v : Value) (cause : Cause) (cell : Cell Value) (s : State) → Parts types s → Good types (if fits then given_back named v cause cell s else halts (Erroneous GivesElsewhere))
-  giving_good true v cause cell s h = parting (parting_on returned v s keeps_returned h.0) h.1 h.2
+  giving_good true v cause cell s h = telling_good cell.home.pool v (Back v cell.access cell.number cell.home.pool cell.home.subpool cause) s h
   giving_good false v cause cell s h = tt
 
-  backing_good : (v : Value) (cause : Cause) (pool : ℕ) (found : Found (Cell Value)) (s : State) → Parts types s → Good types (back_next named v cause pool found s)
+  backing_good : (v : Value) (cause : Cause) (pool : Option ℕ) (found : Found (Cell Value)) (s : State) → Parts types s → Good types (back_next named v cause pool found s)
   backing_good v cause pool on_null s h = tt
   backing_good v cause pool on_gone s h = tt
   backing_good v cause pool on_other s h = tt
-  backing_good v cause pool (finds cell) s h = giving_good (pool == cell.home.pool) v cause cell s h
+  backing_good v cause pool (finds cell) s h = giving_good (same_pool pool cell.home.pool) v cause cell s h
 
   parts_good : (definitions : List TypeDefinition) (k : List (Frame Value)) (s : State) → s.mode ≡ Running → Parting types s.masters s.heap → Goes types (scopes s.masters) k → Good types (running_next named definitions k s)
   parts_good definitions [] s runs p goes = absurd goes
@@ -474,12 +492,13 @@ module _ (types : List TypeForm) where
   all_objects [] is = refl
   all_objects (collects access ∷ ds) is = absurd (cc)
   all_objects (declares x right ∷ ds) is = all_objects ds is
+  all_objects (declares_record x t ∷ ds) is = all_objects ds is
 
-  created_good : (ds : List DeclarationForm) (fs : StmtsForm) (hs : HandlersForm) (m : Master) (rest : List Master) (there : List ℕ) (s : State) → s.masters ≡ m ∷ rest → list_all is_object ds ≡ true → Growing types m rest s.heap ds there → StatementsNest types there fs → HandlersNest types there hs → Nests types (scopes rest) s.control → Good types (declarations_next named ds fs hs s)
-  created_good ds fs hs m rest there s is objects g nest handled n =
+  created_good : (definitions : List TypeDefinition) (ds : List DeclarationForm) (fs : StmtsForm) (hs : HandlersForm) (m : Master) (rest : List Master) (there : List ℕ) (s : State) → s.masters ≡ m ∷ rest → list_all is_object ds ≡ true → Growing types m rest s.heap ds there → StatementsNest types there fs → HandlersNest types there hs → Nests types (scopes rest) s.control → Good types (declarations_next named definitions ds fs hs s)
+  created_good definitions ds fs hs m rest there s is objects g nest handled n =
       let whole = grown types m rest s.heap ds there (all_objects ds objects) g in
-      elaborated_good ds fs hs s (subst (λ (ms : List Master). Whole types ms s.heap) (sym is) whole.0)
-      (objects, (there, subst (λ (ms : List Master). Alike there (all_of (scopes ms))) (sym is) whole.1, (nest, handled)))
+      elaborated_good definitions ds fs hs s (subst (λ (ms : List Master). Whole types ms s.heap) (sym is) whole.0)
+      (objects, (there, subst (λ (ms : List Master). Alike there (all_of (scopes ms))) (sym is) whole.1, (nest, handled, g.coming)), subst (λ (ms : List Master). HasOne (scopes ms)) (sym is) tt)
       (subst (λ (ms : List Master). Nests types (older (scopes ms)) s.control) (sym is) n)
 
   new_need : (m : Master) (rest : List Master) (heap : List Object) (access : ℕ) (ds : List DeclarationForm) (there : List ℕ) → Growing types m rest heap (collects access ∷ ds) there → (t : ℕ) (b : Bool) → (access == t) ≡ b → 1 ≤ one b + times t (opened m.items) → are_open there (reached_components types t) ≡ true
@@ -495,12 +514,22 @@ module _ (types : List TypeForm) where
     here = λ t le. new_need m rest heap access ds there g t (access == t) refl le;
     outer = g.outer;
     housed = g.housed;
+    accesses = λ t le. g.accesses t (omega (arith, le));
+    fit = (of_access, g.fit);
+    own = (tt, g.own);
+    records = g.records;
+    coming = g.coming;
   }
+    where
+      of_access : is_access types access ≡ true
+      of_access = let once : one (access == access) ≡ 1 = ap one (eq-eqb access access refl) in g.accesses access (omega (arith, once))
 
-  begins_good : (ds : List DeclarationForm) (fs : StmtsForm) (hs : HandlersForm) (m : Master) (rest : List Master) (there : List ℕ) (s : State) → s.masters ≡ m ∷ rest → s.mode ≡ Running → Growing types m rest s.heap ds there → StatementsNest types there fs → HandlersNest types there hs → Nests types (scopes rest) s.control → Good types (declarations_next named ds fs hs s)
-  begins_good [] fs hs m rest there s is runs g nest handled n = created_good [] fs hs m rest there s is refl g nest handled n
-  begins_good (declares x right ∷ ds) fs hs m rest there s is runs g nest handled n = created_good (declares x right ∷ ds) fs hs m rest there s is g.first g nest handled n
-  begins_good (collects access ∷ ds) fs hs m rest there s is runs g nest handled n = beginning (record {
+  begins_good : (definitions : List TypeDefinition) (ds : List DeclarationForm) (fs : StmtsForm) (hs : HandlersForm) (m : Master) (rest : List Master) (there : List ℕ) (s : State) → s.masters ≡ m ∷ rest → s.mode ≡ Running → Growing types m rest s.heap ds there → StatementsNest types there fs → HandlersNest types there hs → Nests types (scopes rest) s.control → Good types (declarations_next named definitions ds fs hs s)
+  begins_good definitions [] fs hs m rest there s is runs g nest handled n = created_good definitions [] fs hs m rest there s is refl g nest handled n
+  begins_good definitions (declares x right ∷ ds) fs hs m rest there s is runs g nest handled n = created_good definitions (declares x right ∷ ds) fs hs m rest there s is g.first g nest handled n
+  begins_good definitions (declares_record x t ∷ ds) fs hs m rest there s is runs g nest handled n =
+      created_good definitions (declares_record x t ∷ ds) fs hs m rest there s is g.first g nest handled n
+  begins_good definitions (collects access ∷ ds) fs hs m rest there s is runs g nest handled n = beginning (record {
     m = record m { items = record { number = height s.masters; owned = collection access } ∷ m.items };
     rest = rest;
     ds = ds;
@@ -518,7 +547,7 @@ module _ (types : List TypeForm) where
   })
 
   beginning_good : (definitions : List TypeDefinition) (s : State) (b : Begins types s) → Good types (running_next named definitions (frame.Elaborates b.ds b.fs b.hs ∷ b.k) s)
-  beginning_good definitions s b = begins_good b.ds b.fs b.hs b.m b.rest b.there (at b.k s) b.masters b.runs b.growing b.statements b.handlers b.nests
+  beginning_good definitions s b = begins_good definitions b.ds b.fs b.hs b.m b.rest b.there (at b.k s) b.masters b.runs b.growing b.statements b.handlers b.nests
 
   -- A state that nests.
   pub next_good : (definitions : List TypeDefinition) (s : State) → Nested types s → Good types (next definitions s)

@@ -6,19 +6,29 @@ use Rattle.std.proofs.lemmas.Bool.{eqb-true}
 use Rattle.std.proofs.lemmas.List.Sums.{sum_by-cons}
 use Rattle.std.specs.List.{slice_get, list_all}
 use Rattle.ada_program.specs.declared.program.ScalarType.TheVariants.{Integer, Boolean}
-use Rattle.ada_program.specs.Form.{DeclarationForm, collects, declares, StmtForm, skips, assigns, frees, gets, writes, writes_text, chooses, repeats, counts, exits, returns, raises, encloses, StmtsForm, no_stmts, a_stmt, BranchesForm, otherwise, a_branch, HandlersForm, no_handlers, a_handler}
-use Rattle.ada_program.specs.ProgramForm.{TypeForm, record_of, access_to, VariableForm, ProgramForm}
-use Rattle.ada_program.specs.WellFormed.{IsWellFormed, Creation, of_collection, of_variable, creation, created_by, created_by_all, created_by_branches, created_by_handlers, creations, is_access, designated_in, collections_first, collection_fits, is_collection, has_collections, has_type, initial_fits, declarations_fit, is_type, scalar_of, variable_kind, condition_fits, has_statement, choice_fits, statement_fits, stmts_fit, branches_fit, handlers_fit, reached_components}
-use Rattle.ada_program.specs.Nested.{collected, is_one_of, are_open, collection_nests, part_nests, statement_nests, statements_nest, branches_nest, handlers_nest, CollectionsNest}
+use Rattle.ada_program.specs.Form.{DeclarationForm, collects, declares, declares_record, StmtForm, skips, assigns, frees, gets, writes, writes_text, chooses, repeats, counts, exits, returns, raises, encloses, StmtsForm, no_stmts, a_stmt, BranchesForm, otherwise, a_branch, HandlersForm, no_handlers, a_handler}
+use Rattle.ada_program.specs.ProgramForm.{TypeForm, record_of, access_to, object_of, VariableForm, ProgramForm}
+use Rattle.ada_program.specs.WellFormed.{IsWellFormed, Creation, of_collection, of_variable, creation, created_by, created_by_all, created_by_branches, created_by_handlers, creations, is_access, designated_in, collections_first, collection_fits, is_collection, has_collections, has_type, variable_fits, initial_fits, declarations_fit, is_type, scalar_of, variable_kind, condition_fits, has_statement, choice_fits, statement_fits, stmts_fit, branches_fit, handlers_fit, reached_components}
+use Rattle.ada_program.specs.Nested.{collected, record_objects, is_one_of, are_open, collection_nests, record_nests, part_nests, statement_nests, statements_nest, branches_nest, handlers_nest, CollectionsNest}
+use Rattle.ada_typed.proofs.Objects.{record_no_access}
 use Rattle.ada_scopes.proofs.Counts.{and_left, and_right, one, times, times_of, times_none, all_times}
 
+-- What the components of the record objects name that declarations create lies in collections that are open; and their types are no access types.
+abbrev pub RecordsNest : List TypeForm → (there : List ℕ) → List DeclarationForm → Type 0
+RecordsNest types there [] = Unit {0}
+RecordsNest types there (collects access ∷ ds) = RecordsNest types there ds
+RecordsNest types there (declares x right ∷ ds) = RecordsNest types there ds
+RecordsNest types there (declares_record x t ∷ ds) = (is_access types t ≡ false) × (are_open there (reached_components types t) ≡ true) × RecordsNest types there ds
+
 -- A part where these are open around it: its collections come before its first variable, each once, none of them is open around it, and those
--- that its objects' components need are open with them.
+-- that its objects' components need are open with them. They are collections of access types, and what its record objects need is open, too.
 pub record PartNests (types : List TypeForm) (around : List ℕ) (ds : List DeclarationForm) : Type 0 where
   pub first : collections_first ds ≡ true
   pub once : (t : ℕ) → times t (collected ds) ≤ 1
   pub away : (t : ℕ) → 1 ≤ times t (collected ds) → times t around ≡ 0
   pub needs : (t : ℕ) → 1 ≤ times t (collected ds) → are_open (collected ds ++ around) (reached_components types t) ≡ true
+  pub accesses : (t : ℕ) → 1 ≤ times t (collected ds) → is_access types t ≡ true
+  pub records : RecordsNest types (collected ds ++ around) ds
 
 abbrev mutual
   pub StatementNests : List TypeForm → List ℕ → StmtForm → Type 0
@@ -82,6 +92,7 @@ times_makes : (t : ℕ) (ds : List DeclarationForm) → makes t (map creation ds
 times_makes t [] = refl
 times_makes t (collects access ∷ ds) = let h = times_makes t ds in omega (arith, h)
 times_makes t (declares x right ∷ ds) = let h = times_makes t ds in omega (arith, h)
+times_makes t (declares_record x u ∷ ds) = let h = times_makes t ds in omega (arith, h)
 
 -- No access type's collection is created twice.
 abbrev pub Once : List TypeForm → List Creation → Type 0
@@ -97,11 +108,15 @@ once_right types bs cs once t is = let h = once t is in let all = makes_append t
 this_one : (cs : List Creation) (k i : ℕ) (types : List TypeForm) → has_collections cs k types ≡ true → is_some (designated_in (slice_get types i)) ≡ true → count_by (is_collection (k + i)) cs ≡ 1
 this_one cs k i [] has is = absurd (cc)
 this_one cs k zero (record_of name parts components ∷ types) has is = absurd (cc)
+this_one cs k zero (object_of record_type ∷ types) has is = absurd (cc)
 this_one cs k zero (access_to name designated ∷ types) has is =
     let at_k : count_by (is_collection k) cs ≡ 1 = eqb-true (count_by (is_collection k) cs) 1 (and_left (count_by (is_collection k) cs == 1) (has_collections cs (k + 1) types) has) in
     let same : k + 0 ≡ k = omega arith in
     ap (λ n. count_by (is_collection n) cs) same ∙ at_k
 this_one cs k (suc i) (record_of name parts components ∷ types) has is =
+    let same : k + suc i ≡ (k + 1) + i = omega arith in
+    ap (λ n. count_by (is_collection n) cs) same ∙ this_one cs (k + 1) i types has is
+this_one cs k (suc i) (object_of record_type ∷ types) has is =
     let same : k + suc i ≡ (k + 1) + i = omega arith in
     ap (λ n. count_by (is_collection n) cs) same ∙ this_one cs (k + 1) i types has is
 this_one cs k (suc i) (access_to name designated ∷ types) has is =
@@ -124,6 +139,7 @@ access_by types access t n false same is later le = later (omega (arith, le))
 collected_access : (types : List TypeForm) (ds : List DeclarationForm) (t : ℕ) → list_all (collection_fits types) ds ≡ true → 1 ≤ times t (collected ds) → is_access types t ≡ true
 collected_access types [] t fits le = absurd (omega (arith, le))
 collected_access types (declares x right ∷ ds) t fits le = collected_access types ds t fits le
+collected_access types (declares_record x u ∷ ds) t fits le = collected_access types ds t fits le
 collected_access types (collects access ∷ ds) t fits le =
     access_by types access t (times t (collected ds)) (access == t) refl (and_left (is_access types access) (list_all (collection_fits types) ds) fits)
     (collected_access types ds t (and_right (is_access types access) (list_all (collection_fits types) ds) fits)) le
@@ -140,16 +156,37 @@ once_by types ds t true is fits once =
     omega (arith, made, same)
 once_by types ds t false is fits once = let none = times_none (collected ds) t is in omega (arith, none)
 
-part_holds : (types : List TypeForm) (around : List ℕ) (ds : List DeclarationForm) → collections_first ds ≡ true → list_all (collection_fits types) ds ≡ true → Once types (map creation ds) → part_nests types around ds ≡ true → PartNests types around ds
-part_holds types around ds first fits once nests = record {
+records_hold : (types : List TypeForm) (variables : List VariableForm) (there : List ℕ) (ds : List DeclarationForm) → list_all (variable_fits types) variables ≡ true → list_all (initial_fits types variables) ds ≡ true → list_all (record_nests types there) (record_objects ds) ≡ true → RecordsNest types there ds
+records_hold types variables there [] right initials nest = tt
+records_hold types variables there (collects access ∷ ds) right initials nest =
+    records_hold types variables there ds right (and_right (initial_fits types variables (collects access)) (list_all (initial_fits types variables) ds) initials) nest
+records_hold types variables there (declares x value ∷ ds) right initials nest =
+    records_hold types variables there ds right (and_right (initial_fits types variables (declares x value)) (list_all (initial_fits types variables) ds) initials) nest
+records_hold types variables there (declares_record x t ∷ ds) right initials nest =
+    let own = initial_fits types variables (declares_record x t) in
+    let others = list_all (initial_fits types variables) ds in
+    let later = list_all (record_nests types there) (record_objects ds) in (
+      record_no_access types variables x t right (and_left own others initials),
+      and_left (record_nests types there t) later nest,
+      records_hold types variables there ds right (and_right own others initials) (and_right (record_nests types there t) later nest),
+    )
+
+part_holds : (types : List TypeForm) (variables : List VariableForm) (around : List ℕ) (ds : List DeclarationForm) → list_all (variable_fits types) variables ≡ true → collections_first ds ≡ true → list_all (collection_fits types) ds ≡ true → list_all (initial_fits types variables) ds ≡ true → Once types (map creation ds) → part_nests types around ds ≡ true → PartNests types around ds
+part_holds types variables around ds right first fits initials once both_nest = record {
   first = first;
   once = λ t. once_by types ds t (is_one_of (collected ds) t) refl fits once;
   away = λ t le. times_none around t (not_true (is_one_of around t) (and_left (not (is_one_of around t)) (are_open (collected ds ++ around) (reached_components types t)) (all_times (collection_nests types around (collected ds ++ around)) (collected ds) nests t le)));
   needs = λ t le. and_right (not (is_one_of around t)) (are_open (collected ds ++ around) (reached_components types t)) (all_times (collection_nests types around (collected ds ++ around)) (collected ds) nests t le);
+  accesses = λ t le. collected_access types ds t fits le;
+  records = records_hold types variables (collected ds ++ around) ds right initials
+      (and_right (list_all (collection_nests types around (collected ds ++ around)) (collected ds)) (list_all (record_nests types (collected ds ++ around)) (record_objects ds)) both_nest);
 }
+  where
+    nests : list_all (collection_nests types around (collected ds ++ around)) (collected ds) ≡ true
+    nests = and_left (list_all (collection_nests types around (collected ds ++ around)) (collected ds)) (list_all (record_nests types (collected ds ++ around)) (record_objects ds)) both_nest
 
 -- So it is of statements.
-module _ (types : List TypeForm) (variables : List VariableForm) (texts exceptions : List (List ℕ)) where
+module _ (types : List TypeForm) (variables : List VariableForm) (texts exceptions : List (List ℕ)) (right : list_all (variable_fits types) variables ≡ true) where
   mutual
     statement_holds : (f : StmtForm) (inside : Bool) (around : List ℕ) → statement_fits types variables texts exceptions inside f ≡ true → Once types (created_by f) → statement_nests types around f ≡ true → StatementNests types around f
     statement_holds skips inside around fits once nests = tt
@@ -180,7 +217,8 @@ module _ (types : List TypeForm) (variables : List VariableForm) (texts exceptio
         let own_fits = and_left part_fits inner_fits fit_two in
         let leading = and_left (collections_first ds && list_all (collection_fits types) ds) (list_all (initial_fits types variables) ds) own_fits in
         let before = once_left types (map creation ds ++ created_by_all fs) (created_by_handlers hs) once in (
-          part_holds types around ds (and_left (collections_first ds) (list_all (collection_fits types) ds) leading) (and_right (collections_first ds) (list_all (collection_fits types) ds) leading)
+          part_holds types variables around ds right (and_left (collections_first ds) (list_all (collection_fits types) ds) leading) (and_right (collections_first ds) (list_all (collection_fits types) ds) leading)
+              (and_right (collections_first ds && list_all (collection_fits types) ds) (list_all (initial_fits types variables) ds) own_fits)
               (once_left types (map creation ds) (created_by_all fs) before) (and_left part inner first_two),
           statements_hold fs inside (collected ds ++ around) (and_right part_fits inner_fits fit_two) (once_right types (map creation ds) (created_by_all fs) before) (and_right part inner first_two),
           handlers_hold hs inside (collected ds ++ around) (and_right (part_fits && inner_fits) handled_fits fits) (once_right types (map creation ds ++ created_by_all fs) (created_by_handlers hs) once) (and_right (part && inner) handled nests),
@@ -230,10 +268,10 @@ program_nests p well nest =
     let once = all_once p well in
     let before = once_left p.types (map creation p.declarations ++ created_by_all p.statements) (created_by_handlers p.handlers) once in
     record {
-      part = part_holds p.types [] p.declarations well.collections_first well.collections_fit
+      part = part_holds p.types p.variables [] p.declarations well.variables_fit well.collections_first well.collections_fit well.initials_fit
           (once_left p.types (map creation p.declarations) (created_by_all p.statements) before) nest.declarations;
-      statements = statements_hold p.types p.variables p.texts p.exceptions p.statements false (collected p.declarations) well.statements_fit
+      statements = statements_hold p.types p.variables p.texts p.exceptions well.variables_fit p.statements false (collected p.declarations) well.statements_fit
           (once_right p.types (map creation p.declarations) (created_by_all p.statements) before) nest.statements;
-      handlers = handlers_hold p.types p.variables p.texts p.exceptions p.handlers false (collected p.declarations) well.handlers_fit
+      handlers = handlers_hold p.types p.variables p.texts p.exceptions well.variables_fit p.handlers false (collected p.declarations) well.handlers_fit
           (once_right p.types (map creation p.declarations ++ created_by_all p.statements) (created_by_handlers p.handlers) once) nest.handlers;
     }

@@ -13,7 +13,7 @@ use Rattle.ada_meaning.specs.declared.state.Value.{Value}
 use Rattle.ada_meaning.specs.declared.state.Value.TheVariants.{Names}
 use Rattle.ada_meaning.specs.Frame.{Frame, is_master}
 use Rattle.ada_meaning.specs.Frame as frame
-use Rattle.ada_meaning.specs.State.{Owned, declared, collection, Item, Master}
+use Rattle.ada_meaning.specs.State.{Owned, declared, collection, record_object, type_housed, Item, Master}
 use Rattle.ada_meaning.specs.Named.{Object, State, object_at}
 use Rattle.ada_meaning.specs.Run.{Event, Run, first_state}
 use Rattle.ada_meaning.specs.Law.{Differ, items_of}
@@ -32,6 +32,7 @@ WhereCollectionsNest P =
 abbrev pub type_collected : Owned → Option ℕ
 type_collected (declared x) = None
 type_collected (collection access) = Some access
+type_collected (record_object t) = None
 
 -- Two items are not collections of one access type.
 abbrev pub CollectTwoTypes : Item → Item → Type 0
@@ -75,10 +76,10 @@ IsGoing s n = (is_leaving s.control ≡ true) × (is_innermost s.masters n ≡ t
 abbrev pub IsListed : List Object → Id → Object → Type 0
 IsListed heap o object = (object_at heap o ≡ Some object) × (object.listed ≡ true)
 
--- The home of an object is an item of a master that is entered: the collection of its own access type.
+-- The home of an object is an item of a master that is entered: the collection of its own access type, or the record object that it is.
 abbrev pub IsInCollection : List Master → Object → Type 0
 IsInCollection masters object =
-    (i : Item) × Contains (items_of masters) i × (i.number ≡ object.cell.home.item) × (i.owned ≡ collection object.cell.access)
+    (i : Item) × Contains (items_of masters) i × (i.number ≡ object.cell.home.item) × (type_housed i.owned ≡ Some object.cell.access)
 
 -- Each object that is in its collection has that one as its home.
 abbrev pub AreInCollections : State → Type 0

@@ -50,7 +50,7 @@ exists_there : {heap : List Object} {masters : List Master} (o : Id) (x : Object
 exists_there {heap} {masters} o x access stored found listed of_type =
     let sane = stored.sane o x found in
     let exists = sane.listed_exists listed in
-    (x, found, exists, of_type, items.contains_item x.cell.home.item x.cell.access (items_of masters) (sane.housed (exists_out o x found exists stored)))
+    (x, found, exists, of_type, items.contains_item x.cell.home.item x.cell.access x.cell.home.pool (items_of masters) (sane.housed (exists_out o x found exists stored)))
 
 exists_by : {heap : List Object} {masters : List Master} (access : Option ℕ) (o : Id) → Stored None heap masters → IsOf (access_at heap) access o → Exists heap masters access o
 exists_by None o stored of = absurd of
@@ -70,6 +70,7 @@ named_by : (cells : Cells) (kind : VariableKind) (k : Id) → HasKind cells kind
 named_by cells variable.Integer k has = absurd has
 named_by cells variable.Boolean k has = absurd has
 named_by cells (variable.Access access) k has = (access.0, refl, has)
+named_by cells (variable.Record t) k has = (t.0, refl, has)
 
 named_at : (cells : Cells) (cs : List ComponentKind) (vs : List Value) (c : ℕ) (k : Id) → HaveKinds cells cs vs → slice_get vs c ≡ Some (Names k) → (t : ℕ) × (access_of (component_kind (slice_get cs c)) ≡ Some t) × Designates cells t k
 named_at cells [] [] c k have is = absurd (cc is)
@@ -115,6 +116,7 @@ module _ (program : Program) (s : State) (holds : Holds) (types : typed.Typed (p
   no_scalar x (Some variable.Integer) is kept n v = kept (lost x (ap access_of is))
   no_scalar x (Some variable.Boolean) is kept n v = kept (lost x (ap access_of is))
   no_scalar x (Some (variable.Access access)) is kept n v = rw v at (typed_held (program_form program) s x (variable.Access access) types is)
+  no_scalar x (Some (variable.Record t)) is kept n v = rw v at (typed_held (program_form program) s x (variable.Record t) types is)
 
   -- What an owner or a borrower names exists.
   relied_exists : (access : Option ℕ) (h : Hold) (o : Id) → IsRelied h → Says (access_at heap) h access o → Exists s.heap s.masters access o

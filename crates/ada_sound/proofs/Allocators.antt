@@ -148,7 +148,7 @@ module _ (known : Known) (k : Control) (a : Activation Value) (rest : List (Acti
 
     stored : Stored None (create s.heap words cell) s.masters
     unfolding cell
-    stored = stored_new cell refl (home_has access item s.masters home) w.stored
+    stored = stored_new cell (home_has access item s.masters home) w.stored
 
     -- A variable owns it then, or a component does.
     owned_by : (x : ℕ) (k' : Control) → w.rest.target ≡ None → variable_access known.program.variables x ≡ Some access → RunsOn known k' w.rooms (slice_set lost x (hold.Own Whole)) → Working known (create s.heap words cell) (slice_set a.places x (created s.heap words)) s.masters (RunsOn known k')

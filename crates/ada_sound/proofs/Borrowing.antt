@@ -39,7 +39,7 @@ lends_no_owner variables (computes f) holds r suits e = cc e
 -- A variable that is a borrower and gets what suits it changes what it holds, and nothing else changes.
 lent_variable : (variables : List VariableForm) (cleared : Bool) (b : ℕ) (right : RightForm) (holds after : Holds) (raising : Option Holds) → is_borrower variables b ≡ true → lends_to variables true right ≡ true → gives variables cleared b right holds ≡ goes (Some after) raising → slice_set holds b (right_hold true right holds) ≡ after
 lent_variable variables cleared b right holds after raising is suits e =
-    let target : PathForm = record { root = b; selectors = []; spot = record { line = 1; column = 1 } } in
+    let target : PathForm = record { root = b; of_record = false; selectors = []; spot = record { line = 1; column = 1 } } in
     let all = assigns_as variables cleared [] target right holds (Some after) raising e in
     let same : assigned (is_borrower variables b) [] b right holds ≡ after = cc (all.ends) in
     rw (is, moves_none variables right suits) at same

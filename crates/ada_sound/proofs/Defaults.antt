@@ -90,6 +90,7 @@ there (Some components) e = (components, refl)
 pub default_for : (types : List TypeForm) (variables : List VariableForm) (kind : VariableKind) (access : ℕ) → kind_takes types variables kind (allocates_default access) ≡ true → DefaultFor types kind access
 default_for types variables variable.Integer access takes = absurd (cc takes)
 default_for types variables variable.Boolean access takes = absurd (cc takes)
+default_for types variables (variable.Record t) access takes = absurd (cc takes)
 default_for types variables (variable.Access t) access takes =
     let h = both (access == t.0) (is_some (reached_components types t.0)) takes in
     let same : access ≡ t.0 = eqb-true access t.0 h.0 in

@@ -2,7 +2,7 @@
 
 use Rattle.std.proofs.lemmas.Bool.{eq-eqb}
 use Rattle.std.proofs.Common.{◌≡◌, ◌≢◌, ℕ, zero, suc, Bool, true, false, List, [], ◌∷◌, ◌++◌, refl, sym, ap, ◌∙◌, inl, inr}
-use Rattle.std.specs.Prelude.{Some, None}
+use Rattle.std.specs.Prelude.{Option, Some, None}
 use Rattle.std.specs.List.{slice_set, slice_index_or}
 use Rattle.ada_flow.specs.Flow.{Holds, is_among}
 use Rattle.ada_meaning.specs.declared.state.Id.{Id}
@@ -16,14 +16,15 @@ use Rattle.ada_meaning.specs.declared.event.Cause.{Cause}
 use Rattle.ada_meaning.specs.declared.event.Cause.TheVariants.{Leaving, Freeing, Assigning, Undoing}
 use Rattle.ada_meaning.specs.Frame.{Leaves, Ends, GivesBack, Clears, ClearsIn}
 use Rattle.ada_meaning.specs.Event.{Back, Left, Quiet}
-use Rattle.ada_meaning.specs.State.{Owned, declared, collection, Item, Master, Activation}
-use Rattle.ada_meaning.specs.Step.{end_next, back_next, members_next, item_leave_next, master_leave_next, leave_next}
+use Rattle.ada_meaning.specs.State.{Owned, declared, collection, record_object, Item, Master, Activation}
+use Rattle.ada_meaning.specs.Step.{same_pool, told_back, end_next, back_next, members_next, item_leave_next, master_leave_next, leave_next}
 use Rattle.ada_meaning.specs.Named.{Object, State, object_at, look, lent, members, named, parted, finished, returned, filled, store}
+use Rattle.ada_meaning.specs.Run.{Event}
 use Rattle.ada_meaning.specs.Law.{leaving_by, LeavesHome, items_of}
 use Rattle.ada_owners.proofs.Changes.{store_is}
 use Rattle.ada_owners.proofs.Objects.{at_other}
 use Rattle.ada_sound.proofs.Objects.{set_here}
-use Rattle.ada_sound.proofs.Items.{newest_is}
+use Rattle.ada_sound.proofs.Items.{Houses, newest_is}
 use Rattle.ada_sound.proofs.Stored.{Stored, IsTaken, stored_part, stored_finish, stored_back, stored_shorter, stored_older, exists_out, none_is_left, taken_is}
 use Rattle.ada_sound.proofs.Fits.{Fit, none_spared, going, weaker_fit, part_fit, finish_fit, back_fit, going_set, going_shorter, going_left}
 use Rattle.ada_sound.proofs.Alters.{alters_set}
@@ -63,6 +64,23 @@ freed_works stored c = record { rooms = c.rooms; holds = c.holds; stored = store
 
 freed_parts : {known : Known} {heap : List Object} {places : List Value} {ms : List Master} {more : Rooms → Holds → Type 0} → Stored None heap ms → Freed known (going heap (innermost ms)) heap places ms more → Parting known heap places ms more
 freed_parts stored c = record { rooms = c.rooms; holds = c.holds; stored = stored; roomed = c.roomed; fit = c.fit; rest = c.rest }
+
+-- One pool is the same one.
+same_one : (p q : Option ℕ) → p ≡ q → same_pool p q ≡ true
+same_one None None e = refl
+same_one None (Some m) e = absurd (cc e)
+same_one (Some n) None e = absurd (cc e)
+same_one (Some n) (Some m) e = eq-eqb n m (cc e)
+
+-- What an item is the home of is of a type that it may own.
+among_by : (owned : Owned) (access : ℕ) (pool : Option ℕ) (types : List ℕ) → Houses owned access pool → OwnedAmong owned types → is_among types (Some access) ≡ true
+among_by (declared x) access pool types h among = absurd h
+among_by (collection t) access pool types h among = rw (h.0) at among
+among_by (record_object t) access pool types h among = rw (h.0) at among
+
+-- What is from its pool.
+abbrev HousesFrom : Owned → (pool : Option ℕ) → Type 0
+HousesFrom owned pool = (access : ℕ) (own : Option ℕ) → Houses owned access own → own ≡ pool
 
 module _ (known : Known) where
   -- What is behind an object under way stays so.
@@ -113,7 +131,7 @@ module _ (known : Known) where
 
   module _ (a : Activation Value) (rest : List (Activation Value)) (s : State) where
     -- An object ceases to exist.
-    end_object : (o : Id) (k : Control) (e : Ending known o k s.heap a.places s.masters) → ThenBack known o e.object.cell.home.item s.heap a.places s.masters k → Stepped known s.heap Quiet (record (running k a rest s) { heap = slice_set s.heap o.0 (finished e.object) })
+    end_object : (o : Id) (k : Control) (e : Ending known o k s.heap a.places s.masters) → ThenBack known o e.object.cell.home s.heap a.places s.masters k → Stepped known s.heap Quiet (record (running k a rest s) { heap = slice_set s.heap o.0 (finished e.object) })
     end_object o [] e b = absurd b
     end_object o (GivesBack (Names p) cause pool ∷ k) e b = record {
       ready = (
@@ -123,7 +141,7 @@ module _ (known : Known) where
           found = set_here s.heap o.0 e.object (finished e.object) e.found;
           gone = refl;
           out = exists_out o e.object e.found e.exists e.stored;
-          standard = b.1;
+          own = b.1;
           stored = stored_finish o e.object e.found e.stored;
           rest = behind_set o e.object (finished e.object) s.heap e.found e.parted refl (λ objects places at spared holds f. finish_fit o e.object at e.parted f) cause e.object.cell.home.item a.places s.masters k b.2;
         }),
@@ -168,7 +186,7 @@ module _ (known : Known) where
     leaves_home (Assigning number) o x k b = tt
     leaves_home (Undoing number) o x k b = tt
 
-    back_object : (o : Id) (cause : Cause) (pool : ℕ) (k : Control) (b : Backing known o cause pool k s.heap a.places s.masters) → Stepped known s.heap (Back (Names o) b.object.cell.access b.object.cell.number b.object.cell.home.pool b.object.cell.home.subpool cause) (record (running k a rest s) { heap = slice_set s.heap o.0 (returned b.object) })
+    back_object : (o : Id) (cause : Cause) (pool : Option ℕ) (k : Control) (b : Backing known o cause pool k s.heap a.places s.masters) → Stepped known s.heap (Back (Names o) b.object.cell.access b.object.cell.number b.object.cell.home.pool b.object.cell.home.subpool cause) (record (running k a rest s) { heap = slice_set s.heap o.0 (returned b.object) })
     back_object o cause pool k b =
         let off = gone_off b.object.listed (λ on. (b.stored.sane o b.object b.found).listed_exists on) b.gone in
         record {
@@ -193,9 +211,13 @@ module _ (known : Known) where
           };
         }
 
-    pub backs_fine : (v : Value) (cause : Cause) (pool : ℕ) (k : Control) → BackingBy known v cause pool k s.heap a.places s.masters → Fine known s.heap s.masters (back_next named v cause pool (lent s.heap v) (running k a rest s))
+    told_fine : (pool : Option ℕ) (v : Value) (event : Event) (after : State) → Stepped known s.heap event after → Fine known s.heap s.masters (told_back named pool v event after)
+    told_fine None v event after stepped = stepped
+    told_fine (Some pool) v event after stepped = stepped
+
+    pub backs_fine : (v : Value) (cause : Cause) (pool : Option ℕ) (k : Control) → BackingBy known v cause pool k s.heap a.places s.masters → Fine known s.heap s.masters (back_next named v cause pool (lent s.heap v) (running k a rest s))
     backs_fine Null cause pool k b = absurd b
-    backs_fine (Names o) cause pool k b = rw (b.found, b.out) (rw (eq-eqb pool b.object.cell.home.pool (b.standard ∙ sym (b.stored.sane o b.object b.found).standard)) (rw b.found (back_object o cause pool k b)))
+    backs_fine (Names o) cause pool k b = rw (b.found, b.out) (rw (same_one pool b.object.cell.home.pool b.own) (rw b.found (told_fine b.object.cell.home.pool (Names o) _ _ (back_object o cause pool k b))))
     backs_fine (Scalar n) cause pool k b = absurd b
 
   -- A master is left, newest item first.
@@ -208,21 +230,19 @@ module _ (known : Known) where
     Left_with items = Parting known s.heap a.places (record { number = number; items = items } ∷ ms) (RunsOn known (Leaves mode ∷ k))
 
     -- An object in the newest collection is of a type that may go with the master, and of those no variable owns one.
-    none_owned : (item : Item) (items : List Item) (access : ℕ) (rooms : Rooms) (holds : Holds) → item.owned ≡ collection access → Roomed (record { number = number; items = item ∷ items } ∷ ms) rooms → RunsOn known (Leaves mode ∷ k) rooms holds → (types : List ℕ) × NamesNone known.program.variables types holds × (is_among types (Some access) ≡ true)
-    none_owned item items access [] holds owns roomed r = absurd r
-    none_owned item items access (types ∷ rooms) holds owns roomed r =
-        let among : OwnedAmong (collection access) types = rw owns at roomed.0.0 in
-        (types, r.0, among)
+    none_owned : (item : Item) (items : List Item) (access : ℕ) (pool : Option ℕ) (rooms : Rooms) (holds : Holds) → Houses item.owned access pool → Roomed (record { number = number; items = item ∷ items } ∷ ms) rooms → RunsOn known (Leaves mode ∷ k) rooms holds → (types : List ℕ) × NamesNone known.program.variables types holds × (is_among types (Some access) ≡ true)
+    none_owned item items access pool [] holds owns roomed r = absurd r
+    none_owned item items access pool (types ∷ rooms) holds owns roomed r = (types, r.0, among_by item.owned access pool types owns roomed.0.0)
 
     -- A member is taken.
-    taken_fine : (item : Item) (items : List Item) (access : ℕ) (v : Value) → item.owned ≡ collection access → Left_with (item ∷ items) → HeldIn s.heap (record { number = number; items = item ∷ items } ∷ ms) → IsTaken item.number s.heap v → Stepped known s.heap Quiet (record (running (Ends v ∷ GivesBack v (Leaving number item.number) 0 ∷ Leaves mode ∷ k) a rest (left_with (item ∷ items))) { heap = named.part s.heap v })
+    taken_fine : (item : Item) (items : List Item) (pool : Option ℕ) (v : Value) → HousesFrom item.owned pool → Left_with (item ∷ items) → HeldIn s.heap (record { number = number; items = item ∷ items } ∷ ms) → IsTaken item.number s.heap v → Stepped known s.heap Quiet (record (running (Ends v ∷ GivesBack v (Leaving number item.number) pool ∷ Leaves mode ∷ k) a rest (left_with (item ∷ items))) { heap = named.part s.heap v })
     unfolding left_with Left_with
-    taken_fine item items access v owns w held (o, is, member) =
+    taken_fine item items pool v from w held (o, is, member) =
         let x = member.object in
         let sane = w.stored.sane o x member.found in
         let exists = sane.listed_exists member.listed in
-        let type = newest_is x.cell.home.item x.cell.access item (items ++ items_of ms) member.home w.stored.counted (sane.housed (exists_out o x member.found exists w.stored)) in
-        let none = none_owned item items x.cell.access w.rooms w.holds type w.roomed w.rest in
+        let type = newest_is x.cell.home.item x.cell.access x.cell.home.pool item (items ++ items_of ms) member.home w.stored.counted (sane.housed (exists_out o x member.found exists w.stored)) in
+        let none = none_owned item items x.cell.access x.cell.home.pool w.rooms w.holds type w.roomed w.rest in
         let unnamed = taken_unnamed known.program.types known.program.variables s.heap a.places w.holds number item items ms none.0 w.fit none.1 held o x member.found member.listed member.home none.2 in
         rw is (rw (member.found) (record {
           ready = (
@@ -235,7 +255,7 @@ module _ (known : Known) where
               stored = stored_part o x member.found w.stored;
               rest = (
                 refl,
-                refl,
+                sym (from x.cell.access x.cell.home.pool type),
                 (
                   sym member.home,
                   record {
@@ -278,18 +298,20 @@ module _ (known : Known) where
     declared_has_none item items y owns w o x found listed home =
         let sane = w.stored.sane o x found in
         let exists = sane.listed_exists listed in
-        let type = newest_is x.cell.home.item x.cell.access item (items ++ items_of ms) home w.stored.counted (sane.housed (exists_out o x found exists w.stored)) in
-        cc (owns, type)
+        let type = newest_is x.cell.home.item x.cell.access x.cell.home.pool item (items ++ items_of ms) home w.stored.counted (sane.housed (exists_out o x found exists w.stored)) in
+        let none : Houses (declared y) x.cell.access x.cell.home.pool = rw owns at type in
+        none
 
-    members_fine : (item : Item) (items : List Item) (access : ℕ) (vs : List Value) → item.owned ≡ collection access → members s.heap item.number ≡ vs → Left_with (item ∷ items) → HeldIn s.heap (record { number = number; items = item ∷ items } ∷ ms) → Fine known s.heap (record { number = number; items = item ∷ items } ∷ ms) (members_next named (Leaving number item.number) access vs (left_with (item ∷ items)))
+    members_fine : (item : Item) (items : List Item) (pool : Option ℕ) (vs : List Value) → HousesFrom item.owned pool → members s.heap item.number ≡ vs → Left_with (item ∷ items) → HeldIn s.heap (record { number = number; items = item ∷ items } ∷ ms) → Fine known s.heap (record { number = number; items = item ∷ items } ∷ ms) (members_next named (Leaving number item.number) pool vs (left_with (item ∷ items)))
     unfolding left_with Left_with
-    members_fine item items access [] owns e w held = shorter_fine item items (λ o x found listed home. none_is_left item.number s.heap o x e found listed home) w
-    members_fine item items access (v ∷ vs) owns e w held = λ i lt. taken_fine item items access (slice_index_or (v ∷ vs) i Null) owns w held (rw e at (taken_is item.number s.heap i (rw e lt)))
+    members_fine item items pool [] owns e w held = shorter_fine item items (λ o x found listed home. none_is_left item.number s.heap o x e found listed home) w
+    members_fine item items pool (v ∷ vs) owns e w held = λ i lt. taken_fine item items pool (slice_index_or (v ∷ vs) i Null) owns w held (rw e at (taken_is item.number s.heap i (rw e lt)))
 
     item_fine : (item : Item) (items : List Item) (what : Owned) → item.owned ≡ what → Left_with (item ∷ items) → HeldIn s.heap (record { number = number; items = item ∷ items } ∷ ms) → Fine known s.heap (record { number = number; items = item ∷ items } ∷ ms) (item_leave_next named number item what (left_with (item ∷ items)))
     unfolding left_with Left_with
     item_fine item items (declared y) is w held = shorter_fine item items (declared_has_none item items y is w) w
-    item_fine item items (collection access) is w held = members_fine item items access (members s.heap item.number) is refl w held
+    item_fine item items (collection access) is w held = members_fine item items (Some 0) (members s.heap item.number) (λ t own h. (let houses : Houses (collection access) t own = rw is at h in houses.1)) refl w held
+    item_fine item items (record_object t) is w held = members_fine item items None (members s.heap item.number) (λ u own h. (let houses : Houses (record_object t) u own = rw is at h in houses.1)) refl w held
 
     -- The master is left.
     gone_ready : (rooms : Rooms) (holds : Holds) → Stored None s.heap (record { number = number; items = [] } ∷ ms) → Fit known.program.types known.program.variables none_spared s.heap a.places holds → Roomed (record { number = number; items = [] } ∷ ms) rooms → RunsOn known (Leaves mode ∷ k) rooms holds → ReadyIn known mode k s.heap a.places a.operands ms

@@ -47,7 +47,7 @@ use Rattle.ada_sound.proofs.Rooms.{roomed_declares}
 use Rattle.ada_sound.proofs.Outcomes.{using_goes, ends_goes}
 use Rattle.ada_sound.proofs.Followings.{first_kept, kept_apart}
 use Rattle.ada_sound.proofs.Expressions.{reads_fine}
-use Rattle.ada_sound.proofs.Assigned.{Allocated, value_goes, computed_goes, allocated_goes, kind_names, selected_of}
+use Rattle.ada_sound.proofs.Assigned.{Allocated, value_starts, computed_goes, allocated_goes, kind_names, selected_of}
 use Rattle.ada_sound.proofs.Taken.{variable_goes, declared_goes, component_goes, at_path, value_gives, value_fills, cleared_is, stored_after, there_after, selectors_are, walk_on, kept_root, root_access, path_goes, null_place, move_by, borrow_by, borrow_gives, store_by}
 
 -- An item's path is followed, or its value is there.
@@ -60,21 +60,21 @@ filling known a rest s below (f ∷ k) cs v follows w raise = absurd (w.rest)
 
 module _ (known : Known) (k : Control) (a : Activation Value) (rest : List (Activation Value)) (s : State) where
   -- A variable's value is there for what awaits it.
-  variable_ready : (root : ℕ) (spot : Spot) (kinds : List VariableKind) → typed.Fits known.program (cells_of s.heap) kinds (Evaluates (value_of (at_path root [] spot)) ∷ k) → Working known s.heap a.places s.masters (Takes known s.heap a.places (value_of (at_path root [] spot)) k) → ReadyIn known Running k s.heap a.places (place_at a.places root ∷ a.operands) s.masters
-  variable_ready root spot kinds fits w = go k fits w
+  variable_ready : (whole : Bool) (root : ℕ) (spot : Spot) (kinds : List VariableKind) → typed.Fits known.program (cells_of s.heap) kinds (Evaluates (value_of (at_path whole root [] spot)) ∷ k) → Working known s.heap a.places s.masters (Takes known s.heap a.places (value_of (at_path whole root [] spot)) k) → ReadyIn known Running k s.heap a.places (place_at a.places root ∷ a.operands) s.masters
+  variable_ready whole root spot kinds fits w = go k fits w
     where
       path : PathForm
-      path = at_path root [] spot
+      path = at_path whole root [] spot
 
-      own_access : (kind : VariableKind) → kind_takes known.program.types known.program.variables kind (value_of (at_path root [] spot)) ≡ true → variable_access known.program.variables root ≡ access_of (Some kind)
-      own_access kind takes = value_goes known.program.types known.program.variables kind (at_path root [] spot) takes
+      own_access : (kind : VariableKind) → kind_takes known.program.types known.program.variables kind (value_of (at_path whole root [] spot)) ≡ true → variable_access known.program.variables root ≡ access_of (Some kind)
+      own_access kind takes = value_starts known.program.types known.program.variables kind (at_path whole root [] spot) takes
 
-      into : (o : Value) (c : ℕ) (k' : Control) (kind : VariableKind) → kind_takes known.program.types known.program.variables kind (value_of (at_path root [] spot)) ≡ true → typed.Fits known.program (cells_of s.heap) (kind ∷ kinds) (StoresIn o c ∷ k') → (w' : Working known s.heap a.places s.masters (Takes known s.heap a.places (value_of (at_path root [] spot)) (StoresIn o c ∷ k'))) → StoringIn known o c (place_at a.places root) k' s.heap a.places s.masters
+      into : (o : Value) (c : ℕ) (k' : Control) (kind : VariableKind) → kind_takes known.program.types known.program.variables kind (value_of (at_path whole root [] spot)) ≡ true → typed.Fits known.program (cells_of s.heap) (kind ∷ kinds) (StoresIn o c ∷ k') → (w' : Working known s.heap a.places s.masters (Takes known s.heap a.places (value_of (at_path whole root [] spot)) (StoresIn o c ∷ k'))) → StoringIn known o c (place_at a.places root) k' s.heap a.places s.masters
       into Null c k' kind takes fits' w' = absurd (w'.rest.0)
       into (Names o) c k' kind takes fits' w' =
           let there = w'.rest.0 in
           let g = w'.rest.1 in
-          let h = value_fills g.1 g.0 root [] spot w'.holds (RunsOn known k' w'.rooms) (Raised (component_among (value_of (at_path root [] spot))) (ways known k' w'.rooms)) g.2 in
+          let h = value_fills g.1 g.0 whole root [] spot w'.holds (RunsOn known k' w'.rooms) (Raised (component_among (value_of (at_path whole root [] spot))) (ways known k' w'.rooms)) g.2 in
           let same = component_goes known.program s.heap kind kinds o there.0 c k' there.1 fits' ∙ sym (own_access kind takes) in
           inl (
             there,
@@ -89,12 +89,12 @@ module _ (known : Known) (k : Control) (a : Activation Value) (rest : List (Acti
           )
       into (Scalar n) c k' kind takes fits' w' = absurd (w'.rest.0)
 
-      to : (cleared : Bool) (x : ℕ) (k' : Control) → variable_access known.program.variables x ≡ variable_access known.program.variables root → (rooms : Rooms) (holds : Holds) → Stored None s.heap s.masters → Roomed s.masters rooms → Fit known.program.types known.program.variables none_spared s.heap a.places holds → Goes (gives known.program.variables cleared x (value_of (at_path root [] spot)) holds) (RunsOn known k' rooms) (Raised (λ e. right_raises (is_same e) (value_of (at_path root [] spot))) (ways known k' rooms)) → Working known s.heap (slice_set a.places x (place_at a.places root)) s.masters (RunsOn known k')
+      to : (cleared : Bool) (x : ℕ) (k' : Control) → variable_access known.program.variables x ≡ variable_access known.program.variables root → (rooms : Rooms) (holds : Holds) → Stored None s.heap s.masters → Roomed s.masters rooms → Fit known.program.types known.program.variables none_spared s.heap a.places holds → Goes (gives known.program.variables cleared x (value_of (at_path whole root [] spot)) holds) (RunsOn known k' rooms) (Raised (λ e. right_raises (is_same e) (value_of (at_path whole root [] spot))) (ways known k' rooms)) → Working known s.heap (slice_set a.places x (place_at a.places root)) s.masters (RunsOn known k')
       to cleared x k' same rooms holds stored roomed fit g = by (is_borrower known.program.variables x) refl
         where
           by : (b : Bool) → is_borrower known.program.variables x ≡ b → Working known s.heap (slice_set a.places x (place_at a.places root)) s.masters (RunsOn known k')
           by true is =
-              let h = borrow_gives known.program.variables cleared x root [] spot holds (RunsOn known k' rooms) (Raised (λ e. right_raises (is_same e) (value_of (at_path root [] spot))) (ways known k' rooms)) is g in
+              let h = borrow_gives known.program.variables cleared x whole root [] spot holds (RunsOn known k' rooms) (Raised (λ e. right_raises (is_same e) (value_of (at_path whole root [] spot))) (ways known k' rooms)) is g in
               record {
                 rooms = rooms;
                 holds = slice_set holds x (borrowed_hold (hold_at holds root));
@@ -104,7 +104,7 @@ module _ (known : Known) (k : Control) (a : Activation Value) (rest : List (Acti
                 rest = h.1;
               }
           by false is =
-              let h = value_gives known.program.variables cleared x root [] spot holds (RunsOn known k' rooms) (Raised (λ e. right_raises (is_same e) (value_of (at_path root [] spot))) (ways known k' rooms)) is g in
+              let h = value_gives known.program.variables cleared x whole root [] spot holds (RunsOn known k' rooms) (Raised (λ e. right_raises (is_same e) (value_of (at_path whole root [] spot))) (ways known k' rooms)) is g in
               record {
                 rooms = rooms;
                 holds = slice_set (without_values (root ∷ []) holds) x (hold_at holds root);
@@ -114,7 +114,7 @@ module _ (known : Known) (k : Control) (a : Activation Value) (rest : List (Acti
                 rest = h.1;
               }
 
-      go : (k' : Control) → typed.Fits known.program (cells_of s.heap) kinds (Evaluates (value_of (at_path root [] spot)) ∷ k') → Working known s.heap a.places s.masters (Takes known s.heap a.places (value_of (at_path root [] spot)) k') → ReadyIn known Running k' s.heap a.places (place_at a.places root ∷ a.operands) s.masters
+      go : (k' : Control) → typed.Fits known.program (cells_of s.heap) kinds (Evaluates (value_of (at_path whole root [] spot)) ∷ k') → Working known s.heap a.places s.masters (Takes known s.heap a.places (value_of (at_path whole root [] spot)) k') → ReadyIn known Running k' s.heap a.places (place_at a.places root ∷ a.operands) s.masters
       go [] fits' w' = absurd (w'.rest)
       go (Stores x ∷ k') (kind, takes, fits') w' = inl (to w'.rest.0 x k' (variable_goes known.program s.heap kind kinds x k' fits' ∙ sym (own_access kind takes)) w'.rooms w'.holds w'.stored w'.roomed w'.fit w'.rest.1)
       go (Declares x ∷ k') (kind, takes, fits') w' = to w'.rest.0 x k' (declared_goes known.program s.heap kind kinds x k' fits' ∙ sym (own_access kind takes)) w'.rooms w'.holds w'.stored w'.roomed w'.fit w'.rest.1
@@ -122,11 +122,11 @@ module _ (known : Known) (k : Control) (a : Activation Value) (rest : List (Acti
       go (f ∷ k') fits' w' = absurd (w'.rest)
 
   -- The next statement clears the path: the second half of a take pair, once the first one's target has what the component named.
-  half_behind : (heap : List Object) (places : List Value) (root : ℕ) (cs : List ℕ) (spot : Spot) (k' : Control) (o : Id) (c : ℕ) → IsCleared (at_path root cs spot) k' → final cs ≡ Some c → walk heap (place_at places root) (front cs) ≡ finds (Names o) → IsThere heap o → ((p : Id) → component_in (object_at heap o) c ≡ Names p → IsThere heap p) → Working known (store heap (Names o) c Null) places s.masters (RunsOn known k') → HalfBy known k' heap places s.masters
-  half_behind heap places root cs spot [] o c cleared last found there kept works = absurd cleared
-  half_behind heap places root cs spot (Does fs ∷ k') o c cleared last found there kept works = go fs cleared works
+  half_behind : (heap : List Object) (places : List Value) (whole : Bool) (root : ℕ) (cs : List ℕ) (spot : Spot) (k' : Control) (o : Id) (c : ℕ) → IsCleared (at_path whole root cs spot) k' → final cs ≡ Some c → walk heap (place_at places root) (front cs) ≡ finds (Names o) → IsThere heap o → ((p : Id) → component_in (object_at heap o) c ≡ Names p → IsThere heap p) → Working known (store heap (Names o) c Null) places s.masters (RunsOn known k') → HalfBy known k' heap places s.masters
+  half_behind heap places whole root cs spot [] o c cleared last found there kept works = absurd cleared
+  half_behind heap places whole root cs spot (Does fs ∷ k') o c cleared last found there kept works = go fs cleared works
     where
-      same_root : (target : PathForm) → same_path target (at_path root cs spot) ≡ true → (target.root ≡ root) × (target.selectors ≡ cs)
+      same_root : (target : PathForm) → same_path target (at_path whole root cs spot) ≡ true → (target.root ≡ root) × (target.selectors ≡ cs)
       same_root target same =
           let h = and_parts (target.root == root) (same_selectors target.selectors cs) same in
           (eqb-true target.root root h.0, selectors_are target.selectors cs h.1)
@@ -145,14 +145,14 @@ module _ (known : Known) (k : Control) (a : Activation Value) (rest : List (Acti
         works = w;
       }
 
-      go : (fs' : StmtsForm) → clears (at_path root cs spot) fs' ≡ true → Working known (store heap (Names o) c Null) places s.masters (RunsOn known (Does fs' ∷ k')) → Half known fs' k' heap places s.masters
+      go : (fs' : StmtsForm) → clears (at_path whole root cs spot) fs' ≡ true → Working known (store heap (Names o) c Null) places s.masters (RunsOn known (Does fs' ∷ k')) → Half known fs' k' heap places s.masters
       go no_stmts cleared' w = absurd (cc cleared')
       go (a_stmt (assigns target nothing) later) cleared' w = by target later (same_root target cleared') w
       go (a_stmt f later) cleared' w = absurd (cc cleared')
-  half_behind heap places root cs spot (f ∷ k') o c cleared last found there kept works = absurd cleared
+  half_behind heap places whole root cs spot (f ∷ k') o c cleared last found there kept works = absurd cleared
 
   -- The value of a component is taken: what awaits it gets it, and the component is cleared next.
-  module _ (root : ℕ) (spot : Spot) (o : Id) (object : Object) (c : ℕ) (v : Value) (found : object_at s.heap o ≡ Some object) (listed : object.listed ≡ true) (at : slice_get object.cell.values c ≡ Some v) where
+  module _ (whole : Bool) (root : ℕ) (spot : Spot) (o : Id) (object : Object) (c : ℕ) (v : Value) (found : object_at s.heap o ≡ Some object) (listed : object.listed ≡ true) (at : slice_get object.cell.values c ≡ Some v) where
     named_there : {holds : Holds} → Fit known.program.types known.program.variables none_spared s.heap a.places holds → (p : Id) → v ≡ Names p → IsThere s.heap p
     named_there f p is = go (component_follows o object c v refl found listed at f)
       where
@@ -165,56 +165,56 @@ module _ (known : Known) (k : Control) (a : Activation Value) (rest : List (Acti
     no_walk u e (g ∷ es) null walks' = let none = rw null at walks' in cc none
 
     -- The value of a component is lent to a borrower.
-    borrow_component_by : {holds : Holds} (x d : ℕ) (ds : List ℕ) (h : Hold) → hold_at holds root ≡ h → lost_by h spot ≡ None → (f : Fit known.program.types known.program.variables none_spared s.heap a.places holds) → WalksOn s.heap a.places (at_path root (d ∷ ds) spot) (Names o) (c ∷ []) → variable_access known.program.variables x ≡ component_access known.program.types object c → Fit known.program.types known.program.variables none_spared s.heap (slice_set a.places x v) (slice_set holds x (borrowed_hold h))
+    borrow_component_by : {holds : Holds} (x d : ℕ) (ds : List ℕ) (h : Hold) → hold_at holds root ≡ h → lost_by h spot ≡ None → (f : Fit known.program.types known.program.variables none_spared s.heap a.places holds) → WalksOn s.heap a.places (at_path whole root (d ∷ ds) spot) (Names o) (c ∷ []) → variable_access known.program.variables x ≡ component_access known.program.types object c → Fit known.program.types known.program.variables none_spared s.heap (slice_set a.places x v) (slice_set holds x (borrowed_hold h))
     borrow_component_by x d ds hold.Null is kept f walks same = absurd (no_walk (place_at a.places root) d ds (null_place f root spot is) walks.0)
     borrow_component_by x d ds (hold.Own r) is kept f walks same = put_alias x v r (rw same (λ p e. component_is o object c v p refl found listed at e f)) f
     borrow_component_by x d ds (hold.Alias r) is kept f walks same = put_alias x v r (rw same (λ p e. component_is o object c v p refl found listed at e f)) f
     borrow_component_by x d ds hold.Lost is kept f walks same = absurd (cc kept)
 
-    borrow_to : (cleared : Bool) (x d : ℕ) (ds : List ℕ) (k' : Control) (rooms : Rooms) (holds : Holds) → is_borrower known.program.variables x ≡ true → Stored None s.heap s.masters → Roomed s.masters rooms → Fit known.program.types known.program.variables none_spared s.heap a.places holds → WalksOn s.heap a.places (at_path root (d ∷ ds) spot) (Names o) (c ∷ []) → variable_access known.program.variables x ≡ component_access known.program.types object c → Goes (gives known.program.variables cleared x (value_of (at_path root (d ∷ ds) spot)) holds) (RunsOn known k' rooms) (Raised (λ e. right_raises (is_same e) (value_of (at_path root (d ∷ ds) spot))) (ways known k' rooms)) → Working known s.heap (slice_set a.places x v) s.masters (RunsOn known k')
+    borrow_to : (cleared : Bool) (x d : ℕ) (ds : List ℕ) (k' : Control) (rooms : Rooms) (holds : Holds) → is_borrower known.program.variables x ≡ true → Stored None s.heap s.masters → Roomed s.masters rooms → Fit known.program.types known.program.variables none_spared s.heap a.places holds → WalksOn s.heap a.places (at_path whole root (d ∷ ds) spot) (Names o) (c ∷ []) → variable_access known.program.variables x ≡ component_access known.program.types object c → Goes (gives known.program.variables cleared x (value_of (at_path whole root (d ∷ ds) spot)) holds) (RunsOn known k' rooms) (Raised (λ e. right_raises (is_same e) (value_of (at_path whole root (d ∷ ds) spot))) (ways known k' rooms)) → Working known s.heap (slice_set a.places x v) s.masters (RunsOn known k')
     borrow_to cleared x d ds k' rooms holds is stored roomed f walks same g =
-        let h = borrow_gives known.program.variables cleared x root (d ∷ ds) spot holds (RunsOn known k' rooms) (Raised (λ e. right_raises (is_same e) (value_of (at_path root (d ∷ ds) spot))) (ways known k' rooms)) is g in
+        let h = borrow_gives known.program.variables cleared x whole root (d ∷ ds) spot holds (RunsOn known k' rooms) (Raised (λ e. right_raises (is_same e) (value_of (at_path whole root (d ∷ ds) spot))) (ways known k' rooms)) is g in
         record { rooms = rooms; holds = slice_set holds x (borrowed_hold (hold_at holds root)); stored = stored; roomed = roomed; fit = borrow_component_by x d ds (hold_at holds root) refl h.0 f walks same; rest = h.1 }
 
-    take_variable_by : (x d : ℕ) (ds : List ℕ) (k' : Control) (rooms : Rooms) (holds : Holds) (h : Hold) → hold_at holds root ≡ h → lost_by h spot ≡ None → Stored None s.heap s.masters → Roomed s.masters rooms → (f : Fit known.program.types known.program.variables none_spared s.heap a.places holds) → x ≢ root → IsCleared (at_path root (d ∷ ds) spot) k' → WalksOn s.heap a.places (at_path root (d ∷ ds) spot) (Names o) (c ∷ []) → variable_access known.program.variables x ≡ component_access known.program.types object c → RunsOn known k' rooms (slice_set holds x (value_hold (d ∷ ds) h)) → HalfBy known k' s.heap (slice_set a.places x v) s.masters
+    take_variable_by : (x d : ℕ) (ds : List ℕ) (k' : Control) (rooms : Rooms) (holds : Holds) (h : Hold) → hold_at holds root ≡ h → lost_by h spot ≡ None → Stored None s.heap s.masters → Roomed s.masters rooms → (f : Fit known.program.types known.program.variables none_spared s.heap a.places holds) → x ≢ root → IsCleared (at_path whole root (d ∷ ds) spot) k' → WalksOn s.heap a.places (at_path whole root (d ∷ ds) spot) (Names o) (c ∷ []) → variable_access known.program.variables x ≡ component_access known.program.types object c → RunsOn known k' rooms (slice_set holds x (value_hold (d ∷ ds) h)) → HalfBy known k' s.heap (slice_set a.places x v) s.masters
     take_variable_by x d ds k' rooms holds hold.Null is kept stored roomed f ne cleared walks same more = absurd (no_walk (place_at a.places root) d ds (null_place f root spot is) walks.0)
     take_variable_by x d ds k' rooms holds hold.Lost is kept stored roomed f ne cleared walks same more = absurd (cc kept)
     take_variable_by x d ds k' rooms holds (hold.Own r) is kept stored roomed f ne cleared walks same more =
-        half_behind s.heap (slice_set a.places x v) root (d ∷ ds) spot k' o c cleared walks.1
+        half_behind s.heap (slice_set a.places x v) whole root (d ∷ ds) spot k' o c cleared walks.1
         (ap (λ u. walk s.heap u (front (d ∷ ds))) (read_other a.places x root v Null (λ e. ne (sym e))) ∙ walks.0) (object, found, listed)
         (λ p e. named_there f p (sym (component_value s.heap [] o object c v found listed at) ∙ e))
         (record { rooms = rooms; holds = slice_set holds x (hold.Own r); stored = stored_after s.heap o c Null stored; roomed = roomed; fit = take_variable x r o object c v found listed at same f; rest = more })
     take_variable_by x d ds k' rooms holds (hold.Alias r) is kept stored roomed f ne cleared walks same more =
-        half_behind s.heap (slice_set a.places x v) root (d ∷ ds) spot k' o c cleared walks.1
+        half_behind s.heap (slice_set a.places x v) whole root (d ∷ ds) spot k' o c cleared walks.1
         (ap (λ u. walk s.heap u (front (d ∷ ds))) (read_other a.places x root v Null (λ e. ne (sym e))) ∙ walks.0) (object, found, listed)
         (λ p e. named_there f p (sym (component_value s.heap [] o object c v found listed at) ∙ e))
         (record { rooms = rooms; holds = slice_set holds x (hold.Own r); stored = stored_after s.heap o c Null stored; roomed = roomed; fit = take_variable x r o object c v found listed at same f; rest = more })
 
-    take_to : (cleared : Bool) (x d : ℕ) (ds : List ℕ) (k' : Control) (rooms : Rooms) (holds : Holds) → is_borrower known.program.variables x ≡ false → Stored None s.heap s.masters → Roomed s.masters rooms → Fit known.program.types known.program.variables none_spared s.heap a.places holds → WalksOn s.heap a.places (at_path root (d ∷ ds) spot) (Names o) (c ∷ []) → variable_access known.program.variables x ≡ component_access known.program.types object c → Goes (gives known.program.variables cleared x (value_of (at_path root (d ∷ ds) spot)) holds) (RunsOn known k' rooms) (Raised (λ e. right_raises (is_same e) (value_of (at_path root (d ∷ ds) spot))) (ways known k' rooms)) → Pairs cleared (value_of (at_path root (d ∷ ds) spot)) (λ path. x ≢ path.root) k' → HalfBy known k' s.heap (slice_set a.places x v) s.masters
+    take_to : (cleared : Bool) (x d : ℕ) (ds : List ℕ) (k' : Control) (rooms : Rooms) (holds : Holds) → is_borrower known.program.variables x ≡ false → Stored None s.heap s.masters → Roomed s.masters rooms → Fit known.program.types known.program.variables none_spared s.heap a.places holds → WalksOn s.heap a.places (at_path whole root (d ∷ ds) spot) (Names o) (c ∷ []) → variable_access known.program.variables x ≡ component_access known.program.types object c → Goes (gives known.program.variables cleared x (value_of (at_path whole root (d ∷ ds) spot)) holds) (RunsOn known k' rooms) (Raised (λ e. right_raises (is_same e) (value_of (at_path whole root (d ∷ ds) spot))) (ways known k' rooms)) → Pairs cleared (value_of (at_path whole root (d ∷ ds) spot)) (λ path. x ≢ path.root) k' → HalfBy known k' s.heap (slice_set a.places x v) s.masters
     take_to false x d ds k' rooms holds owned stored roomed f walks same g pairs =
-        let h = value_gives known.program.variables false x root (d ∷ ds) spot holds (RunsOn known k' rooms) (Raised (λ e. right_raises (is_same e) (value_of (at_path root (d ∷ ds) spot))) (ways known k' rooms)) owned g in
+        let h = value_gives known.program.variables false x whole root (d ∷ ds) spot holds (RunsOn known k' rooms) (Raised (λ e. right_raises (is_same e) (value_of (at_path whole root (d ∷ ds) spot))) (ways known k' rooms)) owned g in
         let none = cleared_is false (hold_at holds root) spot h.0 in
         absurd (cc (none.0))
     take_to true x d ds k' rooms holds owned stored roomed f walks same g pairs =
-        let h = value_gives known.program.variables true x root (d ∷ ds) spot holds (RunsOn known k' rooms) (Raised (λ e. right_raises (is_same e) (value_of (at_path root (d ∷ ds) spot))) (ways known k' rooms)) owned g in
+        let h = value_gives known.program.variables true x whole root (d ∷ ds) spot holds (RunsOn known k' rooms) (Raised (λ e. right_raises (is_same e) (value_of (at_path whole root (d ∷ ds) spot))) (ways known k' rooms)) owned g in
         take_variable_by x d ds k' rooms holds (hold_at holds root) refl h.0 stored roomed f pairs.0 pairs.1 walks same h.1
 
-    declares_none : (cleared : Bool) (x d : ℕ) (ds : List ℕ) (k' : Control) (rooms : Rooms) (holds : Holds) → is_borrower known.program.variables x ≡ false → Goes (gives known.program.variables cleared x (value_of (at_path root (d ∷ ds) spot)) holds) (RunsOn known k' rooms) (Raised (λ e. right_raises (is_same e) (value_of (at_path root (d ∷ ds) spot))) (ways known k' rooms)) → IsAlone cleared → ⊥
+    declares_none : (cleared : Bool) (x d : ℕ) (ds : List ℕ) (k' : Control) (rooms : Rooms) (holds : Holds) → is_borrower known.program.variables x ≡ false → Goes (gives known.program.variables cleared x (value_of (at_path whole root (d ∷ ds) spot)) holds) (RunsOn known k' rooms) (Raised (λ e. right_raises (is_same e) (value_of (at_path whole root (d ∷ ds) spot))) (ways known k' rooms)) → IsAlone cleared → ⊥
     declares_none true x d ds k' rooms holds owned g alone = alone
     declares_none false x d ds k' rooms holds owned g alone =
-        let h = value_gives known.program.variables false x root (d ∷ ds) spot holds (RunsOn known k' rooms) (Raised (λ e. right_raises (is_same e) (value_of (at_path root (d ∷ ds) spot))) (ways known k' rooms)) owned g in
+        let h = value_gives known.program.variables false x whole root (d ∷ ds) spot holds (RunsOn known k' rooms) (Raised (λ e. right_raises (is_same e) (value_of (at_path whole root (d ∷ ds) spot))) (ways known k' rooms)) owned g in
         let none = cleared_is false (hold_at holds root) spot h.0 in
         cc (none.0)
 
     -- A variable gets the value: a borrower as it is, any other with the first half of a take pair; a declaration is none.
-    stores_to : (cleared : Bool) (x d : ℕ) (ds : List ℕ) (k' : Control) (rooms : Rooms) (holds : Holds) → Stored None s.heap s.masters → Roomed s.masters rooms → Fit known.program.types known.program.variables none_spared s.heap a.places holds → WalksOn s.heap a.places (at_path root (d ∷ ds) spot) (Names o) (c ∷ []) → variable_access known.program.variables x ≡ component_access known.program.types object c → Goes (gives known.program.variables cleared x (value_of (at_path root (d ∷ ds) spot)) holds) (RunsOn known k' rooms) (Raised (λ e. right_raises (is_same e) (value_of (at_path root (d ∷ ds) spot))) (ways known k' rooms)) → Pairs cleared (value_of (at_path root (d ∷ ds) spot)) (λ path. x ≢ path.root) k' → Resumes known s.heap (slice_set a.places x v) s.masters k'
+    stores_to : (cleared : Bool) (x d : ℕ) (ds : List ℕ) (k' : Control) (rooms : Rooms) (holds : Holds) → Stored None s.heap s.masters → Roomed s.masters rooms → Fit known.program.types known.program.variables none_spared s.heap a.places holds → WalksOn s.heap a.places (at_path whole root (d ∷ ds) spot) (Names o) (c ∷ []) → variable_access known.program.variables x ≡ component_access known.program.types object c → Goes (gives known.program.variables cleared x (value_of (at_path whole root (d ∷ ds) spot)) holds) (RunsOn known k' rooms) (Raised (λ e. right_raises (is_same e) (value_of (at_path whole root (d ∷ ds) spot))) (ways known k' rooms)) → Pairs cleared (value_of (at_path whole root (d ∷ ds) spot)) (λ path. x ≢ path.root) k' → Resumes known s.heap (slice_set a.places x v) s.masters k'
     stores_to cleared x d ds k' rooms holds stored roomed f walks same g pairs = by (is_borrower known.program.variables x) refl
       where
         by : (b : Bool) → is_borrower known.program.variables x ≡ b → Resumes known s.heap (slice_set a.places x v) s.masters k'
         by true is = inl (borrow_to cleared x d ds k' rooms holds is stored roomed f walks same g)
         by false is = inr (take_to cleared x d ds k' rooms holds is stored roomed f walks same g pairs)
 
-    declares_to : (cleared : Bool) (x d : ℕ) (ds : List ℕ) (k' : Control) (rooms : Rooms) (holds : Holds) → Stored None s.heap s.masters → Roomed s.masters rooms → Fit known.program.types known.program.variables none_spared s.heap a.places holds → WalksOn s.heap a.places (at_path root (d ∷ ds) spot) (Names o) (c ∷ []) → variable_access known.program.variables x ≡ component_access known.program.types object c → Goes (gives known.program.variables cleared x (value_of (at_path root (d ∷ ds) spot)) holds) (RunsOn known k' rooms) (Raised (λ e. right_raises (is_same e) (value_of (at_path root (d ∷ ds) spot))) (ways known k' rooms)) → IsAlone cleared → Working known s.heap (slice_set a.places x v) s.masters (RunsOn known k')
+    declares_to : (cleared : Bool) (x d : ℕ) (ds : List ℕ) (k' : Control) (rooms : Rooms) (holds : Holds) → Stored None s.heap s.masters → Roomed s.masters rooms → Fit known.program.types known.program.variables none_spared s.heap a.places holds → WalksOn s.heap a.places (at_path whole root (d ∷ ds) spot) (Names o) (c ∷ []) → variable_access known.program.variables x ≡ component_access known.program.types object c → Goes (gives known.program.variables cleared x (value_of (at_path whole root (d ∷ ds) spot)) holds) (RunsOn known k' rooms) (Raised (λ e. right_raises (is_same e) (value_of (at_path whole root (d ∷ ds) spot))) (ways known k' rooms)) → IsAlone cleared → Working known s.heap (slice_set a.places x v) s.masters (RunsOn known k')
     declares_to cleared x d ds k' rooms holds stored roomed f walks same g alone = by (is_borrower known.program.variables x) refl
       where
         by : (b : Bool) → is_borrower known.program.variables x ≡ b → Working known s.heap (slice_set a.places x v) s.masters (RunsOn known k')
@@ -222,15 +222,15 @@ module _ (known : Known) (k : Control) (a : Activation Value) (rest : List (Acti
         by false is = absurd (declares_none cleared x d ds k' rooms holds is g alone)
 
     -- The same into a component: then the path has one selector.
-    take_into : (cleared : Bool) (target : PathForm) (q : Id) (holder : Object) (e d : ℕ) (ds : List ℕ) (k' : Control) (rooms : Rooms) (holds : Holds) → object_at s.heap q ≡ Some holder → holder.listed ≡ true → Stored None s.heap s.masters → Roomed s.masters rooms → Fit known.program.types known.program.variables none_spared s.heap a.places holds → WalksOn s.heap a.places (at_path root (d ∷ ds) spot) (Names o) (c ∷ []) → component_access known.program.types holder e ≡ component_access known.program.types object c → Goes (gives_component cleared target (value_of (at_path root (d ∷ ds) spot)) holds) (RunsOn known k' rooms) (Raised (component_among (value_of (at_path root (d ∷ ds) spot))) (ways known k' rooms)) → Pairs cleared (value_of (at_path root (d ∷ ds) spot)) (λ taken. IsOne taken.selectors) k' → HalfBy known k' (store s.heap (Names q) e v) a.places s.masters
+    take_into : (cleared : Bool) (target : PathForm) (q : Id) (holder : Object) (e d : ℕ) (ds : List ℕ) (k' : Control) (rooms : Rooms) (holds : Holds) → object_at s.heap q ≡ Some holder → holder.listed ≡ true → Stored None s.heap s.masters → Roomed s.masters rooms → Fit known.program.types known.program.variables none_spared s.heap a.places holds → WalksOn s.heap a.places (at_path whole root (d ∷ ds) spot) (Names o) (c ∷ []) → component_access known.program.types holder e ≡ component_access known.program.types object c → Goes (gives_component cleared target (value_of (at_path whole root (d ∷ ds) spot)) holds) (RunsOn known k' rooms) (Raised (component_among (value_of (at_path whole root (d ∷ ds) spot))) (ways known k' rooms)) → Pairs cleared (value_of (at_path whole root (d ∷ ds) spot)) (λ taken. IsOne taken.selectors) k' → HalfBy known k' (store s.heap (Names q) e v) a.places s.masters
     take_into false target q holder e d ds k' rooms holds at_q listed_q stored roomed f walks same g pairs =
-        let h = value_fills false target root (d ∷ ds) spot holds (RunsOn known k' rooms) (Raised (component_among (value_of (at_path root (d ∷ ds) spot))) (ways known k' rooms)) g in
+        let h = value_fills false target whole root (d ∷ ds) spot holds (RunsOn known k' rooms) (Raised (component_among (value_of (at_path whole root (d ∷ ds) spot))) (ways known k' rooms)) g in
         let no = cleared_is false (hold_at holds root) spot h.0 in
         absurd (cc (no.0))
     take_into true target q holder e d (d' ∷ ds) k' rooms holds at_q listed_q stored roomed f walks same g pairs = absurd (pairs.0)
     take_into true target q holder e d [] k' rooms holds at_q listed_q stored roomed f walks same g pairs =
-        let h = value_fills true target root (d ∷ []) spot holds (RunsOn known k' rooms) (Raised (component_among (value_of (at_path root (d ∷ []) spot))) (ways known k' rooms)) g in
-        half_behind (store s.heap (Names q) e v) a.places root (d ∷ []) spot k' o c pairs.1 walks.1 walks.0 (there_after s.heap q o e v (object, found, listed))
+        let h = value_fills true target whole root (d ∷ []) spot holds (RunsOn known k' rooms) (Raised (component_among (value_of (at_path whole root (d ∷ []) spot))) (ways known k' rooms)) g in
+        half_behind (store s.heap (Names q) e v) a.places whole root (d ∷ []) spot k' o c pairs.1 walks.1 walks.0 (there_after s.heap q o e v (object, found, listed))
         (λ p is. there_after s.heap q p e v (named_there f p (stored_still p is)))
         (record { rooms = rooms; holds = holds; stored = stored_after (store s.heap (Names q) e v) o c Null (stored_after s.heap q e v stored); roomed = roomed; fit = take_component q holder e o object c v at_q listed_q found listed at same f; rest = h.1 })
       where
@@ -241,10 +241,10 @@ module _ (known : Known) (k : Control) (a : Activation Value) (rest : List (Acti
             go (inl one) = store_value s.heap q holder at_q e v (bare a.places) p (ap (λ place. value_at (store s.heap (Names q) e v) (bare a.places) place) (sym one) ∙ is)
             go (inr ne) = sym (component_value s.heap [] o object c v found listed at) ∙ (sym (store_reads s.heap q holder at_q e v (bare a.places) (component o c) ne) ∙ is)
 
-    take_ready : (d : ℕ) (ds : List ℕ) (to : VariableKind) (kinds : List VariableKind) (below : List Value) → component_access known.program.types object c ≡ access_of (Some to) → WalksOn s.heap a.places (at_path root (d ∷ ds) spot) (Names o) (c ∷ []) → typed.Fits known.program (cells_of s.heap) (to ∷ kinds) k → Working known s.heap a.places s.masters (Takes known s.heap a.places (value_of (at_path root (d ∷ ds) spot)) k) → ReadyIn known Running k s.heap a.places (v ∷ below) s.masters
+    take_ready : (d : ℕ) (ds : List ℕ) (to : VariableKind) (kinds : List VariableKind) (below : List Value) → component_access known.program.types object c ≡ access_of (Some to) → WalksOn s.heap a.places (at_path whole root (d ∷ ds) spot) (Names o) (c ∷ []) → typed.Fits known.program (cells_of s.heap) (to ∷ kinds) k → Working known s.heap a.places s.masters (Takes known s.heap a.places (value_of (at_path whole root (d ∷ ds) spot)) k) → ReadyIn known Running k s.heap a.places (v ∷ below) s.masters
     take_ready d ds to kinds below is walks fits w = go k fits w
       where
-        into : (q : Value) (e : ℕ) (k' : Control) → typed.Fits known.program (cells_of s.heap) (to ∷ kinds) (StoresIn q e ∷ k') → (w' : Working known s.heap a.places s.masters (Takes known s.heap a.places (value_of (at_path root (d ∷ ds) spot)) (StoresIn q e ∷ k'))) → StoringIn known q e v k' s.heap a.places s.masters
+        into : (q : Value) (e : ℕ) (k' : Control) → typed.Fits known.program (cells_of s.heap) (to ∷ kinds) (StoresIn q e ∷ k') → (w' : Working known s.heap a.places s.masters (Takes known s.heap a.places (value_of (at_path whole root (d ∷ ds) spot)) (StoresIn q e ∷ k'))) → StoringIn known q e v k' s.heap a.places s.masters
         into Null e k' fits' w' = absurd (w'.rest.0)
         into (Names q) e k' fits' w' =
             let there = w'.rest.0 in
@@ -252,7 +252,7 @@ module _ (known : Known) (k : Control) (a : Activation Value) (rest : List (Acti
             inl (there, inr (take_into g.1 g.0 q there.0 e d ds k' w'.rooms w'.holds there.1 there.2 w'.stored w'.roomed w'.fit walks (component_goes known.program s.heap to kinds q there.0 e k' there.1 fits' ∙ sym is) g.2 g.3))
         into (Scalar n) e k' fits' w' = absurd (w'.rest.0)
 
-        go : (k' : Control) → typed.Fits known.program (cells_of s.heap) (to ∷ kinds) k' → Working known s.heap a.places s.masters (Takes known s.heap a.places (value_of (at_path root (d ∷ ds) spot)) k') → ReadyIn known Running k' s.heap a.places (v ∷ below) s.masters
+        go : (k' : Control) → typed.Fits known.program (cells_of s.heap) (to ∷ kinds) k' → Working known s.heap a.places s.masters (Takes known s.heap a.places (value_of (at_path whole root (d ∷ ds) spot)) k') → ReadyIn known Running k' s.heap a.places (v ∷ below) s.masters
         go [] fits' w' = absurd (w'.rest)
         go (Stores x ∷ k') fits' w' = stores_to w'.rest.0 x d ds k' w'.rooms w'.holds w'.stored w'.roomed w'.fit walks (variable_goes known.program s.heap to kinds x k' fits' ∙ sym is) w'.rest.1 w'.rest.2
         go (Declares x ∷ k') fits' w' = declares_to w'.rest.0 x d ds k' w'.rooms w'.holds w'.stored w'.roomed w'.fit walks (declared_goes known.program s.heap to kinds x k' fits' ∙ sym is) w'.rest.1 w'.rest.2
@@ -260,15 +260,15 @@ module _ (known : Known) (k : Control) (a : Activation Value) (rest : List (Acti
         go (f ∷ k') fits' w' = absurd (w'.rest)
 
   -- A path that is moved is followed by one selector.
-  module _ (root : ℕ) (cs : List ℕ) (spot : Spot) (below : List Value) where
-    at_last : (o : Id) (object : Object) (c : ℕ) (v : Value) (from : Option VariableKind) (to : VariableKind) (kinds : List VariableKind) → object_at s.heap o ≡ Some object → object.listed ≡ true → slice_get object.cell.values c ≡ Some v → access_of from ≡ Some object.cell.access → selected_kind known.program.types from c ≡ Some to → typed.Fits known.program (cells_of s.heap) (to ∷ kinds) k → WalksOn s.heap a.places (at_path root cs spot) (Names o) (c ∷ []) → Working known s.heap a.places s.masters (Takes known s.heap a.places (value_of (at_path root cs spot)) k) → ReadyIn known Running k s.heap a.places (v ∷ below) s.masters
+  module _ (whole : Bool) (root : ℕ) (cs : List ℕ) (spot : Spot) (below : List Value) where
+    at_last : (o : Id) (object : Object) (c : ℕ) (v : Value) (from : Option VariableKind) (to : VariableKind) (kinds : List VariableKind) → object_at s.heap o ≡ Some object → object.listed ≡ true → slice_get object.cell.values c ≡ Some v → access_of from ≡ Some object.cell.access → selected_kind known.program.types from c ≡ Some to → typed.Fits known.program (cells_of s.heap) (to ∷ kinds) k → WalksOn s.heap a.places (at_path whole root cs spot) (Names o) (c ∷ []) → Working known s.heap a.places s.masters (Takes known s.heap a.places (value_of (at_path whole root cs spot)) k) → ReadyIn known Running k s.heap a.places (v ∷ below) s.masters
     at_last o object c v from to kinds found listed at own leads fits walks w = go cs walks w
       where
-        go : (ds : List ℕ) → WalksOn s.heap a.places (at_path root ds spot) (Names o) (c ∷ []) → Working known s.heap a.places s.masters (Takes known s.heap a.places (value_of (at_path root ds spot)) k) → ReadyIn known Running k s.heap a.places (v ∷ below) s.masters
+        go : (ds : List ℕ) → WalksOn s.heap a.places (at_path whole root ds spot) (Names o) (c ∷ []) → Working known s.heap a.places s.masters (Takes known s.heap a.places (value_of (at_path whole root ds spot)) k) → ReadyIn known Running k s.heap a.places (v ∷ below) s.masters
         go [] walks' w' = absurd (cc (walks'.1))
-        go (d ∷ ds) walks' w' = take_ready root spot o object c v found listed at d ds to kinds below (selected_of known.program.types from object c to own leads) walks' fits w'
+        go (d ∷ ds) walks' w' = take_ready whole root spot o object c v found listed at d ds to kinds below (selected_of known.program.types from object c to own leads) walks' fits w'
 
-    moved_on : (o : Id) (object : Object) (c : ℕ) (ds : List ℕ) (v : Value) (from : Option VariableKind) (to : VariableKind) (kinds : List VariableKind) → object_at s.heap o ≡ Some object → object.listed ≡ true → slice_get object.cell.values c ≡ Some v → access_of from ≡ Some object.cell.access → selectors_kind known.program.types from (c ∷ ds) ≡ Some to → typed.Fits known.program (cells_of s.heap) (to ∷ kinds) k → WalksOn s.heap a.places (at_path root cs spot) (Names o) (c ∷ ds) → (w : Working known s.heap a.places s.masters (Takes known s.heap a.places (value_of (at_path root cs spot)) k)) → MayRaise known true ConstraintError k w.rooms w.holds → Stepped known s.heap (Followed (Names o)) (reading named ds v (running k (record a { operands = below }) rest s))
+    moved_on : (o : Id) (object : Object) (c : ℕ) (ds : List ℕ) (v : Value) (from : Option VariableKind) (to : VariableKind) (kinds : List VariableKind) → object_at s.heap o ≡ Some object → object.listed ≡ true → slice_get object.cell.values c ≡ Some v → access_of from ≡ Some object.cell.access → selectors_kind known.program.types from (c ∷ ds) ≡ Some to → typed.Fits known.program (cells_of s.heap) (to ∷ kinds) k → WalksOn s.heap a.places (at_path whole root cs spot) (Names o) (c ∷ ds) → (w : Working known s.heap a.places s.masters (Takes known s.heap a.places (value_of (at_path whole root cs spot)) k)) → MayRaise known true ConstraintError k w.rooms w.holds → Stepped known s.heap (Followed (Names o)) (reading named ds v (running k (record a { operands = below }) rest s))
     moved_on o object c [] v from to kinds found listed at own leads fits walks w raise =
         stays known (Followed (Names o)) (running k (record a { operands = v ∷ below }) rest s)
         (tt, at_last o object c v from to kinds found listed at own leads fits walks w)
@@ -276,14 +276,14 @@ module _ (known : Known) (k : Control) (a : Activation Value) (rest : List (Acti
     moved_on o object c (d ∷ ds) v from to kinds found listed at own leads fits walks w raise =
         let seen : walk s.heap (Names o) (c ∷ front (d ∷ ds)) ≡ walk s.heap v (front (d ∷ ds)) = walk_on s.heap o object c (front (d ∷ ds)) v found ((w.stored.sane o object found).listed_exists listed) at in
         stays known (Followed (Names o)) (running (Follows (d ∷ ds) ∷ k) (record a { operands = v ∷ below }) rest s)
-        (tt, inl (at_work w (component_follows o object c v refl found listed at w.fit, inr (raise, inr (inl (at_path root cs spot, (walks.0 ∙ seen, walks.1), w.rest))))))
+        (tt, inl (at_work w (component_follows o object c v refl found listed at w.fit, inr (raise, inr (inl (at_path whole root cs spot, (walks.0 ∙ seen, walks.1), w.rest))))))
         (record { id = o; object = object; is = refl; found = found; out = exists_out o object found ((w.stored.sane o object found).listed_exists listed) w.stored })
 
-    moved_component : (o : Id) (object : Object) (c : ℕ) (ds : List ℕ) (found_value : Option Value) (from : Option VariableKind) (to : VariableKind) (kinds : List VariableKind) → slice_get object.cell.values c ≡ found_value → object_at s.heap o ≡ Some object → object.listed ≡ true → access_of from ≡ Some object.cell.access → selectors_kind known.program.types from (c ∷ ds) ≡ Some to → typed.Fits known.program (cells_of s.heap) (to ∷ kinds) k → WalksOn s.heap a.places (at_path root cs spot) (Names o) (c ∷ ds) → (w : Working known s.heap a.places s.masters (Takes known s.heap a.places (value_of (at_path root cs spot)) k)) → MayRaise known true ConstraintError k w.rooms w.holds → Fine known s.heap s.masters (component_next named (Names o) ds found_value (running k (record a { operands = below }) rest s))
+    moved_component : (o : Id) (object : Object) (c : ℕ) (ds : List ℕ) (found_value : Option Value) (from : Option VariableKind) (to : VariableKind) (kinds : List VariableKind) → slice_get object.cell.values c ≡ found_value → object_at s.heap o ≡ Some object → object.listed ≡ true → access_of from ≡ Some object.cell.access → selectors_kind known.program.types from (c ∷ ds) ≡ Some to → typed.Fits known.program (cells_of s.heap) (to ∷ kinds) k → WalksOn s.heap a.places (at_path whole root cs spot) (Names o) (c ∷ ds) → (w : Working known s.heap a.places s.masters (Takes known s.heap a.places (value_of (at_path whole root cs spot)) k)) → MayRaise known true ConstraintError k w.rooms w.holds → Fine known s.heap s.masters (component_next named (Names o) ds found_value (running k (record a { operands = below }) rest s))
     moved_component o object c ds None from to kinds at found listed own leads fits walks w raise = tt
     moved_component o object c ds (Some v) from to kinds at found listed own leads fits walks w raise = moved_on o object c ds v from to kinds found listed at own leads fits walks w raise
 
-    moves_fine : (c : ℕ) (ds : List ℕ) (u : Value) (from : Option VariableKind) (to : VariableKind) (kinds : List VariableKind) → MayFollow s.heap u → ((o : Id) (object : Object) → u ≡ Names o → object_at s.heap o ≡ Some object → access_of from ≡ Some object.cell.access) → selectors_kind known.program.types from (c ∷ ds) ≡ Some to → typed.Fits known.program (cells_of s.heap) (to ∷ kinds) k → WalksOn s.heap a.places (at_path root cs spot) u (c ∷ ds) → (w : Working known s.heap a.places s.masters (Takes known s.heap a.places (value_of (at_path root cs spot)) k)) → MayRaise known true ConstraintError k w.rooms w.holds → Fine known s.heap s.masters (follow_next named u c ds (look s.heap u) (running k (record a { operands = below }) rest s))
+    moves_fine : (c : ℕ) (ds : List ℕ) (u : Value) (from : Option VariableKind) (to : VariableKind) (kinds : List VariableKind) → MayFollow s.heap u → ((o : Id) (object : Object) → u ≡ Names o → object_at s.heap o ≡ Some object → access_of from ≡ Some object.cell.access) → selectors_kind known.program.types from (c ∷ ds) ≡ Some to → typed.Fits known.program (cells_of s.heap) (to ∷ kinds) k → WalksOn s.heap a.places (at_path whole root cs spot) u (c ∷ ds) → (w : Working known s.heap a.places s.masters (Takes known s.heap a.places (value_of (at_path whole root cs spot)) k)) → MayRaise known true ConstraintError k w.rooms w.holds → Fine known s.heap s.masters (follow_next named u c ds (look s.heap u) (running k (record a { operands = below }) rest s))
     moves_fine c ds Null from to kinds follows own leads fits walks w raise = jumps_less known k (record a { operands = below }) rest s (Raising ConstraintError) (at_work w (raise refl))
     moves_fine c ds (Names o) from to kinds follows own leads fits walks w raise =
         rw (follows.1, (w.stored.sane o follows.0 follows.1).listed_exists follows.2)
@@ -291,14 +291,14 @@ module _ (known : Known) (k : Control) (a : Activation Value) (rest : List (Acti
     moves_fine c ds (Scalar n) from to kinds follows own leads fits walks w raise = tt
 
   -- What is moved is a variable's value, or a component's.
-  value_fine : (root : ℕ) (cs : List ℕ) (spot : Spot) (kinds : List VariableKind) → typed.Fits known.program (cells_of s.heap) kinds (Evaluates (value_of (at_path root cs spot)) ∷ k) → Working known s.heap a.places s.masters (Takes known s.heap a.places (value_of (at_path root cs spot)) k) → Fine known s.heap s.masters (path_next named cs (place_at a.places root) (running k a rest s))
-  value_fine root [] spot kinds fits w = ready_on known k a rest s (place_at a.places root ∷ a.operands) (variable_ready root spot kinds fits w)
-  value_fine root (c ∷ cs) spot kinds (kind, takes, fits) w =
-      let kept = kept_root known k s.heap a.places s.masters root c cs spot w in
-      moves_fine root (c ∷ cs) spot a.operands c cs (place_at a.places root) (variable_kind known.program.variables root) kind kinds
+  value_fine : (whole : Bool) (root : ℕ) (cs : List ℕ) (spot : Spot) (kinds : List VariableKind) → typed.Fits known.program (cells_of s.heap) kinds (Evaluates (value_of (at_path whole root cs spot)) ∷ k) → Working known s.heap a.places s.masters (Takes known s.heap a.places (value_of (at_path whole root cs spot)) k) → Fine known s.heap s.masters (path_next named cs (place_at a.places root) (running k a rest s))
+  value_fine whole root [] spot kinds fits w = ready_on known k a rest s (place_at a.places root ∷ a.operands) (variable_ready whole root spot kinds fits w)
+  value_fine whole root (c ∷ cs) spot kinds (kind, takes, fits) w =
+      let kept = kept_root known k s.heap a.places s.masters whole root c cs spot w in
+      moves_fine whole root (c ∷ cs) spot a.operands c cs (place_at a.places root) (variable_kind known.program.variables root) kind kinds
       (root_follows root spot kept.0 w.fit)
       (λ o object is found. root_access w.fit root spot o object kept.0 is found)
-      (path_goes known.program kind root (c ∷ cs) spot takes) fits (refl, refl) w (λ may. kept.1)
+      (path_goes known.program kind whole root (c ∷ cs) spot takes) fits (refl, refl) w (λ may. kept.1)
 
   -- The component that the object goes to, if it goes to one; that no item breaks a rule; and what an allocator leads to.
   abbrev Allocated_to : ℕ → List ItemForm → Control → Rooms → Holds → Type 0
@@ -431,7 +431,7 @@ module _ (known : Known) (k : Control) (a : Activation Value) (rest : List (Acti
   -- What is assigned is evaluated.
   pub right_fine : (types : List TypeDefinition) → Reaches known types → (right : RightForm) (kinds : List VariableKind) → typed.Fits known.program (cells_of s.heap) kinds (Evaluates right ∷ k) → EvaluatesTo known right k s.heap a.places s.masters → Fine known s.heap s.masters (right_next named types right (running k a rest s))
   right_fine types reaches nothing kinds fits e = ready_on known k a rest s (Null ∷ a.operands) (nothing_ready e)
-  right_fine types reaches (value_of path) kinds fits w = value_fine path.root path.selectors path.spot kinds fits w
+  right_fine types reaches (value_of path) kinds fits w = value_fine path.of_record path.root path.selectors path.spot kinds fits w
   right_fine types reaches (allocates access items) kinds (kind, takes, fits) w =
       let h = allocating access items kind kinds takes fits w.rooms w.holds w.rest in
       ready_on known (Fills items ∷ Creates access (length items) ∷ k) a rest s a.operands
@@ -455,7 +455,7 @@ module _ (known : Known) (k : Control) (a : Activation Value) (rest : List (Acti
   moving (c ∷ ds) v below kinds fits computed follows w raise =
       let t = followed_kind kinds (c ∷ ds) v below fits computed in
       let m = w.rest in
-      moves_fine m.0.root m.0.selectors m.0.spot below c ds v (Some t.0) t.1 t.2 follows t.3 t.4 t.5 m.1 (at_work w m.2) raise
+      moves_fine m.0.of_record m.0.root m.0.selectors m.0.spot below c ds v (Some t.0) t.1 t.2 follows t.3 t.4 t.5 m.1 (at_work w m.2) raise
 
   -- A path is followed.
   pub follows_fine : (cs : List ℕ) (v : Value) (below : List Value) (kinds : List VariableKind) → typed.Fits known.program (cells_of s.heap) kinds (Follows cs ∷ k) → AreComputed (cells_of s.heap) kinds (v ∷ below) → (Working known s.heap a.places s.masters (FollowsFor known s.heap a.places v below cs k) ⊎ HalfFollows known v cs k s.heap a.places s.masters) → Fine known s.heap s.masters (path_next named cs v (running k (record a { operands = below }) rest s))

@@ -85,16 +85,16 @@ abbrev pub program_of : (statements : List Stmt) → length statements ≤ 8 →
 program_of statements le = handled_program_of statements le [] (omega arith)
 
 abbrev pub x : Path
-x = record { root = record { 0 = 0 }; selectors = vec [] (omega arith); spot = spot }
+x = record { root = record { 0 = 0 }; of_record = false; selectors = vec [] (omega arith); spot = spot }
 
 abbrev pub y : Path
-y = record { root = record { 0 = 1 }; selectors = vec [] (omega arith); spot = spot }
+y = record { root = record { 0 = 1 }; of_record = false; selectors = vec [] (omega arith); spot = spot }
 
 abbrev pub value_of_x : Path
-value_of_x = record { root = record { 0 = 0 }; selectors = vec (record { 0 = 0 } ∷ []) (omega arith); spot = spot }
+value_of_x = record { root = record { 0 = 0 }; of_record = false; selectors = vec (record { 0 = 0 } ∷ []) (omega arith); spot = spot }
 
 abbrev pub value_of_y : Path
-value_of_y = record { root = record { 0 = 1 }; selectors = vec (record { 0 = 0 } ∷ []) (omega arith); spot = spot }
+value_of_y = record { root = record { 0 = 1 }; of_record = false; selectors = vec (record { 0 = 0 } ∷ []) (omega arith); spot = spot }
 
 -- X := new Cell'(Value => 7); and the same with 8
 abbrev pub x_is_seven : Stmt
@@ -234,7 +234,7 @@ abbrev pub boxed : Expression → Box Expression
 boxed e = record { ptr = null_ptr; alloc = heap; value = e }
 
 abbrev pub n : Path
-n = record { root = record { 0 = 2 }; selectors = vec [] (omega arith); spot = spot }
+n = record { root = record { 0 = 2 }; of_record = false; selectors = vec [] (omega arith); spot = spot }
 
 -- An expression, an operator and a number.
 abbrev pub with_number : BinaryOperator → ℕ → Expression → Expression

@@ -174,7 +174,7 @@ unwinds =
 
 -- N, and I of the loop
 abbrev i : Path
-i = record { root = record { 0 = 3 }; selectors = vec [] (omega arith); spot = spot }
+i = record { root = record { 0 = 3 }; of_record = false; selectors = vec [] (omega arith); spot = spot }
 
 abbrev an_integer : Variable
 an_integer = record { name = no_name; kind = variable.Integer; borrows = false }

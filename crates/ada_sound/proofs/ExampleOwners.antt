@@ -58,7 +58,7 @@ program_with types few statements le = record {
 
 -- A path: a variable, and components behind it.
 abbrev pub path : ℕ → (selectors : List ComponentNo) → length selectors ≤ 8 → Path
-path x selectors le = record { root = record { 0 = x }; selectors = vec selectors le; spot = spot }
+path x selectors le = record { root = record { 0 = x }; of_record = false; selectors = vec selectors le; spot = spot }
 
 abbrev pub whole : ℕ → Path
 whole x = path x [] (omega arith)

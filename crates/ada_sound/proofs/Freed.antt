@@ -17,6 +17,7 @@ use Rattle.ada_flow.specs.Flow.{Holds, hold_at, faults, goes, ends_with, Breach,
 use Rattle.ada_sound.specs.Agreement.{IsOwner}
 use Rattle.ada_sound.specs.Owners.{OwnsNothing, RaisedFreeLeavesNoAlias, FreedLiesOffItsWay, LostIsNotFreedBehind, OnlyOwnersAreFreed, FreedOwnsNothing, FreeLeavesNoAlias}
 use Rattle.ada_sound.proofs.Values.{read_same, read_other, same_or_not}
+use Rattle.ada_sound.proofs.Assigned.{access_from}
 use Rattle.ada_sound.proofs.Moves.{set_nothing}
 
 -- Free (X): only an owner frees.
@@ -101,7 +102,7 @@ none_after : (types : List TypeForm) (variables : List VariableForm) (t : ℕ) (
 none_after types variables t path [] holds after raising is e own =
     let y = path.root in
     let same : freed variables y holds ≡ after = cc ((freed_goes variables y path.spot holds (Some after) raising (hold_at holds y) e).0) in
-    let access : variable_access variables y ≡ Some t = rw is at own in
+    let access : variable_access variables y ≡ Some t = rw is at (access_from types variables path t own) in
     rw (← same) (none_once_null variables t y (behind_end variables (variable_access variables y) holds) (none_behind variables t (variable_access variables y) holds access))
 none_after types variables t path (c ∷ cs) holds after raising is e own =
     let access = path_access types variables path in

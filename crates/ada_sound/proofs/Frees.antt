@@ -1,11 +1,13 @@
 -- Free (X).
 
-use Rattle.std.proofs.Common.{◌≡◌, ℕ, List, ◌∷◌, refl, inl}
+use Rattle.std.proofs.Common.{◌≡◌, ℕ, true, List, ◌∷◌, refl, sym, inl}
+use Rattle.std.specs.Prelude.{Some, None}
 use Rattle.ada_text.specs.declared.spot.Spot.{Spot}
 use Rattle.ada_program.specs.Form.{StmtsForm}
 use Rattle.ada_flow.specs.declared.rule.Hold.{Hold}
 use Rattle.ada_flow.specs.declared.rule.Hold.TheVariants as hold
-use Rattle.ada_flow.specs.Flow.{Holds, hold_at, variable_access, freed, released}
+use Rattle.ada_program.specs.WellFormed.{is_access}
+use Rattle.ada_flow.specs.Flow.{Holds, hold_at, variable_access, lost_by, freed, released}
 use Rattle.ada_meaning.specs.declared.state.Value.{Value}
 use Rattle.ada_meaning.specs.declared.state.Value.TheVariants.{Null, Names, Scalar}
 use Rattle.ada_meaning.specs.Frame.{Does}
@@ -17,10 +19,18 @@ use Rattle.ada_sound.proofs.Fits.{IsOwn, IsBlank, place_at, null_fit, behind_fit
 use Rattle.ada_sound.proofs.Objects.{set_here}
 use Rattle.ada_sound.proofs.Stored.{stored_part}
 use Rattle.ada_sound.proofs.Alters.{alters_set}
-use Rattle.ada_sound.proofs.Invariant.{Known, Control, Rooms, Goes, RunsOn, Working, Stepped, Fine}
+use Rattle.ada_sound.proofs.Taken.{root_access}
+use Rattle.ada_sound.proofs.Invariant.{Pooled, Known, Control, Rooms, Goes, RunsOn, Working, Stepped, Fine}
 use Rattle.ada_sound.proofs.Ready.{running, runs_on}
 
-module _ (known : Known) (a : Activation Value) (rest : List (Activation Value)) (s : State) (access x : ℕ) (spot : Spot) (fs : StmtsForm) (k : Control) (raised : Rooms → Holds → Type 0) (w : Working known s.heap a.places s.masters (λ rooms holds. Goes (released known.program.variables x spot holds (hold_at holds x)) (RunsOn known (Does fs ∷ k) rooms) (raised rooms))) where
+-- An owner is not lost.
+own_kept : (h : Hold) (spot : Spot) → IsOwn h → lost_by h spot ≡ None
+own_kept hold.Null spot own = absurd own
+own_kept (hold.Own r) spot own = refl
+own_kept (hold.Alias r) spot own = absurd own
+own_kept hold.Lost spot own = absurd own
+
+module _ (known : Known) (a : Activation Value) (rest : List (Activation Value)) (s : State) (access x : ℕ) (spot : Spot) (fs : StmtsForm) (k : Control) (raised : Rooms → Holds → Type 0) (pooled : Pooled known.program.types s.heap) (own_type : ℕ) (of_type : variable_access known.program.variables x ≡ Some own_type) (is_type : is_access known.program.types own_type ≡ true) (w : Working known s.heap a.places s.masters (λ rooms holds. Goes (released known.program.variables x spot holds (hold_at holds x)) (RunsOn known (Does fs ∷ k) rooms) (raised rooms))) where
   -- X is null: nothing happens.
   free_null : place_at a.places x ≡ Null → RunsOn known (Does fs ∷ k) w.rooms (freed known.program.variables x w.holds) → Stepped known s.heap Quiet (running (Does fs ∷ k) a rest s)
   free_null is more = runs_on known (Does fs ∷ k) a rest s (record { rooms = w.rooms; holds = freed known.program.variables x w.holds; stored = w.stored; roomed = w.roomed; fit = null_fit x is (behind_fit (variable_access known.program.variables x) w.fit); rest = more }) Quiet tt
@@ -33,6 +43,8 @@ module _ (known : Known) (a : Activation Value) (rest : List (Activation Value))
       let there = after.2 in
       let found = there.1 in
       let exists = (w.stored.sane o there.0 found).listed_exists there.2 in
+      let named = root_access w.fit x spot o there.0 (own_kept (hold_at w.holds x) spot own) is found in
+      let one : own_type ≡ there.0.cell.access = cc (of_type, named) in
       rw (found, exists) (rw found (record {
         ready = (
           tt,
@@ -44,7 +56,7 @@ module _ (known : Known) (a : Activation Value) (rest : List (Activation Value))
             stored = stored_part o there.0 found w.stored;
             rest = (
               refl,
-              refl,
+              sym (pooled o there.0 found (rw (← one) is_type)),
               record {
                 rooms = w.rooms;
                 holds = freed known.program.variables x w.holds;

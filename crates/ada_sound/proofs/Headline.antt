@@ -62,7 +62,7 @@ module _ (program : Program) (accepted : IsChecked program) where
   pub housed : InEveryRun program OutsAreHoused
   housed input events last run o x found out =
       let stored = runs.stored_in program last (sound_last input events last run) in
-      let i = items.contains_item x.cell.home.item x.cell.access (items_of last.masters) ((stored.1.sane o x found).housed out) in
+      let i = items.contains_item x.cell.home.item x.cell.access x.cell.home.pool (items_of last.masters) ((stored.1.sane o x found).housed out) in
       (i.0, i.1, i.2)
 
   pub ends_clean : EndsClean program

@@ -9,7 +9,7 @@ use Rattle.ada_program.specs.Form.{PathForm, ExpressionForm, ItemForm, null_item
 use Rattle.ada_program.specs.declared.program.ComponentKind.{ComponentKind}
 use Rattle.ada_program.specs.ProgramForm.{TypeForm, VariableForm, ProgramForm}
 use Rattle.ada_program.specs.declared.program.VariableKind.{VariableKind}
-use Rattle.ada_program.specs.WellFormed.{access_of, selectors_kind, reached_components, items_fit}
+use Rattle.ada_program.specs.WellFormed.{is_access, access_of, selectors_kind, reached_components, items_fit}
 use Rattle.ada_program.specs.Handling.{is_same, handler_of}
 use Rattle.ada_effects.specs.Effects.{expression_raises, links_raise, items_raise, condition_raises, unary_raises, binary_raises, right_raises, declaration_raises, stmts_raise, branches_raise, handlers_raise}
 use Rattle.ada_flow.specs.declared.rule.Hold.TheVariants as hold
@@ -27,8 +27,8 @@ use Rattle.ada_meaning.specs.declared.event.Halt.{Halt}
 use Rattle.ada_meaning.specs.declared.event.Halt.TheVariants.{Finished, Unhandled, Erroneous, Stuck, Memory}
 use Rattle.ada_meaning.specs.Frame.{Frame, Elaborates, Does, Decides, Repeats, Turns, Ranges, Counts, Exits, Handles, Closes, Leaves, Evaluates, Computes, Follows, TestsNull, Continues, Applies, AppliesAlone, Fills, Creates, Stores, Targets, StoresIn, Receives, FreesIn, Declares, Writes, Ends, GivesBack, Clears, ClearsIn}
 use Rattle.ada_meaning.specs.Event.{Born, Finalized, Back, Followed, Left, Line, Quiet}
-use Rattle.ada_meaning.specs.State.{Activation, Owned, declared, collection, Item, Master}
-use Rattle.ada_meaning.specs.Heap.{finds}
+use Rattle.ada_meaning.specs.State.{Activation, Owned, declared, collection, record_object, Item, Master}
+use Rattle.ada_meaning.specs.Heap.{Home, finds}
 use Rattle.ada_meaning.specs.Step.{halts, moves, tells, asks, picks, first_or, older, before_last, last_of, places, operands}
 use Rattle.ada_meaning.specs.Named.{Object, State, Next, object_at, store}
 use Rattle.ada_meaning.specs.Run.{Event}
@@ -52,13 +52,14 @@ pub record Known : Type 1 where
   pub program : ProgramForm
   pub At : Control → Holds → Type 0
 
--- The access types of the collections that each master may own, innermost first.
+-- The types of the collections and the record objects that each master may own, innermost first.
 abbrev pub Rooms : Type 0
 Rooms = List (List ℕ)
 
 abbrev pub OwnedAmong : Owned → List ℕ → Type 0
 OwnedAmong (declared x) types = Unit {0}
 OwnedAmong (collection access) types = is_among types (Some access) ≡ true
+OwnedAmong (record_object t) types = is_among types (Some t) ≡ true
 
 abbrev pub ItemsAmong : List Item → List ℕ → Type 0
 ItemsAmong [] types = Unit {0}
@@ -425,6 +426,10 @@ abbrev pub PassesNone : List TypeForm → Option VariableKind → List ℕ → O
 PassesNone types kind cs None = Unit {0}
 PassesNone types kind cs (Some t) = passes_type types kind cs t ≡ false
 
+-- An object of an access type is from the standard pool.
+abbrev pub Pooled : List TypeForm → List Object → Type 0
+Pooled types heap = (o : Id) (object : Object) → object_at heap o ≡ Some object → is_access types object.cell.access ≡ true → object.cell.home.pool ≡ Some 0
+
 -- A component is to be freed (13.11.2) to which these selectors lead, and this one behind them: no value on the way is of its access type, whose
 -- aliases are lost then, and where an exception is raised.
 pub record Releasing (known : Known) (heap : List Object) (v : Value) (cs : List ℕ) (c : ℕ) (k : Control) (rooms : Rooms) (holds : Holds) : Type 0 where
@@ -433,6 +438,7 @@ pub record Releasing (known : Known) (heap : List Object) (v : Value) (cs : List
   pub is_from : OfKind heap v from
   pub passes : PassesNone known.program.types from (cs ++ c ∷ []) access
   pub of_type : access_of (selectors_kind known.program.types from (cs ++ c ∷ [])) ≡ access
+  pub own : (t : ℕ) → access ≡ Some t → is_access known.program.types t ≡ true
   pub raises : MayRaise known true ConstraintError k rooms (behind_end known.program.variables access holds)
   pub runs : RunsOn known k rooms (behind_end known.program.variables access holds)
 
@@ -527,10 +533,10 @@ Behind known (Freeing number) home heap places masters k = ClearsTo known heap p
 Behind known (Assigning number) home heap places masters k = ⊥
 Behind known (Undoing number) home heap places masters k = ⊥
 
--- Its words go back next to the standard pool.
-abbrev pub ThenBack : Known → Id → (home : ℕ) → List Object → List Value → List Master → Control → Type 0
+-- Its words go back next to the pool of its home.
+abbrev pub ThenBack : Known → Id → Home → List Object → List Value → List Master → Control → Type 0
 ThenBack known o home heap places masters [] = ⊥
-ThenBack known o home heap places masters (GivesBack (Names p) cause pool ∷ k) = (p ≡ o) × (pool ≡ 0) × Behind known cause home heap places masters k
+ThenBack known o home heap places masters (GivesBack (Names p) cause pool ∷ k) = (p ≡ o) × (pool ≡ home.pool) × Behind known cause home.item heap places masters k
 ThenBack known o home heap places masters (f ∷ k) = ⊥
 
 -- An object is to cease to exist.
@@ -540,7 +546,7 @@ pub record Ending (known : Known) (o : Id) (k : Control) (heap : List Object) (p
   pub exists : object.stage ≡ Existing
   pub parted : object.listed ≡ false
   pub stored : Stored (Some o) heap masters
-  pub rest : ThenBack known o object.cell.home.item heap places masters k
+  pub rest : ThenBack known o object.cell.home heap places masters k
 
 abbrev pub EndingBy : Known → Value → Control → List Object → List Value → List Master → Type 0
 EndingBy known Null k heap places masters = ⊥
@@ -548,16 +554,16 @@ EndingBy known (Names o) k heap places masters = Ending known o k heap places ma
 EndingBy known (Scalar v) k heap places masters = ⊥
 
 -- The words of an object are to go back.
-pub record Backing (known : Known) (o : Id) (cause : Cause) (pool : ℕ) (k : Control) (heap : List Object) (places : List Value) (masters : List Master) : Type 0 where
+pub record Backing (known : Known) (o : Id) (cause : Cause) (pool : Option ℕ) (k : Control) (heap : List Object) (places : List Value) (masters : List Master) : Type 0 where
   pub object : Object
   pub found : object_at heap o ≡ Some object
   pub gone : object.stage ≡ Gone
   pub out : object.out ≡ true
-  pub standard : pool ≡ 0
+  pub own : pool ≡ object.cell.home.pool
   pub stored : Stored (Some o) heap masters
   pub rest : Behind known cause object.cell.home.item heap places masters k
 
-abbrev pub BackingBy : Known → Value → Cause → ℕ → Control → List Object → List Value → List Master → Type 0
+abbrev pub BackingBy : Known → Value → Cause → Option ℕ → Control → List Object → List Value → List Master → Type 0
 BackingBy known Null cause pool k heap places masters = ⊥
 BackingBy known (Names o) cause pool k heap places masters = Backing known o cause pool k heap places masters
 BackingBy known (Scalar v) cause pool k heap places masters = ⊥
@@ -698,7 +704,7 @@ abbrev pub Ready : Known → State → Type 0
 Ready known s = IsActive s.activations × ReadyIn known s.mode s.control s.heap (places s) (operands s) s.masters
 
 -- The words of an object go back.
-pub record GoesBack (v : Value) (access number pool : ℕ) (subpool : Option ℕ) (leaving : Option AtItem) (before : List Object) (after : State) : Type 0 where
+pub record GoesBack (v : Value) (access number : ℕ) (pool subpool : Option ℕ) (leaving : Option AtItem) (before : List Object) (after : State) : Type 0 where
   pub id : Id
   pub object : Object
   pub is : v ≡ Names id

@@ -6,7 +6,7 @@ use Rattle.std.specs.Prelude.{Option, Some, None, if◌then◌else◌, ◌==◌}
 use Rattle.std.specs.List.{All, AllPairs, Contains}
 use Rattle.std.proofs.lemmas.List.Elements.{All-nil, All-cons}
 use Rattle.std.proofs.lemmas.List.Kept.{AllPairs-cons}
-use Rattle.ada_meaning.specs.State.{Owned, declared, collection, Item, Master, height, collection_in, home_among, home_of}
+use Rattle.ada_meaning.specs.State.{Owned, declared, collection, record_object, type_housed, Item, Master, height, collection_in, home_among, home_of}
 use Rattle.ada_meaning.specs.Step.{owning}
 use Rattle.ada_meaning.specs.Law.{items_of, Falls}
 
@@ -19,14 +19,25 @@ abbrev pub NoMaster : List Master → Type 0
 NoMaster [] = Unit {0}
 NoMaster (m ∷ ms) = ⊥
 
--- The collection of this number and of this access type is among these items.
-abbrev pub HasItem : (n access : ℕ) → List Item → Type 0
-HasItem n access [] = ⊥
-HasItem n access (i ∷ is) = ((i.number ≡ n) × (i.owned ≡ collection access)) ⊎ HasItem n access is
+-- An item that owns this is the home of objects of this type, and they are from this pool: a collection, or a record object.
+abbrev pub Houses : Owned → (access : ℕ) → (pool : Option ℕ) → Type 0
+Houses (declared x) access pool = ⊥
+Houses (collection t) access pool = (t ≡ access) × (pool ≡ Some 0)
+Houses (record_object t) access pool = (t ≡ access) × (pool ≡ None)
 
-pub has_after : (n access : ℕ) (is js : List Item) → HasItem n access js → HasItem n access (is ++ js)
-has_after n access [] js h = h
-has_after n access (i ∷ is) js h = inr (has_after n access is js h)
+pub houses_type : (owned : Owned) (access : ℕ) (pool : Option ℕ) → Houses owned access pool → type_housed owned ≡ Some access
+houses_type (declared x) access pool h = absurd h
+houses_type (collection t) access pool h = ap Some h.0
+houses_type (record_object t) access pool h = ap Some h.0
+
+-- The item of this number is among these, and is the home of such objects.
+abbrev pub HasItem : (n access : ℕ) (pool : Option ℕ) → List Item → Type 0
+HasItem n access pool [] = ⊥
+HasItem n access pool (i ∷ is) = ((i.number ≡ n) × Houses i.owned access pool) ⊎ HasItem n access pool is
+
+pub has_after : (n access : ℕ) (pool : Option ℕ) (is js : List Item) → HasItem n access pool js → HasItem n access pool (is ++ js)
+has_after n access pool [] js h = h
+has_after n access pool (i ∷ is) js h = inr (has_after n access pool is js h)
 
 -- All items are counted.
 pub height_is : (ms : List Master) → height ms ≡ length (items_of ms)
@@ -38,16 +49,16 @@ pub counted_owning : (owned : Owned) (ms : List Master) → Counted (items_of ms
 counted_owning owned [] c = c
 counted_owning owned (m ∷ ms) c = (height_is (m ∷ ms), c)
 
-pub has_owning : (n access : ℕ) (item : Item) (ms : List Master) → HasItem n access (items_of ms) → HasItem n access (items_of (owning item ms))
-has_owning n access item [] h = h
-has_owning n access item (m ∷ ms) h = inr h
+pub has_owning : (n access : ℕ) (pool : Option ℕ) (item : Item) (ms : List Master) → HasItem n access pool (items_of ms) → HasItem n access pool (items_of (owning item ms))
+has_owning n access pool item [] h = h
+has_owning n access pool item (m ∷ ms) h = inr h
 
 -- The collection that an access type denotes is an item, and is of that type.
 HasSome : ℕ → Option ℕ → List Item → Type 0
 HasSome access None is = Unit {0}
-HasSome access (Some n) is = HasItem n access is
+HasSome access (Some n) is = HasItem n access (Some 0) is
 
-has_one : (access : ℕ) (b : Bool) (n : ℕ) (is : List Item) (outer : Option ℕ) → (b ≡ true → HasItem n access is) → HasSome access outer is → HasSome access (if b then Some n else outer) is
+has_one : (access : ℕ) (b : Bool) (n : ℕ) (is : List Item) (outer : Option ℕ) → (b ≡ true → HasItem n access (Some 0) is) → HasSome access outer is → HasSome access (if b then Some n else outer) is
 unfolding HasSome
 has_one access true n is outer h o = h refl
 has_one access false n is outer h o = o
@@ -59,7 +70,8 @@ some_more access i is (Some n) h = inr h
 
 collection_has : (access : ℕ) (i : Item) (owned : Owned) → i.owned ≡ owned → (is : List Item) (outer : Option ℕ) → HasSome access outer (i ∷ is) → HasSome access (collection_in access i owned outer) (i ∷ is)
 collection_has access i (declared x) e is outer o = o
-collection_has access i (collection t) e is outer o = has_one access (access == t) i.number (i ∷ is) outer (λ same. inl (refl, e ∙ ap collection (sym (eqb-true access t same)))) o
+collection_has access i (collection t) e is outer o = has_one access (access == t) i.number (i ∷ is) outer (λ same. inl (refl, rw e (sym (eqb-true access t same), refl))) o
+collection_has access i (record_object t) e is outer o = o
 
 among_has : (access : ℕ) (is js : List Item) (outer : Option ℕ) → HasSome access outer js → HasSome access (home_among access is outer) (is ++ js)
 among_has access [] js outer o = o
@@ -70,20 +82,20 @@ unfolding HasSome
 of_has access [] = tt
 of_has access (m ∷ ms) = among_has access m.items (items_of ms) (home_of access ms) (of_has access ms)
 
-pub home_has : (access item : ℕ) (ms : List Master) → home_of access ms ≡ Some item → HasItem item access (items_of ms)
+pub home_has : (access item : ℕ) (ms : List Master) → home_of access ms ≡ Some item → HasItem item access (Some 0) (items_of ms)
 unfolding HasSome
 home_has access item ms e = rw e at (of_has access ms)
 
 -- Numbers are below the count of items, and fall.
-pub item_below : (n access : ℕ) (is : List Item) → Counted is → HasItem n access is → n < length is
-item_below n access [] c h = absurd h
-item_below n access (i ∷ is) c (inl e) = let at = e.0 in let count = c.0 in omega (arith, at, count)
-item_below n access (i ∷ is) c (inr h) = let less = item_below n access is c.1 h in omega (arith, less)
+pub item_below : (n access : ℕ) (pool : Option ℕ) (is : List Item) → Counted is → HasItem n access pool is → n < length is
+item_below n access pool [] c h = absurd h
+item_below n access pool (i ∷ is) c (inl e) = let at = e.0 in let count = c.0 in omega (arith, at, count)
+item_below n access pool (i ∷ is) c (inr h) = let less = item_below n access pool is c.1 h in omega (arith, less)
 
 -- The item of a number is the only one.
-pub newest_is : (n access : ℕ) (i : Item) (is : List Item) → n ≡ i.number → Counted (i ∷ is) → HasItem n access (i ∷ is) → i.owned ≡ collection access
-newest_is n access i is same c (inl e) = e.1
-newest_is n access i is same c (inr h) = let less = item_below n access is c.1 h in let count = c.0 in absurd (omega (arith, less, count, same))
+pub newest_is : (n access : ℕ) (pool : Option ℕ) (i : Item) (is : List Item) → n ≡ i.number → Counted (i ∷ is) → HasItem n access pool (i ∷ is) → Houses i.owned access pool
+newest_is n access pool i is same c (inl e) = e.1
+newest_is n access pool i is same c (inr h) = let less = item_below n access pool is c.1 h in let count = c.0 in absurd (omega (arith, less, count, same))
 
 all_below : (n : ℕ) (is : List Item) → length is ≤ n → Counted is → All (λ j. j.number < n) is
 all_below n [] le c = All-nil (λ j. j.number < n)
@@ -96,9 +108,9 @@ pub items_fall : (is : List Item) → Counted is → AllPairs Falls is
 items_fall [] c = λ i j d lt short. absurd (omega (arith, short))
 items_fall (i ∷ is) c = AllPairs-cons Falls i is (below_number i is c.0 c.1) (items_fall is c.1)
 
-pub contains_item : (n access : ℕ) (is : List Item) → HasItem n access is → (i : Item) × Contains is i × (i.number ≡ n) × (i.owned ≡ collection access)
-contains_item n access [] h = absurd h
-contains_item n access (i ∷ is) (inl e) = (i, (zero, omega arith, refl), e.0, e.1)
-contains_item n access (i ∷ is) (inr h) =
-    let j = contains_item n access is h in
+pub contains_item : (n access : ℕ) (pool : Option ℕ) (is : List Item) → HasItem n access pool is → (i : Item) × Contains is i × (i.number ≡ n) × (type_housed i.owned ≡ Some access)
+contains_item n access pool [] h = absurd h
+contains_item n access pool (i ∷ is) (inl e) = (i, (zero, omega arith, refl), e.0, houses_type i.owned access pool e.1)
+contains_item n access pool (i ∷ is) (inr h) =
+    let j = contains_item n access pool is h in
     (j.0, (suc j.1.0, omega (arith, j.1.1), j.1.2), j.2, j.3)

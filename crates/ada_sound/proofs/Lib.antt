@@ -58,6 +58,8 @@ pub mod Targets
 pub mod Endings
 -- what Free of a component does
 pub mod Releases
+-- record objects are declared
+pub mod Records
 -- declarations and statements
 pub mod Statements
 -- jumps on their way

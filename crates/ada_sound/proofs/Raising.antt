@@ -14,7 +14,7 @@ use Rattle.ada_values.specs.declared.fault.OperatorFault.TheVariants.{Overflow, 
 use Rattle.ada_values.specs.Outcome.{outcome_of, outcome_of_integers, outcome_of_booleans, unary_outcome_of}
 use Rattle.ada_program.specs.declared.program.Exception.{Exception}
 use Rattle.ada_program.specs.declared.program.Exception.TheVariants.{ConstraintError, ProgramError, StorageError, EndError, Declared}
-use Rattle.ada_program.specs.Form.{RightForm, nothing, value_of, allocates, allocates_default, computes, DeclarationForm, collects, declares, StmtForm, skips, assigns, frees, gets, writes, writes_text, chooses, repeats, counts, exits, returns, raises, encloses, StmtsForm, no_stmts, a_stmt, BranchesForm, otherwise, a_branch, HandlersForm, no_handlers, a_handler}
+use Rattle.ada_program.specs.Form.{RightForm, nothing, value_of, allocates, allocates_default, computes, DeclarationForm, collects, declares, declares_record, StmtForm, skips, assigns, frees, gets, writes, writes_text, chooses, repeats, counts, exits, returns, raises, encloses, StmtsForm, no_stmts, a_stmt, BranchesForm, otherwise, a_branch, HandlersForm, no_handlers, a_handler}
 use Rattle.ada_program.specs.Handling.{is_same, handler_of, is_taken}
 use Rattle.ada_effects.specs.Effects.{expression_raises, condition_raises, items_raise, path_raises, untaken, unary_raises, binary_raises, right_raises, declaration_raises, declarations_raise, stmt_raises, stmts_raise, branches_raise, handlers_raise}
 use Rattle.ada_meaning.specs.declared.state.Value.{Value}
@@ -86,6 +86,7 @@ declarations_more among more m (d ∷ ds) is =
     one : (d : DeclarationForm) → declaration_raises among d ≡ true → declaration_raises more d ≡ true
     one (collects access) i = i
     one (declares x right) i = right_more among more m right i
+    one (declares_record x t) i = i
 
 mutual
   stmt_more : (f : StmtForm) (among more : Exception → Bool) → IsAmong among more → stmt_raises among f ≡ true → stmt_raises more f ≡ true

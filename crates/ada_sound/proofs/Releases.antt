@@ -10,7 +10,7 @@ use Rattle.ada_program.specs.declared.program.Exception.TheVariants.{ConstraintE
 use Rattle.ada_program.specs.declared.program.VariableKind.{VariableKind}
 use Rattle.ada_program.specs.Form.{PathForm, StmtsForm}
 use Rattle.ada_program.specs.ProgramForm.{TypeForm, VariableForm}
-use Rattle.ada_program.specs.WellFormed.{access_of, variable_kind, selectors_kind, path_access, is_this}
+use Rattle.ada_program.specs.WellFormed.{access_of, variable_kind, selectors_kind, path_access, is_this, is_freed_by}
 use Rattle.ada_flow.specs.declared.rule.Hold.{Hold}
 use Rattle.ada_flow.specs.declared.rule.Hold.TheVariants as hold
 use Rattle.ada_flow.specs.Flow.{Holds, hold_at, Breach, lost_by, unless_broken, ends_with, behind_end, passes_own, freed_behind, released_behind, frees_path}
@@ -31,7 +31,8 @@ use Rattle.ada_sound.proofs.Fits.{MayFollow, place_at, component_access, root_fo
 use Rattle.ada_sound.proofs.Objects.{set_here}
 use Rattle.ada_sound.proofs.Stored.{stored_part}
 use Rattle.ada_sound.proofs.Alters.{alters_set}
-use Rattle.ada_sound.proofs.Invariant.{Known, Control, Goes, Raised, RunsOn, PassesNone, Releasing, Working, Stepped, Fine, ways}
+use Rattle.ada_sound.proofs.Assigned.{freed_at}
+use Rattle.ada_sound.proofs.Invariant.{Pooled, Known, Control, Goes, Raised, RunsOn, PassesNone, Releasing, Working, Stepped, Fine, ways}
 use Rattle.ada_sound.proofs.Ready.{running, at_work, stays, runs_ready, jumps_less}
 use Rattle.ada_sound.proofs.Outcomes.{ends_goes}
 use Rattle.ada_sound.proofs.Taken.{root_access}
@@ -70,11 +71,12 @@ passes_none types variables path cs (Some t) is e = rw is at e
 
 module _ (known : Known) (a : Activation Value) (rest : List (Activation Value)) (s : State) where
   -- A Free of a component begins: its object is found first.
-  pub free_begins : (c : ℕ) (cs : List ℕ) (access : ℕ) (path : PathForm) (fs : StmtsForm) (k : Control) (among : Exception → Bool) → among ConstraintError ≡ true → path.selectors ≡ c ∷ cs → Working known s.heap a.places s.masters (λ rooms holds. Goes (frees_path known.program.types known.program.variables (c ∷ cs) path holds) (RunsOn known (Does fs ∷ k) rooms) (Raised among (ways known k rooms))) → Fine known s.heap s.masters (path_next named (before_last c cs) (place_at a.places path.root) (running (FreesIn access (last_of c cs) ∷ Does fs ∷ k) a rest s))
-  free_begins c cs access path fs k among may is w =
+  pub free_begins : (c : ℕ) (cs : List ℕ) (access : ℕ) (path : PathForm) (fs : StmtsForm) (k : Control) (among : Exception → Bool) → among ConstraintError ≡ true → is_freed_by known.program.types access (path_access known.program.types known.program.variables path) ≡ true → path.selectors ≡ c ∷ cs → Working known s.heap a.places s.masters (λ rooms holds. Goes (frees_path known.program.types known.program.variables (c ∷ cs) path holds) (RunsOn known (Does fs ∷ k) rooms) (Raised among (ways known k rooms))) → Fine known s.heap s.masters (path_next named (before_last c cs) (place_at a.places path.root) (running (FreesIn access (last_of c cs) ∷ Does fs ∷ k) a rest s))
+  free_begins c cs access path fs k among may freed is w =
       let types = known.program.types in
       let variables = known.program.variables in
       let own = path_access types variables path in
+      let at = freed_at types variables access path freed in
       let g = released_goes types variables path w.holds own (RunsOn known (Does fs ∷ k) w.rooms) (Raised among (ways known k w.rooms)) w.rest in
       let kept = freed_kept (passes_own types variables path own) (hold_at w.holds path.root) path.spot g.0 in
       let all : path.selectors ≡ before_last c cs ++ last_of c cs ∷ [] = is ∙ sym (front_last c cs) in
@@ -84,13 +86,14 @@ module _ (known : Known) (a : Activation Value) (rest : List (Activation Value))
         access = own;
         is_from = λ o object names found. root_access w.fit path.root path.spot o object kept.0 names found;
         passes = passes_none types variables path (before_last c cs ++ last_of c cs ∷ []) own all kept.1;
-        of_type = ap (λ (ds : List ℕ). access_of (selectors_kind types (variable_kind variables path.root) ds)) (sym all);
+        of_type = ap (λ (ds : List ℕ). access_of (selectors_kind types (variable_kind variables path.root) ds)) (sym all) ∙ (at.2 ∙ sym at.1);
+        own = λ t same. (let one : at.0 ≡ t = let other = at.1 in cc (same, other) in rw (← one) at.3);
         raises = λ e. g.2 ConstraintError may;
         runs = g.1;
       }))
       (root_follows path.root path.spot kept.0 w.fit)
 
-  module _ (access c : ℕ) (k : Control) (below : List Value) where
+  module _ (access c : ℕ) (k : Control) (below : List Value) (pooled : Pooled known.program.types s.heap) where
     -- The component is null: nothing happens.
     null_freed : (o : Id) → IsThere s.heap o → Working known s.heap a.places s.masters (Releasing known s.heap (Names o) [] c k) → Stepped known s.heap (Followed (Names o)) (running k (record a { operands = below }) rest s)
     null_freed o there w =
@@ -133,7 +136,7 @@ module _ (known : Known) (a : Activation Value) (rest : List (Activation Value))
               stored = stored_part p there.object there.found w.stored;
               rest = (
                 refl,
-                refl,
+                sym (pooled p there.object there.found (rw there.access (w.rest.own t is_t))),
                 (
                   (object, elsewhere.0, listed),
                   record {

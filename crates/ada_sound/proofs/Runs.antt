@@ -124,7 +124,7 @@ goes_home Quiet heap after says = tt
 abbrev KeepsObjects : List Object → List Object → Type 0
 KeepsObjects before after = (o : Id) (x : Object) → object_at before o ≡ Some x → (y : Object) × (object_at after o ≡ Some y) × StaysItself x y × (x.out ≡ false → y.out ≡ false)
 
-home_kept_by : (before after : List Object) (o : Option Id) (access number pool : ℕ) (subpool : Option ℕ) (leaving : Option _) → KeepsObjects before after → GoesHome before o access number pool subpool leaving → GoesHome after o access number pool subpool leaving
+home_kept_by : (before after : List Object) (o : Option Id) (access number : ℕ) (pool subpool : Option ℕ) (leaving : Option _) → KeepsObjects before after → GoesHome before o access number pool subpool leaving → GoesHome after o access number pool subpool leaving
 home_kept_by before after None access number pool subpool leaving keeps h = h
 home_kept_by before after (Some o) access number pool subpool leaving keeps h =
     let y = keeps o h.0 h.1 in
@@ -198,7 +198,8 @@ stepped program s choice e after r step = leads_fine (reached program) s.heap s.
 pub sound_step : (program : Program) (s : State) (choice : Choice) (e : Event) (after : State) → Sound program s → Step program s choice e after → Sound program after
 sound_step program s choice e after r step = record {
   ready = (stepped program s choice e after r step).ready;
-  typed = typed_led (program_form program) (next program.types.items s) choice e after (next_fine (program_form program) program.types.items refl s r.typed) step;
+  typed = typed_led (program_form program) (next program.types.items s) choice e after (next_fine (program_form program) r.well program.types.items refl s r.typed) step;
+  well = r.well;
   nested = step_nested (program_form program).types program s after choice e r.nested step;
 }
 

@@ -9,14 +9,16 @@ use Rattle.ada_text.specs.declared.spot.Spot.{Spot}
 use Rattle.ada_program.specs.declared.program.Program.{Program}
 use Rattle.ada_program.specs.declared.program.VariableKind.{VariableKind}
 use Rattle.ada_program.specs.declared.program.VariableKind.TheVariants as variable
-use Rattle.ada_program.specs.Form.{PathForm, ExpressionForm, RightForm, computes, DeclarationForm, collects, declares, StmtForm, skips, assigns, frees, gets, writes, writes_text, chooses, repeats, counts, exits, returns, raises, encloses, StmtsForm, no_stmts, a_stmt, BranchesForm, otherwise, a_branch, HandlersForm, no_handlers, a_handler}
+use Rattle.ada_program.specs.Form.{PathForm, ExpressionForm, RightForm, computes, DeclarationForm, collects, declares, declares_record, StmtForm, skips, assigns, frees, gets, writes, writes_text, chooses, repeats, counts, exits, returns, raises, encloses, StmtsForm, no_stmts, a_stmt, BranchesForm, otherwise, a_branch, HandlersForm, no_handlers, a_handler}
 use Rattle.ada_program.specs.ProgramForm.{TypeForm, VariableForm, program_form}
-use Rattle.ada_program.specs.WellFormed.{access_of, variable_kind, is_borrower, selectors_kind, path_access, right_fits, initial_fits, is_freed_by, statement_fits, stmts_fit, branches_fit, handlers_fit, IsWellFormed}
+use Rattle.ada_program.specs.WellFormed.{access_of, variable_kind, is_borrower, selectors_kind, path_access, right_fits, initial_fits, is_freed_by, statement_fits, stmts_fit, branches_fit, handlers_fit, IsWellFormed, value_access, root_kind, is_record_object}
 use Rattle.ada_effects.specs.Effects.{expression_raises, passes}
 use Rattle.ada_flow.specs.declared.rule.Hold.{Hold}
+use Rattle.ada_flow.specs.declared.rule.Region.TheVariants.{Whole}
 use Rattle.ada_flow.specs.declared.rule.Hold.TheVariants.{Null, Own, Alias, Lost}
 use Rattle.ada_flow.specs.declared.rule.Rule.TheVariants.{LoopState}
 use Rattle.ada_flow.specs.Flow.{Holds, hold_at, variable_access, join, join_option, Outcome, faults, goes, also_raises, then_flow, raising_if, ends_with, Use, uses_in, uses_in_right, uses_in_target, Breach, broken_among, unless_broken, using_paths, computed, left_by_move, without_value, without_values, moved_by_right, right_hold, evaluation_raises, gives, gives_path, without_alias, without_aliases, behind_end, freed, released, passes_own, freed_behind, frees_path, gets_path, either_of, are_as_good, opened_hold, opened, opened_target, opened_by, opened_by_all, opened_by_branches, opened_by_handlers, ends_turn, left_with, is_left, condition_flow, loop_flow, collected, if_own, left, left_option, leaves_block, handled, Around, in_loop, in_block, exit_of, exit_flow, declaration_flow, declarations_flow, bounds_flow, counting_start, begins_pair, stmt_flow, stmts_flow, branches_flow, handlers_flow, variables_of}
+use Rattle.ada_sound.proofs.Assigned.{root_or_none}
 use Rattle.ada_sound.specs.Agreement.{Place, Turning, Comes, here, behind, in_branches, in_body, in_count, in_enclosed, ComesBy, in_others, in_this, in_next, ComesTo, to_this, to_next, ComesInside, in_statements, in_handlers, IsFlowAt}
 use Rattle.ada_sound.proofs.Values.{read_same, read_other, same_or_not}
 
@@ -62,6 +64,25 @@ right_lost borrows types variables None right holds fits none = absurd (cc fits)
 right_lost borrows types variables (Some variable.Integer) right holds fits none = absurd (cc fits)
 right_lost borrows types variables (Some variable.Boolean) right holds fits none = absurd (cc fits)
 right_lost borrows types variables (Some (variable.Access access)) right holds fits none = absurd (cc none)
+right_lost borrows types variables (Some (variable.Record t)) right holds fits none = absurd (cc none)
+
+-- A record object is known by a type.
+record_some : (k : Option VariableKind) (t : ℕ) → is_record_object t k ≡ true → access_of k ≡ None → ⊥
+record_some None t e none = cc e
+record_some (Some variable.Integer) t e none = cc e
+record_some (Some variable.Boolean) t e none = cc e
+record_some (Some (variable.Access access)) t e none = cc e
+record_some (Some (variable.Record object)) t e none = cc none
+
+-- What has no access type is no access value.
+none_value : (of_record : Bool) (k : Option VariableKind) → access_of k ≡ None → value_access (root_kind of_record k) ≡ None
+none_value b None none = refl
+none_value true (Some variable.Integer) none = refl
+none_value false (Some variable.Integer) none = refl
+none_value true (Some variable.Boolean) none = refl
+none_value false (Some variable.Boolean) none = refl
+none_value b (Some (variable.Access access)) none = absurd (cc none)
+none_value b (Some (variable.Record object)) none = absurd (cc none)
 
 module _ (types : List TypeForm) (variables : List VariableForm) (texts exceptions : List (List ℕ)) where
   -- All variables without an access type are lost.
@@ -143,8 +164,10 @@ module _ (types : List TypeForm) (variables : List VariableForm) (texts exceptio
       (set_keeps (without_values (moved_by_right borrows right) holds) x (right_hold borrows right holds)
       (right_lost borrows types variables (variable_kind variables x) right holds fits) (without_keeps (moved_by_right borrows right) holds s)))
 
-  path_keeps : (cleared : Bool) (cs : List ℕ) (path : PathForm) (right : RightForm) (holds : Holds) → right_fits types variables (selectors_kind types (variable_kind variables path.root) cs) right ≡ true → Scalars holds → Keeps (gives_path variables cleared cs path right holds)
-  path_keeps cleared [] path right holds fits s = gives_keeps cleared path.root right holds fits s
+  path_keeps : (cleared : Bool) (cs : List ℕ) (path : PathForm) (right : RightForm) (holds : Holds) → right_fits types variables (selectors_kind types (root_kind path.of_record (variable_kind variables path.root)) cs) right ≡ true → Scalars holds → Keeps (gives_path variables cleared cs path right holds)
+  path_keeps cleared [] path right holds fits s =
+      gives_keeps cleared path.root right holds
+      (elim (root_or_none path.of_record (variable_kind variables path.root)) [ inl same ↦ rw same at fits | inr none ↦ absurd (let never : right_fits types variables None right ≡ true = rw none at fits in cc never) ]) s
   path_keeps cleared (c ∷ cs) path right holds fits s =
       using_keeps (uses_in_target path ++ uses_in_right false cleared (Some path) right) holds (ends_with true holds (without_values (moved_by_right false right) holds))
       (ends_keep true holds (without_values (moved_by_right false right) holds) s (without_keeps (moved_by_right false right) holds s))
@@ -164,9 +187,9 @@ module _ (types : List TypeForm) (variables : List VariableForm) (texts exceptio
   released_keeps x spot holds (Alias r) some s = tt
   released_keeps x spot holds Lost some s = tt
 
-  frees_keeps : (cs : List ℕ) (access : ℕ) (path : PathForm) (holds : Holds) → is_freed_by types access (access_of (selectors_kind types (variable_kind variables path.root) cs)) ≡ true → Scalars holds → Keeps (frees_path types variables cs path holds)
+  frees_keeps : (cs : List ℕ) (access : ℕ) (path : PathForm) (holds : Holds) → is_freed_by types access (value_access (selectors_kind types (root_kind path.of_record (variable_kind variables path.root)) cs)) ≡ true → Scalars holds → Keeps (frees_path types variables cs path holds)
   frees_keeps [] access path holds fits s =
-      released_keeps path.root path.spot holds (hold_at holds path.root) (λ n. let freed : is_freed_by types access None ≡ true = rw n at fits in cc freed) s
+      released_keeps path.root path.spot holds (hold_at holds path.root) (λ n. let freed : is_freed_by types access None ≡ true = rw (none_value path.of_record (variable_kind variables path.root) n) at fits in cc freed) s
   frees_keeps (c ∷ cs) access path holds fits s =
       let own = path_access types variables path in
       let after = behind_end variables own holds in
@@ -272,6 +295,7 @@ module _ (types : List TypeForm) (variables : List VariableForm) (texts exceptio
       one : (d : DeclarationForm) → initial_fits types variables d ≡ true → Keeps (declaration_flow variables d holds)
       one (collects access) e = (s, tt)
       one (declares x right) e = gives_keeps false x right holds (and_parts _ _ (and_parts _ _ e).0).1 s
+      one (declares_record x t) e = (set_keeps holds x (Own Whole) (λ none. absurd (record_some (variable_kind variables x) t e none)) s, tt)
 
   bounds_keep : (low high : ExpressionForm) (holds : Holds) → Scalars holds → Keeps (bounds_flow low high holds)
   bounds_keep low high holds s = then_keeps (computed low holds) (computed high) (computed_keeps low holds s) (λ hs k. computed_keeps high hs k)

@@ -33,6 +33,7 @@ reached program = record { program = program_form program; At = Reaches program 
 
 -- What every state of a run keeps: the invariant, that values are of their kinds, and that collections nest.
 pub record Sound (program : Program) (s : State) : Type 0 where
+  pub well : IsWellFormed (program_form program)
   pub ready : Ready (reached program) s
   pub typed : typed.Typed (program_form program) s
   pub nested : scoped.Nested (program_form program).types s
@@ -91,5 +92,6 @@ pub sound_first : (program : Program) (input : List ℤ) → IsWellFormed (progr
 sound_first program input well nest obeys = record {
   ready = ready_first program input obeys;
   typed = typed_first program input well;
+  well = well;
   nested = first_nested program well nest input;
 }

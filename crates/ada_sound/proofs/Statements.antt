@@ -1,12 +1,14 @@
 -- Declarations and statements begin.
 
-use Rattle.std.proofs.Common.{◌≡◌, ◌≢◌, ℕ, Bool, true, false, ◌&&◌, ◌||◌, not, List, [], ◌∷◌, refl, sym, inl, inr}
+use Rattle.std.proofs.Common.{◌≡◌, ◌≢◌, ℕ, Bool, true, false, ◌&&◌, ◌||◌, not, List, [], ◌∷◌, refl, sym, ap, ◌∙◌, inl, inr}
 use Rattle.std.specs.Prelude.{ℤ, pos, ◌+ℤ◌, int_le, ◌==◌, if◌then◌else◌, Option, Some, None}
-use Rattle.std.specs.List.{slice_set}
-use Rattle.std.proofs.lemmas.Bool.{eq-eqb}
+use Rattle.std.specs.List.{slice_set, list_all}
+use Rattle.std.proofs.lemmas.Bool.{eq-eqb, and_parts}
+use Rattle.ada_program.specs.declared.program.TypeDefinition.{TypeDefinition}
+use Rattle.ada_program.specs.WellFormed.{access_of, selectors_kind, variable_kind, path_access, is_freed_by, initial_fits, statement_fits, stmts_fit}
 use Rattle.ada_program.specs.declared.program.Exception.{Exception}
 use Rattle.ada_program.specs.declared.program.Exception.TheVariants.{ConstraintError, EndError}
-use Rattle.ada_program.specs.Form.{PathForm, ExpressionForm, RightForm, nothing, value_of, allocates, allocates_default, computes, StmtForm, skips, assigns, frees, gets, writes, writes_text, chooses, repeats, counts, exits, returns, raises, encloses, StmtsForm, no_stmts, a_stmt, BranchesForm, otherwise, a_branch, HandlersForm, DeclarationForm, collects, declares}
+use Rattle.ada_program.specs.Form.{PathForm, ExpressionForm, RightForm, nothing, value_of, allocates, allocates_default, computes, StmtForm, skips, assigns, frees, gets, writes, writes_text, chooses, repeats, counts, exits, returns, raises, encloses, StmtsForm, no_stmts, a_stmt, BranchesForm, otherwise, a_branch, HandlersForm, DeclarationForm, collects, declares, declares_record}
 use Rattle.ada_program.specs.Handling.{is_same}
 use Rattle.ada_effects.specs.Effects.{expression_raises, path_raises, condition_raises, right_raises}
 use Rattle.ada_flow.specs.Flow.{Holds, uses_in_target, ends_with, bounds_flow, gives, gives_component, gives_path, gets_path, frees_path, leaves_path, clears, begins_pair, exit_of, collected, computed, Around}
@@ -20,7 +22,9 @@ use Rattle.ada_meaning.specs.Named.{Object, State, named}
 use Rattle.ada_sound.proofs.Stored.{stored_owning, stored_entered}
 use Rattle.ada_sound.proofs.Fits.{weaker_fit, put_lost}
 use Rattle.ada_sound.proofs.Orderings.{good_losing}
-use Rattle.ada_sound.proofs.Invariant.{Known, Control, Rooms, Roomed, Goes, Raised, Doing, Choosing, TurnsTo, condition_among, component_among, Counting, Elaborating, Handled, Outside, RunsOn, Deciding, TurningOn, ExitingTo, Computing, IsOne, Pairs, Takes, Working, Resumes, EvaluatesTo, Fine, ways}
+use Rattle.ada_sound.proofs.Assigned.{freed_at}
+use Rattle.ada_sound.proofs.Records.{record_fine}
+use Rattle.ada_sound.proofs.Invariant.{Pooled, Known, Control, Rooms, Roomed, Goes, Raised, Doing, Choosing, TurnsTo, condition_among, component_among, Counting, Elaborating, Handled, Outside, RunsOn, Deciding, TurningOn, ExitingTo, Computing, IsOne, Pairs, Takes, Working, Resumes, EvaluatesTo, Fine, ways}
 use Rattle.ada_sound.proofs.Ready.{running, at_work, with_less, at_less, stays, lost_stored, ready_on, runs_on, jumps, jumps_less}
 use Rattle.ada_sound.proofs.Nestings.{Starting, starts, others_do, branch_does, chooses_from, repeats_from, turn_runs, counts_from, count_runs, exit_parts, encloses_from}
 use Rattle.ada_sound.proofs.Outcomes.{goes_map, to_before, raised_before, raised_less, then_goes, using_goes, computed_goes}
@@ -126,8 +130,8 @@ module _ (known : Known) where
 
     -- Declarations.
     module _ (fs : StmtsForm) (hs : HandlersForm) (k : Control) where
-      declaration_fine : (d : DeclarationForm) (ds : List DeclarationForm) → Working known s.heap a.places s.masters (RunsOn known (Elaborates (d ∷ ds) fs hs ∷ k)) → Fine known s.heap s.masters (declaration_next named d (running (Elaborates ds fs hs ∷ k) a rest s))
-      declaration_fine (collects access) ds w =
+      declaration_fine : (types : List TypeDefinition) (d : DeclarationForm) (ds : List DeclarationForm) → initial_fits known.program.types known.program.variables d ≡ true → Working known s.heap a.places s.masters (RunsOn known (Elaborates (d ∷ ds) fs hs ∷ k)) → Fine known s.heap s.masters (declaration_next named types d (running (Elaborates ds fs hs ∷ k) a rest s))
+      declaration_fine types (collects access) ds fits w =
           stays known Quiet _ (
             tt,
             record {
@@ -139,13 +143,14 @@ module _ (known : Known) where
               rest = collects_more access ds fs hs k w.holds w.rooms w.rest;
             },
           ) tt
-      declaration_fine (declares x right) ds w =
+      declaration_fine types (declares_record x t) ds fits w = record_fine known a rest s types x t ds fs hs k fits w
+      declaration_fine types (declares x right) ds fits w =
           ready_on known (Evaluates right ∷ Declares x ∷ Elaborates ds fs hs ∷ k) a rest s a.operands
           (declares_ready right x (Elaborates ds fs hs ∷ k) (at_work w (declares_more s.heap a.places x right ds fs hs k w.holds w.rooms w.rest)))
 
-      pub declarations_fine : (ds : List DeclarationForm) → Working known s.heap a.places s.masters (RunsOn known (Elaborates ds fs hs ∷ k)) → Fine known s.heap s.masters (declarations_next named ds fs hs (running k a rest s))
-      declarations_fine [] w = runs_on known (Does fs ∷ Handles hs ∷ Closes ∷ k) a rest s (at_work w (begins_more fs hs k w.holds w.rooms w.rest)) Quiet tt
-      declarations_fine (d ∷ ds) w = declaration_fine d ds w
+      pub declarations_fine : (types : List TypeDefinition) (ds : List DeclarationForm) → list_all (initial_fits known.program.types known.program.variables) ds ≡ true → Working known s.heap a.places s.masters (RunsOn known (Elaborates ds fs hs ∷ k)) → Fine known s.heap s.masters (declarations_next named types ds fs hs (running k a rest s))
+      declarations_fine types [] fits w = runs_on known (Does fs ∷ Handles hs ∷ Closes ∷ k) a rest s (at_work w (begins_more fs hs k w.holds w.rooms w.rest)) Quiet tt
+      declarations_fine types (d ∷ ds) fits w = declaration_fine types d ds (and_parts _ _ fits).0 w
 
     -- Paths that are targets, or are freed.
     assign_fine : (cs : List ℕ) (target : PathForm) (right : RightForm) (fs : StmtsForm) (k : Control) → target.selectors ≡ cs → Working known s.heap a.places s.masters (λ rooms holds. Goes (gives_path known.program.variables (begins_pair (assigns target right) fs) cs target right holds) (RunsOn known (Does fs ∷ k) rooms) (Raised (assign_among cs right) (ways known k rooms))) → Fine known s.heap s.masters (assign_next named cs target.root right (running (Does fs ∷ k) a rest s))
@@ -169,9 +174,11 @@ module _ (known : Known) where
           pairs_component c cs target right fs k is,
         ))
 
-    frees_fine : (cs : List ℕ) (access : ℕ) (path : PathForm) (fs : StmtsForm) (k : Control) → path.selectors ≡ cs → Working known s.heap a.places s.masters (λ rooms holds. Goes (frees_path known.program.types known.program.variables cs path holds) (RunsOn known (Does fs ∷ k) rooms) (Raised (free_among cs) (ways known k rooms))) → Fine known s.heap s.masters (frees_next named cs access path.root (running (Does fs ∷ k) a rest s))
-    frees_fine [] access path fs k is w = free_fine known a rest s access path.root path.spot fs k (λ rooms. Raised (free_among []) (ways known k rooms)) w
-    frees_fine (c ∷ cs) access path fs k is w = free_begins known a rest s c cs access path fs k (free_among (c ∷ cs)) refl is w
+    frees_fine : (cs : List ℕ) (access : ℕ) (path : PathForm) (fs : StmtsForm) (k : Control) → Pooled known.program.types s.heap → is_freed_by known.program.types access (path_access known.program.types known.program.variables path) ≡ true → path.selectors ≡ cs → Working known s.heap a.places s.masters (λ rooms holds. Goes (frees_path known.program.types known.program.variables cs path holds) (RunsOn known (Does fs ∷ k) rooms) (Raised (free_among cs) (ways known k rooms))) → Fine known s.heap s.masters (frees_next named cs access path.root (running (Does fs ∷ k) a rest s))
+    frees_fine [] access path fs k pooled freed is w =
+        let own = freed_at known.program.types known.program.variables access path freed in
+        free_fine known a rest s access path.root path.spot fs k (λ rooms. Raised (free_among []) (ways known k rooms)) pooled own.0 (sym (ap (λ (cs : List ℕ). access_of (selectors_kind known.program.types (variable_kind known.program.variables path.root) cs)) is) ∙ own.2) own.3 w
+    frees_fine (c ∷ cs) access path fs k pooled freed is w = free_begins known a rest s c cs access path fs k (free_among (c ∷ cs)) refl freed is w
 
     gets_fine : (cs : List ℕ) (target : PathForm) (input : List ℤ) (fs : StmtsForm) (k : Control) → target.selectors ≡ cs → Working known s.heap a.places s.masters (λ rooms holds. Goes (gets_path cs target holds) (RunsOn known (Does fs ∷ k) rooms) (Raised (get_among cs) (ways known k rooms))) → Fine known s.heap s.masters (gets_next named cs target.root input (running (Does fs ∷ k) a rest s))
     gets_fine (c ∷ cs) target input fs k is w =
@@ -266,26 +273,26 @@ module _ (known : Known) where
         (first.0, (λ may. first.2 may ConstraintError (or_left (expression_raises low) (expression_raises high) may)), (second.0, (λ may. second.2 may ConstraintError (or_right (expression_raises low) (expression_raises high) may)), (λ v. second.1)))
 
     -- Statements.
-    stmt_fine : (around : Around) (f : StmtForm) (fs : StmtsForm) (k : Control) → Working known s.heap a.places s.masters (λ rooms holds. Starting known around f fs k (ways known k rooms) holds) → Fine known s.heap s.masters (stmt_next named f (running (Does fs ∷ k) a rest s))
-    stmt_fine around skips fs k w = runs_on known (Does fs ∷ k) a rest s (at_work w w.rest.1.0) Quiet tt
-    stmt_fine around (assigns target right) fs k w = assign_fine target.selectors target right fs k refl (at_work w w.rest.1)
-    stmt_fine around (frees access path) fs k w = frees_fine path.selectors access path fs k refl (at_work w w.rest.1)
-    stmt_fine around (gets target) fs k w = gets_fine target.selectors target s.input fs k refl (at_work w w.rest.1)
-    stmt_fine around (writes e) fs k w =
+    stmt_fine : (inside : Bool) (around : Around) (f : StmtForm) (fs : StmtsForm) (k : Control) → Pooled known.program.types s.heap → statement_fits known.program.types known.program.variables known.program.texts known.program.exceptions inside f ≡ true → Working known s.heap a.places s.masters (λ rooms holds. Starting known around f fs k (ways known k rooms) holds) → Fine known s.heap s.masters (stmt_next named f (running (Does fs ∷ k) a rest s))
+    stmt_fine inside around skips fs k pooled fits w = runs_on known (Does fs ∷ k) a rest s (at_work w w.rest.1.0) Quiet tt
+    stmt_fine inside around (assigns target right) fs k pooled fits w = assign_fine target.selectors target right fs k refl (at_work w w.rest.1)
+    stmt_fine inside around (frees access path) fs k pooled fits w = frees_fine path.selectors access path fs k pooled (and_parts _ _ fits).0 refl (at_work w w.rest.1)
+    stmt_fine inside around (gets target) fs k pooled fits w = gets_fine target.selectors target s.input fs k refl (at_work w w.rest.1)
+    stmt_fine inside around (writes e) fs k pooled fits w =
         let h = computed_goes e w.holds (RunsOn known (Does fs ∷ k) w.rooms) (Raised (λ x. is_same x ConstraintError && expression_raises e) (ways known k w.rooms)) w.rest.1 in
         ready_on known (Computes e ∷ Writes ∷ Does fs ∷ k) a rest s a.operands (at_work w (h.0, (λ may. h.2 may ConstraintError may), h.1))
-    stmt_fine around (writes_text text) fs k w = runs_on known (Does fs ∷ k) a rest s (at_work w w.rest.1.0) (Line _) tt
-    stmt_fine around (chooses branches) fs k w = branches_fine branches (Does fs ∷ k) (at_work w (chooses_from known around branches fs k (ways known k w.rooms) w.holds w.rest))
-    stmt_fine around (repeats condition body end_spot) fs k w =
+    stmt_fine inside around (writes_text text) fs k pooled fits w = runs_on known (Does fs ∷ k) a rest s (at_work w w.rest.1.0) (Line _) tt
+    stmt_fine inside around (chooses branches) fs k pooled fits w = branches_fine branches (Does fs ∷ k) (at_work w (chooses_from known around branches fs k (ways known k w.rooms) w.holds w.rest))
+    stmt_fine inside around (repeats condition body end_spot) fs k pooled fits w =
         runs_on known (Repeats condition body ∷ Does fs ∷ k) a rest s (at_work w (repeats_from known around condition body end_spot fs k (ways known k w.rooms) w.holds w.rest)) Quiet tt
-    stmt_fine around (counts x low high body end_spot) fs k w =
+    stmt_fine inside around (counts x low high body end_spot) fs k pooled fits w =
         ready_on known (Computes low ∷ Computes high ∷ Ranges x body ∷ Does fs ∷ k) a rest s a.operands
         (at_work w (bounds_fine x low high body fs k w.rooms w.holds (counts_from known around x low high body end_spot fs k (ways known k w.rooms) w.holds w.rest)))
-    stmt_fine around (exits condition spot) fs k w =
+    stmt_fine inside around (exits condition spot) fs k pooled fits w =
         exit_fine condition (Does fs ∷ k) (at_work w (exit_parts known around.start around.inside condition spot w.holds (RunsOn known (Does fs ∷ k) w.rooms) (Raised (λ e. is_same e ConstraintError && condition_raises condition) (ways known k w.rooms)) (ways known k w.rooms).exited w.rest.1 (w.rest.2 refl)))
-    stmt_fine around (returns spot) fs k w = jumps known (Does fs ∷ k) a rest s Returning (at_work w (w.rest.3 w.holds))
-    stmt_fine around (raises e) fs k w = jumps_less known (Does fs ∷ k) a rest s (Raising e) (at_work w (w.rest.1.1 e (same_here e)))
-    stmt_fine around (encloses ds body hs) fs k w =
+    stmt_fine inside around (returns spot) fs k pooled fits w = jumps known (Does fs ∷ k) a rest s Returning (at_work w (w.rest.3 w.holds))
+    stmt_fine inside around (raises e) fs k pooled fits w = jumps_less known (Does fs ∷ k) a rest s (Raising e) (at_work w (w.rest.1.1 e (same_here e)))
+    stmt_fine inside around (encloses ds body hs) fs k pooled fits w =
         stays known Quiet _ (
           tt,
           record {
@@ -298,7 +305,7 @@ module _ (known : Known) where
           },
         ) tt
 
-    pub stmts_fine : (fs : StmtsForm) (k : Control) → Resumes known s.heap a.places s.masters (Does fs ∷ k) → Fine known s.heap s.masters (stmts_next named fs (running k a rest s))
-    stmts_fine fs k (inr h) = half_begins known a rest s fs k h
-    stmts_fine no_stmts k (inl w) = runs_on known k a rest s (at_less w w.rest.2.0) Quiet tt
-    stmts_fine (a_stmt f fs) k (inl w) = stmt_fine w.rest.0 f fs k (at_work w (starts known f fs k (ways known k w.rooms) w.holds w.rest))
+    pub stmts_fine : (inside : Bool) (fs : StmtsForm) (k : Control) → Pooled known.program.types s.heap → stmts_fit known.program.types known.program.variables known.program.texts known.program.exceptions inside fs ≡ true → Resumes known s.heap a.places s.masters (Does fs ∷ k) → Fine known s.heap s.masters (stmts_next named fs (running k a rest s))
+    stmts_fine inside fs k pooled fits (inr h) = half_begins known a rest s fs k h
+    stmts_fine inside no_stmts k pooled fits (inl w) = runs_on known k a rest s (at_less w w.rest.2.0) Quiet tt
+    stmts_fine inside (a_stmt f fs) k pooled fits (inl w) = stmt_fine inside w.rest.0 f fs k pooled (and_parts _ _ fits).0 (at_work w (starts known f fs k (ways known k w.rooms) w.holds w.rest))

@@ -5,7 +5,7 @@ use Rattle.ada_program.specs.declared.program.TypeDefinition.{TypeDefinition}
 use Rattle.ada_program.specs.declared.program.VariableKind.{VariableKind}
 use Rattle.ada_program.specs.declared.program.VariableKind.TheVariants as variable
 use Rattle.ada_program.specs.Form.{LinksForm, RightForm}
-use Rattle.ada_program.specs.ProgramForm.{VariableForm}
+use Rattle.ada_program.specs.ProgramForm.{VariableForm, ProgramForm}
 use Rattle.ada_program.specs.Typed.{words_of}
 use Rattle.ada_meaning.specs.declared.state.Value.{Value}
 use Rattle.ada_meaning.specs.declared.state.Value.TheVariants.{Null}
@@ -19,10 +19,11 @@ use Rattle.ada_meaning.specs.Named.{Object, State, named, next}
 use Rattle.ada_effects.specs.Effects.{unary_raises, binary_raises}
 use Rattle.ada_scopes.specs.Scopes.{InnermostHeldInside}
 use Rattle.ada_typed.specs.Holding.{Cells, cells_of}
-use Rattle.ada_typed.proofs.Values.{AreComputed, kind_of}
+use Rattle.ada_typed.proofs.Values.{AreComputed, AreFilled, filled_at, kind_of}
+use Rattle.ada_typed.proofs.Evaluations.{cell_at}
 use Rattle.ada_typed.proofs.Values as typing
 use Rattle.ada_typed.proofs.Control as typed
-use Rattle.ada_sound.proofs.Invariant.{Known, Control, ReadyBy, ReadyIn, IsActive, Ready, Fine}
+use Rattle.ada_sound.proofs.Invariant.{Pooled, Known, Control, ReadyBy, ReadyIn, IsActive, Ready, Fine}
 use Rattle.ada_sound.proofs.Ready.{running, at_work, at_less, runs_on}
 use Rattle.ada_sound.proofs.Raising.{unary_only, binary_only}
 use Rattle.ada_sound.proofs.Expressions.{outcome_fine, null_test_fine, expression_fine, links_fine}
@@ -55,6 +56,14 @@ runs_typed known s (typed.on_jump mode jumps goes) runs =
     let none : typed.Goes known.program (cells_of s.heap) Running s.control = rw same at goes in
     absurd none
 
+-- Objects of access types are from the standard pool, as typing has it.
+pooled_by : (p : ProgramForm) (heap : List Object) → AreFilled p.types (cells_of heap) (cells_of heap) → Pooled p.types heap
+pooled_by p heap filled o object found is = (filled_at p.types (cells_of heap) (cells_of heap) o.0 object.cell filled (cell_at heap o.0 object found)).3 is
+
+pooled_in : (p : ProgramForm) (s : State) → typed.Typed p s → Pooled p.types s.heap
+pooled_in p s (typed.running kinds r fits) = pooled_by p s.heap r.filled
+pooled_in p s (typed.on_jump mode j goes) = pooled_by p s.heap j.filled
+
 module _ (known : Known) where
   module _ (types : List TypeDefinition) (reaches : Reaches known types) (k : Control) (a : Activation Value) (rest : List (Activation Value)) (s : State) where
     -- Frames that take an operand, which is there.
@@ -74,59 +83,59 @@ module _ (known : Known) where
     put_fine o c [] t r = let fits = t.1 in absurd (no_operand (cells_of s.heap) t.0 fits.2 fits.0 fits.3 t.2)
     put_fine o c (v ∷ below) t r = store_fine known k a rest s o v below c t.0 t.1 t.2 r
 
-    frame_fine : (f : Frame Value) → RunsTyped known s.heap (f ∷ k) a.operands → HeldIn s.heap s.masters → ReadyBy known f k s.heap a.places a.operands s.masters → Fine known s.heap s.masters (frame_next named types f (running k a rest s))
-    frame_fine (Elaborates ds fs hs) t held r = declarations_fine known a rest s fs hs k ds r
-    frame_fine (Does fs) t held r = stmts_fine known a rest s fs k r
-    frame_fine (Decides fs branches) t held r = decided_fine known (record a { operands = older a.operands }) rest s fs branches (named.reads_boolean (first_or Null a.operands)) k r
-    frame_fine (Repeats condition body) t held r = repeats_fine known a rest s condition body k r
-    frame_fine (Turns e body) t held r = turned_fine known (record a { operands = older a.operands }) rest s e body (named.reads_boolean (first_or Null a.operands)) k r
-    frame_fine (Ranges x body) t held r = ranges_fine known (record a { operands = older (older a.operands) }) rest s x body (named.reads_integer (first_or Null (older a.operands))) (named.reads_integer (first_or Null a.operands)) k r
-    frame_fine (Counts x next last body) t held r = counts_fine known a rest s x next last body k r
-    frame_fine Exits t held r = exited_fine known (record a { operands = older a.operands }) rest s (named.reads_boolean (first_or Null a.operands)) k r
-    frame_fine (Handles hs) t held r = runs_on known k a rest s (at_less r r.rest) Quiet tt
-    frame_fine Closes t held r = closes_fine known k a rest s Running r
-    frame_fine (Leaves mode) t held r = leave_fine known mode k a rest s s.masters r held
-    frame_fine (Evaluates right) t held r = right_fine known k a rest s types reaches right t.0 t.1 r
-    frame_fine (Computes e) t held r = expression_fine known k a rest s e r
-    frame_fine (Follows cs) t held r = path_fine cs a.operands t r
-    frame_fine (TestsNull equal) t held r = null_test_fine known k a rest s (older a.operands) r equal (named.reads_null (first_or Null a.operands))
-    frame_fine (Continues links) t held r = chain_fine links a.operands t r
-    frame_fine (Applies operator) t held r =
+    frame_fine : (f : Frame Value) → RunsTyped known s.heap (f ∷ k) a.operands → Pooled known.program.types s.heap → HeldIn s.heap s.masters → ReadyBy known f k s.heap a.places a.operands s.masters → Fine known s.heap s.masters (frame_next named types f (running k a rest s))
+    frame_fine (Elaborates ds fs hs) t pooled held r = declarations_fine known a rest s fs hs k types ds t.1.2 r
+    frame_fine (Does fs) t pooled held r = stmts_fine known a rest s t.1.1 fs k pooled t.1.2 r
+    frame_fine (Decides fs branches) t pooled held r = decided_fine known (record a { operands = older a.operands }) rest s fs branches (named.reads_boolean (first_or Null a.operands)) k r
+    frame_fine (Repeats condition body) t pooled held r = repeats_fine known a rest s condition body k r
+    frame_fine (Turns e body) t pooled held r = turned_fine known (record a { operands = older a.operands }) rest s e body (named.reads_boolean (first_or Null a.operands)) k r
+    frame_fine (Ranges x body) t pooled held r = ranges_fine known (record a { operands = older (older a.operands) }) rest s x body (named.reads_integer (first_or Null (older a.operands))) (named.reads_integer (first_or Null a.operands)) k r
+    frame_fine (Counts x next last body) t pooled held r = counts_fine known a rest s x next last body k r
+    frame_fine Exits t pooled held r = exited_fine known (record a { operands = older a.operands }) rest s (named.reads_boolean (first_or Null a.operands)) k r
+    frame_fine (Handles hs) t pooled held r = runs_on known k a rest s (at_less r r.rest) Quiet tt
+    frame_fine Closes t pooled held r = closes_fine known k a rest s Running r
+    frame_fine (Leaves mode) t pooled held r = leave_fine known mode k a rest s s.masters r held
+    frame_fine (Evaluates right) t pooled held r = right_fine known k a rest s types reaches right t.0 t.1 r
+    frame_fine (Computes e) t pooled held r = expression_fine known k a rest s e r
+    frame_fine (Follows cs) t pooled held r = path_fine cs a.operands t r
+    frame_fine (TestsNull equal) t pooled held r = null_test_fine known k a rest s (older a.operands) r equal (named.reads_null (first_or Null a.operands))
+    frame_fine (Continues links) t pooled held r = chain_fine links a.operands t r
+    frame_fine (Applies operator) t pooled held r =
         let left = first_or Null (older a.operands) in
         let right = first_or Null a.operands in
         outcome_fine known k a rest s (older (older a.operands)) (at_work r r.rest.1) (binary_raises operator) (named.binary operator left right) (binary_only operator left right) r.rest.0
-    frame_fine (AppliesAlone operator) t held r =
+    frame_fine (AppliesAlone operator) t pooled held r =
         let operand = first_or Null a.operands in
         outcome_fine known k a rest s (older a.operands) (at_work r r.rest.1) (unary_raises operator) (named.unary operator operand) (unary_only operator operand) r.rest.0
-    frame_fine (Fills items) t held r = items_fine known k a rest s items r
-    frame_fine (Creates access count) t held r = creates_fine known k a rest s access count (words_of types access) t.0 t.1 t.2 r
-    frame_fine (Stores x) t held r = stores_fine known k a rest s x (first_or Null a.operands) (older a.operands) r
-    frame_fine (Targets c right) t held r = found_fine c right a.operands t r
-    frame_fine (StoresIn o c) t held r = put_fine o c a.operands t r
-    frame_fine (Receives c) t held r = receive_fine known k a rest s (first_or Null a.operands) (older a.operands) c r
-    frame_fine (FreesIn access c) t held r = free_in_fine known a rest s access c k (older a.operands) (first_or Null a.operands) r
-    frame_fine (Declares x) t held r = declares_fine known k a rest s x (first_or Null a.operands) (older a.operands) r
-    frame_fine Writes t held r = writes_fine known k a rest s (named.reads_integer (first_or Null a.operands)) (older a.operands) r
-    frame_fine (Ends v) t held r = ends_fine known a rest s v k r
-    frame_fine (GivesBack v cause pool) t held r = backs_fine known a rest s v cause pool k r
-    frame_fine (Clears x) t held r = stores_fine known k a rest s x Null a.operands (inl r)
-    frame_fine (ClearsIn o c) t held r = clear_fine known k a rest s o c r
+    frame_fine (Fills items) t pooled held r = items_fine known k a rest s items r
+    frame_fine (Creates access count) t pooled held r = creates_fine known k a rest s access count (words_of types access) t.0 t.1 t.2 r
+    frame_fine (Stores x) t pooled held r = stores_fine known k a rest s x (first_or Null a.operands) (older a.operands) r
+    frame_fine (Targets c right) t pooled held r = found_fine c right a.operands t r
+    frame_fine (StoresIn o c) t pooled held r = put_fine o c a.operands t r
+    frame_fine (Receives c) t pooled held r = receive_fine known k a rest s (first_or Null a.operands) (older a.operands) c r
+    frame_fine (FreesIn access c) t pooled held r = free_in_fine known a rest s access c k (older a.operands) pooled (first_or Null a.operands) r
+    frame_fine (Declares x) t pooled held r = declares_fine known k a rest s x (first_or Null a.operands) (older a.operands) r
+    frame_fine Writes t pooled held r = writes_fine known k a rest s (named.reads_integer (first_or Null a.operands)) (older a.operands) r
+    frame_fine (Ends v) t pooled held r = ends_fine known a rest s v k r
+    frame_fine (GivesBack v cause pool) t pooled held r = backs_fine known a rest s v cause pool k r
+    frame_fine (Clears x) t pooled held r = stores_fine known k a rest s x Null a.operands (inl r)
+    frame_fine (ClearsIn o c) t pooled held r = clear_fine known k a rest s o c r
 
-  mode_fine : (types : List TypeDefinition) → Reaches known types → (mode : Mode) (k : Control) (a : Activation Value) (rest : List (Activation Value)) (s : State) → (mode ≡ Running → RunsTyped known s.heap k a.operands) → HeldIn s.heap s.masters → ReadyIn known mode k s.heap a.places a.operands s.masters → Fine known s.heap s.masters (mode_next named types mode (record s { mode = mode; control = k; activations = a ∷ rest }))
-  mode_fine types reaches Running [] a rest s t held r = r
-  mode_fine types reaches Running (f ∷ k) a rest s t held r = frame_fine types reaches k a rest s f (t refl) held r
-  mode_fine types reaches (Raising e) [] a rest s t held r = r
-  mode_fine types reaches (Raising e) (f ∷ k) a rest s t held r = raising_fine known k a rest s e f r
-  mode_fine types reaches Exiting [] a rest s t held r = tt
-  mode_fine types reaches Exiting (f ∷ k) a rest s t held r = exiting_fine known k a rest s f r
-  mode_fine types reaches Returning [] a rest s t held r = r
-  mode_fine types reaches Returning (f ∷ k) a rest s t held r = returning_fine known k a rest s f r
+  mode_fine : (types : List TypeDefinition) → Reaches known types → (mode : Mode) (k : Control) (a : Activation Value) (rest : List (Activation Value)) (s : State) → (mode ≡ Running → RunsTyped known s.heap k a.operands) → Pooled known.program.types s.heap → HeldIn s.heap s.masters → ReadyIn known mode k s.heap a.places a.operands s.masters → Fine known s.heap s.masters (mode_next named types mode (record s { mode = mode; control = k; activations = a ∷ rest }))
+  mode_fine types reaches Running [] a rest s t pooled held r = r
+  mode_fine types reaches Running (f ∷ k) a rest s t pooled held r = frame_fine types reaches k a rest s f (t refl) pooled held r
+  mode_fine types reaches (Raising e) [] a rest s t pooled held r = r
+  mode_fine types reaches (Raising e) (f ∷ k) a rest s t pooled held r = raising_fine known k a rest s e f r
+  mode_fine types reaches Exiting [] a rest s t pooled held r = tt
+  mode_fine types reaches Exiting (f ∷ k) a rest s t pooled held r = exiting_fine known k a rest s f r
+  mode_fine types reaches Returning [] a rest s t pooled held r = r
+  mode_fine types reaches Returning (f ∷ k) a rest s t pooled held r = returning_fine known k a rest s f r
 
-  active_fine : (types : List TypeDefinition) → Reaches known types → (all : List (Activation Value)) (s : State) → IsActive all → (s.mode ≡ Running → RunsTyped known s.heap s.control (operands_of all)) → HeldIn s.heap s.masters → Ready known (record s { activations = all }) → Fine known s.heap s.masters (mode_next named types s.mode (record s { activations = all }))
-  active_fine types reaches [] s i t held r = absurd i
-  active_fine types reaches (a ∷ rest) s i t held r = mode_fine types reaches s.mode s.control a rest s t held r.1
+  active_fine : (types : List TypeDefinition) → Reaches known types → (all : List (Activation Value)) (s : State) → IsActive all → (s.mode ≡ Running → RunsTyped known s.heap s.control (operands_of all)) → Pooled known.program.types s.heap → HeldIn s.heap s.masters → Ready known (record s { activations = all }) → Fine known s.heap s.masters (mode_next named types s.mode (record s { activations = all }))
+  active_fine types reaches [] s i t pooled held r = absurd i
+  active_fine types reaches (a ∷ rest) s i t pooled held r = mode_fine types reaches s.mode s.control a rest s t pooled held r.1
 
   -- One step keeps the invariant.
   pub fine : (types : List TypeDefinition) → Reaches known types → (s : State) → typed.Typed known.program s → InnermostHeldInside s → Ready known s → Fine known s.heap s.masters (next types s)
   unfolding next
-  fine types reaches s typing held r = active_fine types reaches s.activations s r.0 (runs_typed known s typing) held r
+  fine types reaches s typing held r = active_fine types reaches s.activations s r.0 (runs_typed known s typing) (pooled_in known.program s typing) held r

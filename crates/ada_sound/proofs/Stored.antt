@@ -9,19 +9,18 @@ use Rattle.ada_meaning.specs.declared.state.Value.{Value}
 use Rattle.ada_meaning.specs.declared.state.Value.TheVariants.{Null, Names}
 use Rattle.ada_meaning.specs.declared.state.Stage.TheVariants.{Existing, Gone}
 use Rattle.ada_meaning.specs.Heap.{Cell}
-use Rattle.ada_meaning.specs.State.{Owned, collection, Item, Master, height}
+use Rattle.ada_meaning.specs.State.{Owned, Item, Master, height}
 use Rattle.ada_meaning.specs.Step.{owning}
 use Rattle.ada_meaning.specs.Named.{Object, object_at, new_object, parted, finished, returned, filled, is_member, members_from, members}
 use Rattle.ada_meaning.specs.Law.{items_of}
 use Rattle.ada_sound.proofs.Objects.{more_get, set_get}
-use Rattle.ada_sound.proofs.Items.{Counted, HasItem, counted_owning, has_owning}
+use Rattle.ada_sound.proofs.Items.{Counted, Houses, HasItem, counted_owning, has_owning}
 
 -- What is so of each object, where this one is under way.
 pub record Sane (under : Option Id) (items : List Item) (o : Id) (x : Object) : Type 0 where
-  pub standard : x.cell.home.pool ≡ 0
   pub back_gone : x.out ≡ false → x.stage ≡ Gone
   pub listed_exists : x.listed ≡ true → x.stage ≡ Existing
-  pub housed : x.out ≡ true → HasItem x.cell.home.item x.cell.access items
+  pub housed : x.out ≡ true → HasItem x.cell.home.item x.cell.access x.cell.home.pool items
   pub out_listed : x.out ≡ true → (x.listed ≡ true) ⊎ (under ≡ Some o)
 
 pub record Stored (under : Option Id) (heap : List Object) (masters : List Master) : Type 0 where
@@ -29,12 +28,12 @@ pub record Stored (under : Option Id) (heap : List Object) (masters : List Maste
   pub sane : (o : Id) (x : Object) → object_at heap o ≡ Some x → Sane under (items_of masters) o x
 
 -- A new object.
-pub stored_new : {heap : List Object} {masters : List Master} (cell : Cell Value) → cell.home.pool ≡ 0 → HasItem cell.home.item cell.access (items_of masters) → Stored None heap masters → Stored None (heap ++ new_object cell ∷ []) masters
-stored_new {heap} {masters} cell standard home s = record { counted = s.counted; sane = λ o x e. go o x (more_get heap (new_object cell) o.0 x e) }
+pub stored_new : {heap : List Object} {masters : List Master} (cell : Cell Value) → HasItem cell.home.item cell.access cell.home.pool (items_of masters) → Stored None heap masters → Stored None (heap ++ new_object cell ∷ []) masters
+stored_new {heap} {masters} cell home s = record { counted = s.counted; sane = λ o x e. go o x (more_get heap (new_object cell) o.0 x e) }
   where
     go : (o : Id) (x : Object) → (slice_get heap o.0 ≡ Some x) ⊎ ((o.0 ≡ length heap) × (x ≡ new_object cell)) → Sane None (items_of masters) o x
     go o x (inl e) = s.sane o x e
-    go o x (inr e) = rw (e.1) (record { standard = standard; back_gone = λ h. absurd (cc h); listed_exists = λ h. refl; housed = λ h. home; out_listed = λ h. inl refl })
+    go o x (inr e) = rw (e.1) (record { back_gone = λ h. absurd (cc h); listed_exists = λ h. refl; housed = λ h. home; out_listed = λ h. inl refl })
 
 -- One object changes.
 stored_set : {under after : Option Id} {heap : List Object} {masters : List Master} (o : Id) (y : Object) → Sane after (items_of masters) o y → ((p : Id) (z : Object) → p.0 ≢ o.0 → Sane under (items_of masters) p z → Sane after (items_of masters) p z) → Stored under heap masters → Stored after (slice_set heap o.0 y) masters
@@ -49,8 +48,8 @@ pub stored_part : {heap : List Object} {masters : List Master} (o : Id) (x : Obj
 stored_part {heap} {masters} o x is s =
     let h = s.sane o x is in
     stored_set o (parted x)
-    (record { standard = h.standard; back_gone = h.back_gone; listed_exists = λ e. absurd (cc e); housed = h.housed; out_listed = λ e. inr refl })
-    (λ p z ne g. record { standard = g.standard; back_gone = g.back_gone; listed_exists = g.listed_exists; housed = g.housed; out_listed = λ e. elim (g.out_listed e) [ inl l ↦ inl l | inr n ↦ absurd (cc n) ] })
+    (record { back_gone = h.back_gone; listed_exists = λ e. absurd (cc e); housed = h.housed; out_listed = λ e. inr refl })
+    (λ p z ne g. record { back_gone = g.back_gone; listed_exists = g.listed_exists; housed = g.housed; out_listed = λ e. elim (g.out_listed e) [ inl l ↦ inl l | inr n ↦ absurd (cc n) ] })
     s
 
 -- It ceases to exist.
@@ -58,7 +57,7 @@ pub stored_finish : {heap : List Object} {masters : List Master} (o : Id) (x : O
 stored_finish {heap} {masters} o x is s =
     let h = s.sane o x is in
     stored_set o (finished x)
-    (record { standard = h.standard; back_gone = λ e. refl; listed_exists = λ e. absurd (cc e); housed = h.housed; out_listed = λ e. inr refl })
+    (record { back_gone = λ e. refl; listed_exists = λ e. absurd (cc e); housed = h.housed; out_listed = λ e. inr refl })
     (λ p z ne g. g)
     s
 
@@ -67,8 +66,8 @@ pub stored_back : {heap : List Object} {masters : List Master} (o : Id) (x : Obj
 stored_back {heap} {masters} o x is gone s =
     let h = s.sane o x is in
     stored_set o (returned x)
-    (record { standard = h.standard; back_gone = λ e. gone; listed_exists = h.listed_exists; housed = λ e. absurd (cc e); out_listed = λ e. absurd (cc e) })
-    (λ p z ne g. record { standard = g.standard; back_gone = g.back_gone; listed_exists = g.listed_exists; housed = g.housed; out_listed = λ e. elim (g.out_listed e) [ inl l ↦ inl l | inr n ↦ absurd (ne (same_id p o n)) ] })
+    (record { back_gone = λ e. gone; listed_exists = h.listed_exists; housed = λ e. absurd (cc e); out_listed = λ e. absurd (cc e) })
+    (λ p z ne g. record { back_gone = g.back_gone; listed_exists = g.listed_exists; housed = g.housed; out_listed = λ e. elim (g.out_listed e) [ inl l ↦ inl l | inr n ↦ absurd (ne (same_id p o n)) ] })
     s
   where
     same_id : (p q : Id) → Some q ≡ Some p → p.0 ≡ q.0
@@ -79,7 +78,7 @@ pub stored_filled : {under : Option Id} {heap : List Object} {masters : List Mas
 stored_filled {under} {heap} {masters} o x c v is s =
     let h = s.sane o x is in
     stored_set o (filled c v x)
-    (record { standard = h.standard; back_gone = h.back_gone; listed_exists = h.listed_exists; housed = h.housed; out_listed = h.out_listed })
+    (record { back_gone = h.back_gone; listed_exists = h.listed_exists; housed = h.housed; out_listed = h.out_listed })
     (λ p z ne g. g)
     s
 
@@ -87,7 +86,7 @@ stored_filled {under} {heap} {masters} o x c v is s =
 pub stored_owning : {under : Option Id} {heap : List Object} {masters : List Master} (owned : Owned) → Stored under heap masters → Stored under heap (owning (record { number = height masters; owned = owned }) masters)
 stored_owning {under} {heap} {masters} owned s = record {
   counted = counted_owning owned masters s.counted;
-  sane = λ o x e. let h = s.sane o x e in record { standard = h.standard; back_gone = h.back_gone; listed_exists = h.listed_exists; housed = λ out. has_owning x.cell.home.item x.cell.access (record { number = height masters; owned = owned }) masters (h.housed out); out_listed = h.out_listed };
+  sane = λ o x e. let h = s.sane o x e in record { back_gone = h.back_gone; listed_exists = h.listed_exists; housed = λ out. has_owning x.cell.home.item x.cell.access x.cell.home.pool (record { number = height masters; owned = owned }) masters (h.housed out); out_listed = h.out_listed };
 }
 
 -- Members: each is in the collection of its home, and each that is in it is one.
@@ -166,11 +165,10 @@ pub none_is_left : (item : ℕ) (heap : List Object) (o : Id) (x : Object) → m
 none_is_left item heap o x none is listed home = none_from item 0 heap o.0 x none is (rw (listed, home) (eq-eqb item item refl))
 
 -- The newest item goes, where it has no member.
-pub stored_shorter : {heap : List Object} (m : Master) (item : Item) (items : List Item) (ms : List Master) → ((o : Id) (x : Object) → object_at heap o ≡ Some x → x.listed ≡ true → item.owned ≡ collection x.cell.access → x.cell.home.item ≡ item.number → ⊥) → Stored None heap (record m { items = item ∷ items } ∷ ms) → Stored None heap (record m { items = items } ∷ ms)
+pub stored_shorter : {heap : List Object} (m : Master) (item : Item) (items : List Item) (ms : List Master) → ((o : Id) (x : Object) → object_at heap o ≡ Some x → x.listed ≡ true → Houses item.owned x.cell.access x.cell.home.pool → x.cell.home.item ≡ item.number → ⊥) → Stored None heap (record m { items = item ∷ items } ∷ ms) → Stored None heap (record m { items = items } ∷ ms)
 stored_shorter {heap} m item items ms none s = record {
   counted = s.counted.1;
   sane = λ o x e. let h = s.sane o x e in record {
-    standard = h.standard;
     back_gone = h.back_gone;
     listed_exists = h.listed_exists;
     housed = λ out. rest o x e (h.out_listed out) (h.housed out);
@@ -178,7 +176,7 @@ stored_shorter {heap} m item items ms none s = record {
   };
 }
   where
-    rest : (o : Id) (x : Object) → object_at heap o ≡ Some x → (x.listed ≡ true) ⊎ (None ≡ Some o) → HasItem x.cell.home.item x.cell.access (item ∷ (items ++ items_of ms)) → HasItem x.cell.home.item x.cell.access (items ++ items_of ms)
+    rest : (o : Id) (x : Object) → object_at heap o ≡ Some x → (x.listed ≡ true) ⊎ (None ≡ Some o) → HasItem x.cell.home.item x.cell.access x.cell.home.pool (item ∷ (items ++ items_of ms)) → HasItem x.cell.home.item x.cell.access x.cell.home.pool (items ++ items_of ms)
     rest o x e (inl l) (inl h) = absurd (none o x e l h.1 (sym h.0))
     rest o x e (inl l) (inr h) = h
     rest o x e (inr n) h = absurd (cc n)

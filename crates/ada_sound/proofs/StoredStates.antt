@@ -74,7 +74,7 @@ module _ (known : Known) where
   value_stored (Names o) k heap places ms r = (Some o, r.stored)
   value_stored (Scalar n) k heap places ms r = absurd r
 
-  words_stored : (v : Value) (cause : _) (pool : ℕ) (k : Control) (heap : List Object) (places : List Value) (ms : List Master) → BackingBy known v cause pool k heap places ms → IsStored heap ms
+  words_stored : (v : Value) (cause : _) (pool : _) (k : Control) (heap : List Object) (places : List Value) (ms : List Master) → BackingBy known v cause pool k heap places ms → IsStored heap ms
   words_stored Null cause pool k heap places ms r = absurd r
   words_stored (Names o) cause pool k heap places ms r = (Some o, r.stored)
   words_stored (Scalar n) cause pool k heap places ms r = absurd r

@@ -11,7 +11,7 @@ use Rattle.ada_program.specs.Form.{PathForm, value_of}
 use Rattle.ada_program.specs.ProgramForm.{TypeForm, VariableForm, ProgramForm}
 use Rattle.ada_text.specs.declared.spot.Spot.{Spot}
 use Rattle.ada_program.specs.Handling.{is_same}
-use Rattle.ada_program.specs.WellFormed.{access_of, selectors_kind, variable_kind, path_access, kind_takes, is_borrower}
+use Rattle.ada_program.specs.WellFormed.{access_of, selectors_kind, variable_kind, path_access, kind_takes, is_borrower, value_access, path_kind}
 use Rattle.ada_effects.specs.Effects.{path_raises, right_raises}
 use Rattle.ada_flow.specs.declared.rule.Hold.{Hold}
 use Rattle.ada_flow.specs.declared.rule.Hold.TheVariants as hold
@@ -37,7 +37,7 @@ use Rattle.ada_sound.proofs.Fits.{Fit, component_access, none_spared, place_at, 
 use Rattle.ada_sound.proofs.Invariant.{Known, Control, To, component_among, Goes, Raised, RunsOn, Takes, Working, ways}
 use Rattle.ada_sound.proofs.Outcomes.{using_goes, ends_goes}
 use Rattle.ada_sound.proofs.Followings.{first_kept}
-use Rattle.ada_sound.proofs.Assigned.{value_goes, kind_names, selected_of}
+use Rattle.ada_sound.proofs.Assigned.{value_goes, kind_names, selected_of, leads_from}
 
 -- What typing says of a variable and of a component that a value goes to.
 pub variable_goes : (p : ProgramForm) (heap : List Object) (kind : VariableKind) (kinds : List VariableKind) (x : ℕ) (k : Control) → typed.Fits p (cells_of heap) (kind ∷ kinds) (Stores x ∷ k) → variable_access p.variables x ≡ access_of (Some kind)
@@ -52,8 +52,8 @@ component_goes p heap kind kinds o object c k found (ks, access, other, same, na
     selected_of p.types (Some (held.Access access)) object c other (kind_names heap (held.Access access) o object has found) leads ∙ ap (λ q. access_of (Some q)) (sym one)
 
 -- A path by its parts.
-abbrev pub at_path : (root : ℕ) → List ℕ → Spot → PathForm
-at_path root cs spot = record { root = root; selectors = cs; spot = spot }
+abbrev pub at_path : (of_record : Bool) → (root : ℕ) → List ℕ → Spot → PathForm
+at_path whole root cs spot = record { root = root; of_record = whole; selectors = cs; spot = spot }
 
 -- A variable is moved to another, or into a component.
 module _ {types : List TypeForm} {variables : List VariableForm} {heap : List Object} {places : List Value} {holds : Holds} (f : Fit types variables none_spared heap places holds) (y : ℕ) (spot : Spot) where
@@ -80,27 +80,27 @@ module _ {types : List TypeForm} {variables : List VariableForm} {heap : List Ob
   borrow_by x hold.Lost is same kept = absurd (cc kept)
 
 -- What flow says where a path is moved to a variable, or into a component.
-pub value_gives : (variables : List VariableForm) (cleared : Bool) (x root : ℕ) (cs : List ℕ) (spot : Spot) (holds : Holds) (more raised : Holds → Type 0) → is_borrower variables x ≡ false → Goes (gives variables cleared x (value_of (at_path root cs spot)) holds) more raised → (moved_behind cleared cs (hold_at holds root) spot ≡ None) × more (slice_set (without_values (variable_of cs root) holds) x (value_hold cs (hold_at holds root))) × (path_raises cs ≡ true → raised holds)
-value_gives variables cleared x root cs spot holds more raised owned g =
+pub value_gives : (variables : List VariableForm) (cleared : Bool) (x : ℕ) (whole : Bool) (root : ℕ) (cs : List ℕ) (spot : Spot) (holds : Holds) (more raised : Holds → Type 0) → is_borrower variables x ≡ false → Goes (gives variables cleared x (value_of (at_path whole root cs spot)) holds) more raised → (moved_behind cleared cs (hold_at holds root) spot ≡ None) × more (slice_set (without_values (variable_of cs root) holds) x (value_hold cs (hold_at holds root))) × (path_raises cs ≡ true → raised holds)
+value_gives variables cleared x whole root cs spot holds more raised owned g =
     let after = slice_set (without_values (variable_of cs root) holds) x (value_hold cs (hold_at holds root)) in
-    let u = using_goes (moves_it cleared (at_path root cs spot) ∷ []) holds (ends_with (path_raises cs) holds after) more raised (rw owned at g) in
+    let u = using_goes (moves_it cleared (at_path whole root cs spot) ∷ []) holds (ends_with (path_raises cs) holds after) more raised (rw owned at g) in
     let e = ends_goes (path_raises cs) holds after more raised u.1 in
-    ((first_kept holds (moves_it cleared (at_path root cs spot)) [] u.0).0, e.0, e.1)
+    ((first_kept holds (moves_it cleared (at_path whole root cs spot)) [] u.0).0, e.0, e.1)
 
 -- What flow says where a path's value is lent to a borrower.
-pub borrow_gives : (variables : List VariableForm) (cleared : Bool) (x root : ℕ) (cs : List ℕ) (spot : Spot) (holds : Holds) (more raised : Holds → Type 0) → is_borrower variables x ≡ true → Goes (gives variables cleared x (value_of (at_path root cs spot)) holds) more raised → (lost_by (hold_at holds root) spot ≡ None) × more (slice_set holds x (borrowed_hold (hold_at holds root))) × (path_raises cs ≡ true → raised holds)
-borrow_gives variables cleared x root cs spot holds more raised lent g =
+pub borrow_gives : (variables : List VariableForm) (cleared : Bool) (x : ℕ) (whole : Bool) (root : ℕ) (cs : List ℕ) (spot : Spot) (holds : Holds) (more raised : Holds → Type 0) → is_borrower variables x ≡ true → Goes (gives variables cleared x (value_of (at_path whole root cs spot)) holds) more raised → (lost_by (hold_at holds root) spot ≡ None) × more (slice_set holds x (borrowed_hold (hold_at holds root))) × (path_raises cs ≡ true → raised holds)
+borrow_gives variables cleared x whole root cs spot holds more raised lent g =
     let after = slice_set holds x (borrowed_hold (hold_at holds root)) in
-    let u = using_goes (borrows_it (at_path root cs spot) ∷ []) holds (ends_with (path_raises cs) holds after) more raised (rw lent at g) in
+    let u = using_goes (borrows_it (at_path whole root cs spot) ∷ []) holds (ends_with (path_raises cs) holds after) more raised (rw lent at g) in
     let e = ends_goes (path_raises cs) holds after more raised u.1 in
-    ((first_kept holds (borrows_it (at_path root cs spot)) [] u.0).0, e.0, e.1)
+    ((first_kept holds (borrows_it (at_path whole root cs spot)) [] u.0).0, e.0, e.1)
 
-pub value_fills : (cleared : Bool) (target : PathForm) (root : ℕ) (cs : List ℕ) (spot : Spot) (holds : Holds) (more raised : Holds → Type 0) → Goes (gives_component cleared target (value_of (at_path root cs spot)) holds) more raised → (moved_behind cleared cs (hold_at holds root) spot ≡ None) × more (without_values (variable_of cs root) holds) × raised holds
-value_fills cleared target root cs spot holds more raised g =
+pub value_fills : (cleared : Bool) (target : PathForm) (whole : Bool) (root : ℕ) (cs : List ℕ) (spot : Spot) (holds : Holds) (more raised : Holds → Type 0) → Goes (gives_component cleared target (value_of (at_path whole root cs spot)) holds) more raised → (moved_behind cleared cs (hold_at holds root) spot ≡ None) × more (without_values (variable_of cs root) holds) × raised holds
+value_fills cleared target whole root cs spot holds more raised g =
     let after = without_values (variable_of cs root) holds in
-    let u = using_goes (reads_it target ∷ moves_it cleared (at_path root cs spot) ∷ []) holds (ends_with true holds after) more raised g in
-    let later = (first_kept holds (reads_it target) (moves_it cleared (at_path root cs spot) ∷ []) u.0).1 in
-    ((first_kept holds (moves_it cleared (at_path root cs spot)) [] later).0, u.1.0, u.1.1)
+    let u = using_goes (reads_it target ∷ moves_it cleared (at_path whole root cs spot) ∷ []) holds (ends_with true holds after) more raised g in
+    let later = (first_kept holds (reads_it target) (moves_it cleared (at_path whole root cs spot) ∷ []) u.0).1 in
+    ((first_kept holds (moves_it cleared (at_path whole root cs spot)) [] later).0, u.1.0, u.1.1)
 
 -- A component is moved only where the next statement clears it, and behind a value that is not lost.
 pub cleared_is : (cleared : Bool) (h : Hold) (spot : Spot) → taken_by cleared h spot ≡ None → (cleared ≡ true) × (lost_by h spot ≡ None)
@@ -149,28 +149,28 @@ pub walk_on : (heap : List Object) (o : Id) (object : Object) (c : ℕ) (cs : Li
 walk_on heap o object c cs v found exists at = rw (found, exists, at) refl
 
 -- Where a component is moved, or lent, its path begins at a value that is not lost.
-pub kept_by : (variables : List VariableForm) (cleared : Bool) (x root c : ℕ) (cs : List ℕ) (spot : Spot) (holds : Holds) (more raised : Holds → Type 0) → Goes (gives variables cleared x (value_of (at_path root (c ∷ cs) spot)) holds) more raised → (lost_by (hold_at holds root) spot ≡ None) × raised holds
-kept_by variables cleared x root c cs spot holds more raised g = go (is_borrower variables x) refl
+pub kept_by : (variables : List VariableForm) (cleared : Bool) (x : ℕ) (whole : Bool) (root c : ℕ) (cs : List ℕ) (spot : Spot) (holds : Holds) (more raised : Holds → Type 0) → Goes (gives variables cleared x (value_of (at_path whole root (c ∷ cs) spot)) holds) more raised → (lost_by (hold_at holds root) spot ≡ None) × raised holds
+kept_by variables cleared x whole root c cs spot holds more raised g = go (is_borrower variables x) refl
   where
     go : (b : Bool) → is_borrower variables x ≡ b → (lost_by (hold_at holds root) spot ≡ None) × raised holds
-    go true is = let h = borrow_gives variables cleared x root (c ∷ cs) spot holds more raised is g in (h.0, h.2 refl)
+    go true is = let h = borrow_gives variables cleared x whole root (c ∷ cs) spot holds more raised is g in (h.0, h.2 refl)
     go false is =
-        let h = value_gives variables cleared x root (c ∷ cs) spot holds more raised is g in
+        let h = value_gives variables cleared x whole root (c ∷ cs) spot holds more raised is g in
         ((cleared_is cleared (hold_at holds root) spot h.0).1, h.2 refl)
 
-pub kept_root : (known : Known) (k : Control) (heap : List Object) (places : List Value) (ms : List Master) (root c : ℕ) (cs : List ℕ) (spot : Spot) → (w : Working known heap places ms (Takes known heap places (value_of (at_path root (c ∷ cs) spot)) k)) → (lost_by (hold_at w.holds root) spot ≡ None) × To ((ways known k w.rooms).raised ConstraintError) w.holds
-kept_root known [] heap places ms root c cs spot w = absurd (w.rest)
-kept_root known (Stores x ∷ k) heap places ms root c cs spot w =
-    let h = kept_by known.program.variables w.rest.0 x root c cs spot w.holds (RunsOn known k w.rooms) (Raised (λ e. right_raises (is_same e) (value_of (at_path root (c ∷ cs) spot))) (ways known k w.rooms)) w.rest.1 in
+pub kept_root : (known : Known) (k : Control) (heap : List Object) (places : List Value) (ms : List Master) (whole : Bool) (root c : ℕ) (cs : List ℕ) (spot : Spot) → (w : Working known heap places ms (Takes known heap places (value_of (at_path whole root (c ∷ cs) spot)) k)) → (lost_by (hold_at w.holds root) spot ≡ None) × To ((ways known k w.rooms).raised ConstraintError) w.holds
+kept_root known [] heap places ms whole root c cs spot w = absurd (w.rest)
+kept_root known (Stores x ∷ k) heap places ms whole root c cs spot w =
+    let h = kept_by known.program.variables w.rest.0 x whole root c cs spot w.holds (RunsOn known k w.rooms) (Raised (λ e. right_raises (is_same e) (value_of (at_path whole root (c ∷ cs) spot))) (ways known k w.rooms)) w.rest.1 in
     (h.0, h.1 ConstraintError refl)
-kept_root known (Declares x ∷ k) heap places ms root c cs spot w =
-    let h = kept_by known.program.variables w.rest.0 x root c cs spot w.holds (RunsOn known k w.rooms) (Raised (λ e. right_raises (is_same e) (value_of (at_path root (c ∷ cs) spot))) (ways known k w.rooms)) w.rest.1 in
+kept_root known (Declares x ∷ k) heap places ms whole root c cs spot w =
+    let h = kept_by known.program.variables w.rest.0 x whole root c cs spot w.holds (RunsOn known k w.rooms) (Raised (λ e. right_raises (is_same e) (value_of (at_path whole root (c ∷ cs) spot))) (ways known k w.rooms)) w.rest.1 in
     (h.0, h.1 ConstraintError refl)
-kept_root known (StoresIn o d ∷ k) heap places ms root c cs spot w =
+kept_root known (StoresIn o d ∷ k) heap places ms whole root c cs spot w =
     let g = w.rest.1 in
-    let h = value_fills g.1 g.0 root (c ∷ cs) spot w.holds (RunsOn known k w.rooms) (Raised (component_among (value_of (at_path root (c ∷ cs) spot))) (ways known k w.rooms)) g.2 in
+    let h = value_fills g.1 g.0 whole root (c ∷ cs) spot w.holds (RunsOn known k w.rooms) (Raised (component_among (value_of (at_path whole root (c ∷ cs) spot))) (ways known k w.rooms)) g.2 in
     ((cleared_is g.1 (hold_at w.holds root) spot h.0).1, h.2 ConstraintError refl)
-kept_root known (f ∷ k) heap places ms root c cs spot w = absurd (w.rest)
+kept_root known (f ∷ k) heap places ms whole root c cs spot w = absurd (w.rest)
 
 -- The object that a variable names which is not lost is of the variable's access type.
 pub root_access : {types : List TypeForm} {variables : List VariableForm} {heap : List Object} {places : List Value} {holds : Holds} → Fit types variables none_spared heap places holds → (x : ℕ) (spot : Spot) (o : Id) (object : Object) → lost_by (hold_at holds x) spot ≡ None → place_at places x ≡ Names o → object_at heap o ≡ Some object → variable_access variables x ≡ Some object.cell.access
@@ -181,9 +181,11 @@ root_access {types} {variables} {heap} {places} {holds} f x spot o object kept i
     by_kind (Some t) of = let h = listed_at heap o t of in let one : h.object ≡ object = cc (h.found, found) in ap Some (sym h.access ∙ ap (λ (y : Object). y.cell.access) one)
 
 -- What a moved path leads to is of the kind that it goes to.
-pub one_kind : (p : ProgramForm) (kind to : VariableKind) (path : PathForm) → kind_takes p.types p.variables kind (value_of path) ≡ true → access_of (Some kind) ≡ access_of (Some to) → kind ≡ to
+pub one_kind : (p : ProgramForm) (kind to : VariableKind) (path : PathForm) → kind_takes p.types p.variables kind (value_of path) ≡ true → access_of (Some kind) ≡ value_access (Some to) → kind ≡ to
 one_kind p held.Integer to path takes same = absurd (cc takes)
 one_kind p held.Boolean to path takes same = absurd (cc takes)
+one_kind p (held.Record t) to path takes same = absurd (cc takes)
+one_kind p (held.Access t) (held.Record u) path takes same = absurd (cc same)
 one_kind p (held.Access t) held.Integer path takes same = absurd (cc same)
 one_kind p (held.Access t) held.Boolean path takes same = absurd (cc same)
 one_kind p (held.Access t) (held.Access u) path takes same = let one : t.0 ≡ u.0 = cc same in ap (λ n. held.Access (record { 0 = n })) one
@@ -192,13 +194,17 @@ pub none_kind : (p : ProgramForm) (kind : VariableKind) (path : PathForm) → ki
 none_kind p held.Integer path takes none = cc takes
 none_kind p held.Boolean path takes none = cc takes
 none_kind p (held.Access t) path takes none = cc none
+none_kind p (held.Record t) path takes none = cc takes
 
-pub path_goes : (p : ProgramForm) (kind : VariableKind) (root : ℕ) (cs : List ℕ) (spot : Spot) → kind_takes p.types p.variables kind (value_of (at_path root cs spot)) ≡ true → selectors_kind p.types (variable_kind p.variables root) cs ≡ Some kind
-path_goes p kind root cs spot takes = go (selectors_kind p.types (variable_kind p.variables root) cs) refl
+pub path_goes : (p : ProgramForm) (kind : VariableKind) (whole : Bool) (root : ℕ) (cs : List ℕ) (spot : Spot) → kind_takes p.types p.variables kind (value_of (at_path whole root cs spot)) ≡ true → selectors_kind p.types (variable_kind p.variables root) cs ≡ Some kind
+path_goes p kind whole root cs spot takes = leads_from p.types whole (variable_kind p.variables root) cs kind (go (path_kind p.types p.variables path) refl)
   where
-    goes : path_access p.types p.variables (at_path root cs spot) ≡ access_of (Some kind)
-    goes = value_goes p.types p.variables kind (at_path root cs spot) takes
+    path : PathForm
+    path = at_path whole root cs spot
 
-    go : (found : Option VariableKind) → selectors_kind p.types (variable_kind p.variables root) cs ≡ found → selectors_kind p.types (variable_kind p.variables root) cs ≡ Some kind
-    go None is = absurd (none_kind p kind (at_path root cs spot) takes (sym goes ∙ ap access_of is))
-    go (Some to) is = is ∙ ap Some (sym (one_kind p kind to (at_path root cs spot) takes (sym goes ∙ ap access_of is)))
+    goes : path_access p.types p.variables path ≡ access_of (Some kind)
+    goes = value_goes p.types p.variables kind path takes
+
+    go : (found : Option VariableKind) → path_kind p.types p.variables path ≡ found → path_kind p.types p.variables path ≡ Some kind
+    go None is = absurd (none_kind p kind path takes (sym goes ∙ ap value_access is))
+    go (Some to) is = is ∙ ap Some (sym (one_kind p kind to path takes (sym goes ∙ ap value_access is)))

@@ -18,7 +18,7 @@ use Rattle.ada_meaning.specs.declared.state.Value.TheVariants.{Null, Names, Scal
 use Rattle.ada_meaning.specs.declared.state.Stage.TheVariants.{Existing}
 use Rattle.ada_meaning.specs.Frame.{Frame}
 use Rattle.ada_meaning.specs.Frame as frame
-use Rattle.ada_meaning.specs.State.{collection, Item, Master}
+use Rattle.ada_meaning.specs.State.{type_housed, Item, Master}
 use Rattle.ada_meaning.specs.Heap.{finds}
 use Rattle.ada_meaning.specs.Step.{before_last, last_of, held}
 use Rattle.ada_meaning.specs.Named.{Object, State, object_at, named}
@@ -27,10 +27,10 @@ use Rattle.ada_owners.specs.Places as owners
 use Rattle.ada_owners.specs.Places.{value_at}
 use Rattle.ada_owners.specs.Walks.{walk}
 
--- An open collection of the object's own access type is its home (7.6.1).
+-- An open collection of the object's own access type is its home, or its own item, where it is a record object (7.6.1).
 abbrev pub IsAtHome : List Master → Object → Type 0
 IsAtHome masters object =
-    (i : Item) × Contains (items_of masters) i × (i.number ≡ object.cell.home.item) × (i.owned ≡ collection object.cell.access)
+    (i : Item) × Contains (items_of masters) i × (i.number ≡ object.cell.home.item) × (type_housed i.owned ≡ Some object.cell.access)
 
 -- An object of this name exists, of this access type, and its collection is open.
 abbrev pub Exists : List Object → List Master → Option ℕ → Id → Type 0

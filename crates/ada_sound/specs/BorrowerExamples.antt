@@ -42,8 +42,8 @@ walking_events =
     ∷ Followed (Names (record { 0 = 0 }))
     ∷ Line (Image (pos 1))
     ∷ Followed (Names (record { 0 = 0 }))
-    ∷ Back (Names (record { 0 = 1 })) 1 2 0 None (Leaving 0 0)
-    ∷ Back (Names (record { 0 = 0 })) 1 1 0 None (Leaving 0 0)
+    ∷ Back (Names (record { 0 = 1 })) 1 2 (Some 0) None (Leaving 0 0)
+    ∷ Back (Names (record { 0 = 0 })) 1 1 (Some 0) None (Leaving 0 0)
     ∷ Left 0
     ∷ []
 
@@ -56,7 +56,7 @@ abbrev pub lending_events : List Event
 lending_events =
     Followed (Names (record { 0 = 0 }))
     ∷ Line (Image (pos 1))
-    ∷ Back (Names (record { 0 = 0 })) 1 1 0 None (Leaving 0 0)
+    ∷ Back (Names (record { 0 = 0 })) 1 1 (Some 0) None (Leaving 0 0)
     ∷ Left 0
     ∷ []
 
@@ -66,7 +66,7 @@ dangling_stmts = pushing 1 (a_stmt b_is_head (a_stmt (frees 1 (example_path 0 []
 
 -- The node is freed by its owner; then the borrower would follow it.
 abbrev pub dangling_events : List Event
-dangling_events = Back (Names (record { 0 = 0 })) 1 1 0 None (Freeing 1) ∷ []
+dangling_events = Back (Names (record { 0 = 0 })) 1 1 (Some 0) None (Freeing 1) ∷ []
 
 -- Head := new Node'(1, Head); Head := new Node'(2, Head); B := Head; Head := Head.Next; Head.Next := null;
 -- Rest := B.Next; B.Next := null; Free (Rest); Put_Line (Integer'Image (Head.Value));
@@ -88,5 +88,5 @@ overtaking_events =
     Followed (Names (record { 0 = 1 }))
     ∷ replicate 2 (Followed (Names (record { 0 = 0 })))
     ++ replicate 3 (Followed (Names (record { 0 = 1 })))
-    ++ Back (Names (record { 0 = 0 })) 1 1 0 None (Freeing 1)
+    ++ Back (Names (record { 0 = 0 })) 1 1 (Some 0) None (Freeing 1)
     ∷ []

@@ -21,8 +21,8 @@ abbrev pub example_events : List Event
 example_events =
     Followed (Names (record { 0 = 0 }))
     ∷ Line (Image (pos 7))
-    ∷ Back (Names (record { 0 = 0 })) 1 1 0 None (Freeing 1)
-    ∷ Back (Names (record { 0 = 1 })) 1 2 0 None (Leaving 0 0)
+    ∷ Back (Names (record { 0 = 0 })) 1 1 (Some 0) None (Freeing 1)
+    ∷ Back (Names (record { 0 = 1 })) 1 2 (Some 0) None (Leaving 0 0)
     ∷ Left 0
     ∷ []
 
@@ -32,7 +32,7 @@ example_spot = record { line = 1; column = 1 }
 
 -- A path of the examples: a variable, and components behind it.
 abbrev pub example_path : ℕ → List ℕ → PathForm
-example_path x cs = record { root = x; selectors = cs; spot = example_spot }
+example_path x cs = record { root = x; of_record = false; selectors = cs; spot = example_spot }
 
 -- loop if X = null then X := new Cell'(Value => 7); else Put_Line (Integer'Image (X.Value)); Free (X); exit; end if; end loop;
 abbrev pub repeating_else : StmtsForm
@@ -58,7 +58,7 @@ abbrev pub repeating_events : List Event
 repeating_events =
     Followed (Names (record { 0 = 0 }))
     ∷ Line (Image (pos 7))
-    ∷ Back (Names (record { 0 = 0 })) 1 1 0 None (Freeing 1)
+    ∷ Back (Names (record { 0 = 0 })) 1 1 (Some 0) None (Freeing 1)
     ∷ Left 0
     ∷ []
 
@@ -75,7 +75,7 @@ returning_stmts =
 
 -- The object is freed in the first turn, and the condition is false before a second one.
 abbrev pub returning_events : List Event
-returning_events = Back (Names (record { 0 = 0 })) 1 1 0 None (Freeing 1) ∷ Left 0 ∷ []
+returning_events = Back (Names (record { 0 = 0 })) 1 1 (Some 0) None (Freeing 1) ∷ Left 0 ∷ []
 
 -- The words of an example with three variables: X and Y have numbers 0 and 1, and N : Integer := 0 has number 2.
 
@@ -163,11 +163,11 @@ nesting_events =
     ∷ Line (Image (pos 0))
     ∷ Followed (Names (record { 0 = 0 }))
     ∷ Line (Image (pos 7))
-    ∷ Back (Names (record { 0 = 0 })) 1 1 0 None (Freeing 1)
+    ∷ Back (Names (record { 0 = 0 })) 1 1 (Some 0) None (Freeing 1)
     ∷ Followed (Names (record { 0 = 1 }))
     ∷ Followed (Names (record { 0 = 1 }))
     ∷ Line (Image (pos 8))
-    ∷ Back (Names (record { 0 = 1 })) 1 2 0 None (Leaving 0 0)
+    ∷ Back (Names (record { 0 = 1 })) 1 2 (Some 0) None (Leaving 0 0)
     ∷ Left 0
     ∷ []
 
@@ -187,7 +187,7 @@ abbrev pub losing_events : List Event
 losing_events =
     Followed (Names (record { 0 = 0 }))
     ∷ Line (Image (pos 7))
-    ∷ Back (Names (record { 0 = 0 })) 1 1 0 None (Freeing 1)
+    ∷ Back (Names (record { 0 = 0 })) 1 1 (Some 0) None (Freeing 1)
     ∷ []
 
 -- X := new Cell'(Value => 7); loop Y := X; Free (Y); exit; end loop; Put_Line (Integer'Image (X.Value));
@@ -230,7 +230,7 @@ abbrev pub handling_events : List Event
 handling_events =
     Followed (Names (record { 0 = 0 }))
     ∷ Line (Image (pos 7))
-    ∷ Back (Names (record { 0 = 0 })) 1 1 0 None (Freeing 1)
+    ∷ Back (Names (record { 0 = 0 })) 1 1 (Some 0) None (Freeing 1)
     ∷ Left 0
     ∷ []
 
@@ -264,11 +264,11 @@ abbrev pub enclosing_events : List Event
 enclosing_events =
     Followed (Names (record { 0 = 1 }))
     ∷ Line (Image (pos 8))
-    ∷ Back (Names (record { 0 = 1 })) 2 2 0 None (Leaving 1 2)
+    ∷ Back (Names (record { 0 = 1 })) 2 2 (Some 0) None (Leaving 1 2)
     ∷ Left 1
     ∷ Followed (Names (record { 0 = 0 }))
     ∷ Line (Image (pos 7))
-    ∷ Back (Names (record { 0 = 0 })) 1 1 0 None (Leaving 0 0)
+    ∷ Back (Names (record { 0 = 0 })) 1 1 (Some 0) None (Leaving 0 0)
     ∷ Left 0
     ∷ []
 
@@ -290,11 +290,11 @@ unwinding_handlers =
 -- procedure.
 abbrev pub unwinding_events : List Event
 unwinding_events =
-    Back (Names (record { 0 = 1 })) 2 2 0 None (Leaving 1 2)
+    Back (Names (record { 0 = 1 })) 2 2 (Some 0) None (Leaving 1 2)
     ∷ Left 1
     ∷ Followed (Names (record { 0 = 0 }))
     ∷ Line (Image (pos 7))
-    ∷ Back (Names (record { 0 = 0 })) 1 1 0 None (Leaving 0 0)
+    ∷ Back (Names (record { 0 = 0 })) 1 1 (Some 0) None (Leaving 0 0)
     ∷ Left 0
     ∷ []
 
@@ -319,13 +319,13 @@ abbrev pub counting_events : List Event
 counting_events =
     Followed (Names (record { 0 = 0 }))
     ∷ Line (Image (pos 6))
-    ∷ Back (Names (record { 0 = 0 })) 1 1 0 None (Freeing 1)
+    ∷ Back (Names (record { 0 = 0 })) 1 1 (Some 0) None (Freeing 1)
     ∷ Followed (Names (record { 0 = 1 }))
     ∷ Line (Image (pos 8))
-    ∷ Back (Names (record { 0 = 1 })) 1 2 0 None (Freeing 2)
+    ∷ Back (Names (record { 0 = 1 })) 1 2 (Some 0) None (Freeing 2)
     ∷ Followed (Names (record { 0 = 2 }))
     ∷ Line (Image (pos 3))
-    ∷ Back (Names (record { 0 = 2 })) 1 3 0 None (Freeing 3)
+    ∷ Back (Names (record { 0 = 2 })) 1 3 (Some 0) None (Freeing 3)
     ∷ Left 0
     ∷ []
 
@@ -344,7 +344,7 @@ raising_handlers = a_handler (choice.Exception full ∷ []) (a_stmt (writes (val
 
 -- The object is freed, and then the handler looks for it.
 abbrev pub raising_events : List Event
-raising_events = Back (Names (record { 0 = 0 })) 1 1 0 None (Freeing 1) ∷ []
+raising_events = Back (Names (record { 0 = 0 })) 1 1 (Some 0) None (Freeing 1) ∷ []
 
 -- Get (N); X := new Cell'(Value => 7); Y := X; Free (Y); N := -N;
 abbrev pub overflowing_stmts : StmtsForm
@@ -368,7 +368,7 @@ outliving_stmts =
 
 -- The object goes with the block's collection.
 abbrev pub outliving_events : List Event
-outliving_events = Back (Names (record { 0 = 0 })) 2 1 0 None (Leaving 1 3) ∷ Left 1 ∷ []
+outliving_events = Back (Names (record { 0 = 0 })) 2 1 (Some 0) None (Leaving 1 3) ∷ Left 1 ∷ []
 
 -- That block with an exit out of it:
 -- loop declare type Inner is access Cell; begin Y := new Cell'(Value => 8); exit; end; end loop; Put_Line (Integer'Image (Y.Value));
@@ -393,7 +393,7 @@ mistyping_stmts = a_stmt mistyping_block (a_stmt (writes (value_at 0)) no_stmts)
 
 -- The object goes with the block's collection.
 abbrev pub mistyping_events : List Event
-mistyping_events = Back (Names (record { 0 = 0 })) 2 1 0 None (Leaving 1 2) ∷ Left 1 ∷ []
+mistyping_events = Back (Names (record { 0 = 0 })) 2 1 (Some 0) None (Leaving 1 2) ∷ Left 1 ∷ []
 
 -- Components that are assigned to:
 -- X := new Cell'(Value => 7); Get (X.Value);
@@ -415,7 +415,7 @@ abbrev pub filling_events : List Event
 filling_events =
     replicate 11 (Followed (Names (record { 0 = 0 })))
     ++ Line (Image (pos 7))
-    ∷ Back (Names (record { 0 = 0 })) 1 1 0 None (Leaving 0 0)
+    ∷ Back (Names (record { 0 = 0 })) 1 1 (Some 0) None (Leaving 0 0)
     ∷ Left 0
     ∷ []
 
@@ -429,4 +429,4 @@ storing_stmts =
 
 -- The object is freed, and then a component of it is assigned to.
 abbrev pub storing_events : List Event
-storing_events = Back (Names (record { 0 = 0 })) 1 1 0 None (Freeing 1) ∷ []
+storing_events = Back (Names (record { 0 = 0 })) 1 1 (Some 0) None (Freeing 1) ∷ []

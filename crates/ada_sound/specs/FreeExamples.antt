@@ -41,9 +41,9 @@ inserting_events =
     ∷ Followed (Names (record { 0 = 1 }))
     ∷ Line (Image (pos 2))
     ∷ Followed (Names (record { 0 = 1 }))
-    ∷ Back (Names (record { 0 = 2 })) 1 3 0 None (Leaving 0 0)
-    ∷ Back (Names (record { 0 = 1 })) 1 2 0 None (Leaving 0 0)
-    ∷ Back (Names (record { 0 = 0 })) 1 1 0 None (Leaving 0 0)
+    ∷ Back (Names (record { 0 = 2 })) 1 3 (Some 0) None (Leaving 0 0)
+    ∷ Back (Names (record { 0 = 1 })) 1 2 (Some 0) None (Leaving 0 0)
+    ∷ Back (Names (record { 0 = 0 })) 1 1 (Some 0) None (Leaving 0 0)
     ∷ Left 0
     ∷ []
 
@@ -70,10 +70,10 @@ freeing_stmts =
 abbrev pub freeing_events : List Event
 freeing_events =
     Followed (Names (record { 0 = 1 }))
-    ∷ Back (Names (record { 0 = 0 })) 1 1 0 None (Freeing 1)
+    ∷ Back (Names (record { 0 = 0 })) 1 1 (Some 0) None (Freeing 1)
     ∷ replicate 3 (Followed (Names (record { 0 = 1 })))
     ++ Line (Image (pos 1))
-    ∷ Back (Names (record { 0 = 1 })) 3 2 0 None (Leaving 0 1)
+    ∷ Back (Names (record { 0 = 1 })) 3 2 (Some 0) None (Leaving 0 1)
     ∷ Left 0
     ∷ []
 
@@ -87,7 +87,7 @@ passing_stmts =
 
 -- The node owns itself. It is freed by way of its own Next, which is gone with it before it would become null.
 abbrev pub passing_events : List Event
-passing_events = replicate 3 (Followed (Names (record { 0 = 0 }))) ++ Back (Names (record { 0 = 0 })) 1 1 0 None (Freeing 1) ∷ []
+passing_events = replicate 3 (Followed (Names (record { 0 = 0 }))) ++ Back (Names (record { 0 = 0 })) 1 1 (Some 0) None (Freeing 1) ∷ []
 
 -- Head, Rest, Last : Link; have numbers 0, 1 and 2.
 -- Head := new Node'(1, Head); Head := new Node'(2, Head); Rest := new Node'(3, Head.Next);
@@ -107,6 +107,6 @@ abbrev pub doubling_events : List Event
 doubling_events =
     Followed (Names (record { 0 = 1 }))
     ∷ replicate 3 (Followed (Names (record { 0 = 2 })))
-    ++ Back (Names (record { 0 = 0 })) 1 1 0 None (Freeing 1)
+    ++ Back (Names (record { 0 = 0 })) 1 1 (Some 0) None (Freeing 1)
     ∷ Followed (Names (record { 0 = 1 }))
     ∷ []

@@ -47,11 +47,11 @@ owning_events =
     Followed (Names (record { 0 = 1 }))
     ∷ Line (Image (pos 2))
     ∷ replicate 3 (Followed (Names (record { 0 = 1 })))
-    ++ Back (Names (record { 0 = 1 })) 1 2 0 None (Freeing 1)
+    ++ Back (Names (record { 0 = 1 })) 1 2 (Some 0) None (Freeing 1)
     ∷ Followed (Names (record { 0 = 0 }))
     ∷ Line (Image (pos 1))
     ∷ replicate 3 (Followed (Names (record { 0 = 0 })))
-    ++ Back (Names (record { 0 = 0 })) 1 1 0 None (Freeing 2)
+    ++ Back (Names (record { 0 = 0 })) 1 1 (Some 0) None (Freeing 2)
     ∷ Left 0
     ∷ []
 
@@ -68,8 +68,8 @@ default_events =
     replicate 3 (Followed (Names (record { 0 = 0 })))
     ++ Followed (Names (record { 0 = 1 }))
     ∷ Line (Image (pos 5))
-    ∷ Back (Names (record { 0 = 1 })) 1 2 0 None (Leaving 0 0)
-    ∷ Back (Names (record { 0 = 0 })) 1 1 0 None (Leaving 0 0)
+    ∷ Back (Names (record { 0 = 1 })) 1 2 (Some 0) None (Leaving 0 0)
+    ∷ Back (Names (record { 0 = 0 })) 1 1 (Some 0) None (Leaving 0 0)
     ∷ Left 0
     ∷ []
 
@@ -86,7 +86,7 @@ pairing_stmts =
 abbrev pub pairing_events : List Event
 pairing_events =
     Followed (Names (record { 0 = 1 }))
-    ∷ Back (Names (record { 0 = 0 })) 1 1 0 None (Freeing 1)
+    ∷ Back (Names (record { 0 = 0 })) 1 1 (Some 0) None (Freeing 1)
     ∷ Followed (Names (record { 0 = 1 }))
     ∷ []
 
@@ -108,7 +108,7 @@ items_stmts =
 abbrev pub items_events : List Event
 items_events =
     replicate 3 (Followed (Names (record { 0 = 1 })))
-    ++ Back (Names (record { 0 = 0 })) 1 1 0 None (Freeing 1)
+    ++ Back (Names (record { 0 = 0 })) 1 1 (Some 0) None (Freeing 1)
     ∷ replicate 3 (Followed (Names (record { 0 = 1 })))
 
 -- X : Link is an outer variable, and a block declares the access type Inner, of number 3, of what Node has as its component:
@@ -128,7 +128,7 @@ outlasting_stmts = a_stmt outlasting_block (a_stmt (writes (reads (example_path 
 -- The object of Inner goes with the block's collection, while the node that names it stays.
 abbrev pub outlasting_events : List Event
 outlasting_events =
-    Back (Names (record { 0 = 0 })) 3 1 0 None (Leaving 1 2)
+    Back (Names (record { 0 = 0 })) 3 1 (Some 0) None (Leaving 1 2)
     ∷ Left 1
     ∷ Followed (Names (record { 0 = 1 }))
     ∷ []

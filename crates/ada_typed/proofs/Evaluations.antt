@@ -1,7 +1,7 @@
 -- How typed states change, and that what is evaluated has the type that is waited for.
 
 use Rattle.ada_typed.specs.Stuck.{EndsByTheLanguage}
-use Rattle.ada_typed.specs.Holding.{Cells, Designates, HasKind, HaveKinds, cells_of}
+use Rattle.ada_typed.specs.Holding.{Cells, Designates, HasKind, HaveKinds, IsPooled, cells_of}
 use Rattle.std.proofs.Common.{◌≡◌, ℕ, zero, suc, ◌<◌, ◌≤◌, ◌==◌, if◌then◌else◌, Bool, true, false, List, [], ◌∷◌, ◌++◌, length, map, take, drop, reverse, Option, Some, None, Result, Ok, Err, arith, refl, sym, ap, ◌∙◌, subst}
 use Rattle.std.specs.Prelude.{is_some}
 use Rattle.std.proofs.lemmas.Bool.{eqb-true}
@@ -17,7 +17,7 @@ use Rattle.ada_program.specs.declared.program.VariableKind.TheVariants as variab
 use Rattle.ada_program.specs.Form.{ExpressionForm, integer, boolean, reads, is_null, applied_to, chained, LinksForm, no_more_links, a_link, ItemForm, null_item, item_of_path, item_of_value, RightForm, nothing, value_of, allocates, allocates_default, computes}
 use Rattle.ada_program.specs.ProgramForm.{TypeForm, VariableForm, ProgramForm, type_form}
 use Rattle.ada_program.specs.Typed.{reached_of, count_of, words_of}
-use Rattle.ada_program.specs.WellFormed.{reached_components, held_kind, component_kind, kind_among, selected_kind, selectors_kind, variable_kind, path_kind, access_of, scalar_of, is_this, type_of, chain_type, unary_type, binary_type, item_fits, items_fit, is_filled, kind_takes}
+use Rattle.ada_program.specs.WellFormed.{is_access, reached_components, held_kind, component_kind, kind_among, selected_kind, selectors_kind, variable_kind, root_kind, path_kind, value_access, scalar_of, is_this, type_of, chain_type, unary_type, binary_type, item_fits, items_fit, is_filled, kind_takes}
 use Rattle.ada_values.specs.declared.value.Value.TheVariants as scalar
 use Rattle.ada_values.specs.declared.operator.BinaryOperator.{BinaryOperator}
 use Rattle.ada_values.specs.declared.fault.OperatorFault.{OperatorFault}
@@ -35,9 +35,9 @@ use Rattle.ada_meaning.specs.Frame.{Frame, is_master}
 use Rattle.ada_meaning.specs.Frame as frame
 use Rattle.ada_meaning.specs.State.{Activation, Owned, Item, Master, height}
 use Rattle.ada_meaning.specs.Heap.{Cell}
-use Rattle.ada_meaning.specs.Step.{halts, moves, tells, asks, picks, at, owning, owned, shorter, computed, popped, jumping, raised, put, held, newest, operands, operands_of, with_operands, reading, component_next, follow_next, path_next, expression_next, null_test_next, is_decided, link_next, links_next, outcome_next, item_next, items_next, answered, new_next, new_cell, initial_value, initial_values, in_front, initialized, right_next}
+use Rattle.ada_meaning.specs.Step.{halts, moves, tells, asks, picks, at, owning, owned, shorter, computed, popped, jumping, raised, put, held, newest, operands, operands_of, with_operands, reading, component_next, follow_next, path_next, expression_next, null_test_next, is_decided, link_next, links_next, outcome_next, item_next, items_next, answered, new_next, new_cell, initial_value, initial_values, in_front, initialized, right_next, record_cell, made}
 use Rattle.ada_meaning.specs.Named.{Object, State, Next, named, look, seen, existing, changed, on_object, new_object, reads_boolean, reads_null}
-use Rattle.ada_typed.proofs.Values.{AreFilled, AreComputed, IsActive, kind_of, filled_new, active_later, designated_more, newest_name, active_held, active_set, active_push, active_pop, active_newest, active_cleared, component_held, filled_at}
+use Rattle.ada_typed.proofs.Values.{AreFilled, AreComputed, IsActive, kind_of, as_access, as_access_in, kind_as, selectors_as, root_same, filled_new, active_later, designated_more, newest_name, active_held, active_set, active_push, active_pop, active_newest, active_cleared, component_held, filled_at}
 use Rattle.ada_typed.proofs.Shown.{same_components}
 use Rattle.ada_typed.proofs.Later.{fits_later}
 use Rattle.ada_typed.proofs.Operators.{and_left, and_right, typed, unary_operand, binary_operand, chain_left, decided_same, GivesKind}
@@ -114,8 +114,19 @@ active_initial : (cells : Cells) (xs : List VariableForm) (cs : List ComponentKi
 active_initial cells xs cs kinds [] h = h
 active_initial cells xs cs kinds (a ∷ suspended) h = (h.0, computed_initial cells cs kinds a.operands h.1)
 
+have_initials : (cells : Cells) (cs : List ComponentKind) → HaveKinds cells cs (map (initial_value named) cs)
+have_initials cells [] = tt
+have_initials cells (c ∷ cs) = (initial_kind cells c, have_initials cells cs)
+
+initials_have : (cells : Cells) (o : Option (List ComponentKind)) (cs : List ComponentKind) → o ≡ Some cs → HaveKinds cells cs (initial_values named o)
+initials_have cells o cs is = subst (λ (found : Option (List ComponentKind)). HaveKinds cells cs (initial_values named found)) (sym is) (have_initials cells cs)
+
+-- The components that the types of a program have are those that are shown of them.
+pub reached_shown : {shown : List TypeForm} (types : List TypeDefinition) (t : ℕ) (cs : List ComponentKind) → map type_form types ≡ shown → reached_components shown t ≡ Some cs → reached_of types t ≡ Some cs
+reached_shown types t cs same reached = sym (same_components types t) ∙ ap (λ (ts : List TypeForm). reached_components ts t) same ∙ reached
+
 -- There is something.
-there_is : {X : Type 0} (o : Option X) → is_some o ≡ true → (x : X) × (o ≡ Some x)
+pub there_is : {X : Type 0} (o : Option X) → is_some o ≡ true → (x : X) × (o ≡ Some x)
 there_is None h = absurd (cc)
 there_is (Some x) h = (x, refl)
 
@@ -177,6 +188,35 @@ module _ (p : ProgramForm) where
   pub fits_heap : (kinds : List VariableKind) (s : State) (k : List (Frame Value)) (heap : List Object) → cells_of heap ≡ cells_of s.heap → Fits p (cells_of s.heap) kinds k → Fits p (cells_of heap) kinds k
   fits_heap kinds s k heap same fits = subst (λ (cs : Cells). Fits p cs kinds k) (sym same) fits
 
+  -- One object more, in which values lie that its type says; it is named by the next number.
+  ready_more : (kinds : List VariableKind) (s : State) (cell : Cell Value) (cs : List ComponentKind) → Ready p kinds s → reached_components p.types cell.access ≡ Some cs → HaveKinds (cells_of s.heap) cs cell.values → IsPooled p.types cell → Ready p kinds (record s { heap = s.heap ++ new_object cell ∷ [] })
+  ready_more kinds s cell cs ready reached have pooled =
+      let cells = cells_of s.heap in
+      let same : cells_of (s.heap ++ new_object cell ∷ []) ≡ cells ++ cell ∷ [] = cells_more s.heap (new_object cell) in
+      record {
+        filled = subst (λ (xs : Cells). AreFilled p.types xs xs) (sym same) (filled_new p.types cells cell cs ready.filled reached have pooled);
+        active = subst (λ (xs : Cells). IsActive xs p.variables kinds s.activations) (sym same) (active_later cells (cells ++ cell ∷ []) (designated_more cells cell) p.variables kinds s.activations ready.active);
+        runs = ready.runs;
+        deep = ready.deep;
+      }
+
+  pub fits_more : (kinds : List VariableKind) (k : List (Frame Value)) (xs : List Object) (cell : Cell Value) → Fits p (cells_of xs) kinds k → Fits p (cells_of (xs ++ new_object cell ∷ [])) kinds k
+  fits_more kinds k xs cell fits =
+      subst (λ (cells : Cells). Fits p cells kinds k) (sym (cells_more xs (new_object cell)))
+      (fits_later p (cells_of xs) (cells_of xs ++ cell ∷ []) (designated_more (cells_of xs) cell) k kinds fits)
+
+  named_newest : (xs : List Object) (cell : Cell Value) → slice_get (cells_of (xs ++ new_object cell ∷ [])) (length xs) ≡ Some cell
+  named_newest xs cell =
+      ap (λ (cells : Cells). slice_get cells (length xs)) (cells_more xs (new_object cell)) ∙ ap (slice_get (cells_of xs ++ cell ∷ [])) (sym (length_cells xs)) ∙
+      newest_name (cells_of xs) cell
+
+  -- A record object is declared (3.3.1): its components hold their initial values, and its variable holds its name.
+  pub ready_made : (types : List TypeDefinition) (x t : ℕ) (object : TypeNo) (cs : List ComponentKind) (kinds : List VariableKind) (s : State) → map type_form types ≡ p.types → Ready p kinds s → variable_kind p.variables x ≡ Some (variable.Record object) → t ≡ object.0 → reached_components p.types t ≡ Some cs → is_access p.types t ≡ false → Ready p kinds (made named types x t s)
+  ready_made types x t object cs kinds s shown ready is own reached never =
+      let cell = record_cell named types t (height s.masters) in
+      let more = ready_more kinds s cell cs ready reached (initials_have (cells_of s.heap) (reached_of types t) cs (reached_shown types t cs shown reached)) (λ access. absurd (cc)) in
+      put_in kinds (record s { heap = s.heap ++ new_object cell ∷ [] }) x (variable.Record object) (Names (record { 0 = length s.heap })) more is (cell, named_newest s.heap cell, own)
+
   -- A jump begins: operands are dropped.
   pub jumped : (kinds : List VariableKind) (mode : Mode) (s : State) → Ready p kinds s → Jumps p mode (jumping mode s)
   jumped kinds mode s ready = record {
@@ -230,30 +270,40 @@ module _ (p : ProgramForm) where
   follow_fine variable.Integer v c cs to s kinds ready has leads fits = let never : None ≡ Some to = sym (selectors_none p.types cs) ∙ leads in absurd (cc)
   follow_fine variable.Boolean v c cs to s kinds ready has leads fits = let never : None ≡ Some to = sym (selectors_none p.types cs) ∙ leads in absurd (cc)
   follow_fine (variable.Access access) v c cs to s kinds ready has leads fits = access_fine v c cs access to s kinds ready has leads fits
+  follow_fine (variable.Record object) v c cs to s kinds ready has leads fits = access_fine v c cs object to s kinds ready has leads fits
 
   pub path_fine : (cs : List ℕ) (v : Value) (from to : VariableKind) (s : State) (kinds : List VariableKind) → Ready p kinds s → HasKind (cells_of s.heap) from v → selectors_kind p.types (Some from) cs ≡ Some to → Fits p (cells_of s.heap) (to ∷ kinds) s.control → Fine p (path_next named cs v s)
   path_fine [] v from to s kinds ready has leads fits = reading_fine [] v from to s kinds ready has leads fits
   path_fine (c ∷ cs) v from to s kinds ready has leads fits = follow_fine from v c cs to s kinds ready has leads fits
 
-  pub root_fine : (kind : Option VariableKind) (cs : List ℕ) (x : ℕ) (to : VariableKind) (s : State) (kinds : List VariableKind) → Ready p kinds s → variable_kind p.variables x ≡ kind → selectors_kind p.types kind cs ≡ Some to → Fits p (cells_of s.heap) (to ∷ kinds) s.control → Fine p (path_next named cs (held named s x) s)
-  root_fine None cs x to s kinds ready is leads fits = let never : None ≡ Some to = sym (selectors_none p.types cs) ∙ leads in absurd (cc)
-  root_fine (Some from) cs x to s kinds ready is leads fits = path_fine cs (held named s x) from to s kinds ready (held_of kinds s x from ready is) leads fits
+  variable_fine : (kind : Option VariableKind) (cs : List ℕ) (x : ℕ) (to : VariableKind) (s : State) (kinds : List VariableKind) → Ready p kinds s → ((from : VariableKind) → kind ≡ Some from → variable_kind p.variables x ≡ Some from) → as_access_in (selectors_kind p.types kind cs) ≡ Some to → Fits p (cells_of s.heap) (to ∷ kinds) s.control → Fine p (path_next named cs (held named s x) s)
+  variable_fine None cs x to s kinds ready is leads fits = let never : None ≡ Some to = sym (ap as_access_in (selectors_none p.types cs)) ∙ leads in absurd (cc)
+  variable_fine (Some from) cs x to s kinds ready is leads fits =
+      path_fine cs (held named s x) (as_access from) to s kinds ready (kind_as (cells_of s.heap) from (held named s x) (held_of kinds s x from ready (is from refl)))
+      (selectors_as p.types (Some from) cs ∙ leads) fits
+
+  -- What is held where the path of a variable leads; the name of a record object is one of its type.
+  pub root_fine : (of_record : Bool) (cs : List ℕ) (x : ℕ) (to : VariableKind) (s : State) (kinds : List VariableKind) → Ready p kinds s → as_access_in (selectors_kind p.types (root_kind of_record (variable_kind p.variables x)) cs) ≡ Some to → Fits p (cells_of s.heap) (to ∷ kinds) s.control → Fine p (path_next named cs (held named s x) s)
+  root_fine of_record cs x to s kinds ready leads fits =
+      variable_fine (root_kind of_record (variable_kind p.variables x)) cs x to s kinds ready (λ from is. root_same of_record (variable_kind p.variables x) from is) leads fits
 
   -- Expressions.
-  scalar_kind : (kind : Option VariableKind) (t : ScalarType) → scalar_of kind ≡ Some t → kind ≡ Some (kind_of t)
+  scalar_kind : (kind : Option VariableKind) (t : ScalarType) → scalar_of kind ≡ Some t → as_access_in kind ≡ Some (kind_of t)
   scalar_kind None t h = absurd (cc)
   scalar_kind (Some variable.Integer) Integer h = refl
   scalar_kind (Some variable.Integer) Boolean h = absurd (cc)
   scalar_kind (Some variable.Boolean) Integer h = absurd (cc)
   scalar_kind (Some variable.Boolean) Boolean h = refl
   scalar_kind (Some (variable.Access access)) t h = absurd (cc)
+  scalar_kind (Some (variable.Record object)) t h = absurd (cc)
 
   -- What is compared with null is an access value.
-  tested_access : (kind : Option VariableKind) (t : ScalarType) → (if is_some (access_of kind) then Some Boolean else None) ≡ Some t → (access : TypeNo) × (kind ≡ Some (variable.Access access)) × (Boolean ≡ t)
+  tested_access : (kind : Option VariableKind) (t : ScalarType) → (if is_some (value_access kind) then Some Boolean else None) ≡ Some t → (access : TypeNo) × (as_access_in kind ≡ Some (variable.Access access)) × (Boolean ≡ t)
   tested_access None t h = absurd (cc)
   tested_access (Some variable.Integer) t h = absurd (cc)
   tested_access (Some variable.Boolean) t h = absurd (cc)
   tested_access (Some (variable.Access access)) t h = (access, refl, cc)
+  tested_access (Some (variable.Record object)) t h = absurd (cc)
 
   pub null_test_fine : (equal : Bool) (access : TypeNo) (v : Value) (s : State) (kinds : List VariableKind) (cells : Cells) → HasKind cells (variable.Access access) v → Ready p kinds s → Fits p (cells_of s.heap) (variable.Boolean ∷ kinds) s.control → Fine p (null_test_next named equal (reads_null v) s)
   null_test_fine true access Null s kinds cells has ready fits = running (variable.Boolean ∷ kinds) (ready_push kinds s variable.Boolean (Scalar (scalar.Boolean true)) ready tt) fits
@@ -268,12 +318,12 @@ module _ (p : ProgramForm) where
   expression_fine (boolean b) Boolean s kinds ready is fits = running (variable.Boolean ∷ kinds) (ready_push kinds s variable.Boolean (Scalar (scalar.Boolean b)) ready tt) fits
   expression_fine (boolean b) Integer s kinds ready is fits = absurd (cc)
   expression_fine (reads path) t s kinds ready is fits =
-      root_fine (variable_kind p.variables path.root) path.selectors path.root (kind_of t) s kinds ready refl
+      root_fine path.of_record path.selectors path.root (kind_of t) s kinds ready
       (scalar_kind (path_kind p.types p.variables path) t is) fits
   expression_fine (is_null equal path) t s kinds ready is fits =
       let tested = tested_access (path_kind p.types p.variables path) t is in
-      root_fine (variable_kind p.variables path.root) path.selectors path.root (variable.Access tested.0) (at (frame.TestsNull equal ∷ s.control) s) kinds
-      (ready_at kinds s (frame.TestsNull equal ∷ s.control) ready ready.deep) refl tested.1
+      root_fine path.of_record path.selectors path.root (variable.Access tested.0) (at (frame.TestsNull equal ∷ s.control) s) kinds
+      (ready_at kinds s (frame.TestsNull equal ∷ s.control) ready ready.deep) tested.1
       (kinds, tested.0, refl, subst (λ (q : ScalarType). Fits p (cells_of s.heap) (kind_of q ∷ kinds) s.control) (sym tested.2) fits)
   expression_fine (applied_to operator e) t s kinds ready is fits =
       let operand = unary_operand operator (type_of p.types p.variables e) t is in
@@ -311,11 +361,12 @@ module _ (p : ProgramForm) where
   outcome_fine (Err WrongType) t s ks ready gives fits = absurd gives
 
   -- A value of an access type.
-  this_kind : (kind : Option VariableKind) (access : TypeNo) → is_this access.0 (access_of kind) ≡ true → kind ≡ Some (variable.Access access)
+  this_kind : (kind : Option VariableKind) (access : TypeNo) → is_this access.0 (value_access kind) ≡ true → as_access_in kind ≡ Some (variable.Access access)
   this_kind None access h = absurd (cc)
   this_kind (Some variable.Integer) access h = absurd (cc)
   this_kind (Some variable.Boolean) access h = absurd (cc)
   this_kind (Some (variable.Access other)) access h = ap (λ (i : ℕ). Some (variable.Access (record { 0 = i }))) (eqb-true other.0 access.0 h)
+  this_kind (Some (variable.Record object)) access h = absurd (cc)
 
   -- Allocators.
   item_fine : (kind : ComponentKind) (item : ItemForm) (s : State) (kinds : List VariableKind) → Ready p kinds s → item_fits p.types p.variables kind item ≡ true → Fits p (cells_of s.heap) (held_kind kind ∷ kinds) s.control → Fine p (item_next named item s)
@@ -329,7 +380,7 @@ module _ (p : ProgramForm) where
       running kinds (ready_at kinds s (frame.Computes e ∷ s.control) ready ready.deep) (Boolean, typed Boolean (type_of p.types p.variables e) is, fits)
   item_fine (component.Access access) null_item s kinds ready is fits = running (variable.Access access ∷ kinds) (ready_push kinds s (variable.Access access) Null ready tt) fits
   item_fine (component.Access access) (item_of_path path) s kinds ready is fits =
-      root_fine (variable_kind p.variables path.root) path.selectors path.root (variable.Access access) s kinds ready refl
+      root_fine path.of_record path.selectors path.root (variable.Access access) s kinds ready
       (this_kind (path_kind p.types p.variables path) access is) fits
   item_fine (component.Access access) (item_of_value e) s kinds ready is fits = absurd (cc)
 
@@ -357,7 +408,7 @@ module _ (p : ProgramForm) where
       let cell = new_cell named access (length cs) item s in
       let same : cells_of (s.heap ++ new_object cell ∷ []) ≡ cells_of s.heap ++ cell ∷ [] = cells_more s.heap (new_object cell) in
       running (variable.Access (record { 0 = access }) ∷ ks) (record {
-        filled = subst (λ (xs : Cells). AreFilled p.types xs xs) (sym same) (filled_new p.types (cells_of s.heap) cell cs ready.filled reached (active_values (cells_of s.heap) cs ks s.activations ready.active));
+        filled = subst (λ (xs : Cells). AreFilled p.types xs xs) (sym same) (filled_new p.types (cells_of s.heap) cell cs ready.filled reached (active_values (cells_of s.heap) cs ks s.activations ready.active) (λ is. refl));
         active = subst (λ (xs : Cells). IsActive xs p.variables (variable.Access (record { 0 = access }) ∷ ks) (with_operands (Names (record { 0 = length s.heap }) ∷ drop (length cs) (operands s)) s.activations)) (sym same)
             (active_new (cells_of s.heap) cell cs ks (record { 0 = access }) s.activations (length s.heap) refl (sym (length_cells s.heap)) ready.active);
         runs = ready.runs;
@@ -405,7 +456,7 @@ module _ (p : ProgramForm) where
       running kinds (ready_at kinds s (frame.Computes e ∷ s.control) ready ready.deep) (Boolean, typed Boolean (type_of p.types p.variables e) is, fits)
   right_fine types shown nothing (variable.Access access) s kinds ready is fits = running (variable.Access access ∷ kinds) (ready_push kinds s (variable.Access access) Null ready tt) fits
   right_fine types shown (value_of path) (variable.Access access) s kinds ready is fits =
-      root_fine (variable_kind p.variables path.root) path.selectors path.root (variable.Access access) s kinds ready refl
+      root_fine path.of_record path.selectors path.root (variable.Access access) s kinds ready
       (this_kind (path_kind p.types p.variables path) access is) fits
   right_fine types shown (allocates t items) (variable.Access access) s kinds ready is fits =
       let same : t ≡ access.0 = eqb-true t access.0 (and_left (t == access.0) (is_filled p.types p.variables (reached_components p.types access.0) items) is) in
@@ -421,3 +472,4 @@ module _ (p : ProgramForm) where
       (ready_at (onto components.0 kinds) (initialized named types t s) (frame.Creates t (words_of types t) ∷ s.control) (ready_initialized types t components.0 kinds s found ready) ready.deep)
       (kinds, components.0, refl, reached, ap count_of found, subst (λ (i : ℕ). Fits p (cells_of s.heap) (variable.Access (record { 0 = i }) ∷ kinds) s.control) (sym same) fits)
   right_fine types shown (computes e) (variable.Access access) s kinds ready is fits = absurd (cc)
+  right_fine types shown right (variable.Record object) s kinds ready is fits = absurd (cc)

@@ -48,16 +48,16 @@ spot = record { line = 1; column = 1 }
 
 -- X; X.Value; N; I
 abbrev x_path : Path
-x_path = record { root = record { 0 = 0 }; selectors = vec [] (omega arith); spot = spot }
+x_path = record { root = record { 0 = 0 }; selectors = vec [] (omega arith); of_record = false; spot = spot }
 
 abbrev value_path : Path
-value_path = record { root = record { 0 = 0 }; selectors = vec (record { 0 = 0 } ∷ []) (omega arith); spot = spot }
+value_path = record { root = record { 0 = 0 }; selectors = vec (record { 0 = 0 } ∷ []) (omega arith); of_record = false; spot = spot }
 
 abbrev n_path : Path
-n_path = record { root = record { 0 = 1 }; selectors = vec [] (omega arith); spot = spot }
+n_path = record { root = record { 0 = 1 }; selectors = vec [] (omega arith); of_record = false; spot = spot }
 
 abbrev i_path : Path
-i_path = record { root = record { 0 = 2 }; selectors = vec [] (omega arith); spot = spot }
+i_path = record { root = record { 0 = 2 }; selectors = vec [] (omega arith); of_record = false; spot = spot }
 
 -- type Cell is record Value : Integer; end record; type Link is access Cell;
 abbrev parts : List Part

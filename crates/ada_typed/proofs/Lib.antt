@@ -14,6 +14,8 @@ pub mod Evaluations
 pub mod Targets
 -- variables and components that are freed
 pub mod Frees
+-- record objects and their types
+pub mod Objects
 -- each step leads from typed states to typed states
 pub mod Steps
 -- so no run is stuck

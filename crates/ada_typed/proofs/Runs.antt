@@ -38,16 +38,16 @@ led p (picks n taking) settled e after d l = absurd l
 led p (picks n taking) (grants granted) e after d l = absurd l
 
 -- Each state of a run is typed.
-run_typed : (p : ProgramForm) (program : Program) → map type_form program.types.items ≡ p.types → (s last : State) (events : List Event) → Typed p s → Run program s events last → Typed p last
-run_typed p program shown s last events typed here = typed
-run_typed p program shown s last (e ∷ events) typed (there choice mid step rest) =
-    run_typed p program shown mid last events (led p (next program.types.items s) choice e mid (next_fine p program.types.items shown s typed) step) rest
+run_typed : (p : ProgramForm) → IsWellFormed p → (program : Program) → map type_form program.types.items ≡ p.types → (s last : State) (events : List Event) → Typed p s → Run program s events last → Typed p last
+run_typed p well program shown s last events typed here = typed
+run_typed p well program shown s last (e ∷ events) typed (there choice mid step rest) =
+    run_typed p well program shown mid last events (led p (next program.types.items s) choice e mid (next_fine p well program.types.items shown s typed) step) rest
 
 -- So each run ends in a way that the language knows.
 pub ends_by_the_language : WellFormedProgramsEndByTheLanguage
 ends_by_the_language program well input events last halt run halted =
-    let typed = run_typed (program_form program) program refl (first_state program input) last events (first_typed program input well) run in
-    subst (λ (coming : Next). Fine (program_form program) coming) halted (next_fine (program_form program) program.types.items refl last typed)
+    let typed = run_typed (program_form program) well program refl (first_state program input) last events (first_typed program input well) run in
+    subst (λ (coming : Next). Fine (program_form program) coming) halted (next_fine (program_form program) well program.types.items refl last typed)
 
 pub never_stuck : WellFormedProgramsAreNeverStuck
 never_stuck program well input events last run stuck = ends_by_the_language program well input events last Stuck run stuck
@@ -59,7 +59,7 @@ filled_in p s (on_jump mode jumps goes) = jumps.filled
 pub objects_have_their_kinds : ObjectsHaveTheirKinds
 objects_have_their_kinds program well input events last o object run is =
     let p = program_form program in
-    let typed = run_typed p program refl (first_state program input) last events (first_typed program input well) run in
+    let typed = run_typed p well program refl (first_state program input) last events (first_typed program input well) run in
     filled_at p.types (cells_of last.heap) (cells_of last.heap) o.0 object.cell (filled_in p last typed) (cell_at last.heap o.0 object is)
 
 active_holds : (p : ProgramForm) (s : State) (kinds : List VariableKind) (x : ℕ) (kind : VariableKind) → IsActive (cells_of s.heap) p.variables kinds s.activations → variable_kind p.variables x ≡ Some kind → HoldsKind s x kind
@@ -73,4 +73,4 @@ holds_in p s x kind (on_jump mode jumps goes) is = active_holds p s [] x kind ju
 pub variables_have_their_kinds : VariablesHaveTheirKinds
 variables_have_their_kinds program well input events last x kind run is =
     let p = program_form program in
-    holds_in p last x kind (run_typed p program refl (first_state program input) last events (first_typed program input well) run) is
+    holds_in p last x kind (run_typed p well program refl (first_state program input) last events (first_typed program input well) run) is

@@ -2,18 +2,18 @@
 
 use Rattle.ada_typed.specs.Holding.{Cells, HasKind, cells_of}
 use Rattle.ada_typed.specs.Stuck.{EndsByTheLanguage}
-use Rattle.std.proofs.Common.{◌≡◌, ℕ, zero, suc, ◌+◌, ◌<◌, ◌≤◌, ◌==◌, ◌&&◌, not, if◌then◌else◌, Bool, true, false, ℤ, ◌+ℤ◌, pos, int_le, List, [], ◌∷◌, length, map, Option, Some, None, arith, refl, sym, ap, ◌∙◌, subst}
+use Rattle.std.proofs.Common.{◌≡◌, ℕ, zero, suc, ◌+◌, ◌<◌, ◌≤◌, ◌&&◌, not, if◌then◌else◌, Bool, true, false, ℤ, ◌+ℤ◌, pos, int_le, List, [], ◌∷◌, length, map, Option, Some, None, arith, refl, sym, ap, ◌∙◌, subst}
 use Rattle.std.specs.List.{slice_get, slice_index_or, list_all}
 use Rattle.ada_program.specs.declared.program.ScalarType.TheVariants.{Integer, Boolean}
 use Rattle.ada_program.specs.declared.program.TypeDefinition.{TypeDefinition}
 use Rattle.ada_program.specs.declared.program.TypeNo.{TypeNo}
 use Rattle.ada_program.specs.declared.program.VariableKind.{VariableKind}
 use Rattle.ada_program.specs.declared.program.VariableKind.TheVariants as variable
-use Rattle.ada_program.specs.Form.{ExpressionForm, RightForm, StmtForm, skips, assigns, frees, gets, writes, writes_text, chooses, repeats, counts, exits, returns, raises as raises_it, encloses, StmtsForm, no_stmts, a_stmt, BranchesForm, otherwise, a_branch, HandlersForm, no_handlers, a_handler, DeclarationForm, collects, declares}
+use Rattle.ada_program.specs.Form.{ExpressionForm, RightForm, StmtForm, skips, assigns, frees, gets, writes, writes_text, chooses, repeats, counts, exits, returns, raises as raises_it, encloses, StmtsForm, no_stmts, a_stmt, BranchesForm, otherwise, a_branch, HandlersForm, no_handlers, a_handler, DeclarationForm, collects, declares, declares_record}
 use Rattle.ada_program.specs.Handling.{some_takes, handler_of}
 use Rattle.ada_program.specs.ProgramForm.{VariableForm, ProgramForm, type_form}
 use Rattle.ada_program.specs.Typed.{words_of}
-use Rattle.ada_program.specs.WellFormed.{selectors_kind, variable_kind, path_access, access_of, scalar_of, is_type, type_of, kind_takes, right_fits, names_borrower, lends_to, is_borrower, path_kind, is_freed_by, collections_first, collection_fits, initial_fits, declarations_fit, has_type, condition_fits, has_statement, choice_fits, statement_fits, stmts_fit, branches_fit, handlers_fit, names_before}
+use Rattle.ada_program.specs.WellFormed.{IsWellFormed, reached_components, is_access, is_object_type, value_access, root_kind, selectors_kind, variable_kind, path_access, scalar_of, is_type, type_of, kind_takes, right_fits, names_borrower, lends_to, is_borrower, path_kind, is_freed_by, collections_first, collection_fits, initial_fits, declarations_fit, has_type, condition_fits, has_statement, choice_fits, statement_fits, stmts_fit, branches_fit, handlers_fit, names_before}
 use Rattle.ada_values.specs.declared.value.Value.TheVariants as scalar
 use Rattle.ada_meaning.specs.declared.state.Id.{Id}
 use Rattle.ada_meaning.specs.declared.state.Value.{Value}
@@ -27,16 +27,17 @@ use Rattle.ada_meaning.specs.declared.event.Cause.TheVariants.{Leaving}
 use Rattle.ada_program.specs.declared.program.Exception.{Exception}
 use Rattle.ada_program.specs.declared.program.Exception.TheVariants.{EndError}
 use Rattle.ada_meaning.specs.declared.event.Halt.TheVariants.{Erroneous}
-use Rattle.ada_meaning.specs.Event.{Quiet}
+use Rattle.ada_meaning.specs.Event.{Back, Quiet}
 use Rattle.ada_meaning.specs.declared.event.Why.TheVariants.{GivesElsewhere}
 use Rattle.ada_meaning.specs.Frame.{Frame, is_master, is_loop, Landing, passes_on, goes_behind, handler_landing, exception_landing, landing}
 use Rattle.ada_meaning.specs.Frame as frame
-use Rattle.ada_meaning.specs.State.{Owned, declared, collection, Item, Master, home_of}
+use Rattle.ada_meaning.specs.State.{Owned, declared, collection, record_object, Item, Master, height, home_of, pool_of}
 use Rattle.ada_meaning.specs.Heap.{Cell, on_gone, finds}
-use Rattle.ada_meaning.specs.Step.{halts, moves, at, older, shorter, popped, jumping, put, held, newest, new_next, end_next, given_back, back_next, before_last, last_of, assign_next, frees_next, branches_next, decided_next, turn_next, repeats_next, turned_next, count_turn_next, ranges_next, gets_next, exit_next, exited_next, stmt_next, stmts_next, line_next, declarations_next, members_next, item_leave_next, master_leave_next, leave_next, frame_next, landed, pass_next, running_next, jump_next, mode_next, end_of}
+use Rattle.ada_meaning.specs.Step.{halts, moves, at, older, shorter, popped, jumping, put, held, newest, new_next, end_next, same_pool, told_back, given_back, back_next, record_cell, made, before_last, last_of, assign_next, frees_next, branches_next, decided_next, turn_next, repeats_next, turned_next, count_turn_next, ranges_next, gets_next, exit_next, exited_next, stmt_next, stmts_next, line_next, declarations_next, members_next, item_leave_next, master_leave_next, leave_next, frame_next, landed, pass_next, running_next, jump_next, mode_next, end_of}
 use Rattle.ada_meaning.specs.Named.{an_integer, Object, State, next, named, look, lent, lent_by, seen, existing, on_object, parted, finished, returned, reads_integer, reads_boolean, unary_given, binary_given, members, members_of}
-use Rattle.ada_typed.proofs.Evaluations.{Fine, cells_on, length_shorter, ready_kinds, ready_at, ready_pop, newest_of, held_of, put_in, ready_owning, ready_heap, fits_heap, jumped, raises, root_fine, path_fine, null_test_fine, expression_fine, links_fine, outcome_fine, items_fine, new_fine, right_fine}
-use Rattle.ada_typed.proofs.Values.{kind_of, active_none}
+use Rattle.ada_typed.proofs.Evaluations.{Fine, cells_on, length_shorter, ready_kinds, ready_at, ready_pop, newest_of, held_of, put_in, ready_owning, ready_heap, fits_heap, jumped, raises, ready_made, fits_more, root_fine, path_fine, null_test_fine, expression_fine, links_fine, outcome_fine, items_fine, new_fine, right_fine}
+use Rattle.ada_typed.proofs.Values.{kind_of, root_same, active_none}
+use Rattle.ada_typed.proofs.Objects.{kind_there, object_reached, own_object, record_no_access}
 use Rattle.ada_typed.proofs.Operators.{and_left, and_right, typed, unary_gives, binary_gives}
 use Rattle.ada_typed.proofs.Targets.{split_kind, target_fine, store_fine, receive_fine}
 use Rattle.ada_typed.proofs.Frees.{free_fine, free_in_fine}
@@ -51,7 +52,7 @@ picked_name (o ∷ ids) (suc i) lt = picked_name ids i (omega arith)
 picked : (ids : List Id) (vs : List Value) (i : ℕ) → map Names ids ≡ vs → i < length vs → IsName (slice_index_or vs i Null)
 picked ids vs i is lt = subst (λ (ws : List Value). IsName (slice_index_or ws i Null)) is (picked_name ids i (omega (arith, ap length is)))
 
-module _ (p : ProgramForm) where
+module _ (p : ProgramForm) (well : IsWellFormed p) where
   -- What a Free leads to (13.11.2).
   end_stage : (stage : Stage) (o : Id) (object : Object) (s : State) (kinds : List VariableKind) → Ready p kinds s → Fits p (cells_of s.heap) kinds s.control → Fine p (end_next named (Names o) (existing object stage) s)
   end_stage Gone o object s kinds ready fits = tt
@@ -73,22 +74,29 @@ module _ (p : ProgramForm) where
   end_fine (Names o) s kinds is ready fits = end_seen (slice_get s.heap o.0) o s kinds ready fits
   end_fine (Scalar v) s kinds is ready fits = absurd is
 
-  given_fine : (same : Bool) (o : Id) (cause : Cause) (cell : Cell Value) (s : State) (kinds : List VariableKind) → Ready p kinds s → Fits p (cells_of s.heap) kinds s.control → Fine p (if same then given_back named (Names o) cause cell s else halts (Erroneous GivesElsewhere))
-  given_fine true o cause cell s kinds ready fits =
+  told_fine : (pool : Option ℕ) (o : Id) (cause : Cause) (cell : Cell Value) (s : State) (kinds : List VariableKind) → Ready p kinds s → Fits p (cells_of s.heap) kinds s.control → Fine p (told_back named pool (Names o) (Back (Names o) cell.access cell.number cell.home.pool cell.home.subpool cause) (record s { heap = on_object returned s.heap (Names o) }))
+  told_fine None o cause cell s kinds ready fits =
       let heap = on_object returned s.heap (Names o) in
       let same : cells_of heap ≡ cells_of s.heap = cells_on returned s.heap (Names o) (λ y. refl) in
       running kinds (ready_heap p kinds s heap same ready) (fits_heap p kinds s s.control heap same fits)
+  told_fine (Some pool) o cause cell s kinds ready fits =
+      let heap = on_object returned s.heap (Names o) in
+      let same : cells_of heap ≡ cells_of s.heap = cells_on returned s.heap (Names o) (λ y. refl) in
+      running kinds (ready_heap p kinds s heap same ready) (fits_heap p kinds s s.control heap same fits)
+
+  given_fine : (same : Bool) (o : Id) (cause : Cause) (cell : Cell Value) (s : State) (kinds : List VariableKind) → Ready p kinds s → Fits p (cells_of s.heap) kinds s.control → Fine p (if same then given_back named (Names o) cause cell s else halts (Erroneous GivesElsewhere))
+  given_fine true o cause cell s kinds ready fits = told_fine cell.home.pool o cause cell s kinds ready fits
   given_fine false o cause cell s kinds ready fits = tt
 
-  out_fine : (out : Bool) (o : Id) (cause : Cause) (pool : ℕ) (object : Object) (s : State) (kinds : List VariableKind) → Ready p kinds s → Fits p (cells_of s.heap) kinds s.control → Fine p (back_next named (Names o) cause pool (if out then finds object.cell else on_gone) s)
-  out_fine true o cause pool object s kinds ready fits = given_fine (pool == object.cell.home.pool) o cause object.cell s kinds ready fits
+  out_fine : (out : Bool) (o : Id) (cause : Cause) (pool : Option ℕ) (object : Object) (s : State) (kinds : List VariableKind) → Ready p kinds s → Fits p (cells_of s.heap) kinds s.control → Fine p (back_next named (Names o) cause pool (if out then finds object.cell else on_gone) s)
+  out_fine true o cause pool object s kinds ready fits = given_fine (same_pool pool object.cell.home.pool) o cause object.cell s kinds ready fits
   out_fine false o cause pool object s kinds ready fits = tt
 
-  lent_fine : (at_o : Option Object) (o : Id) (cause : Cause) (pool : ℕ) (s : State) (kinds : List VariableKind) → Ready p kinds s → Fits p (cells_of s.heap) kinds s.control → Fine p (back_next named (Names o) cause pool (lent_by at_o) s)
+  lent_fine : (at_o : Option Object) (o : Id) (cause : Cause) (pool : Option ℕ) (s : State) (kinds : List VariableKind) → Ready p kinds s → Fits p (cells_of s.heap) kinds s.control → Fine p (back_next named (Names o) cause pool (lent_by at_o) s)
   lent_fine None o cause pool s kinds ready fits = tt
   lent_fine (Some object) o cause pool s kinds ready fits = out_fine object.out o cause pool object s kinds ready fits
 
-  back_fine : (v : Value) (cause : Cause) (pool : ℕ) (s : State) (kinds : List VariableKind) → IsName v → Ready p kinds s → Fits p (cells_of s.heap) kinds s.control → Fine p (back_next named v cause pool (lent s.heap v) s)
+  back_fine : (v : Value) (cause : Cause) (pool : Option ℕ) (s : State) (kinds : List VariableKind) → IsName v → Ready p kinds s → Fits p (cells_of s.heap) kinds s.control → Fine p (back_next named v cause pool (lent s.heap v) s)
   back_fine Null cause pool s kinds is ready fits = absurd is
   back_fine (Names o) cause pool s kinds is ready fits = lent_fine (slice_get s.heap o.0) o cause pool s kinds ready fits
   back_fine (Scalar v) cause pool s kinds is ready fits = absurd is
@@ -98,31 +106,36 @@ module _ (p : ProgramForm) where
   right_kind None vs right h = absurd (cc)
   right_kind (Some kind) vs right h = (kind, refl, h)
 
-  freed_kind : (o : Option VariableKind) (access : ℕ) → is_freed_by p.types access (access_of o) ≡ true → (type : TypeNo) × (o ≡ Some (variable.Access type))
+  freed_kind : (o : Option VariableKind) (access : ℕ) → is_freed_by p.types access (value_access o) ≡ true → (type : TypeNo) × (o ≡ Some (variable.Access type))
   freed_kind None access h = absurd (cc)
   freed_kind (Some variable.Integer) access h = absurd (cc)
   freed_kind (Some variable.Boolean) access h = absurd (cc)
   freed_kind (Some (variable.Access type)) access h = (type, refl)
+  freed_kind (Some (variable.Record object)) access h = absurd (cc)
 
-  assign_fine : (cs : List ℕ) (x : ℕ) (right : RightForm) (s : State) (kinds : List VariableKind) → Ready p kinds s → right_fits p.types p.variables (selectors_kind p.types (variable_kind p.variables x) cs) right ≡ true → Fits p (cells_of s.heap) kinds s.control → Fine p (assign_next named cs x right s)
-  assign_fine (c ∷ cs) x right s kinds ready is fits =
-      let own = right_kind (selectors_kind p.types (variable_kind p.variables x) (c ∷ cs)) p.variables right is in
-      let parts = split_kind p.types (variable_kind p.variables x) c cs own.0 own.1 in
+  assign_fine : (of_record : Bool) (cs : List ℕ) (x : ℕ) (right : RightForm) (s : State) (kinds : List VariableKind) → Ready p kinds s → right_fits p.types p.variables (selectors_kind p.types (root_kind of_record (variable_kind p.variables x)) cs) right ≡ true → Fits p (cells_of s.heap) kinds s.control → Fine p (assign_next named cs x right s)
+  assign_fine of_record (c ∷ cs) x right s kinds ready is fits =
+      let root = root_kind of_record (variable_kind p.variables x) in
+      let own = right_kind (selectors_kind p.types root (c ∷ cs)) p.variables right is in
+      let parts = split_kind p.types root c cs own.0 own.1 in
       let found = at (frame.Targets (last_of c cs) right ∷ s.control) s in
-      root_fine p (variable_kind p.variables x) (before_last c cs) x (variable.Access parts.0) found kinds (ready_at p kinds s found.control ready ready.deep) refl parts.1 (kinds, parts.0, own.0, refl, parts.2, own.2, fits)
-  assign_fine [] x right s kinds ready is fits =
-      let own = right_kind (variable_kind p.variables x) p.variables right is in
-      running kinds (ready_at p kinds s (frame.Evaluates right ∷ frame.Stores x ∷ s.control) ready ready.deep) (own.0, own.2, (kinds, own.0, refl, own.1, fits))
+      root_fine p of_record (before_last c cs) x (variable.Access parts.0) found kinds (ready_at p kinds s found.control ready ready.deep) parts.1 (kinds, parts.0, own.0, refl, parts.2, own.2, fits)
+  assign_fine of_record [] x right s kinds ready is fits =
+      let own = right_kind (root_kind of_record (variable_kind p.variables x)) p.variables right is in
+      let there : variable_kind p.variables x ≡ Some own.0 = root_same of_record (variable_kind p.variables x) own.0 own.1 in
+      running kinds (ready_at p kinds s (frame.Evaluates right ∷ frame.Stores x ∷ s.control) ready ready.deep) (own.0, own.2, (kinds, own.0, refl, there, fits))
 
-  frees_fine : (cs : List ℕ) (access x : ℕ) (s : State) (kinds : List VariableKind) → Ready p kinds s → is_freed_by p.types access (access_of (selectors_kind p.types (variable_kind p.variables x) cs)) ≡ true → Fits p (cells_of s.heap) kinds s.control → Fine p (frees_next named cs access x s)
-  frees_fine (c ∷ cs) access x s kinds ready is fits =
-      let own = freed_kind (selectors_kind p.types (variable_kind p.variables x) (c ∷ cs)) access is in
-      let parts = split_kind p.types (variable_kind p.variables x) c cs (variable.Access own.0) own.1 in
+  frees_fine : (of_record : Bool) (cs : List ℕ) (access x : ℕ) (s : State) (kinds : List VariableKind) → Ready p kinds s → is_freed_by p.types access (value_access (selectors_kind p.types (root_kind of_record (variable_kind p.variables x)) cs)) ≡ true → Fits p (cells_of s.heap) kinds s.control → Fine p (frees_next named cs access x s)
+  frees_fine of_record (c ∷ cs) access x s kinds ready is fits =
+      let root = root_kind of_record (variable_kind p.variables x) in
+      let own = freed_kind (selectors_kind p.types root (c ∷ cs)) access is in
+      let parts = split_kind p.types root c cs (variable.Access own.0) own.1 in
       let found = at (frame.FreesIn access (last_of c cs) ∷ s.control) s in
-      root_fine p (variable_kind p.variables x) (before_last c cs) x (variable.Access parts.0) found kinds (ready_at p kinds s found.control ready ready.deep) refl parts.1 (kinds, parts.0, own.0, refl, parts.2, fits)
-  frees_fine [] access x s kinds ready is fits =
-      let own = freed_kind (variable_kind p.variables x) access is in
-      free_fine p (held named s x) access x own.0 s kinds ready (held_of p kinds s x (variable.Access own.0) ready own.1) own.1 fits
+      root_fine p of_record (before_last c cs) x (variable.Access parts.0) found kinds (ready_at p kinds s found.control ready ready.deep) parts.1 (kinds, parts.0, own.0, refl, parts.2, fits)
+  frees_fine of_record [] access x s kinds ready is fits =
+      let own = freed_kind (root_kind of_record (variable_kind p.variables x)) access is in
+      let there : variable_kind p.variables x ≡ Some (variable.Access own.0) = root_same of_record (variable_kind p.variables x) (variable.Access own.0) own.1 in
+      free_fine p (held named s x) access x own.0 s kinds ready (held_of p kinds s x (variable.Access own.0) ready there) there fits
 
   -- Branches (5.3).
   branches_fine : (branches : BranchesForm) (inside : Bool) (s : State) → Ready p [] s → branches_fit p.types p.variables p.texts p.exceptions inside branches ≡ true → WhereInside inside (Lands p (cells_of s.heap) s.control) → Fits p (cells_of s.heap) [] s.control → Fine p (branches_next named branches s)
@@ -183,6 +196,7 @@ module _ (p : ProgramForm) where
   integer_kind (Some variable.Integer) h = refl
   integer_kind (Some variable.Boolean) h = absurd (cc)
   integer_kind (Some (variable.Access access)) h = absurd (cc)
+  integer_kind (Some (variable.Record object)) h = absurd (cc)
 
   count_turn_fine : (x : ℕ) (value last : ℤ) (fs : StmtsForm) (s : State) → Ready p [] s → variable_kind p.variables x ≡ Some variable.Integer → has_statement fs ≡ true → stmts_fit p.types p.variables p.texts p.exceptions true fs ≡ true → Fits p (cells_of s.heap) [] s.control → Fine p (count_turn_next named x value last fs s)
   count_turn_fine x value last no_stmts s ready is some own fits = absurd (cc)
@@ -207,14 +221,16 @@ module _ (p : ProgramForm) where
   ranges_fine x fs (Scalar (scalar.Boolean b)) high s cells has too ready is some own fits = absurd has
 
   -- The next number of the input goes to an Integer.
-  gets_fine : (cs : List ℕ) (x : ℕ) (input : List ℤ) (s : State) → Ready p [] s → is_type Integer (scalar_of (selectors_kind p.types (variable_kind p.variables x) cs)) ≡ true → Fits p (cells_of s.heap) [] s.control → Fine p (gets_next named cs x input s)
-  gets_fine (c ∷ cs) x input s ready is fits =
-      let parts = split_kind p.types (variable_kind p.variables x) c cs variable.Integer (integer_kind (selectors_kind p.types (variable_kind p.variables x) (c ∷ cs)) is) in
+  gets_fine : (of_record : Bool) (cs : List ℕ) (x : ℕ) (input : List ℤ) (s : State) → Ready p [] s → is_type Integer (scalar_of (selectors_kind p.types (root_kind of_record (variable_kind p.variables x)) cs)) ≡ true → Fits p (cells_of s.heap) [] s.control → Fine p (gets_next named cs x input s)
+  gets_fine of_record (c ∷ cs) x input s ready is fits =
+      let root = root_kind of_record (variable_kind p.variables x) in
+      let parts = split_kind p.types root c cs variable.Integer (integer_kind (selectors_kind p.types root (c ∷ cs)) is) in
       let found = at (frame.Receives (last_of c cs) ∷ s.control) s in
-      root_fine p (variable_kind p.variables x) (before_last c cs) x (variable.Access parts.0) found [] (ready_at p [] s found.control ready ready.deep) refl parts.1 ([], parts.0, refl, parts.2, fits)
-  gets_fine [] x [] s ready is fits = raises p [] [] EndError s ready fits
-  gets_fine [] x (i ∷ input) s ready is fits =
-      let stored = put_in p [] s x variable.Integer (an_integer i) ready (integer_kind (variable_kind p.variables x) is) tt in
+      root_fine p of_record (before_last c cs) x (variable.Access parts.0) found [] (ready_at p [] s found.control ready ready.deep) parts.1 ([], parts.0, refl, parts.2, fits)
+  gets_fine of_record [] x [] s ready is fits = raises p [] [] EndError s ready fits
+  gets_fine of_record [] x (i ∷ input) s ready is fits =
+      let there = root_same of_record (variable_kind p.variables x) variable.Integer (integer_kind (root_kind of_record (variable_kind p.variables x)) is) in
+      let stored = put_in p [] s x variable.Integer (an_integer i) ready there tt in
       running [] (record { filled = stored.filled; active = stored.active; runs = stored.runs; deep = stored.deep }) fits
 
   stmt_fine : (f : StmtForm) (inside : Bool) (s : State) → Ready p [] s → statement_fits p.types p.variables p.texts p.exceptions inside f ≡ true → WhereInside inside (Lands p (cells_of s.heap) s.control) → Fits p (cells_of s.heap) [] s.control → Fine p (stmt_next named f s)
@@ -222,12 +238,12 @@ module _ (p : ProgramForm) where
   stmt_fine (assigns target right) inside s ready is lands fits =
       let fitting = right_fits p.types p.variables (path_kind p.types p.variables target) right in
       let lending = lends_to p.variables (names_borrower p.variables target) right in
-      assign_fine target.selectors target.root right s [] ready (and_left fitting lending is) fits
+      assign_fine target.of_record target.selectors target.root right s [] ready (and_left fitting lending is) fits
   stmt_fine (frees access path) inside s ready is lands fits =
       let freed = is_freed_by p.types access (path_access p.types p.variables path) in
-      frees_fine path.selectors access path.root s [] ready (and_left freed (not (names_borrower p.variables path)) is) fits
+      frees_fine path.of_record path.selectors access path.root s [] ready (and_left freed (not (names_borrower p.variables path)) is) fits
   stmt_fine (gets target) inside s ready is lands fits =
-      gets_fine target.selectors target.root s.input s ready is fits
+      gets_fine target.of_record target.selectors target.root s.input s ready is fits
   stmt_fine (writes e) inside s ready is lands fits =
       running [] (ready_at p [] s (frame.Computes e ∷ frame.Writes ∷ s.control) ready ready.deep) (Integer, typed Integer (type_of p.types p.variables e) is, ([], refl, fits))
   stmt_fine (writes_text text) inside s ready is lands fits = running [] ready fits
@@ -283,14 +299,24 @@ module _ (p : ProgramForm) where
   line_fine (Scalar (scalar.Boolean b)) s kinds cells has ready fits = absurd has
 
   -- Declarations (3.11).
-  declarations_fine : (ds : List DeclarationForm) (fs : StmtsForm) (hs : HandlersForm) (s : State) → Ready p [] s → 1 + depth s.control ≤ length s.masters → Fits p (cells_of s.heap) [] (frame.Elaborates ds fs hs ∷ s.control) → Fine p (declarations_next named ds fs hs s)
-  declarations_fine [] fs hs s ready deep fits =
+  declarations_fine : (types : List TypeDefinition) → map type_form types ≡ p.types → (ds : List DeclarationForm) (fs : StmtsForm) (hs : HandlersForm) (s : State) → Ready p [] s → 1 + depth s.control ≤ length s.masters → Fits p (cells_of s.heap) [] (frame.Elaborates ds fs hs ∷ s.control) → Fine p (declarations_next named types ds fs hs s)
+  declarations_fine types shown [] fs hs s ready deep fits =
       running [] (ready_at p [] s (frame.Does fs ∷ frame.Handles hs ∷ frame.Closes ∷ s.control) ready deep)
       (refl, fits.1, fits.3, fits.5, (refl, fits.1, fits.4, fits.5, fits.6))
-  declarations_fine (collects access ∷ ds) fs hs s ready deep fits =
+  declarations_fine types shown (collects access ∷ ds) fs hs s ready deep fits =
       running [] (ready_owning p [] (at (frame.Elaborates ds fs hs ∷ s.control) s) (collection access) (ready_at p [] s (frame.Elaborates ds fs hs ∷ s.control) ready deep))
       (refl, fits.1, and_right (initial_fits p.types p.variables (collects access)) (list_all (initial_fits p.types p.variables) ds) fits.2, fits.3, fits.4, fits.5, fits.6)
-  declarations_fine (declares x right ∷ ds) fs hs s ready deep fits =
+  declarations_fine types shown (declares_record x t ∷ ds) fs hs s ready deep fits =
+      let later = list_all (initial_fits p.types p.variables) ds in
+      let own = own_object t (variable_kind p.variables x) (and_left (initial_fits p.types p.variables (declares_record x t)) later fits.2) in
+      let known : is_object_type p.types own.0.0 ≡ true = kind_there p.types p.variables x (variable.Record own.0) well.variables_fit own.1 in
+      let reached = object_reached p.types own.0.0 well.types_fit known in
+      let never : is_access p.types t ≡ false = record_no_access p.types p.variables x t well.variables_fit (and_left (initial_fits p.types p.variables (declares_record x t)) later fits.2) in
+      let inner = at (frame.Elaborates ds fs hs ∷ s.control) s in
+      let left : Fits p (cells_of s.heap) [] inner.control = (refl, fits.1, and_right (initial_fits p.types p.variables (declares_record x t)) later fits.2, fits.3, fits.4, fits.5, fits.6) in
+      let after = ready_made p types x t own.0 reached.0 [] inner shown (ready_at p [] s inner.control ready deep) own.1 own.2 (ap (reached_components p.types) own.2 ∙ reached.1) never in
+      running [] (ready_owning p [] (made named types x t inner) (record_object t) after) (fits_more p [] inner.control s.heap (record_cell named types t (height s.masters)) left)
+  declarations_fine types shown (declares x right ∷ ds) fs hs s ready deep fits =
       let early = names_before x right in
       let fitting = right_fits p.types p.variables (variable_kind p.variables x) right in
       let lending = lends_to p.variables (is_borrower p.variables x) right in
@@ -304,9 +330,9 @@ module _ (p : ProgramForm) where
   ready_shorter : (kinds : List VariableKind) (s : State) → Ready p kinds s → Ready p kinds (record s { masters = shorter s.masters })
   ready_shorter kinds s ready = record { filled = ready.filled; active = ready.active; runs = ready.runs; deep = omega (arith, ready.deep, length_shorter s.masters) }
 
-  members_fine : (cause : Cause) (access : ℕ) (ids : List Id) (vs : List Value) (s : State) (kinds : List VariableKind) → map Names ids ≡ vs → Ready p kinds s → Fits p (cells_of s.heap) kinds s.control → Fine p (members_next named cause access vs s)
-  members_fine cause access ids [] s kinds are ready fits = running kinds (ready_shorter kinds s ready) fits
-  members_fine cause access ids (v ∷ vs) s kinds are ready fits = λ i lt.
+  members_fine : (cause : Cause) (pool : Option ℕ) (ids : List Id) (vs : List Value) (s : State) (kinds : List VariableKind) → map Names ids ≡ vs → Ready p kinds s → Fits p (cells_of s.heap) kinds s.control → Fine p (members_next named cause pool vs s)
+  members_fine cause pool ids [] s kinds are ready fits = running kinds (ready_shorter kinds s ready) fits
+  members_fine cause pool ids (v ∷ vs) s kinds are ready fits = λ i lt.
       let name : IsName (slice_index_or (v ∷ vs) i Null) = picked ids (v ∷ vs) i are lt in
       let heap = on_object parted s.heap (slice_index_or (v ∷ vs) i Null) in
       let same : cells_of heap ≡ cells_of s.heap = cells_on parted s.heap (slice_index_or (v ∷ vs) i Null) (λ y. refl) in
@@ -315,7 +341,8 @@ module _ (p : ProgramForm) where
 
   item_leave_fine : (m : ℕ) (item : Item) (what : Owned) (s : State) (kinds : List VariableKind) → Ready p kinds s → Fits p (cells_of s.heap) kinds s.control → Fine p (item_leave_next named m item what s)
   item_leave_fine m item (declared x) s kinds ready fits = running kinds (ready_shorter kinds s ready) fits
-  item_leave_fine m item (collection access) s kinds ready fits = members_fine (Leaving m item.number) access (members_of s.heap item.number) (members s.heap item.number) s kinds refl ready fits
+  item_leave_fine m item (collection access) s kinds ready fits = members_fine (Leaving m item.number) (Some (pool_of access)) (members_of s.heap item.number) (members s.heap item.number) s kinds refl ready fits
+  item_leave_fine m item (record_object t) s kinds ready fits = members_fine (Leaving m item.number) None (members_of s.heap item.number) (members s.heap item.number) s kinds refl ready fits
 
   left_jumps : (mode : Mode) (s : State) (kinds : List VariableKind) (ms : List Master) → Ready p kinds s → depth s.control ≤ length ms → Jumps p mode (record s { masters = ms; mode = mode })
   left_jumps mode s kinds ms ready deep = record { filled = ready.filled; active = active_none (cells_of s.heap) p.variables kinds s.activations ready.active; jumps = refl; deep = deep }
@@ -341,7 +368,7 @@ module _ (p : ProgramForm) where
   -- Each frame that is taken off.
   frame_fine : (types : List TypeDefinition) → map type_form types ≡ p.types → (f : Frame Value) (s : State) (kinds : List VariableKind) → Ready p kinds s → depth (f ∷ s.control) ≤ length s.masters → Fits p (cells_of s.heap) kinds (f ∷ s.control) → Fine p (frame_next named types f s)
   frame_fine types shown (frame.Elaborates ds fs hs) s kinds ready deep fits =
-      declarations_fine ds fs hs s (ready_kinds p kinds [] s fits.0 ready) deep (refl, fits.1, fits.2, fits.3, fits.4, fits.5, fits.6)
+      declarations_fine types shown ds fs hs s (ready_kinds p kinds [] s fits.0 ready) deep (refl, fits.1, fits.2, fits.3, fits.4, fits.5, fits.6)
   frame_fine types shown (frame.Does fs) s kinds ready deep fits = stmts_fine fs fits.1 s (ready_kinds p kinds [] s fits.0 ready) fits.2 fits.3 fits.4
   frame_fine types shown (frame.Decides fs branches) s kinds ready deep fits =
       let taken = ready_kinds p kinds (variable.Boolean ∷ []) s fits.0 ready in

@@ -22,17 +22,18 @@ use Rattle.ada_meaning.specs.Frame as frame
 use Rattle.ada_meaning.specs.Heap.{Cell}
 use Rattle.ada_meaning.specs.Step.{before_last, last_of, target_next, stored_next, store_next, received_next, receive_next}
 use Rattle.ada_meaning.specs.Named.{Object, State, named, look, seen, existing, changed, filled, store, an_integer}
-use Rattle.ada_typed.proofs.Values.{AreFilled, IsActive, StayDesignated, kinds_later, filled_later, active_later, designated_set, filled_set, kinds_set, component_held, filled_at}
+use Rattle.ada_typed.proofs.Values.{as_access_in, AreFilled, IsActive, StayDesignated, kinds_later, filled_later, active_later, designated_set, filled_set, kinds_set, component_held, filled_at}
 use Rattle.ada_typed.proofs.Later.{fits_later}
 use Rattle.ada_typed.proofs.Control.{IsName, Fits, Ready, running}
 use Rattle.ada_typed.proofs.Evaluations.{Fine, cell_at, own_access, ready_at, raises}
 
--- Before the last component of a path there is an access value.
-pub split_kind : (types : List TypeForm) (from : Option VariableKind) (c : ℕ) (cs : List ℕ) (to : VariableKind) → selectors_kind types from (c ∷ cs) ≡ Some to → (access : TypeNo) × (selectors_kind types from (before_last c cs) ≡ Some (variable.Access access)) × (selected_kind types (Some (variable.Access access)) (last_of c cs) ≡ Some to)
+-- Before the last component of a path there is an access value, or the name of a record object.
+pub split_kind : (types : List TypeForm) (from : Option VariableKind) (c : ℕ) (cs : List ℕ) (to : VariableKind) → selectors_kind types from (c ∷ cs) ≡ Some to → (access : TypeNo) × (as_access_in (selectors_kind types from (before_last c cs)) ≡ Some (variable.Access access)) × (selected_kind types (Some (variable.Access access)) (last_of c cs) ≡ Some to)
 split_kind types None c [] to h = absurd (cc)
 split_kind types (Some variable.Integer) c [] to h = absurd (cc)
 split_kind types (Some variable.Boolean) c [] to h = absurd (cc)
 split_kind types (Some (variable.Access access)) c [] to h = (access, refl, h)
+split_kind types (Some (variable.Record object)) c [] to h = (object, refl, h)
 split_kind types from c (d ∷ cs) to h = split_kind types (selected_kind types from c) d cs to h
 
 -- The cell of an object whose component has another value.
@@ -75,7 +76,7 @@ module _ (p : ProgramForm) where
       let here : component_kind (slice_get own.0 c) ≡ Some kind = sym (ap (λ (found : Option (List ComponentKind)). kind_among found c) reached) ∙ leads in
       let values = kinds_later cells after stay own.0 cell.values (kinds_set cells own.0 object.cell.values c kind v own.2 here fitting) in
       record {
-        filled = subst (λ (cs : Cells). AreFilled p.types cs cs) (sym are) (filled_set p.types after cells o.0 cell (filled_later cells after stay p.types cells ready.filled) (own.0, own.1, values));
+        filled = subst (λ (cs : Cells). AreFilled p.types cs cs) (sym are) (filled_set p.types after cells o.0 cell (filled_later cells after stay p.types cells ready.filled) (own.0, own.1, values, own.3));
         active = subst (λ (cs : Cells). IsActive cs p.variables kinds s.activations) (sym are) (active_later cells after stay p.variables kinds s.activations ready.active);
         fits = subst (λ (cs : Cells). Fits p cs kinds s.control) (sym are) (fits_later p cells after stay s.control kinds fits);
       }

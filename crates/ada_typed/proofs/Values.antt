@@ -1,16 +1,17 @@
 -- Values and their kinds: which value a variable or a component may hold, as objects come to be.
 
-use Rattle.ada_typed.specs.Holding.{Cells, Designates, IsAccess, HasKind, HaveKinds, IsFilled}
-use Rattle.std.proofs.Common.{◌≡◌, ℕ, zero, suc, List, [], ◌∷◌, ◌++◌, length, map, Some, refl, ap, ◌∙◌, subst}
+use Rattle.ada_typed.specs.Holding.{Cells, Designates, IsAccess, HasKind, HaveKinds, IsPooled, IsFilled}
+use Rattle.std.proofs.Common.{◌≡◌, ℕ, zero, suc, Bool, true, false, List, [], ◌∷◌, ◌++◌, length, map, Option, Some, None, refl, sym, ap, ◌∙◌, subst}
 use Rattle.std.specs.List.{slice_get, slice_set, slice_index_or}
 use Rattle.ada_program.specs.declared.program.ComponentKind.{ComponentKind}
+use Rattle.ada_program.specs.declared.program.ComponentKind.TheVariants as component
 use Rattle.ada_program.specs.declared.program.ScalarType.{ScalarType}
 use Rattle.ada_program.specs.declared.program.ScalarType.TheVariants.{Integer, Boolean}
 use Rattle.ada_program.specs.declared.program.Variable.{Variable}
 use Rattle.ada_program.specs.declared.program.VariableKind.{VariableKind}
 use Rattle.ada_program.specs.declared.program.VariableKind.TheVariants as variable
 use Rattle.ada_program.specs.ProgramForm.{TypeForm, VariableForm, variable_form}
-use Rattle.ada_program.specs.WellFormed.{reached_components, held_kind, component_kind, variable_kind}
+use Rattle.ada_program.specs.WellFormed.{reached_components, held_kind, component_kind, kind_among, kind_behind, selected_kind, selectors_kind, access_of, root_kind, variable_kind}
 use Rattle.ada_meaning.specs.declared.state.Id.{Id}
 use Rattle.ada_meaning.specs.declared.state.Value.{Value}
 use Rattle.ada_meaning.specs.declared.state.Value.TheVariants.{Null, Names, Scalar}
@@ -45,6 +46,63 @@ abbrev pub kind_of : ScalarType → VariableKind
 kind_of Integer = variable.Integer
 kind_of Boolean = variable.Boolean
 
+-- A record object is named as an object of an access type is: by a value of its own type.
+abbrev pub as_access : VariableKind → VariableKind
+as_access variable.Integer = variable.Integer
+as_access variable.Boolean = variable.Boolean
+as_access (variable.Access access) = variable.Access access
+as_access (variable.Record object) = variable.Access object
+
+abbrev pub as_access_in : Option VariableKind → Option VariableKind
+as_access_in None = None
+as_access_in (Some kind) = Some (as_access kind)
+
+pub kind_as : (cells : Cells) (kind : VariableKind) (v : Value) → HasKind cells kind v → HasKind cells (as_access kind) v
+kind_as cells variable.Integer v h = h
+kind_as cells variable.Boolean v h = h
+kind_as cells (variable.Access access) v h = h
+kind_as cells (variable.Record object) v h = h
+
+-- What is selected behind the name of a record object is what is selected behind an access value, and no record object itself.
+selected_as : (types : List TypeForm) (kind : Option VariableKind) (c : ℕ) → selected_kind types (as_access_in kind) c ≡ selected_kind types kind c
+selected_as types None c = refl
+selected_as types (Some variable.Integer) c = refl
+selected_as types (Some variable.Boolean) c = refl
+selected_as types (Some (variable.Access access)) c = refl
+selected_as types (Some (variable.Record object)) c = refl
+
+component_as : (o : Option ComponentKind) → as_access_in (component_kind o) ≡ component_kind o
+component_as None = refl
+component_as (Some (component.Integer initial)) = refl
+component_as (Some (component.Boolean initial)) = refl
+component_as (Some (component.Access access)) = refl
+
+among_as : (o : Option (List ComponentKind)) (c : ℕ) → as_access_in (kind_among o c) ≡ kind_among o c
+among_as None c = refl
+among_as (Some components) c = component_as (slice_get components c)
+
+behind_as : (types : List TypeForm) (o : Option ℕ) (c : ℕ) → as_access_in (kind_behind types o c) ≡ kind_behind types o c
+behind_as types None c = refl
+behind_as types (Some access) c = among_as (reached_components types access) c
+
+pub selectors_as : (types : List TypeForm) (kind : Option VariableKind) (cs : List ℕ) → selectors_kind types (as_access_in kind) cs ≡ as_access_in (selectors_kind types kind cs)
+selectors_as types kind [] = refl
+selectors_as types kind (c ∷ cs) =
+    ap (λ (k : Option VariableKind). selectors_kind types k cs) (selected_as types kind c ∙ sym (behind_as types (access_of kind) c)) ∙
+    selectors_as types (selected_kind types kind c) cs
+
+-- What a path begins with is what its variable holds.
+pub root_same : (of_record : Bool) (kind : Option VariableKind) (from : VariableKind) → root_kind of_record kind ≡ Some from → kind ≡ Some from
+root_same of_record None from is = absurd (cc)
+root_same true (Some variable.Integer) from is = absurd (cc)
+root_same false (Some variable.Integer) from is = is
+root_same true (Some variable.Boolean) from is = absurd (cc)
+root_same false (Some variable.Boolean) from is = is
+root_same true (Some (variable.Access access)) from is = absurd (cc)
+root_same false (Some (variable.Access access)) from is = is
+root_same true (Some (variable.Record object)) from is = is
+root_same false (Some (variable.Record object)) from is = absurd (cc)
+
 -- Names that were given stay those of objects of their access types, as objects come to be and change.
 abbrev pub StayDesignated : Cells → Cells → Type 0
 StayDesignated cells after = (access : ℕ) (o : Id) → Designates cells access o → Designates after access o
@@ -60,6 +118,7 @@ module _ (cells after : Cells) (stay : StayDesignated cells after) where
   kind_later variable.Integer v h = h
   kind_later variable.Boolean v h = h
   kind_later (variable.Access access) v h = access_later access.0 v h
+  kind_later (variable.Record object) v h = access_later object.0 v h
 
   pub kinds_later : (cs : List ComponentKind) (vs : List Value) → HaveKinds cells cs vs → HaveKinds after cs vs
   kinds_later [] [] h = tt
@@ -69,7 +128,7 @@ module _ (cells after : Cells) (stay : StayDesignated cells after) where
 
   pub filled_later : (types : List TypeForm) (xs : Cells) → AreFilled types cells xs → AreFilled types after xs
   filled_later types [] h = tt
-  filled_later types (x ∷ xs) h = ((h.0.0, h.0.1, kinds_later h.0.0 x.values h.0.2), filled_later types xs h.1)
+  filled_later types (x ∷ xs) h = ((h.0.0, h.0.1, kinds_later h.0.0 x.values h.0.2, h.0.3), filled_later types xs h.1)
 
   held_later : (xs : List VariableForm) (vs : List Value) → AreHeld cells xs vs → AreHeld after xs vs
   held_later [] vs h = tt
@@ -125,10 +184,10 @@ filled_end types cells c [] h i = (i, tt)
 filled_end types cells c (x ∷ xs) h i = (h.0, filled_end types cells c xs h.1 i)
 
 -- A new object that is filled.
-pub filled_new : (types : List TypeForm) (cells : Cells) (c : Cell Value) (components : List ComponentKind) → AreFilled types cells cells → reached_components types c.access ≡ Some components → HaveKinds cells components c.values → AreFilled types (cells ++ c ∷ []) (cells ++ c ∷ [])
-filled_new types cells c components h is k =
+pub filled_new : (types : List TypeForm) (cells : Cells) (c : Cell Value) (components : List ComponentKind) → AreFilled types cells cells → reached_components types c.access ≡ Some components → HaveKinds cells components c.values → IsPooled types c → AreFilled types (cells ++ c ∷ []) (cells ++ c ∷ [])
+filled_new types cells c components h is k pooled =
     let stay = designated_more cells c in
-    filled_end types (cells ++ c ∷ []) c cells (filled_later cells (cells ++ c ∷ []) stay types cells h) (components, is, kinds_later cells (cells ++ c ∷ []) stay components c.values k)
+    filled_end types (cells ++ c ∷ []) c cells (filled_later cells (cells ++ c ∷ []) stay types cells h) (components, is, kinds_later cells (cells ++ c ∷ []) stay components c.values k, pooled)
 
 -- The newest name is that of the new object.
 pub newest_name : (cells : Cells) (c : Cell Value) → slice_get (cells ++ c ∷ []) (length cells) ≡ Some c
@@ -201,6 +260,7 @@ blank_kind : (cells : Cells) (kind : VariableKind) → HasKind cells kind (blank
 blank_kind cells variable.Integer = tt
 blank_kind cells variable.Boolean = tt
 blank_kind cells (variable.Access access) = tt
+blank_kind cells (variable.Record object) = tt
 
 pub held_blank : (cells : Cells) (xs : List Variable) → AreHeld cells (map variable_form xs) (map blank_of xs)
 held_blank cells [] = tt

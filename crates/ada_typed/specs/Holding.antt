@@ -1,17 +1,18 @@
 -- Which value a variable or a component may hold, and what lies in an object.
 
-use Rattle.std.specs.Prelude.{◌≡◌, ℕ, ℤ, List, [], ◌∷◌, map, Some}
+use Rattle.std.specs.Prelude.{◌≡◌, ℕ, ℤ, true, List, [], ◌∷◌, map, Some}
 use Rattle.std.specs.List.{slice_get}
 use Rattle.ada_program.specs.declared.program.ComponentKind.{ComponentKind}
 use Rattle.ada_program.specs.declared.program.VariableKind.{VariableKind}
 use Rattle.ada_program.specs.declared.program.VariableKind.TheVariants as variable
 use Rattle.ada_program.specs.declared.program.Program.{Program}
 use Rattle.ada_program.specs.ProgramForm.{TypeForm, program_form}
-use Rattle.ada_program.specs.WellFormed.{IsWellFormed, reached_components, held_kind, variable_kind}
+use Rattle.ada_program.specs.WellFormed.{IsWellFormed, is_access, reached_components, held_kind, variable_kind}
 use Rattle.ada_values.specs.declared.value.Value.TheVariants as scalar
 use Rattle.ada_meaning.specs.declared.state.Id.{Id}
 use Rattle.ada_meaning.specs.declared.state.Value.{Value}
 use Rattle.ada_meaning.specs.declared.state.Value.TheVariants.{Null, Names, Scalar}
+use Rattle.ada_meaning.specs.State.{pool_of}
 use Rattle.ada_meaning.specs.Heap.{Cell}
 use Rattle.ada_meaning.specs.Step.{places, held}
 use Rattle.ada_meaning.specs.Named.{Object, State, named, object_at}
@@ -45,11 +46,12 @@ IsAccess cells access Null = Unit {0}
 IsAccess cells access (Names o) = Designates cells access o
 IsAccess cells access (Scalar v) = ⊥
 
--- A value is one that can be held where this kind is.
+-- A value is one that can be held where this kind is. A record object is named by its variable, null before that is declared.
 abbrev pub HasKind : Cells → VariableKind → Value → Type 0
 HasKind cells variable.Integer v = IsInteger v
 HasKind cells variable.Boolean v = IsBoolean v
 HasKind cells (variable.Access access) v = IsAccess cells access.0 v
+HasKind cells (variable.Record object) v = IsAccess cells object.0 v
 
 -- Values are those of the components of an object, one for each, in order.
 abbrev pub HaveKinds : Cells → List ComponentKind → List Value → Type 0
@@ -58,9 +60,15 @@ HaveKinds cells [] (v ∷ vs) = ⊥
 HaveKinds cells (c ∷ cs) [] = ⊥
 HaveKinds cells (c ∷ cs) (v ∷ vs) = HasKind cells (held_kind c) v × HaveKinds cells cs vs
 
--- What lies in an object is what the record type has that its access type designates.
+-- An object of an access type is from that type's pool (13.11).
+abbrev pub IsPooled : List TypeForm → Cell Value → Type 0
+IsPooled types cell = is_access types cell.access ≡ true → cell.home.pool ≡ Some (pool_of cell.access)
+
+-- What lies in an object is what the record type has that its access type designates, or that it is of; and it is from that type's pool.
 abbrev pub IsFilled : List TypeForm → Cells → Cell Value → Type 0
-IsFilled types cells cell = (components : List ComponentKind) × (reached_components types cell.access ≡ Some components) × HaveKinds cells components cell.values
+IsFilled types cells cell =
+    (components : List ComponentKind) × (reached_components types cell.access ≡ Some components) × HaveKinds cells components cell.values
+    × IsPooled types cell
 
 -- What lies in one object, and in all.
 abbrev pub cell_of : Object → Cell Value

@@ -6,9 +6,9 @@ use Rattle.std.specs.List.{list_all, slice_get}
 use Rattle.std.proofs.lemmas.Bool.{leb-true, leb-false}
 use Rattle.ada_program.specs.declared.program.ComponentKind.{ComponentKind}
 use Rattle.ada_program.specs.declared.program.ComponentKind.TheVariants as component
-use Rattle.ada_program.specs.Form.{DeclarationForm, collects, declares}
-use Rattle.ada_program.specs.Nested.{collected, is_one_of, kind_is_open, are_open, collection_nests, part_nests}
-use Rattle.ada_program.specs.ProgramForm.{PartForm, TypeForm, record_of, access_to}
+use Rattle.ada_program.specs.Form.{DeclarationForm, collects, declares, declares_record}
+use Rattle.ada_program.specs.Nested.{collected, record_objects, is_one_of, kind_is_open, are_open, collection_nests, record_nests, part_nests}
+use Rattle.ada_program.specs.ProgramForm.{PartForm, TypeForm, record_of, access_to, object_of}
 use Rattle.ada_program.specs.WellFormed as fits
 use Rattle.ada_resolve.specs.declared.scope.Entity.{Entity}
 use Rattle.ada_resolve.specs.declared.scope.Entity.TheVariants as entity
@@ -28,6 +28,7 @@ collected_is : (es : List DeclarationForm) (a : ℕ) → is_one_of (collected es
 collected_is [] a = refl
 collected_is (collects t ∷ es) a = ap (λ b. eqb t a || b) (collected_is es a)
 collected_is (declares x source ∷ es) a = collected_is es a
+collected_is (declares_record x object ∷ es) a = collected_is es a
 
 -- a part creates the collections of its own access types, and of no others
 due_most : (c d : Bool) → cond c (cond d 1 0) 0 ≤ 1
@@ -77,6 +78,7 @@ access_there types a e = by_form (slice_get types a) refl e
     by_form None is e = absurd (cc e)
     by_form (Some (record_of name ps cs)) is e = absurd (cc e)
     by_form (Some (access_to name d)) is e = (name, d, is)
+    by_form (Some (object_of r)) is e = absurd (cc e)
 
 record_there : (types : List TypeForm) (d : ℕ) → fits.is_record types d ≡ true → (name : List ℕ) × (ps : List PartForm) × (cs : List ComponentKind) × (slice_get types d ≡ Some (record_of name ps cs))
 record_there types d e = by_form (slice_get types d) refl e
@@ -85,6 +87,7 @@ record_there types d e = by_form (slice_get types d) refl e
     by_form None is e = absurd (cc e)
     by_form (Some (record_of name ps cs)) is e = (name, ps, cs, is)
     by_form (Some (access_to name d)) is e = absurd (cc e)
+    by_form (Some (object_of r)) is e = absurd (cc e)
 
 module _ (around : List ℕ) (m : Known) (s : Sound m) (l : Late m) (w : OpenAround around m) where
   -- the collections that are open where the statements of the part stand
@@ -140,9 +143,22 @@ module _ (around : List ℕ) (m : Known) (s : Sound m) (l : Late m) (w : OpenAro
       let record_later = g is.1 (record_of r.0 r.1 r.2) r.3 in
       both_parts (not (is_one_of around a)) (are_open there (fits.reached_components types a)) (not_around a own.0) (rw (access_later, record_later) r.4)
 
-  -- the collections of the part nest, whatever types are declared behind it
+  -- the record objects of the part
+  object_nests : (types : List TypeForm) → AreIn m.types types → (o : ℕ) → is_one_of (record_objects m.here.elaborated) o ≡ true → record_nests types there o ≡ true
+  object_nests types g o e =
+      let own = w.objects o e in
+      let record_is = all_get (fits.type_fits m.types) m.types o (object_of own.1) s.types_fit own.2 in
+      let r = record_designated own.1 (w.forms o (object_of own.1) own.0 own.2) record_is in
+      let object_later = g o (object_of own.1) own.2 in
+      let record_later = g own.1 (record_of r.0 r.1 r.2) r.3 in
+      rw (object_later, record_later) r.4
+
+  -- the collections and the record objects of the part nest, whatever types are declared behind it
   pub own_nests : (types : List TypeForm) → AreIn m.types types → part_nests types around m.here.elaborated ≡ true
-  own_nests types g = all_of (collection_nests types around there) (collected m.here.elaborated) (access_nests types g)
+  own_nests types g =
+      both_parts (list_all (collection_nests types around there) (collected m.here.elaborated)) (list_all (record_nests types there) (record_objects m.here.elaborated))
+      (all_of (collection_nests types around there) (collected m.here.elaborated) (access_nests types g))
+      (all_of (record_nests types there) (record_objects m.here.elaborated) (object_nests types g))
 
   -- what a name of the part stands for
   entity_own : Complete m → (text : List ℕ) (e : Entity) → named text m.here.names ≡ Some e → IsOwnType m.here.first_type e → EntityFits m.types m.variables text e → EntityOpen there m.types e

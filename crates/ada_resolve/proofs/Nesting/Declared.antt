@@ -1,10 +1,10 @@
 -- Each declaration leaves what its part names its own, or open around it.
 
-use Rattle.std.proofs.Common.{◌≡◌, ℕ, ◌<◌, ◌≤◌, Bool, true, false, List, [], ◌∷◌, ◌++◌, length, refl, sym, subst, zero, suc}
-use Rattle.std.specs.Prelude.{Option, Some, None, nat_le}
+use Rattle.std.proofs.Common.{◌≡◌, ℕ, ◌+◌, ◌<◌, ◌≤◌, Bool, true, false, cond, List, [], ◌∷◌, ◌++◌, length, refl, sym, subst, eqb, eqb-true, zero, suc}
+use Rattle.std.specs.Prelude.{Option, Some, None, ◌||◌, nat_le}
 use Rattle.std.specs.List.{list_all, slice_get, slice_set}
 use Rattle.std.proofs.lemmas.Bool.{leb-true, leb-false}
-use Rattle.ada_tree.specs.Names.{Ident}
+use Rattle.ada_tree.specs.Names.{Ident, NameTree}
 use Rattle.ada_tree.specs.Records.{StaticTree, ComponentTree, RecordTree}
 use Rattle.ada_tree.specs.Statements.{DeclarationTree, exception_declaration, constant_declaration, incomplete_type, access_type, record_type, instance, object_declaration, borrower_declaration, DeclarationsTree, no_declarations, a_declaration}
 use Rattle.ada_program.specs.declared.program.ComponentKind.{ComponentKind}
@@ -13,26 +13,27 @@ use Rattle.ada_program.specs.declared.program.Exception.TheVariants as exception
 use Rattle.ada_program.specs.declared.program.TypeNo.{TypeNo}
 use Rattle.ada_program.specs.declared.program.VariableKind.{VariableKind}
 use Rattle.ada_program.specs.declared.program.VariableKind.TheVariants as variable
-use Rattle.ada_program.specs.Form.{PathForm, RightForm, value_of}
-use Rattle.ada_program.specs.Nested.{kind_is_open}
-use Rattle.ada_program.specs.ProgramForm.{TypeForm, record_of, access_to}
+use Rattle.ada_program.specs.Form.{PathForm, RightForm, value_of, DeclarationForm, collects, declares, declares_record}
+use Rattle.ada_program.specs.Nested.{is_one_of, kind_is_open, record_objects}
+use Rattle.ada_program.specs.ProgramForm.{TypeForm, record_of, access_to, object_of}
 use Rattle.ada_resolve.specs.declared.scope.Entity.{Entity}
 use Rattle.ada_resolve.specs.declared.scope.Entity.TheVariants as entity
 use Rattle.ada_resolve.specs.Borrowers.{borrower_created, lender_found}
 use Rattle.ada_resolve.specs.Exceptions.{next_exception}
-use Rattle.ada_resolve.specs.Instances.{freed_found, instance_of}
-use Rattle.ada_resolve.specs.Known.{Known, Named, Part, named, entered, declared, visible, no_variable_yet}
-use Rattle.ada_resolve.specs.Objects.{object_type_found, kind_of, initial_found, ends_types, after_types, next_variable, initial_source, variable_created, object_created}
+use Rattle.ada_resolve.specs.Instances.{freed_found, instance_of, is_collected}
+use Rattle.ada_resolve.specs.Known.{Known, Named, Part, named, entered, declared, visible, no_variable_yet, is_empty}
+use Rattle.ada_resolve.specs.Library.{is_library_root}
+use Rattle.ada_resolve.specs.Objects.{type_in, object_type_found, kind_of, initial_found, collections_of, own_types, missing_collections, ends_types, after_types, next_variable, initial_source, variable_created, object_created, next_record, record_created, created_of}
 use Rattle.ada_resolve.specs.Paths.{elementary_in, elementary_of}
 use Rattle.ada_resolve.specs.Records.{Composition, no_components, kind_in, kind_of_component, kinds_within, composed_with, composed, composition_of, components_written, record_type_known}
 use Rattle.ada_resolve.specs.Resolution.{gives, At, known_at, declaration_remark, declaration_known, declarations_told}
 use Rattle.ada_resolve.specs.Statics.{static_value}
 use Rattle.ada_resolve.specs.Types.{completed_type, record_in, record_found, defined, number_of, incomplete_known, access_defined}
-use Rattle.ada_resolve.proofs.Nesting.Open.{RecordOpen, EntityOpen, PartsOpen, KindLies, ComponentsLie, FormLies, IsOwnType, OpenAround, EntityLies, visible_lies, record_later}
-use Rattle.ada_resolve.proofs.Standing.{IsBefore, PartsBefore, Sound, Keeps, outer_settled, IsSlot, slot_of, declaration_sound, declaration_keeps, declarations_done}
+use Rattle.ada_resolve.proofs.Nesting.Open.{RecordOpen, EntityOpen, PartsOpen, KindLies, ComponentsLie, FormLies, ObjectsLie, IsOwnType, OpenAround, EntityLies, visible_lies, record_later, right_or}
+use Rattle.ada_resolve.proofs.Standing.{IsBefore, PartsBefore, Sound, Keeps, object_settled, outer_settled, ended_sound, IsSlot, slot_of, declaration_sound, declaration_keeps, declarations_done}
 use Rattle.ada_resolve.proofs.WellFormed.Names.{all_entered}
 use Rattle.ada_resolve.proofs.WellFormed.Remarks.{Quiet}
-use Rattle.ada_resolve.proofs.WellFormed.Tables.{first_part, second_part}
+use Rattle.ada_resolve.proofs.WellFormed.Tables.{first_part, second_part, get_more, get_last}
 
 -- a type of the parts around stays
 abbrev StaysBefore : ℕ → List TypeForm → List TypeForm → Type 0
@@ -56,6 +57,35 @@ parts_later around n types more g (p ∷ ps) b w =
 form_later : (around : List ℕ) (n : ℕ) (types more : List TypeForm) → StaysBefore n types more → (form : TypeForm) → FormLies around n types form → FormLies around n more form
 form_later around n types more g (record_of name ps cs) w = w
 form_later around n types more g (access_to name d) w = λ less. record_later around types more d (λ form is. g d form less is) (w less)
+form_later around n types more g (object_of r) w = λ less. record_later around types more r (λ form is. g r form less is) (w less)
+
+-- the record objects of a part lie in it still where a type is declared or completed
+objects_stay : (k m : Known) → Sound k → Keeps k m → ObjectsLie k.here.first_type k.types k.here.elaborated → ObjectsLie k.here.first_type m.types k.here.elaborated
+objects_stay k m s g w o e = let own = w o e in (own.0, own.1, (g.types o (object_of own.1) own.2 (object_settled k o own.1 s own.2)).0)
+
+-- those of what is elaborated next too
+objects_both : (n : ℕ) (types : List TypeForm) (es ds : List DeclarationForm) → ObjectsLie n types es → ObjectsLie n types ds → ObjectsLie n types (es ++ ds)
+objects_both n types [] ds old new = new
+objects_both n types (collects t ∷ es) ds old new = objects_both n types es ds old new
+objects_both n types (declares x value ∷ es) ds old new = objects_both n types es ds old new
+objects_both n types (declares_record x object ∷ es) ds old new =
+    let rest = objects_both n types es ds (λ o e. old o (right_or (eqb object o) (is_one_of (record_objects es) o) e)) new in
+    λ o e. by_test o (eqb object o) (old o) (rest o) e
+  where
+    by_test : (o : ℕ) (b : Bool) → ((b || is_one_of (record_objects es) o) ≡ true → (n ≤ o) × (r : ℕ) × (slice_get types o ≡ Some (object_of r))) → (is_one_of (record_objects (es ++ ds)) o ≡ true → (n ≤ o) × (r : ℕ) × (slice_get types o ≡ Some (object_of r))) → (b || is_one_of (record_objects (es ++ ds)) o) ≡ true → (n ≤ o) × (r : ℕ) × (slice_get types o ≡ Some (object_of r))
+    by_test o true own rest e = own refl
+    by_test o false own rest e = rest e
+
+-- a collection is no record object
+no_objects : (n t : ℕ) (types ts : List TypeForm) (es : List DeclarationForm) → ObjectsLie n types (collections_of t ts es)
+no_objects n t types [] es = λ o e. absurd (cc e)
+no_objects n t types (record_of name ps cs ∷ ts) es = no_objects n (t + 1) types ts es
+no_objects n t types (object_of r ∷ ts) es = no_objects n (t + 1) types ts es
+no_objects n t types (access_to name d ∷ ts) es = by_test (is_collected t es) (no_objects n (t + 1) types ts es)
+  where
+    by_test : (b : Bool) → ObjectsLie n types (collections_of (t + 1) ts es) → ObjectsLie n types (cond b (collections_of (t + 1) ts es) (collects t ∷ collections_of (t + 1) ts es))
+    by_test true rest = rest
+    by_test false rest = rest
 
 -- a type that is there once one is declared or completed: that one, or another that was there
 got_more : (P : TypeForm → Type 0) (types : List TypeForm) (form : TypeForm) (t : ℕ) (x : TypeForm) → P form → (slice_get types t ≡ Some x → P x) → slice_get (types ++ form ∷ []) t ≡ Some x → P x
@@ -91,12 +121,13 @@ type_open around k text e c form s w g own lies =
       own = own_entered n k.here.names text e own w.own;
       forms = λ t x le is. form_later around n k.types more stays x
           (got_defined (FormLies around n k.types) c k.types form t x lies (λ there. w.forms t x le there) is);
+      objects = objects_stay k (declared (record k { types = more }) text e) s g w.objects;
     }
 
 -- nothing is declared but a name
 name_open : (around : List ℕ) (k : Known) (text : List ℕ) (e : Entity) → OpenAround around k → IsOwnType k.here.first_type e → OpenAround around (declared k text e)
 name_open around k text e w own =
-    record { before = w.before; outer = w.outer; own = own_entered k.here.first_type k.here.names text e own w.own; forms = w.forms }
+    record { before = w.before; outer = w.outer; own = own_entered k.here.first_type k.here.names text e own w.own; forms = w.forms; objects = w.objects }
 
 -- the number of a type that is declared or completed
 own_number : (k : Known) (text : List ℕ) (c : Option TypeNo) → Sound k → IsSlot k text c → k.here.first_type ≤ (number_of c k.types).0
@@ -154,6 +185,7 @@ record_lies around k w t lies = by_place (nat_le k.here.first_type t) refl
     own behind None is = tt
     own behind (Some (record_of name ps cs)) is = w.forms t (record_of name ps cs) behind is
     own behind (Some (access_to name d)) is = tt
+    own behind (Some (object_of r)) is = tt
 
     by_place : (b : Bool) → nat_le n t ≡ b → ComponentsLie around n (elementary_in (slice_get k.types t))
     by_place true behind = own (leb-true n t behind) (slice_get k.types t) refl
@@ -187,8 +219,13 @@ record_type_open around k name definition s w slot g =
 -- `procedure Free is new Ada.Unchecked_Deallocation (T, A);`
 instance_open : (around : List ℕ) (k : Known) (name : Ident) (o : Option TypeNo) → OpenAround around k → OpenAround around (instance_of k name o)
 instance_open around k name None w = w
-instance_open around k name (Some t) w =
-    record { before = w.before; outer = w.outer; own = own_entered k.here.first_type k.here.names name.text (entity.Instance t) tt w.own; forms = w.forms }
+instance_open around k name (Some t) w = record {
+  before = w.before;
+  outer = w.outer;
+  own = own_entered k.here.first_type k.here.names name.text (entity.Instance t) tt w.own;
+  forms = w.forms;
+  objects = objects_both k.here.first_type k.types k.here.elaborated (collects t.0 ∷ []) w.objects (λ o e. absurd (cc e));
+}
 
 -- a variable
 made_open : (around : List ℕ) (k : Known) (name : Ident) (borrows : Bool) (kind : VariableKind) (value : RightForm) → OpenAround around k → OpenAround around (variable_created k name borrows kind value)
@@ -197,12 +234,62 @@ made_open around k name borrows kind value w = record {
   outer = w.outer;
   own = own_entered k.here.first_type k.here.names name.text (entity.Variable (next_variable k) kind) tt w.own;
   forms = w.forms;
+  objects = objects_both k.here.first_type k.types k.here.elaborated (declares (length k.variables) value ∷ []) w.objects (λ o e. absurd (cc e));
 }
 
 -- `X : T := ..;`
 created_open : (around : List ℕ) (k : Known) (name : Ident) (kind : Option VariableKind) (value : Option RightForm) → OpenAround around k → OpenAround around (object_created k name kind value)
 created_open around k name None value w = w
 created_open around k name (Some kind) value w = made_open around k name false kind (initial_source value) w
+
+-- `R : T;`
+record_open : (around : List ℕ) (k : Known) (name : Ident) (t : TypeNo) → Sound k → OpenAround around k → (t.0 < k.here.first_type → RecordOpen around k.types t.0) → OpenAround around (record_created k name t)
+record_open around k name t s w lies =
+    let n = k.here.first_type in
+    let form = object_of t.0 in
+    let more = k.types ++ form ∷ [] in
+    let made = declares_record (length k.variables) (length k.types) in
+    let stays : StaysBefore n k.types more = λ u x less is. get_more k.types form u x is in
+    let old : ObjectsLie n more k.here.elaborated = λ o e. let own = w.objects o e in (own.0, own.1, get_more k.types form o (object_of own.1) own.2) in
+    record {
+      before = w.before;
+      outer = parts_later around n k.types more stays k.outer s.bounds.outer_before w.outer;
+      own = own_entered n k.here.names name.text (entity.Variable (next_variable k) (next_record k)) tt w.own;
+      forms = λ u x le is. form_later around n k.types more stays x (got_more (FormLies around n k.types) k.types form u x lies (λ there. w.forms u x le there) is);
+      objects = objects_both n more k.here.elaborated (made ∷ []) old (λ o e. by_test o (eqb (length k.types) o) refl e);
+    }
+  where
+    by_test : (o : ℕ) (b : Bool) → eqb (length k.types) o ≡ b → (b || false) ≡ true → (k.here.first_type ≤ o) × (r : ℕ) × (slice_get (k.types ++ object_of t.0 ∷ []) o ≡ Some (object_of r))
+    by_test o true on e =
+        let same = eqb-true (length k.types) o on in
+        subst (λ (u : ℕ). (k.here.first_type ≤ u) × (r : ℕ) × (slice_get (k.types ++ object_of t.0 ∷ []) u ≡ Some (object_of r))) same
+        (s.bounds.first, t.0, get_last k.types (object_of t.0))
+    by_test o false on e = absurd (cc e)
+
+-- the type of an object
+type_in_lies : (around : List ℕ) (n : ℕ) (types : List TypeForm) (o : Option Entity) (e : Entity) → ((x : Entity) → o ≡ Some x → EntityLies around n types x) → type_in o ≡ Some e → EntityLies around n types e
+type_in_lies around n types (Some entity.Integer) e w is = let same : entity.Integer ≡ e = cc is in subst (λ (x : Entity). EntityLies around n types x) same tt
+type_in_lies around n types (Some entity.Boolean) e w is = let same : entity.Boolean ≡ e = cc is in subst (λ (x : Entity). EntityLies around n types x) same tt
+type_in_lies around n types (Some (entity.Record t size)) e w is = let same : entity.Record t size ≡ e = cc is in subst (λ (x : Entity). EntityLies around n types x) same (w (entity.Record t size) refl)
+type_in_lies around n types (Some (entity.Access t)) e w is = let same : entity.Access t ≡ e = cc is in subst (λ (x : Entity). EntityLies around n types x) same (w (entity.Access t) refl)
+type_in_lies around n types (Some other) e w is = absurd (cc is)
+type_in_lies around n types None e w is = absurd (cc is)
+
+object_type_lies : (around : List ℕ) (k : Known) (type_name : NameTree) → OpenAround around k → (e : Entity) → object_type_found k type_name ≡ Some e → EntityLies around k.here.first_type k.types e
+unfolding object_type_found
+object_type_lies around k type_name w e is = by_root (is_library_root type_name.first.text) is
+  where
+    by_rest : (b : Bool) → cond b (type_in (visible k type_name.first.text)) None ≡ Some e → EntityLies around k.here.first_type k.types e
+    by_rest true is = type_in_lies around k.here.first_type k.types (visible k type_name.first.text) e (visible_lies around k w type_name.first.text) is
+    by_rest false is = absurd (cc is)
+
+    by_root : (b : Bool) → cond b None (cond (is_empty type_name.rest) (type_in (visible k type_name.first.text)) None) ≡ Some e → EntityLies around k.here.first_type k.types e
+    by_root true is = absurd (cc is)
+    by_root false is = by_rest (is_empty type_name.rest) is
+
+found_created_open : (around : List ℕ) (k : Known) (name : Ident) (o : Option Entity) (value : Option RightForm) → Sound k → OpenAround around k → ((e : Entity) → o ≡ Some e → EntityLies around k.here.first_type k.types e) → OpenAround around (created_of k name o value)
+found_created_open around k name (Some (entity.Record t size)) value s w lies = record_open around k name t s w (lies (entity.Record t size) refl)
+found_created_open around k name o value s w lies = created_open around k name (kind_of o) value w
 
 -- `B : access T := P;`
 borrower_open : (around : List ℕ) (k : Known) (name : Ident) (o : Option (PathForm × TypeNo)) → OpenAround around k → OpenAround around (borrower_created k name o)
@@ -211,7 +298,14 @@ borrower_open around k name (Some lender) w = made_open around k name true (vari
 
 -- the types end
 ends_open : (around : List ℕ) (b : Bool) (k : Known) → OpenAround around k → OpenAround around (ends_types b k)
-ends_open around true k w = record { before = w.before; outer = w.outer; own = w.own; forms = w.forms }
+ends_open around true k w = record {
+  before = w.before;
+  outer = w.outer;
+  own = w.own;
+  forms = w.forms;
+  objects = objects_both k.here.first_type k.types k.here.elaborated (missing_collections k) w.objects
+      (no_objects k.here.first_type k.here.first_type k.types (own_types k) k.here.elaborated);
+}
 ends_open around false k w = w
 
 pub ended_open : (around : List ℕ) (k : Known) → OpenAround around k → OpenAround around (after_types k)
@@ -233,10 +327,13 @@ declaration_open around k (exception_declaration name) s w q = record {
   outer = w.outer;
   own = own_entered k.here.first_type k.here.names name.text (entity.Exception (exception.Declared (next_exception k))) tt w.own;
   forms = w.forms;
+  objects = w.objects;
 }
 declaration_open around k (object_declaration name type_name initial) s w q =
     let m = after_types k in
-    created_open around m name (kind_of (object_type_found m type_name)) (initial_found m (kind_of (object_type_found m type_name)) initial) (ended_open around k w)
+    let o : OpenAround around m = ended_open around k w in
+    found_created_open around m name (object_type_found m type_name) (initial_found m (kind_of (object_type_found m type_name)) initial)
+    (ended_sound k s) o (object_type_lies around m type_name o)
 declaration_open around k (borrower_declaration name designated initial) s w q =
     borrower_open around (after_types k) name (lender_found (after_types k) initial) (ended_open around k w)
 declaration_open around k d s w q = absurd q

@@ -7,8 +7,9 @@ use Rattle.std.specs.List.{list_all, slice_get}
 use Rattle.ada_program.specs.declared.program.ComponentKind.{ComponentKind}
 use Rattle.ada_program.specs.declared.program.ComponentKind.TheVariants as component
 use Rattle.ada_program.specs.declared.program.Exception.TheVariants.{ConstraintError, ProgramError, StorageError}
-use Rattle.ada_program.specs.Nested.{is_one_of, kind_is_open}
-use Rattle.ada_program.specs.ProgramForm.{PartForm, TypeForm, record_of, access_to}
+use Rattle.ada_program.specs.Form.{DeclarationForm}
+use Rattle.ada_program.specs.Nested.{is_one_of, kind_is_open, record_objects}
+use Rattle.ada_program.specs.ProgramForm.{PartForm, TypeForm, record_of, access_to, object_of}
 use Rattle.ada_resolve.specs.declared.scope.Entity.{Entity}
 use Rattle.ada_resolve.specs.declared.scope.Entity.TheVariants as entity
 use Rattle.ada_resolve.specs.Known.{Known, Named, Part, named, named_in, inner_first, visible, parts}
@@ -53,10 +54,12 @@ abbrev pub ComponentsLie : (around : List ℕ) → ℕ → List ComponentKind �
 ComponentsLie around n [] = Unit {0}
 ComponentsLie around n (kind ∷ kinds) = KindLies around n kind × ComponentsLie around n kinds
 
--- a type of the part: a record type with such components, or an access type to a record type of the part or to one that is open around it
+-- a type of the part: a record type with such components, or an access type or that of a record object, whose record type is one of the part or one
+-- that is open around it
 abbrev pub FormLies : (around : List ℕ) → ℕ → List TypeForm → TypeForm → Type 0
 FormLies around n types (record_of name ps cs) = ComponentsLie around n cs
 FormLies around n types (access_to name d) = d < n → RecordOpen around types d
+FormLies around n types (object_of r) = r < n → RecordOpen around types r
 
 -- so each type of the part
 abbrev pub FormsLie : (around : List ℕ) → ℕ → List TypeForm → Type 0
@@ -69,6 +72,10 @@ IsOwnType n (entity.Record t size) = n ≤ t.0
 IsOwnType n (entity.Access t) = n ≤ t.0
 IsOwnType n e = Unit {0}
 
+-- what a part elaborates so far: each of its record objects is known by a type of the part
+abbrev pub ObjectsLie : ℕ → List TypeForm → List DeclarationForm → Type 0
+ObjectsLie n types es = (o : ℕ) → is_one_of (record_objects es) o ≡ true → (n ≤ o) × (r : ℕ) × (slice_get types o ≡ Some (object_of r))
+
 -- among the declarations of a part, these collections are open around it: those of access types before the part's first, all that is visible of
 -- the parts around; and what its own types name is its own, or open around it
 pub record OpenAround (around : List ℕ) (k : Known) : Type 0 where
@@ -76,6 +83,7 @@ pub record OpenAround (around : List ℕ) (k : Known) : Type 0 where
   pub outer : PartsOpen around k.types k.outer
   pub own : (text : List ℕ) (e : Entity) → named text k.here.names ≡ Some e → IsOwnType k.here.first_type e
   pub forms : FormsLie around k.here.first_type k.types
+  pub objects : ObjectsLie k.here.first_type k.types k.here.elaborated
 
 -- what is visible among the declarations of a part: of the part, or open around it
 abbrev pub EntityLies : (around : List ℕ) → ℕ → List TypeForm → Entity → Type 0
@@ -146,7 +154,7 @@ left_or : (b c : Bool) → b ≡ true → (b || c) ≡ true
 left_or true c e = refl
 left_or false c e = absurd (cc e)
 
-right_or : (b c : Bool) → c ≡ true → (b || c) ≡ true
+pub right_or : (b c : Bool) → c ≡ true → (b || c) ≡ true
 right_or true c e = refl
 right_or false c e = e
 

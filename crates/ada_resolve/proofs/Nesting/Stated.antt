@@ -54,6 +54,7 @@ begun_open around k w = record {
   outer = w.names;
   own = λ text e is. absurd (cc is);
   forms = λ t form behind is. let within = get_within k.types t form is in absurd (omega (arith, behind, within));
+  objects = λ o e. absurd (cc e);
 }
 
 -- where the part of a loop parameter begins

@@ -1,14 +1,14 @@
 -- A declaration leaves what is known in order, and what stays.
 
 use Rattle.std.proofs.Common.{◌≡◌, ℕ, ◌≤◌, Bool, true, false, List, [], ◌∷◌, ◌++◌, length, refl, sym, subst, arith}
-use Rattle.std.specs.Prelude.{◌||◌, not, Option, Some, None, map}
+use Rattle.std.specs.Prelude.{◌||◌, not, Option, Some, None}
 use Rattle.ada_text.specs.declared.spot.Spot.{Spot}
 use Rattle.ada_program.specs.declared.program.Exception.TheVariants as exception
 use Rattle.ada_program.specs.declared.program.TypeNo.{TypeNo}
 use Rattle.ada_program.specs.declared.program.VariableKind.{VariableKind}
 use Rattle.ada_program.specs.declared.program.VariableKind.TheVariants as variable
-use Rattle.ada_program.specs.Form.{DeclarationForm, collects, declares, RightForm, value_of}
-use Rattle.ada_program.specs.ProgramForm.{TypeForm, record_of, access_to, VariableForm}
+use Rattle.ada_program.specs.Form.{DeclarationForm, collects, declares, declares_record, RightForm, value_of}
+use Rattle.ada_program.specs.ProgramForm.{TypeForm, record_of, access_to, object_of, VariableForm}
 use Rattle.ada_program.specs.WellFormed as fits
 use Rattle.ada_tree.specs.Declarations.{AspectTree}
 use Rattle.ada_tree.specs.Expressions.{RightTree}
@@ -21,20 +21,20 @@ use Rattle.ada_resolve.specs.Borrowers.{borrower_remark, borrower_known}
 use Rattle.ada_resolve.specs.Exceptions.{next_exception, with_exception, exception_known}
 use Rattle.ada_resolve.specs.Instances.{freed_found, with_elaborated, instance_of}
 use Rattle.ada_resolve.specs.Known.{Known, Part, parts, no_variable_yet}
-use Rattle.ada_resolve.specs.Objects.{object_type_found, kind_of, initial_found, initial_source, missing_collections, ends_types, after_types, next_variable, with_variable, variable_created, object_created, object_known}
+use Rattle.ada_resolve.specs.Objects.{object_type_found, kind_of, initial_found, initial_source, missing_collections, ends_types, after_types, next_variable, with_variable, variable_created, object_created, next_record, with_record_object, record_created, created_of, object_known}
 use Rattle.ada_resolve.specs.Records.{composition_of, components_written, record_type_known, record_type_remark}
 use Rattle.ada_resolve.specs.Resolution.{known_at, declaration_remark, declaration_known}
 use Rattle.ada_resolve.specs.Statics.{static_value}
-use Rattle.ada_resolve.specs.Types.{completed_type, record_found, number_of, incomplete_known, incomplete_remark, access_remark, access_defined, access_known}
+use Rattle.ada_resolve.specs.Types.{completed_type, record_found, number_of, incomplete_known, incomplete_remark, access_remark, access_defined, access_known, with_definition}
 use Rattle.ada_resolve.proofs.WellFormed.Borrowers.{lent_of, lent_kind, borrower_is}
 use Rattle.ada_resolve.proofs.WellFormed.Exceptions.{raised_outer}
 use Rattle.ada_resolve.proofs.WellFormed.Names.{EntityFits, PartsFit}
 use Rattle.ada_resolve.proofs.WellFormed.Remarks.{Quiet}
 use Rattle.ada_resolve.proofs.WellFormed.Tables.{all_more, both_parts, get_more, get_last}
-use Rattle.ada_resolve.proofs.WellFormed.Types.{IsAccessIn, found_access, IsKindIn, found_type}
-use Rattle.ada_resolve.proofs.Standing.Order.{Sound, Keeps, keeps_same, keeps_on}
-use Rattle.ada_resolve.proofs.Standing.Types.{name_sound, incomplete_sound, record_sound, access_sound, one_longer}
-use Rattle.ada_resolve.proofs.Standing.Kept.{IsSlot, new_slot, slot_of, keeps_new, keeps_name, keeps_defined, keeps_elaborated, keeps_variable, keeps_exception}
+use Rattle.ada_resolve.proofs.WellFormed.Types.{IsAccessIn, found_access, IsKindIn, found_type, record_visible, full_visible}
+use Rattle.ada_resolve.proofs.Standing.Order.{Sound, IsSettled, Keeps, keeps_same, keeps_on, visible_settled}
+use Rattle.ada_resolve.proofs.Standing.Types.{name_sound, incomplete_sound, record_sound, access_sound, object_type_sound, one_longer}
+use Rattle.ada_resolve.proofs.Standing.Kept.{IsSlot, new_slot, slot_of, keeps_new, keeps_name, keeps_defined, keeps_elaborated, keeps_object_type, keeps_variable, keeps_exception}
 
 -- only what is elaborated changes
 pub elaborated_sound : (es : List DeclarationForm) (k : Known) → Sound k → Sound (with_elaborated es k)
@@ -155,6 +155,39 @@ created_keeps : (k : Known) (name : Ident) (kind : Option VariableKind) (value :
 created_keeps k name None value slot = keeps_same k
 created_keeps k name (Some kind) value slot = made_keeps k name false kind (initial_source value) slot
 
+-- `R : T;`, where T is a record type that is complete
+record_object_sound : (k : Known) (name : Ident) (t : TypeNo) → Sound k → fits.is_record k.types t.0 ≡ true → IsSettled k t.0 → Sound (record_created k name t)
+record_object_sound k name t w is settled =
+    let d = with_definition None (object_of t.0) k in
+    let v : VariableForm = record { name = name.text; kind = next_record k; borrows = false } in
+    let es : List DeclarationForm = declares_record (length k.variables) (length k.types) ∷ [] in
+    let known : fits.variable_kind_fits d.types (next_record k) ≡ true = rw (get_last k.types (object_of t.0)) refl in
+    let fit = both_parts (fits.variable_kind_fits d.types (next_record k)) true known refl in
+    name_sound (with_record_object k name t) name.text (entity.Variable (next_variable k) (next_record k))
+    (elaborated_sound es (with_variable v d) (variable_sound v d (object_type_sound k t.0 w is settled) fit))
+    ((false, get_last k.variables v), known) tt tt
+
+record_object_keeps : (k : Known) (name : Ident) (t : TypeNo) → IsSlot k name.text None → Keeps k (record_created k name t)
+record_object_keeps k name t slot =
+    let d = with_definition None (object_of t.0) k in
+    let v : VariableForm = record { name = name.text; kind = next_record k; borrows = false } in
+    let es : List DeclarationForm = declares_record (length k.variables) (length k.types) ∷ [] in
+    let m = with_record_object k name t in
+    keeps_on k m (record_created k name t)
+    (keeps_on k (with_variable v d) m (keeps_on k d (with_variable v d) (keeps_object_type t.0 k) (keeps_variable v d)) (keeps_elaborated es (with_variable v d)))
+    (keeps_name m name.text (entity.Variable (next_variable k) (next_record k)) slot tt)
+
+-- an object of whichever type
+object_sound : (k : Known) (name : Ident) (o : Option Entity) (value : Option RightForm) → Sound k → IsKindIn k.types (kind_of o) → ((t : TypeNo) (size : ℕ) → o ≡ Some (entity.Record t size) → (fits.is_record k.types t.0 ≡ true) × IsSettled k t.0) → Sound (created_of k name o value)
+object_sound k name None value w f full = w
+object_sound k name (Some (entity.Record t size)) value w f full = let r = full t size refl in record_object_sound k name t w r.0 r.1
+object_sound k name (Some e) value w f full = created_sound k name (kind_of (Some e)) value w f
+
+object_keeps : (k : Known) (name : Ident) (o : Option Entity) (value : Option RightForm) → IsSlot k name.text None → Keeps k (created_of k name o value)
+object_keeps k name None value slot = keeps_same k
+object_keeps k name (Some (entity.Record t size)) value slot = record_object_keeps k name t slot
+object_keeps k name (Some e) value slot = created_keeps k name (kind_of (Some e)) value slot
+
 -- `B : access T := P;`
 borrower_sound : (k : Known) (name designated : Ident) (initial : Option RightTree) → Sound k → Quiet (borrower_remark k name designated initial) → Sound (borrower_known k name initial)
 borrower_sound k name designated initial w q =
@@ -196,7 +229,10 @@ declaration_sound k (exception_declaration name) w q = exception_sound k name w
 declaration_sound k (object_declaration name type_name initial) w q =
     let m = after_types k in
     let s : Sound m = ended_sound k w in
-    created_sound m name (kind_of (object_type_found m type_name)) (initial_found m (kind_of (object_type_found m type_name)) initial) s (found_type m type_name s.names)
+    object_sound m name (object_type_found m type_name) (initial_found m (kind_of (object_type_found m type_name)) initial) s (found_type m type_name s.names)
+    (λ t size is.
+    let there = full_visible m type_name t size is in
+    (record_visible m s.names type_name.first.text t size there, visible_settled m type_name.first.text t size s there))
 declaration_sound k (borrower_declaration name designated initial) w q = borrower_sound (after_types k) name designated initial (ended_sound k w) q
 declaration_sound k d w q = absurd q
 
@@ -210,7 +246,7 @@ declaration_keeps k (exception_declaration name) w q = exception_keeps k name (n
 declaration_keeps k (object_declaration name type_name initial) w q =
     let m = after_types k in
     keeps_on k m (object_known m name type_name initial) (ended_keeps k)
-    (created_keeps m name (kind_of (object_type_found m type_name)) (initial_found m (kind_of (object_type_found m type_name)) initial) (new_slot m name name.spot q.1.0))
+    (object_keeps m name (object_type_found m type_name) (initial_found m (kind_of (object_type_found m type_name)) initial) (new_slot m name name.spot q.1.0))
 declaration_keeps k (borrower_declaration name designated initial) w q =
     let m = after_types k in
     keeps_on k m (borrower_known m name initial) (ended_keeps k) (borrower_keeps m name designated initial (ended_sound k w) q)

@@ -7,7 +7,7 @@ use Rattle.ada_text.specs.declared.spot.Spot.{Spot}
 use Rattle.ada_tree.specs.Names.{Ident}
 use Rattle.ada_program.specs.declared.program.TypeNo.{TypeNo}
 use Rattle.ada_program.specs.Form.{DeclarationForm}
-use Rattle.ada_program.specs.ProgramForm.{TypeForm, record_of, access_to, VariableForm}
+use Rattle.ada_program.specs.ProgramForm.{TypeForm, record_of, access_to, object_of, VariableForm}
 use Rattle.ada_resolve.specs.declared.fault.NameRule.TheVariants.{DeclaredTwice}
 use Rattle.ada_resolve.specs.declared.scope.Entity.{Entity}
 use Rattle.ada_resolve.specs.declared.scope.Entity.TheVariants as entity
@@ -16,7 +16,7 @@ use Rattle.ada_resolve.specs.Instances.{with_elaborated}
 use Rattle.ada_resolve.specs.Known.{Known, Named, named, entered, declared, new_name_remark}
 use Rattle.ada_resolve.specs.Objects.{with_variable}
 use Rattle.ada_resolve.specs.Paths.{name_of_type}
-use Rattle.ada_resolve.specs.Types.{incomplete_of, completed_type, new_unless, defined, number_of}
+use Rattle.ada_resolve.specs.Types.{incomplete_of, completed_type, new_unless, defined, number_of, with_definition}
 use Rattle.ada_resolve.proofs.WellFormed.Remarks.{Quiet, quiet_if}
 use Rattle.ada_resolve.proofs.WellFormed.Names.{all_entered, named_entered, text_same}
 use Rattle.ada_resolve.proofs.WellFormed.Tables.{get_more, get_last, get_set, get_other, get_within}
@@ -175,6 +175,28 @@ keeps_elaborated es k = record {
   withs = refl;
   procedure = refl;
 }
+
+-- one more type, by which a record object is known
+pub keeps_object_type : (r : ℕ) (k : Known) → Keeps k (with_definition None (object_of r) k)
+keeps_object_type r k = record {
+  types = λ t x is settled. (get_more k.types (object_of r) t x is, settled);
+  accesses = λ t name d is. get_more k.types (object_of r) t (access_to name d) is;
+  type_names = λ t name is. named_type t name (slice_get k.types t) refl is;
+  names = λ text e settled is. is;
+  more = one_longer k.types (object_of r);
+  variables = λ t x is. is;
+  exceptions = λ t x is. is;
+  texts = refl;
+  first_type = refl;
+  first_variable = refl;
+  outer = refl;
+  withs = refl;
+  procedure = refl;
+}
+  where
+    named_type : (t : ℕ) (name : List ℕ) (o : Option TypeForm) → slice_get k.types t ≡ o → name_of_type o ≡ Some name → name_of_type (slice_get (k.types ++ object_of r ∷ []) t) ≡ Some name
+    named_type t name None is so = absurd (cc so)
+    named_type t name (Some form) is so = ap (λ v. name_of_type v) (get_more k.types (object_of r) t form is) ∙ so
 
 -- one more variable
 pub keeps_variable : (v : VariableForm) (k : Known) → Keeps k (with_variable v k)

@@ -4,7 +4,7 @@ use Rattle.std.proofs.Common.{◌≡◌, ◌∙◌, ℕ, ◌<◌, ◌≤◌, tru
 use Rattle.std.specs.Prelude.{Bool, Option, Some, None, bytes_eq}
 use Rattle.std.specs.List.{list_all, slice_get}
 use Rattle.ada_program.specs.declared.program.TypeNo.{TypeNo}
-use Rattle.ada_program.specs.ProgramForm.{TypeForm, record_of, access_to, VariableForm}
+use Rattle.ada_program.specs.ProgramForm.{TypeForm, record_of, access_to, object_of, VariableForm}
 use Rattle.ada_program.specs.WellFormed as fits
 use Rattle.ada_resolve.specs.declared.library.Withs.{Withs}
 use Rattle.ada_resolve.specs.declared.scope.Entity.{Entity}
@@ -14,7 +14,7 @@ use Rattle.ada_resolve.specs.Library.{predefined}
 use Rattle.ada_resolve.specs.Paths.{name_of_type}
 use Rattle.ada_resolve.specs.Resolution.{known_first}
 use Rattle.ada_resolve.proofs.WellFormed.Laid.{IsUnused}
-use Rattle.ada_resolve.proofs.WellFormed.Names.{EntityFits, PartsFit, first_of_two, predefined_fits}
+use Rattle.ada_resolve.proofs.WellFormed.Names.{PartsFit, first_of_two, predefined_fits}
 use Rattle.ada_resolve.proofs.WellFormed.Exceptions.{PartsRaised}
 
 -- what a name of a complete part stands for, whose types have lower numbers than this
@@ -226,6 +226,10 @@ visible_settled k text t size s is = by_own (named_in text (parts k)) (bytes_eq 
 pub known_settled : (k : Known) (t : ℕ) (name : List ℕ) (d : ℕ) → Sound k → slice_get k.types t ≡ Some (access_to name d) → IsSettled k t
 known_settled k t name d s is other u there same =
     let both_forms : Some (access_to name d) ≡ Some (record_of other [] []) = sym is ∙ (ap (λ n. slice_get k.types n) (sym same) ∙ s.names.0 other (entity.Incomplete u) there) in cc both_forms
+
+pub object_settled : (k : Known) (t r : ℕ) → Sound k → slice_get k.types t ≡ Some (object_of r) → IsSettled k t
+object_settled k t r s is other u there same =
+    let both_forms : Some (object_of r) ≡ Some (record_of other [] []) = sym is ∙ (ap (λ n. slice_get k.types n) (sym same) ∙ s.names.0 other (entity.Incomplete u) there) in cc both_forms
 
 -- nothing is declared at first
 pub first_sound : (withs : Withs) (procedure : List ℕ) → Sound (known_first withs procedure)

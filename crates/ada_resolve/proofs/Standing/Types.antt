@@ -5,7 +5,7 @@ use Rattle.std.specs.Prelude.{Option, Some, None, bytes_eq}
 use Rattle.std.specs.List.{list_all, slice_get, slice_set}
 use Rattle.ada_program.specs.declared.program.ComponentKind.{ComponentKind}
 use Rattle.ada_program.specs.declared.program.TypeNo.{TypeNo}
-use Rattle.ada_program.specs.ProgramForm.{PartForm, TypeForm, record_of, access_to, VariableForm}
+use Rattle.ada_program.specs.ProgramForm.{PartForm, TypeForm, record_of, access_to, object_of, VariableForm}
 use Rattle.ada_program.specs.WellFormed as fits
 use Rattle.ada_tree.specs.Names.{Ident}
 use Rattle.ada_tree.specs.Records.{ComponentTree, RecordTree}
@@ -14,24 +14,25 @@ use Rattle.ada_resolve.specs.declared.scope.Entity.{Entity}
 use Rattle.ada_resolve.specs.declared.scope.Entity.TheVariants as entity
 use Rattle.ada_resolve.specs.Known.{Known, Named, Part, named, entered, declared, parts}
 use Rattle.ada_resolve.specs.Records.{composition_of, no_components, components_written, record_type_known}
-use Rattle.ada_resolve.specs.Types.{incomplete_of, completed_type, record_found, is_designated, number_of, defined, incomplete_known, completion_remark, access_defined, access_known}
+use Rattle.ada_resolve.specs.Types.{incomplete_of, completed_type, record_found, is_designated, number_of, defined, incomplete_known, completion_remark, access_defined, access_known, with_definition}
 use Rattle.ada_resolve.proofs.WellFormed.Remarks.{Quiet, quiet_if}
 use Rattle.ada_resolve.proofs.WellFormed.Tables as tables
-use Rattle.ada_resolve.proofs.WellFormed.Tables.{all_more, all_set, get_more, get_last, get_set, get_other, access_more, record_more, access_set, record_set, record_other, types_kept, types_without, components_kept, object_kind_kept, variable_kept, all_weaker, both_parts}
+use Rattle.ada_resolve.proofs.WellFormed.Tables.{all_more, all_set, get_more, get_last, get_set, get_other, keeps_more, record_more, keeps_set, record_set, record_other, types_kept, types_without, components_kept, object_kind_kept, variable_kept, all_weaker, both_parts}
 use Rattle.ada_resolve.proofs.WellFormed.Laid.{AreRecordsLaid, IsLaid, IsUnused, Avoids, records_laid_more, records_laid_set, new_unused, unused_more, unused_set}
 use Rattle.ada_resolve.proofs.WellFormed.Exceptions.{RaisedFits, raised_entered}
 use Rattle.ada_resolve.proofs.WellFormed.Names.{EntityFits, PartsFit, all_entered, names_entered, no_text, laid_in}
 use Rattle.ada_resolve.proofs.WellFormed.Types.{record_is, composed_fit, composition_has, composition_laid, IsRecordNamed, found_record}
-use Rattle.ada_resolve.proofs.Standing.Order.{IsBefore, PartsBefore, Sound, visible_settled}
+use Rattle.ada_resolve.proofs.Standing.Order.{IsBefore, PartsBefore, Sound, IsSettled, visible_settled}
 
--- the name of a type
+-- the name of a type; a record object's type has none
 abbrev form_name : TypeForm → List ℕ
 form_name (record_of name ps cs) = name
 form_name (access_to name d) = name
+form_name (object_of r) = []
 
 -- a type of this name is declared or completed, behind so many of the parts around
 pub record Grown (n : ℕ) (text : List ℕ) (types more : List TypeForm) : Type 0 where
-  pub accesses : tables.Keeps types more
+  pub kept : tables.Keeps types more
   pub keeps : (t : ℕ) (form : TypeForm) → (form_name form ≡ text → ⊥) → slice_get types t ≡ Some form → slice_get more t ≡ Some form
   pub before : (t : ℕ) (form : TypeForm) → t < n → slice_get types t ≡ Some form → slice_get more t ≡ Some form
   pub longer : length types ≤ length more
@@ -42,8 +43,8 @@ entity_kept : (n : ℕ) (types more : List TypeForm) (variables : List VariableF
 entity_kept n types more variables text other g ne (entity.Incomplete t) f = g.keeps t.0 (record_of other [] []) ne f
 entity_kept n types more variables text other g ne (entity.Record t size) f = (f.0, f.1, g.keeps t.0 (record_of other f.0 f.1) ne f.2)
 entity_kept n types more variables text other g ne (entity.Access t) f = (f.0, g.keeps t.0 (access_to other f.0) ne f.1)
-entity_kept n types more variables text other g ne (entity.Instance t) f = g.accesses t.0 f
-entity_kept n types more variables text other g ne (entity.Variable x kind) f = (f.0, object_kind_kept types more g.accesses kind f.1)
+entity_kept n types more variables text other g ne (entity.Instance t) f = g.kept.0 t.0 f
+entity_kept n types more variables text other g ne (entity.Variable x kind) f = (f.0, object_kind_kept types more g.kept kind f.1)
 entity_kept n types more variables text other g ne e f = f
 
 -- what a name of a part around stands for stays, whatever the name
@@ -51,8 +52,8 @@ outer_kept : (n : ℕ) (types more : List TypeForm) (variables : List VariableFo
 outer_kept n types more variables text other g (entity.Incomplete t) b f = absurd b
 outer_kept n types more variables text other g (entity.Record t size) b f = (f.0, f.1, g.before t.0 (record_of other f.0 f.1) b f.2)
 outer_kept n types more variables text other g (entity.Access t) b f = (f.0, g.before t.0 (access_to other f.0) b f.1)
-outer_kept n types more variables text other g (entity.Instance t) b f = g.accesses t.0 f
-outer_kept n types more variables text other g (entity.Variable x kind) b f = (f.0, object_kind_kept types more g.accesses kind f.1)
+outer_kept n types more variables text other g (entity.Instance t) b f = g.kept.0 t.0 f
+outer_kept n types more variables text other g (entity.Variable x kind) b f = (f.0, object_kind_kept types more g.kept kind f.1)
 outer_kept n types more variables text other g e b f = f
 
 outers_kept : (n : ℕ) (types more : List TypeForm) (variables : List VariableForm) (text : List ℕ) → Grown n text types more → (ps : List Part) → PartsBefore n ps → PartsFit types variables ps → PartsFit more variables ps
@@ -86,7 +87,7 @@ OthersUnused k text more = (other : List ℕ) (t : TypeNo) → (other ≡ text �
 pub type_sound : (k : Known) (text : List ℕ) (e : Entity) (more : List TypeForm) → Sound k → Grown k.here.first_type text k.types more → OthersUnused k text more → EntityFits more k.variables text e → RaisedFits k.exceptions text e → IsOwn k.here.first_type more e → Sound (declared (record k { types = more }) text e)
 type_sound k text e more w g unused f r own = record {
   types_fit = g.types_fit;
-  variables_fit = all_weaker (fits.variable_fits k.types) (fits.variable_fits more) (variable_kept k.types more g.accesses) k.variables w.variables_fit;
+  variables_fit = all_weaker (fits.variable_fits k.types) (fits.variable_fits more) (variable_kept k.types more g.kept) k.variables w.variables_fit;
   names = (
     names_entered more k.variables k.here.names text e f (λ t x ne is. entity_kept k.here.first_type k.types more k.variables text t g ne x (w.names.0 t x is)),
     outers_kept k.here.first_type k.types more k.variables text g k.outer w.bounds.outer_before w.names.1,
@@ -109,7 +110,7 @@ pub name_sound : (k : Known) (text : List ℕ) (e : Entity) → Sound k → Enti
 name_sound k text e w f r own = type_sound k text e k.types w same (λ other t ne is. w.bounds.open_unused other t is) f r own
   where
     same : Grown k.here.first_type text k.types k.types
-    same = record { accesses = λ t is. is; keeps = λ t form ne is. is; before = λ t form b is. is; longer = omega arith; types_fit = w.types_fit; laid = laid_in k.types k.variables (parts k) w.names }
+    same = record { kept = (λ t is. is, λ t is. is); keeps = λ t form ne is. is; before = λ t form b is. is; longer = omega arith; types_fit = w.types_fit; laid = laid_in k.types k.variables (parts k) w.names }
 
 -- one more type of any name
 pub one_longer : (types : List TypeForm) (form : TypeForm) → length types ≤ length (types ++ form ∷ [])
@@ -118,12 +119,12 @@ one_longer (x ∷ types) form = let h = one_longer types form in omega arith
 
 grown_more : (n : ℕ) (text : List ℕ) (types : List TypeForm) (form : TypeForm) → list_all (fits.type_fits types) types ≡ true → fits.type_fits (types ++ form ∷ []) form ≡ true → AreRecordsLaid types → IsLaid types form → Grown n text types (types ++ form ∷ [])
 grown_more n text types form all own laid lies = record {
-  accesses = access_more types form;
+  kept = keeps_more types form;
   keeps = λ t x ne is. get_more types form t x is;
   before = λ t x b is. get_more types form t x is;
   longer = one_longer types form;
   types_fit = all_more (fits.type_fits (types ++ form ∷ [])) types (form ∷ [])
-      (types_kept types (types ++ form ∷ []) (access_more types form) (record_more types form) types all)
+      (types_kept types (types ++ form ∷ []) (keeps_more types form) (record_more types form) types all)
       (both_parts (fits.type_fits (types ++ form ∷ []) form) true own refl);
   laid = records_laid_more types form laid lies;
 }
@@ -137,7 +138,7 @@ length_set (x ∷ types) (suc t) form = let h = length_set types t form in omega
 -- the types of an incomplete type's name
 grown_set : (n : ℕ) (text : List ℕ) (types : List TypeForm) (t : ℕ) (form : TypeForm) → n ≤ t → slice_get types t ≡ Some (record_of text [] []) → list_all (fits.type_fits (slice_set types t form)) (slice_set types t form) ≡ true → IsUnused types t → AreRecordsLaid types → Avoids t form → IsLaid types form → Grown n text types (slice_set types t form)
 grown_set n text types t form behind is all unused laid avoids lies = record {
-  accesses = access_set types t form (record_is types t text [] [] is);
+  kept = keeps_set types t form (record_is types t text [] [] is);
   keeps = λ u x ne there. get_other types t u form (λ same. ne (same_name x (sym there ∙ (ap (λ v. slice_get types v) (sym same) ∙ is)))) ∙ there;
   before = λ u x b there. get_other types t u form (λ same. apart u b same) ∙ there;
   longer = let h = length_set types t form in omega arith;
@@ -148,6 +149,7 @@ grown_set n text types t form behind is all unused laid avoids lies = record {
     same_name : (x : TypeForm) → Some x ≡ Some (record_of text [] []) → form_name x ≡ text
     same_name (record_of name ps cs) e = cc e
     same_name (access_to name d) e = absurd (cc e)
+    same_name (object_of r) e = absurd (cc e)
 
     apart : (u : ℕ) → u < n → t ≡ u → ⊥
     apart u b same = omega (arith, behind, b, same)
@@ -204,12 +206,12 @@ incomplete_sound k name w =
 -- `type T is record .. end record;`
 record_defined : (n : ℕ) (types : List TypeForm) (variables : List VariableForm) (text : List ℕ) (ps : List PartForm) (cs : List ComponentKind) (size : ℕ) (c : Option TypeNo) → Completes n types text c → list_all (fits.type_fits types) types ≡ true → list_all (fits.kind_fits types) cs ≡ true → AreRecordsLaid types → IsLaid types (record_of text ps cs) → CompletedHas (λ t. Avoids t (record_of text ps cs)) c → Grown n text types (defined c (record_of text ps cs) types) × EntityFits (defined c (record_of text ps cs) types) variables text (entity.Record (number_of c types) size)
 record_defined n types variables text ps cs size None h all own laid lies avoids = (
-  grown_more n text types (record_of text ps cs) all (components_kept types (types ++ record_of text ps cs ∷ []) (access_more types (record_of text ps cs)) cs own) laid lies,
+  grown_more n text types (record_of text ps cs) all (components_kept types (types ++ record_of text ps cs ∷ []) (keeps_more types (record_of text ps cs)) cs own) laid lies,
   (ps, cs, get_last types (record_of text ps cs)),
 )
 record_defined n types variables text ps cs size (Some t) h all own laid lies avoids =
     let more = slice_set types t.0 (record_of text ps cs) in
-    let keeps : tables.Keeps types more = access_set types t.0 (record_of text ps cs) (record_is types t.0 text [] [] h.1) in (
+    let keeps : tables.Keeps types more = keeps_set types t.0 (record_of text ps cs) (record_is types t.0 text [] [] h.1) in (
       grown_set n text types t.0 (record_of text ps cs) h.0 h.1
           (all_set (fits.type_fits more) types t.0 (record_of text ps cs) (types_kept types more keeps (record_set types t.0 text ps cs) types all) (components_kept types more keeps cs own))
           h.2 laid avoids lies,
@@ -253,10 +255,10 @@ access_type_defined n types variables text d None h m r all laid =
     (grown_more n text types (access_to text d) all (record_more types (access_to text d) d r) laid tt, (d, get_last types (access_to text d)))
 access_type_defined n types variables text d (Some t) h m r all laid =
     let more = slice_set types t.0 (access_to text d) in
-    let keeps : tables.Keeps types more = access_set types t.0 (access_to text d) (record_is types t.0 text [] [] h.1) in (
+    let keeps : tables.Keeps types more = keeps_set types t.0 (access_to text d) (record_is types t.0 text [] [] h.1) in (
       grown_set n text types t.0 (access_to text d) h.0 h.1
           (all_set (fits.type_fits more) types t.0 (access_to text d)
-          (types_without types more t.0 keeps (λ u ne. record_other types t.0 (access_to text d) u ne) types m.0 all)
+          (types_without types more t.0 keeps (λ u ne. record_other types t.0 (access_to text d) u ne) types m.0 (λ u r is. h.2 u (object_of r) is) all)
           (record_other types t.0 (access_to text d) d m.1 r))
           h.2 laid tt tt,
       (d, get_set types t.0 (record_of text [] []) (access_to text d) h.1),
@@ -274,3 +276,36 @@ access_sound_at k name designated (Some d) w r q =
 -- `type A is access T;`
 pub access_sound : (k : Known) (name designated : Ident) → Sound k → Quiet (completion_remark (completed_type k name) k name designated) → Sound (access_known k name designated)
 access_sound k name designated w q = access_sound_at k name designated (record_found k designated) w (found_record k designated w.names) q
+
+-- the type by which a record object is known: one more, which has no name
+entity_more : (types : List TypeForm) (variables : List VariableForm) (form : TypeForm) (text : List ℕ) (e : Entity) → EntityFits types variables text e → EntityFits (types ++ form ∷ []) variables text e
+entity_more types variables form text (entity.Incomplete t) f = get_more types form t.0 (record_of text [] []) f
+entity_more types variables form text (entity.Record t size) f = (f.0, f.1, get_more types form t.0 (record_of text f.0 f.1) f.2)
+entity_more types variables form text (entity.Access t) f = (f.0, get_more types form t.0 (access_to text f.0) f.1)
+entity_more types variables form text (entity.Instance t) f = (keeps_more types form).0 t.0 f
+entity_more types variables form text (entity.Variable x kind) f = (f.0, object_kind_kept types (types ++ form ∷ []) (keeps_more types form) kind f.1)
+entity_more types variables form text e f = f
+
+parts_more : (types : List TypeForm) (variables : List VariableForm) (form : TypeForm) (ps : List Part) → AreRecordsLaid (types ++ form ∷ []) → PartsFit types variables ps → PartsFit (types ++ form ∷ []) variables ps
+parts_more types variables form [] laid f = laid
+parts_more types variables form (p ∷ ps) laid f = (λ text e is. entity_more types variables form text e (f.0 text e is), parts_more types variables form ps laid f.1)
+
+pub object_type_sound : (k : Known) (r : ℕ) → Sound k → fits.is_record k.types r ≡ true → IsSettled k r → Sound (with_definition None (object_of r) k)
+object_type_sound k r w is settled =
+    let form = object_of r in
+    let more = k.types ++ form ∷ [] in
+    let g : Grown k.here.first_type [] k.types more =
+    grown_more k.here.first_type [] k.types form w.types_fit (record_more k.types form r is) (laid_in k.types k.variables (parts k) w.names) is in
+    record {
+      types_fit = g.types_fit;
+      variables_fit = all_weaker (fits.variable_fits k.types) (fits.variable_fits more) (variable_kept k.types more g.kept) k.variables w.variables_fit;
+      names = parts_more k.types k.variables form (parts k) g.laid w.names;
+      exceptions = w.exceptions;
+      bounds = record {
+        first = let a = w.bounds.first in let b = g.longer in omega arith;
+        first_variable = w.bounds.first_variable;
+        open_own = w.bounds.open_own;
+        open_unused = λ text t there. unused_more k.types form t.0 (w.bounds.open_unused text t there) (λ same. settled text t there (sym same));
+        outer_before = w.bounds.outer_before;
+      };
+    }

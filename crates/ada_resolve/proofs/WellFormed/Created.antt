@@ -5,7 +5,7 @@ use Rattle.std.specs.Prelude.{Option, Some, None, count_by, nat_le}
 use Rattle.std.specs.List.{slice_get}
 use Rattle.std.proofs.lemmas.Bool.{leb-true, leb-false}
 use Rattle.std.proofs.lemmas.List.Sums.{sum_by-append}
-use Rattle.ada_program.specs.ProgramForm.{TypeForm, record_of, access_to, VariableForm}
+use Rattle.ada_program.specs.ProgramForm.{TypeForm, record_of, access_to, object_of, VariableForm}
 use Rattle.ada_program.specs.WellFormed as fits
 use Rattle.ada_program.specs.WellFormed.{Creation, of_collection, of_variable}
 use Rattle.ada_resolve.specs.Known.{Known}
@@ -15,6 +15,13 @@ use Rattle.ada_resolve.proofs.WellFormed.Tables.{both_parts, get_within}
 -- how many access types have this number: one or none
 abbrev pub accesses : List TypeForm → ℕ → ℕ
 accesses types a = cond (fits.is_access types a) 1 0
+
+-- a type by which a record object is known is none
+pub accesses_object : (types : List TypeForm) (r a : ℕ) → accesses (types ++ object_of r ∷ []) a ≡ accesses types a
+accesses_object [] r zero = refl
+accesses_object [] r (suc a) = refl
+accesses_object (x ∷ types) r zero = refl
+accesses_object (x ∷ types) r (suc a) = accesses_object types r a
 
 -- how many collections of this access type are created
 abbrev pub collected : ℕ → List Creation → ℕ
@@ -77,6 +84,7 @@ has_from cs (access_to name d ∷ ts) k w =
     let here : collected k cs ≡ 1 = let at : k ≡ k + 0 = omega arith in rw at (w 0 refl) in
     both_parts (eqb (collected k cs) 1) (fits.has_collections cs (k + 1) ts) (eq-eqb (collected k cs) 1 here)
     (has_from cs ts (k + 1) (λ i e. let next : (k + 1) + i ≡ k + suc i = omega arith in rw next (w (suc i) e)))
+has_from cs (object_of r ∷ ts) k w = has_from cs ts (k + 1) (λ i e. let next : (k + 1) + i ≡ k + suc i = omega arith in rw next (w (suc i) e))
 
 -- where nothing is known at first, each access type has one collection
 pub has_each : (cs : List Creation) (types : List TypeForm) → ((a : ℕ) → collected a cs ≡ accesses types a) → fits.has_collections cs 0 types ≡ true

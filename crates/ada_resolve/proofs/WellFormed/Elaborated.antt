@@ -5,8 +5,8 @@ use Rattle.std.specs.Prelude.{Option, ◌||◌, is_some, map, nat_le}
 use Rattle.std.specs.List.{list_all, slice_get}
 use Rattle.std.proofs.lemmas.Bool.{both_ways, leb-true, leb-false}
 use Rattle.ada_text.specs.declared.spot.Spot.{Spot}
-use Rattle.ada_program.specs.Form.{DeclarationForm, collects, declares}
-use Rattle.ada_program.specs.ProgramForm.{TypeForm, record_of, access_to, VariableForm}
+use Rattle.ada_program.specs.Form.{DeclarationForm, collects, declares, declares_record}
+use Rattle.ada_program.specs.ProgramForm.{TypeForm, record_of, access_to, object_of, VariableForm}
 use Rattle.ada_program.specs.WellFormed as fits
 use Rattle.ada_program.specs.WellFormed.{Creation}
 use Rattle.ada_resolve.specs.declared.fault.NameRule.TheVariants.{Layout}
@@ -24,6 +24,7 @@ use Rattle.ada_resolve.proofs.WellFormed.Created.{accesses, due}
 abbrev pub is_first : DeclarationForm → Bool
 is_first (collects t) = true
 is_first (declares x source) = false
+is_first (declares_record x object) = false
 
 -- before the first object of the part: it creates collections of its own access types, none of them twice
 pub record Early (k : Known) : Type 0 where
@@ -69,20 +70,24 @@ only_in_order : (es : List DeclarationForm) (n k : ℕ) (rest : List Creation) �
 only_in_order [] n k rest e = refl
 only_in_order (collects t ∷ es) n k rest e = only_in_order es n k rest e
 only_in_order (declares x source ∷ es) n k rest e = absurd (cc e)
+only_in_order (declares_record x object ∷ es) n k rest e = absurd (cc e)
 
 only_first : (es : List DeclarationForm) → list_all is_first es ≡ true → fits.collections_first es ≡ true
 only_first [] e = refl
 only_first (collects t ∷ es) e = only_first es e
 only_first (declares x source ∷ es) e = absurd (cc e)
+only_first (declares_record x object ∷ es) e = absurd (cc e)
 
 only_fit : (types : List TypeForm) (variables : List VariableForm) (e : DeclarationForm) → is_first e ≡ true → fits.initial_fits types variables e ≡ true
 only_fit types variables (collects t) e = refl
 only_fit types variables (declares x source) e = absurd (cc e)
+only_fit types variables (declares_record x object) e = absurd (cc e)
 
 -- the collections that end the types
 made_are_first : (ts : List TypeForm) (t : ℕ) (es : List DeclarationForm) → list_all is_first (collections_of t ts es) ≡ true
 made_are_first [] t es = refl
 made_are_first (record_of name ps cs ∷ ts) t es = made_are_first ts (t + 1) es
+made_are_first (object_of r ∷ ts) t es = made_are_first ts (t + 1) es
 made_are_first (access_to name d ∷ ts) t es = first_either (is_collected t es) (collections_of (t + 1) ts es) (made_are_first ts (t + 1) es)
   where
     first_either : (b : Bool) (fs : List DeclarationForm) → list_all is_first fs ≡ true → list_all is_first (cond b fs (collects t ∷ fs)) ≡ true
@@ -92,6 +97,7 @@ made_are_first (access_to name d ∷ ts) t es = first_either (is_collected t es)
 made_fit : (types ts : List TypeForm) (t : ℕ) (es : List DeclarationForm) → ((i : ℕ) → fits.is_access ts i ≡ true → fits.is_access types (t + i) ≡ true) → list_all (fits.collection_fits types) (collections_of t ts es) ≡ true
 made_fit types [] t es w = refl
 made_fit types (record_of name ps cs ∷ ts) t es w = made_fit types ts (t + 1) es (λ i e. let next : (t + 1) + i ≡ t + suc i = omega arith in rw next (w (suc i) e))
+made_fit types (object_of r ∷ ts) t es w = made_fit types ts (t + 1) es (λ i e. let next : (t + 1) + i ≡ t + suc i = omega arith in rw next (w (suc i) e))
 made_fit types (access_to name d ∷ ts) t es w =
     fit_either (is_collected t es) (collections_of (t + 1) ts es) (let at : t ≡ t + 0 = omega arith in rw at (w 0 refl))
     (made_fit types ts (t + 1) es (λ i e. let next : (t + 1) + i ≡ t + suc i = omega arith in rw next (w (suc i) e)))
@@ -110,6 +116,7 @@ own_type (suc n) (x ∷ types) i = let at : suc n + i ≡ suc (n + i) = omega ar
 collected_is : (types : List TypeForm) (a : ℕ) (es : List DeclarationForm) → list_all (fits.collection_fits types) es ≡ true → is_collected a es ≡ true → fits.is_access types a ≡ true
 collected_is types a [] all is = absurd (cc is)
 collected_is types a (declares x source ∷ es) all is = collected_is types a es all is
+collected_is types a (declares_record x object ∷ es) all is = collected_is types a es all is
 collected_is types a (collects t ∷ es) all is =
     first_or (eqb t a) refl is (λ h. collected_is types a es (second_part (fits.is_access types t) (list_all (fits.collection_fits types) es) all) h)
   where

@@ -8,8 +8,8 @@ use Rattle.ada_text.specs.declared.spot.Spot.{Spot}
 use Rattle.ada_tree.specs.Names.{Ident, NameTree}
 use Rattle.ada_tree.specs.Statements.{DeclarationTree, exception_declaration, constant_declaration, incomplete_type, access_type, record_type, instance, object_declaration, borrower_declaration, DeclarationsTree, no_declarations, a_declaration}
 use Rattle.ada_program.specs.declared.program.TypeNo.{TypeNo}
-use Rattle.ada_program.specs.Form.{DeclarationForm, collects, declares}
-use Rattle.ada_program.specs.ProgramForm.{TypeForm, record_of, access_to}
+use Rattle.ada_program.specs.Form.{DeclarationForm, collects, declares, declares_record}
+use Rattle.ada_program.specs.ProgramForm.{TypeForm, record_of, access_to, object_of}
 use Rattle.ada_program.specs.WellFormed as fits
 use Rattle.ada_resolve.specs.declared.fault.NameRule.TheVariants.{Layout}
 use Rattle.ada_resolve.specs.declared.scope.Entity.{Entity}
@@ -22,27 +22,29 @@ use Rattle.ada_resolve.specs.Types.{record_found, access_defined, completed_type
 use Rattle.ada_resolve.proofs.Standing.{Sound, ended_sound, declaration_sound, declaration_keeps, DeclarationsDone, declarations_done}
 use Rattle.ada_resolve.proofs.Standing as standing
 use Rattle.ada_resolve.proofs.WellFormed.Remarks.{Quiet, quiet_if}
-use Rattle.ada_resolve.proofs.WellFormed.Tables.{Keeps, all_more, all_weaker, both_parts}
+use Rattle.ada_resolve.proofs.WellFormed.Tables.{KeepsAccesses, all_more, all_weaker, both_parts}
 use Rattle.ada_resolve.proofs.WellFormed.Types.{IsAccessIn, found_access, one_of_those}
 use Rattle.ada_resolve.proofs.WellFormed.Counts.{count_more, one_more}
 use Rattle.ada_resolve.proofs.WellFormed.Elaborated.{is_first, Early, InOrder, early, early_of, none_yet_of, after_late, after_order}
 use Rattle.ada_resolve.proofs.WellFormed.Objects.{object_order, borrower_order}
 
 -- each access type stays one
-accesses_kept : (k m : Known) → standing.Keeps k m → Keeps k.types m.types
+accesses_kept : (k m : Known) → standing.Keeps k m → KeepsAccesses k.types m.types
 accesses_kept k m w t e = found (slice_get k.types t) refl e
   where
     found : (o : Option TypeForm) → slice_get k.types t ≡ o → is_some (fits.designated_in o) ≡ true → fits.is_access m.types t ≡ true
     found None is e = absurd (cc e)
     found (Some (record_of name ps cs)) is e = absurd (cc e)
     found (Some (access_to name d)) is e = rw (w.accesses t name d is) refl
+    found (Some (object_of r)) is e = absurd (cc e)
 
-collection_kept : (types more : List TypeForm) → Keeps types more → (e : DeclarationForm) → fits.collection_fits types e ≡ true → fits.collection_fits more e ≡ true
+collection_kept : (types more : List TypeForm) → KeepsAccesses types more → (e : DeclarationForm) → fits.collection_fits types e ≡ true → fits.collection_fits more e ≡ true
 collection_kept types more w (collects t) e = w t e
 collection_kept types more w (declares x source) e = refl
+collection_kept types more w (declares_record x object) e = refl
 
 -- more types, and one more name
-early_types : (k : Known) (more : List TypeForm) (text : List ℕ) (e : Entity) → Early k → Keeps k.types more → Early (declared (record k { types = more }) text e)
+early_types : (k : Known) (more : List TypeForm) (text : List ℕ) (e : Entity) → Early k → KeepsAccesses k.types more → Early (declared (record k { types = more }) text e)
 early_types k more text e w g = record {
   collections_fit = all_weaker (fits.collection_fits k.types) (fits.collection_fits more) (collection_kept k.types more g) k.here.elaborated w.collections_fit;
   only_collections = w.only_collections;
@@ -51,7 +53,7 @@ early_types k more text e w g = record {
 }
 
 -- `type A is access T;`
-access_order : (k : Known) (name : Ident) (c o : Option TypeNo) → Early k → no_variable_yet k ≡ true → Keeps k.types (access_defined k name c o).types → InOrder (access_defined k name c o)
+access_order : (k : Known) (name : Ident) (c o : Option TypeNo) → Early k → no_variable_yet k ≡ true → KeepsAccesses k.types (access_defined k name c o).types → InOrder (access_defined k name c o)
 access_order k name c None w none g = early w none
 access_order k name c (Some d) w none g = early (early_types k _ name.text _ w g) none
 

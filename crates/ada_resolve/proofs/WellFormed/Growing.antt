@@ -14,7 +14,7 @@ use Rattle.ada_program.specs.declared.program.VariableKind.{VariableKind}
 use Rattle.ada_program.specs.declared.program.VariableKind.TheVariants as variable
 use Rattle.ada_program.specs.declared.program.ScalarType.{ScalarType}
 use Rattle.ada_program.specs.declared.program.ScalarType.TheVariants.{Integer, Boolean}
-use Rattle.ada_program.specs.Form.{PathForm, ExpressionForm, integer, boolean, reads, is_null, applied_to, chained, LinksForm, no_more_links, a_link, ItemForm, null_item, item_of_path, item_of_value, RightForm, nothing, value_of, allocates, allocates_default, computes, StmtForm, skips, assigns, frees, gets, writes, writes_text, chooses, repeats, counts, exits, returns, raises, encloses, StmtsForm, no_stmts, a_stmt, BranchesForm, otherwise, a_branch, HandlersForm, no_handlers, a_handler, DeclarationForm, collects, declares}
+use Rattle.ada_program.specs.Form.{PathForm, ExpressionForm, integer, boolean, reads, is_null, applied_to, chained, LinksForm, no_more_links, a_link, ItemForm, null_item, item_of_path, item_of_value, RightForm, nothing, value_of, allocates, allocates_default, computes, StmtForm, skips, assigns, frees, gets, writes, writes_text, chooses, repeats, counts, exits, returns, raises, encloses, StmtsForm, no_stmts, a_stmt, BranchesForm, otherwise, a_branch, HandlersForm, no_handlers, a_handler, DeclarationForm, collects, declares, declares_record}
 use Rattle.ada_program.specs.ProgramForm.{TypeForm, VariableForm}
 use Rattle.ada_program.specs.WellFormed as fits
 use Rattle.ada_resolve.proofs.WellFormed.Tables.{both_parts, first_part, second_part, all_weaker}
@@ -34,6 +34,14 @@ module _ (types more : List TypeForm) (variables others : List VariableForm) (ts
       found_stays None is e = absurd (cc e)
       found_stays (Some x) is e = rw (ts t x is) e
 
+  -- of which record type the objects are that values of a type name
+  named_stays : (t d : ℕ) → fits.named_in (slice_get types t) ≡ Some d → fits.named_in (slice_get more t) ≡ Some d
+  named_stays t d e = found_stays (slice_get types t) refl e
+    where
+      found_stays : (o : Option TypeForm) → slice_get types t ≡ o → fits.named_in o ≡ Some d → fits.named_in (slice_get more t) ≡ Some d
+      found_stays None is e = absurd (cc e)
+      found_stays (Some x) is e = rw (ts t x is) e
+
   components_stay : (t : ℕ) (cs : List ComponentKind) → fits.record_components types t ≡ Some cs → fits.record_components more t ≡ Some cs
   components_stay t cs e = found_stays (slice_get types t) refl e
     where
@@ -42,11 +50,11 @@ module _ (types more : List TypeForm) (variables others : List VariableForm) (ts
       found_stays (Some x) is e = rw (ts t x is) e
 
   reached_stay : (access : ℕ) (cs : List ComponentKind) → fits.reached_components types access ≡ Some cs → fits.reached_components more access ≡ Some cs
-  reached_stay access cs e = found_stay (fits.designated_type types access) refl e
+  reached_stay access cs e = found_stay (fits.named_in (slice_get types access)) refl e
     where
-      found_stay : (o : Option ℕ) → fits.designated_type types access ≡ o → fits.components_reached types o ≡ Some cs → fits.reached_components more access ≡ Some cs
+      found_stay : (o : Option ℕ) → fits.named_in (slice_get types access) ≡ o → fits.components_reached types o ≡ Some cs → fits.reached_components more access ≡ Some cs
       found_stay None is e = absurd (cc e)
-      found_stay (Some t) is e = rw (designated_stays access t is) (components_stay t cs e)
+      found_stay (Some t) is e = rw (named_stays access t is) (components_stay t cs e)
 
   access_stays : (t : ℕ) → fits.is_access types t ≡ true → fits.is_access more t ≡ true
   access_stays t e = found_stays (fits.designated_type types t) refl e
@@ -82,9 +90,9 @@ module _ (types more : List TypeForm) (variables others : List VariableForm) (ts
   pub path_stays : (path : PathForm) (k : VariableKind) → fits.path_kind types variables path ≡ Some k → fits.path_kind more others path ≡ Some k
   path_stays path k e = root_stays (fits.variable_kind variables path.root) refl e
     where
-      root_stays : (o : Option VariableKind) → fits.variable_kind variables path.root ≡ o → fits.selectors_kind types o path.selectors ≡ Some k → fits.path_kind more others path ≡ Some k
+      root_stays : (o : Option VariableKind) → fits.variable_kind variables path.root ≡ o → fits.selectors_kind types (fits.root_kind path.of_record o) path.selectors ≡ Some k → fits.path_kind more others path ≡ Some k
       root_stays None is e = absurd (cc (nowhere types path.selectors, e))
-      root_stays (Some j) is e = rw (kind_stays path.root j is) (selectors_stay path.selectors (Some j) k e)
+      root_stays (Some j) is e = rw (kind_stays path.root j is) (selectors_stay path.selectors (fits.root_kind path.of_record (Some j)) k e)
 
   -- what is read, and what is compared with null
   read_stays : (path : PathForm) (t : ScalarType) → fits.read_type types variables path ≡ Some t → fits.read_type more others path ≡ Some t
@@ -97,7 +105,7 @@ module _ (types more : List TypeForm) (variables others : List VariableForm) (ts
   null_test_stays : (path : PathForm) (t : ScalarType) → fits.null_test_type types variables path ≡ Some t → fits.null_test_type more others path ≡ Some t
   null_test_stays path t e = by_kind (fits.path_kind types variables path) refl e
     where
-      by_kind : (o : Option VariableKind) → fits.path_kind types variables path ≡ o → cond (is_some (fits.access_of o)) (Some Boolean) None ≡ Some t → cond (is_some (fits.path_access more others path)) (Some Boolean) None ≡ Some t
+      by_kind : (o : Option VariableKind) → fits.path_kind types variables path ≡ o → cond (is_some (fits.value_access o)) (Some Boolean) None ≡ Some t → cond (is_some (fits.path_access more others path)) (Some Boolean) None ≡ Some t
       by_kind None is e = absurd (cc e)
       by_kind (Some k) is e = rw (path_stays path k is) e
 
@@ -130,7 +138,7 @@ module _ (types more : List TypeForm) (variables others : List VariableForm) (ts
   moved_stays : (path : PathForm) (access : ℕ) → fits.is_this access (fits.path_access types variables path) ≡ true → fits.is_this access (fits.path_access more others path) ≡ true
   moved_stays path access h = by_kind (fits.path_kind types variables path) refl h
     where
-      by_kind : (o : Option VariableKind) → fits.path_kind types variables path ≡ o → fits.is_this access (fits.access_of o) ≡ true → fits.is_this access (fits.path_access more others path) ≡ true
+      by_kind : (o : Option VariableKind) → fits.path_kind types variables path ≡ o → fits.is_this access (fits.value_access o) ≡ true → fits.is_this access (fits.path_access more others path) ≡ true
       by_kind None is h = absurd (cc h)
       by_kind (Some k) is h = rw (path_stays path k is) h
 
@@ -194,6 +202,7 @@ module _ (types more : List TypeForm) (variables others : List VariableForm) (ts
   taken_stays variable.Integer s h = scalar_right_stays Integer s h
   taken_stays variable.Boolean s h = scalar_right_stays Boolean s h
   taken_stays (variable.Access access) s h = access_right_stays access.0 s h
+  taken_stays (variable.Record object) s h = absurd (cc h)
 
   -- whether a variable is a borrower, and what goes to borrowers
   borrower_stays : (x : ℕ) (k : VariableKind) → fits.variable_kind variables x ≡ Some k → fits.is_borrower others x ≡ fits.is_borrower variables x
@@ -206,14 +215,14 @@ module _ (types more : List TypeForm) (variables others : List VariableForm) (ts
   named_borrower_stays : (path : PathForm) (k : VariableKind) → fits.path_kind types variables path ≡ Some k → fits.names_borrower others path ≡ fits.names_borrower variables path
   named_borrower_stays path k e = root_stays (fits.variable_kind variables path.root) refl e
     where
-      root_stays : (o : Option VariableKind) → fits.variable_kind variables path.root ≡ o → fits.selectors_kind types o path.selectors ≡ Some k → fits.names_borrower others path ≡ fits.names_borrower variables path
+      root_stays : (o : Option VariableKind) → fits.variable_kind variables path.root ≡ o → fits.selectors_kind types (fits.root_kind path.of_record o) path.selectors ≡ Some k → fits.names_borrower others path ≡ fits.names_borrower variables path
       root_stays None is e = absurd (cc (nowhere types path.selectors, e))
       root_stays (Some j) is e = ap (λ (b : Bool). fits.names_variable path && b) (borrower_stays path.root j is)
 
   moved_owns : (path : PathForm) (access : ℕ) → fits.is_this access (fits.path_access types variables path) ≡ true → fits.names_borrower others path ≡ fits.names_borrower variables path
   moved_owns path access h = by_kind (fits.path_kind types variables path) refl h
     where
-      by_kind : (o : Option VariableKind) → fits.path_kind types variables path ≡ o → fits.is_this access (fits.access_of o) ≡ true → fits.names_borrower others path ≡ fits.names_borrower variables path
+      by_kind : (o : Option VariableKind) → fits.path_kind types variables path ≡ o → fits.is_this access (fits.value_access o) ≡ true → fits.names_borrower others path ≡ fits.names_borrower variables path
       by_kind None is h = absurd (cc h)
       by_kind (Some k) is h = named_borrower_stays path k is
 
@@ -247,6 +256,7 @@ module _ (types more : List TypeForm) (variables others : List VariableForm) (ts
       ap (λ (b : Bool). borrows || not b) (moved_owns path access.0 h) ∙ l
   lent_stays variable.Integer borrows (value_of path) h l = absurd (cc h)
   lent_stays variable.Boolean borrows (value_of path) h l = absurd (cc h)
+  lent_stays (variable.Record object) borrows (value_of path) h l = absurd (cc h)
   lent_stays (variable.Access access) borrows (allocates t items) h l =
       both_parts (not borrows) (list_all (fits.item_owns others) items)
       (first_part (not borrows) (list_all (fits.item_owns variables) items) l)
@@ -255,6 +265,7 @@ module _ (types more : List TypeForm) (variables others : List VariableForm) (ts
       (second_part (not borrows) (list_all (fits.item_owns variables) items) l))
   lent_stays variable.Integer borrows (allocates t items) h l = absurd (cc h)
   lent_stays variable.Boolean borrows (allocates t items) h l = absurd (cc h)
+  lent_stays (variable.Record object) borrows (allocates t items) h l = absurd (cc h)
 
   -- what is assigned to a variable, or to a path
   right_lent : (o : Option VariableKind) (found : Option VariableKind) (borrows borrowed : Bool) (s : RightForm) → ((k : VariableKind) → o ≡ Some k → (found ≡ Some k) × (borrowed ≡ borrows)) → (fits.right_fits types variables o s && fits.lends_to variables borrows s) ≡ true → (fits.right_fits more others found s && fits.lends_to others borrowed s) ≡ true
@@ -275,6 +286,15 @@ module _ (types more : List TypeForm) (variables others : List VariableForm) (ts
   collection_stays : (d : DeclarationForm) → fits.collection_fits types d ≡ true → fits.collection_fits more d ≡ true
   collection_stays (collects access) h = access_stays access h
   collection_stays (declares x s) h = refl
+  collection_stays (declares_record x object) h = refl
+
+  -- the type by which a record object is known stays its own
+  known_stays : (x object : ℕ) → fits.is_record_object object (fits.variable_kind variables x) ≡ true → fits.is_record_object object (fits.variable_kind others x) ≡ true
+  known_stays x object h = by_kind (fits.variable_kind variables x) refl h
+    where
+      by_kind : (o : Option VariableKind) → fits.variable_kind variables x ≡ o → fits.is_record_object object o ≡ true → fits.is_record_object object (fits.variable_kind others x) ≡ true
+      by_kind None is h = absurd (cc h)
+      by_kind (Some k) is h = rw (kind_stays x k is) h
 
   initial_stays : (d : DeclarationForm) → fits.initial_fits types variables d ≡ true → fits.initial_fits more others d ≡ true
   initial_stays (collects access) h = refl
@@ -290,8 +310,9 @@ module _ (types more : List TypeForm) (variables others : List VariableForm) (ts
       (both_parts before (fits.right_fits more others (fits.variable_kind others x) s) (first_part before fit front)
       (first_part (fits.right_fits more others (fits.variable_kind others x) s) (fits.lends_to others (fits.is_borrower others x) s) now))
       (second_part (fits.right_fits more others (fits.variable_kind others x) s) (fits.lends_to others (fits.is_borrower others x) s) now)
+  initial_stays (declares_record x object) h = known_stays x object h
 
-  collections_stay : (ds : List DeclarationForm) → list_all (fits.collection_fits types) ds ≡ true → list_all (fits.collection_fits more) ds ≡ true
+  pub collections_stay : (ds : List DeclarationForm) → list_all (fits.collection_fits types) ds ≡ true → list_all (fits.collection_fits more) ds ≡ true
   collections_stay ds h = all_weaker (fits.collection_fits types) (fits.collection_fits more) collection_stays ds h
 
   pub initials_stay : (ds : List DeclarationForm) → list_all (fits.initial_fits types variables) ds ≡ true → list_all (fits.initial_fits more others) ds ≡ true
@@ -321,14 +342,14 @@ module _ (types more : List TypeForm) (variables others : List VariableForm) (ts
   freed_stays : (access : ℕ) (path : PathForm) → fits.is_freed_by types access (fits.path_access types variables path) ≡ true → fits.is_freed_by more access (fits.path_access more others path) ≡ true
   freed_stays access path h = by_kind (fits.path_kind types variables path) refl h
     where
-      by_kind : (o : Option VariableKind) → fits.path_kind types variables path ≡ o → fits.is_freed_by types access (fits.access_of o) ≡ true → fits.is_freed_by more access (fits.path_access more others path) ≡ true
+      by_kind : (o : Option VariableKind) → fits.path_kind types variables path ≡ o → fits.is_freed_by types access (fits.value_access o) ≡ true → fits.is_freed_by more access (fits.path_access more others path) ≡ true
       by_kind None is h = absurd (cc h)
-      by_kind (Some k) is h = rw (path_stays path k is) (freed_at access (fits.access_of (Some k)) h)
+      by_kind (Some k) is h = rw (path_stays path k is) (freed_at access (fits.value_access (Some k)) h)
 
   freed_owns : (access : ℕ) (path : PathForm) → fits.is_freed_by types access (fits.path_access types variables path) ≡ true → not (fits.names_borrower variables path) ≡ true → not (fits.names_borrower others path) ≡ true
   freed_owns access path h o = by_kind (fits.path_kind types variables path) refl h
     where
-      by_kind : (found : Option VariableKind) → fits.path_kind types variables path ≡ found → fits.is_freed_by types access (fits.access_of found) ≡ true → not (fits.names_borrower others path) ≡ true
+      by_kind : (found : Option VariableKind) → fits.path_kind types variables path ≡ found → fits.is_freed_by types access (fits.value_access found) ≡ true → not (fits.names_borrower others path) ≡ true
       by_kind None is h = absurd (cc h)
       by_kind (Some k) is h = ap (λ (b : Bool). not b) (named_borrower_stays path k is) ∙ o
 

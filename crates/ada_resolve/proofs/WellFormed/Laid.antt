@@ -7,7 +7,7 @@ use Rattle.std.proofs.lemmas.List.{length-append}
 use Rattle.ada_program.specs.declared.program.ComponentKind.{ComponentKind}
 use Rattle.ada_program.specs.declared.program.PartKind.{PartKind}
 use Rattle.ada_program.specs.declared.program.PartKind.TheVariants as part
-use Rattle.ada_program.specs.ProgramForm.{PartForm, TypeForm, record_of, access_to}
+use Rattle.ada_program.specs.ProgramForm.{PartForm, TypeForm, record_of, access_to, object_of}
 use Rattle.ada_program.specs.WellFormed as fits
 use Rattle.ada_resolve.specs.Naming.{AreLaidOut}
 use Rattle.ada_resolve.specs.Paths.{elementary_of, elementary_in}
@@ -31,19 +31,21 @@ pub record_has_both : (P Q R : ℕ → Type 0) → ((t : ℕ) → P t → Q t �
 record_has_both P Q R w (part.Elementary kind) h g = tt
 record_has_both P Q R w (part.Record t) h g = w t.0 h g
 
--- the components of a type lie one behind the other, and records among them are of types that are there
+-- the components of a type lie one behind the other, and records among them are of types that are there; so is a record object
 abbrev pub IsLaid : List TypeForm → TypeForm → Type 0
 IsLaid types (record_of name ps cs) = AreLaidOut types 0 ps cs × OfParts (RecordHas (λ t. fits.is_record types t ≡ true)) ps
 IsLaid types (access_to name d) = Unit {0}
+IsLaid types (object_of r) = fits.is_record types r ≡ true
 
 -- and so in each type
 abbrev pub AreRecordsLaid : List TypeForm → Type 0
 AreRecordsLaid types = (t : ℕ) (form : TypeForm) → slice_get types t ≡ Some form → IsLaid types form
 
--- no component of a type is a record of the type of this number
+-- no component of a type is a record of the type of this number, nor is a record object that is known by the type
 abbrev pub Avoids : ℕ → TypeForm → Type 0
 Avoids t (record_of name ps cs) = OfParts (RecordHas (λ u. u ≡ t → ⊥)) ps
 Avoids t (access_to name d) = Unit {0}
+Avoids t (object_of r) = r ≡ t → ⊥
 
 -- and so in each type
 abbrev pub IsUnused : List TypeForm → ℕ → Type 0
@@ -113,6 +115,7 @@ form_laid_more types form (record_of name ps cs) l = (
   λ i c is. record_has (λ t. fits.is_record types t ≡ true) (λ t. fits.is_record (types ++ form ∷ []) t ≡ true) (record_more types form) c.kind (l.1 i c is),
 )
 form_laid_more types form (access_to name d) l = tt
+form_laid_more types form (object_of r) l = record_more types form r l
 
 pub records_laid_more : (types : List TypeForm) (form : TypeForm) → AreRecordsLaid types → IsLaid types form → AreRecordsLaid (types ++ form ∷ [])
 records_laid_more types form all own =
@@ -128,6 +131,7 @@ form_laid_set types i form (record_of name ps cs) a l = (
   λ j c is. record_has_both (λ t. t ≡ i → ⊥) (λ t. fits.is_record types t ≡ true) (λ t. fits.is_record (slice_set types i form) t ≡ true) (λ t ne there. record_other types i form t (λ same. ne (sym same)) there) c.kind (a j c is) (l.1 j c is),
 )
 form_laid_set types i form (access_to name d) a l = tt
+form_laid_set types i form (object_of r) a l = record_other types i form r (λ same. a (sym same)) l
 
 pub records_laid_set : (types : List TypeForm) (i : ℕ) (form : TypeForm) → IsUnused types i → AreRecordsLaid types → Avoids i form → IsLaid types form → AreRecordsLaid (slice_set types i form)
 records_laid_set types i form unused all avoids own =
@@ -147,6 +151,7 @@ new_unused types all u form is = by_form form (all u form is)
     by_form : (x : TypeForm) → IsLaid types x → Avoids (length types) x
     by_form (record_of name ps cs) l = λ i c at. record_has (λ t. fits.is_record types t ≡ true) (λ t. t ≡ length types → ⊥) absent c.kind (l.1 i c at)
     by_form (access_to name d) l = tt
+    by_form (object_of r) l = absent r l
 
 pub unused_more : (types : List TypeForm) (form : TypeForm) (t : ℕ) → IsUnused types t → Avoids t form → IsUnused (types ++ form ∷ []) t
 unused_more types form t all own = each_more (Avoids t) types form all own

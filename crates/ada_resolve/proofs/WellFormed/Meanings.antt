@@ -1,6 +1,6 @@
 -- An expression with which nothing is wrong means a value, and that has its type.
 
-use Rattle.std.proofs.Common.{◌≡◌, ◌∙◌, ℕ, Bool, true, false, List, [], ◌∷◌, refl, cond}
+use Rattle.std.proofs.Common.{◌≡◌, ◌∙◌, ℕ, Bool, true, false, List, [], ◌∷◌, refl, ap, cond}
 use Rattle.std.specs.Prelude.{Option, Some, None, not}
 use Rattle.ada_text.specs.declared.spot.Spot.{Spot}
 use Rattle.ada_values.specs.declared.operator.UnaryOperator.{UnaryOperator}
@@ -25,7 +25,7 @@ use Rattle.ada_resolve.specs.declared.selectors.Reached.{Reached}
 use Rattle.ada_resolve.specs.declared.selectors.Reached.TheVariants as reached
 use Rattle.ada_resolve.specs.Known.{Known, visible, is_with, if_with, library_wrong, library_remark, library_found, library_path_remark, library_path_found, parts_of, parts}
 use Rattle.ada_resolve.specs.Library.{is_library_root, library_name}
-use Rattle.ada_resolve.specs.Paths.{Meant, unknown, null_value, access_value, integer_value, boolean_value, selected_path, selectors_reached, components_selected, reached_meant, variable_meant, entity_meant, path_meant, no_object, variable_path_remark, value_wanted, library_is_no_value, path_remark}
+use Rattle.ada_resolve.specs.Paths.{Meant, unknown, null_value, access_value, integer_value, boolean_value, is_record_kind, selected_path, selectors_reached, variable_reached, components_selected, reached_meant, variable_meant, entity_meant, path_meant, no_object, variable_path_remark, value_wanted, library_is_no_value, path_remark}
 use Rattle.ada_resolve.specs.Operators.{Signature, arithmetic, ordering, equality, logical, signature_of, integer_in, boolean_in, equality_meant, binary_by, unary_meant, integer_wanted, boolean_wanted, equal_wanted, operands_by, operand_remark}
 use Rattle.ada_resolve.specs.Expressions.{expression_meant, expression_remark}
 use Rattle.ada_resolve.specs.Remark.{wrong, wrong_if, ◌also◌}
@@ -33,7 +33,7 @@ use Rattle.ada_resolve.specs.Spots.{expression_spot}
 use Rattle.ada_resolve.proofs.WellFormed.Remarks.{Quiet}
 use Rattle.ada_resolve.proofs.WellFormed.Laid.{AreRecordsLaid}
 use Rattle.ada_resolve.proofs.WellFormed.Names.{EntityFits, PartsFit, visible_fits, kind_there, laid_in}
-use Rattle.ada_resolve.proofs.WellFormed.Selected.{IsReached, selectors_are}
+use Rattle.ada_resolve.proofs.WellFormed.Selected.{IsReached, whole_is, selectors_are}
 use Rattle.ada_resolve.proofs.WellFormed.Typing.{typed_by, joined_type}
 
 -- what is meant is known, and has its type
@@ -49,14 +49,30 @@ reached_fits : (types : List TypeForm) (variables : List VariableForm) (path : P
 reached_fits types variables path spot (reached.Value variable.Integer) is q = rw is refl
 reached_fits types variables path spot (reached.Value variable.Boolean) is q = rw is refl
 reached_fits types variables path spot (reached.Value (variable.Access t)) is q = is
+reached_fits types variables path spot (reached.Value (variable.Record object)) is q = absurd q
 reached_fits types variables path spot (reached.Object t first) is q = absurd q
 reached_fits types variables path spot reached.Nothing is q = absurd is
+
+-- the root of a path is what its variable holds, or the record object that the variable is
+own_root : (of : VariableKind) → fits.root_kind (is_record_kind of) (Some of) ≡ Some of
+own_root variable.Integer = refl
+own_root variable.Boolean = refl
+own_root (variable.Access t) = refl
+own_root (variable.Record object) = refl
+
+begins : (k : Known) (of : VariableKind) (root : Option VariableKind) → root ≡ Some of → IsReached k.types root (variable_reached k of)
+begins k variable.Integer root is = is
+begins k variable.Boolean root is = is
+begins k (variable.Access t) root is = is
+begins k (variable.Record object) root is = whole_is k k.types root object (λ t form e. e) is
 
 -- a variable, with what is selected from it
 variable_fits : (k : Known) (x : VariableNo) (spot : Spot) (of : VariableKind) (selectors : List SelectorTree) → AreRecordsLaid k.types → fits.variable_kind k.variables x.0 ≡ Some of → Quiet (variable_path_remark k spot of selectors) → MeantFits k.types k.variables (variable_meant k x spot of selectors)
 variable_fits k x spot of selectors laid h q =
-    reached_fits k.types k.variables (selected_path x spot (components_selected k (reached.Value of) selectors)) spot (selectors_reached k (reached.Value of) selectors)
-    (selectors_are k k.types (fits.variable_kind k.variables x.0) spot (reached.Value of) selectors laid (λ t form e. e) h q.0) q.1
+    let at = variable_reached k of in
+    let root = fits.root_kind (is_record_kind of) (fits.variable_kind k.variables x.0) in
+    reached_fits k.types k.variables (selected_path x (is_record_kind of) spot (components_selected k at selectors)) spot (selectors_reached k at selectors)
+    (selectors_are k k.types root spot at selectors laid (λ t form e. e) (begins k of root (ap (λ (o : Option VariableKind). fits.root_kind (is_record_kind of) o) h ∙ own_root of)) q.0) q.1
 
 -- what a name stands for
 entity_one : (k : Known) (text : List ℕ) (e : Entity) (name : Ident) (selectors : List SelectorTree) → AreRecordsLaid k.types → EntityFits k.types k.variables text e → Quiet (value_wanted k (Some e) name selectors) → MeantFits k.types k.variables (entity_meant k (Some e) name.spot selectors)

@@ -1,7 +1,7 @@
 -- The declaration of an object or of a borrower leaves what is elaborated in order.
 
-use Rattle.std.proofs.Common.{◌≡◌, ◌∙◌, ℕ, ◌+◌, ◌≤◌, true, false, List, [], ◌∷◌, ◌++◌, length, append_assoc, refl, sym, ap, subst, arith, eqb, eq-eqb}
-use Rattle.std.specs.Prelude.{Bool, ◌&&◌, Option, Some, None, nat_lt, ◌==◌, map}
+use Rattle.std.proofs.Common.{◌≡◌, ◌∙◌, ℕ, ◌+◌, ◌≤◌, true, false, cond, List, [], ◌∷◌, ◌++◌, length, append_assoc, refl, sym, ap, subst, arith, eqb, eq-eqb}
+use Rattle.std.specs.Prelude.{Bool, ◌&&◌, Option, Some, None, nat_lt, nat_le, ◌==◌, map}
 use Rattle.std.specs.List.{list_all}
 use Rattle.std.proofs.lemmas.Bool.{ne_eqb}
 use Rattle.ada_program.specs.declared.program.ComponentKind.{ComponentKind}
@@ -11,25 +11,26 @@ use Rattle.ada_program.specs.declared.program.VariableKind.TheVariants as variab
 use Rattle.ada_program.specs.declared.program.ScalarType.{ScalarType}
 use Rattle.ada_program.specs.declared.program.ScalarType.TheVariants.{Integer, Boolean}
 use Rattle.ada_program.specs.declared.program.TypeNo.{TypeNo}
-use Rattle.ada_program.specs.Form.{PathForm, ExpressionForm, ItemForm, null_item, item_of_path, item_of_value, RightForm, nothing, value_of, allocates, allocates_default, computes, DeclarationForm, collects, declares}
+use Rattle.ada_program.specs.Form.{PathForm, ExpressionForm, ItemForm, null_item, item_of_path, item_of_value, RightForm, nothing, value_of, allocates, allocates_default, computes, DeclarationForm, collects, declares, declares_record}
 use Rattle.ada_tree.specs.Names.{Ident, NameTree}
 use Rattle.ada_tree.specs.Expressions.{RightTree}
-use Rattle.ada_program.specs.ProgramForm.{TypeForm, VariableForm}
+use Rattle.ada_program.specs.ProgramForm.{TypeForm, object_of, VariableForm}
 use Rattle.ada_program.specs.WellFormed as fits
 use Rattle.ada_program.specs.WellFormed.{of_variable}
 use Rattle.ada_resolve.specs.Borrowers.{borrower_remark, borrower_known}
 use Rattle.ada_resolve.specs.declared.scope.Entity.{Entity}
 use Rattle.ada_resolve.specs.declared.scope.Entity.TheVariants as entity
 use Rattle.ada_resolve.specs.Known.{Known, parts}
-use Rattle.ada_resolve.specs.Objects.{initial_remark, initial_found, initial_wanted, object_type_found, kind_of, object_remark, initial_source, variable_created, object_created, object_known}
+use Rattle.ada_resolve.specs.Objects.{initial_remark, initial_found, initial_wanted, object_type_found, kind_of, object_remark, initial_source, variable_created, next_record, record_created, created_of, object_known}
 use Rattle.ada_resolve.proofs.Names.{map_append}
 use Rattle.ada_resolve.proofs.WellFormed.Borrowers.{lent_of, borrower_is}
 use Rattle.ada_resolve.proofs.WellFormed.Remarks.{Quiet}
 use Rattle.ada_resolve.proofs.WellFormed.Tables.{all_more, both_parts, first_part, second_part, get_last, get_more}
 use Rattle.ada_resolve.proofs.WellFormed.Names.{PartsFit}
 use Rattle.ada_resolve.proofs.WellFormed.Counts.{count_more}
+use Rattle.ada_resolve.proofs.WellFormed.Created.{due, accesses_object}
 use Rattle.ada_resolve.proofs.WellFormed.Elaborated.{Late, InOrder, late}
-use Rattle.ada_resolve.proofs.WellFormed.Growing.{lent_stays, taken_stays, initials_stay}
+use Rattle.ada_resolve.proofs.WellFormed.Growing.{lent_stays, taken_stays, collections_stay, initials_stay}
 use Rattle.ada_resolve.proofs.WellFormed.Typing.{path_before, typed_before, of_type}
 use Rattle.ada_resolve.proofs.WellFormed.Values.{IsSourceFor, right_fits}
 
@@ -43,7 +44,7 @@ borrows_last variables o = rw (get_last variables o) refl
 type_before : (types : List TypeForm) (variables : List VariableForm) (t : ScalarType) (e : ExpressionForm) → fits.has_type types variables t e ≡ true → fits.expression_before (length variables) e ≡ true
 type_before types variables t e h = typed_before types variables e t (of_type t (fits.type_of types variables e) h)
 
-moved_before : (types : List TypeForm) (variables : List VariableForm) (path : PathForm) (access : ℕ) (found : Option VariableKind) → fits.path_kind types variables path ≡ found → fits.is_this access (fits.access_of found) ≡ true → nat_lt path.root (length variables) ≡ true
+moved_before : (types : List TypeForm) (variables : List VariableForm) (path : PathForm) (access : ℕ) (found : Option VariableKind) → fits.path_kind types variables path ≡ found → fits.is_this access (fits.value_access found) ≡ true → nat_lt path.root (length variables) ≡ true
 moved_before types variables path access None is h = absurd (cc h)
 moved_before types variables path access (Some k) is h = path_before types variables path k is
 
@@ -90,12 +91,16 @@ source_before : (types : List TypeForm) (variables : List VariableForm) (kind : 
 source_before types variables variable.Integer s h = scalar_before types variables Integer s h
 source_before types variables variable.Boolean s h = scalar_before types variables Boolean s h
 source_before types variables (variable.Access access) s h = access_before types variables access.0 s h
+source_before types variables (variable.Record object) s h = absurd (cc h)
 
 -- one more object, the next in order
-next_first : (es : List DeclarationForm) (n : ℕ) (s : RightForm) → fits.collections_first es ≡ true → fits.collections_first (es ++ declares n s ∷ []) ≡ true
-next_first [] n s e = refl
-next_first (collects t ∷ es) n s e = next_first es n s e
-next_first (declares x t ∷ es) n s e = all_more fits.is_object es (declares n s ∷ []) e refl
+next_first : (es : List DeclarationForm) (d : DeclarationForm) → fits.is_object d ≡ true → fits.collections_first es ≡ true → fits.collections_first (es ++ d ∷ []) ≡ true
+next_first [] (collects t) o e = absurd (cc o)
+next_first [] (declares x s) o e = refl
+next_first [] (declares_record x object) o e = refl
+next_first (collects t ∷ es) d o e = next_first es d o e
+next_first (declares x s ∷ es) d o e = all_more fits.is_object es (d ∷ []) e (both_parts (fits.is_object d) true o refl)
+next_first (declares_record x object ∷ es) d o e = all_more fits.is_object es (d ∷ []) e (both_parts (fits.is_object d) true o refl)
 
 pub one_longer : {X : Type 0} (xs : List X) (x : X) → length (xs ++ x ∷ []) ≡ length xs + 1
 one_longer [] x = omega arith
@@ -113,7 +118,7 @@ created_late k name borrows kind s w f =
     let o : VariableForm = record { name = name.text; kind = kind; borrows = borrows } in
     let es = k.here.elaborated in
     record {
-      collections_first = next_first es (length k.variables) s w.collections_first;
+      collections_first = next_first es (declares (length k.variables) s) refl w.collections_first;
       collections_fit = all_more (fits.collection_fits k.types) es (declares (length k.variables) s ∷ []) w.collections_fit refl;
       initials_fit = all_more (fits.initial_fits k.types (k.variables ++ o ∷ [])) es (declares (length k.variables) s ∷ [])
           (initials_stay k.types k.types k.variables (k.variables ++ o ∷ []) (λ i x is. is) (λ i x is. get_more k.variables o i x is) es w.initials_fit)
@@ -142,6 +147,36 @@ made_order : (k : Known) (name : Ident) (borrows : Bool) (kind : VariableKind) (
 made_order k name borrows kind s first w f =
     late (created_late k name borrows kind s w f) (not_none k.variables (record { name = name.text; kind = kind; borrows = borrows }) k.here.first_variable first)
 
+-- one more record object, with the type that it is known by
+record_late : (k : Known) (name : Ident) (t : TypeNo) → Late k → Late (record_created k name t)
+record_late k name t w =
+    let more = k.types ++ object_of t.0 ∷ [] in
+    let o : VariableForm = record { name = name.text; kind = next_record k; borrows = false } in
+    let others = k.variables ++ o ∷ [] in
+    let es = k.here.elaborated in
+    let d = declares_record (length k.variables) (length k.types) in
+    record {
+      collections_first = next_first es d refl w.collections_first;
+      collections_fit = all_more (fits.collection_fits more) es (d ∷ [])
+          (collections_stay k.types more k.variables others (λ i x is. get_more k.types (object_of t.0) i x is) (λ i x is. get_more k.variables o i x is) es w.collections_fit) refl;
+      initials_fit = all_more (fits.initial_fits more others) es (d ∷ [])
+          (initials_stay k.types more k.variables others (λ i x is. get_more k.types (object_of t.0) i x is) (λ i x is. get_more k.variables o i x is) es w.initials_fit)
+          (both_parts (fits.initial_fits more others d) true (rw (kind_last k.variables o) (eq-eqb (length k.types) (length k.types) refl)) refl);
+      one_each = λ a.
+          let h = w.one_each a in
+          let same : due k.here.first_type more a ≡ due k.here.first_type k.types a = ap (λ (n : ℕ). cond (nat_le k.here.first_type a) n 0) (accesses_object k.types t.0 a) in
+          count_more a es (d ∷ []) ∙ omega (arith, h, same);
+      in_order = λ n rest.
+          ap (λ cs. fits.creates_from n k.here.first_variable (cs ++ rest)) (map_append fits.creation es (d ∷ [])) ∙
+          (ap (λ cs. fits.creates_from n k.here.first_variable cs) (append_assoc (map fits.creation es) (of_variable (length k.variables) ∷ []) rest) ∙
+          (w.in_order n (of_variable (length k.variables) ∷ rest) ∙
+          (rw (one_longer k.variables o, eq-eqb (length k.variables) (length k.variables) refl) refl)));
+    }
+
+record_order : (k : Known) (name : Ident) (t : TypeNo) → k.here.first_variable ≤ length k.variables → Late k → InOrder (record_created k name t)
+record_order k name t first w =
+    late (record_late k name t w) (not_none k.variables (record { name = name.text; kind = next_record k; borrows = false }) k.here.first_variable first)
+
 -- the initial value, null where none is written
 initial_value : (k : Known) (kind : VariableKind) (o : Option RightForm) → IsSourceFor k.types k.variables kind false o → IsCreatedWith k kind false (initial_source o)
 initial_value k kind None h = absurd h
@@ -151,7 +186,7 @@ access_initial : (k : Known) (access : TypeNo) (initial : Option RightTree) → 
 access_initial k access None w q = (refl, refl)
 access_initial k access (Some right) w q = initial_value k (variable.Access access) _ (right_fits k (variable.Access access) false right w q)
 
-created_order : (k : Known) (name : Ident) (o : Option Entity) (initial : Option RightTree) → PartsFit k.types k.variables (parts k) → k.here.first_variable ≤ length k.variables → InOrder k → Late k → Quiet (initial_remark k (kind_of o) initial) → Quiet (initial_wanted o name initial) → InOrder (object_created k name (kind_of o) (initial_found k (kind_of o) initial))
+created_order : (k : Known) (name : Ident) (o : Option Entity) (initial : Option RightTree) → PartsFit k.types k.variables (parts k) → k.here.first_variable ≤ length k.variables → InOrder k → Late k → Quiet (initial_remark k (kind_of o) initial) → Quiet (initial_wanted o name initial) → InOrder (created_of k name o (initial_found k (kind_of o) initial))
 created_order k name None initial p first s w q g = s
 created_order k name (Some entity.Integer) None p first s w q g = absurd g
 created_order k name (Some entity.Boolean) None p first s w q g = absurd g
@@ -161,6 +196,8 @@ created_order k name (Some entity.Boolean) (Some right) p first s w q g =
     made_order k name false variable.Boolean _ first w (initial_value k variable.Boolean _ (right_fits k variable.Boolean false right p q))
 created_order k name (Some (entity.Access access)) initial p first s w q g =
     made_order k name false (variable.Access access) _ first w (access_initial k access initial p q)
+created_order k name (Some (entity.Record t size)) None p first s w q g = record_order k name t first w
+created_order k name (Some (entity.Record t size)) (Some right) p first s w q g = absurd g
 created_order k name (Some other) initial p first s w q g = s
 
 -- `X : T := ..;`, where the types have ended

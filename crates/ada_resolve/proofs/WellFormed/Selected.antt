@@ -12,7 +12,7 @@ use Rattle.ada_program.specs.declared.program.PartKind.TheVariants as part
 use Rattle.ada_program.specs.declared.program.VariableKind.{VariableKind}
 use Rattle.ada_program.specs.declared.program.VariableKind.TheVariants as variable
 use Rattle.ada_program.specs.declared.program.TypeNo.{TypeNo}
-use Rattle.ada_program.specs.ProgramForm.{PartForm, TypeForm, record_of, access_to}
+use Rattle.ada_program.specs.ProgramForm.{PartForm, TypeForm, record_of, access_to, object_of}
 use Rattle.ada_program.specs.WellFormed as fits
 use Rattle.ada_resolve.specs.declared.fault.NameRule.TheVariants.{WrongType}
 use Rattle.ada_resolve.specs.declared.selectors.Reached.{Reached}
@@ -20,12 +20,13 @@ use Rattle.ada_resolve.specs.declared.selectors.Reached.TheVariants as reached
 use Rattle.ada_resolve.specs.declared.components.KnownComponent.{KnownComponent}
 use Rattle.ada_resolve.specs.Known.{Known}
 use Rattle.ada_resolve.specs.Paths as path
-use Rattle.ada_resolve.specs.Paths.{components_of, elementary_of, elementary_in, known_component, first_behind, held_by, number_by, designated_of, component_named, is_incomplete_type, component_in, component_behind, held_in, object_in, object_behind, selector_reached, selectors_reached, number_in, component_selected, components_selected, component_wanted, component_within_remark, component_behind_remark, complete_behind, all_remark, selector_remark, selectors_remark}
+use Rattle.ada_resolve.specs.Paths.{components_of, elementary_of, elementary_in, known_component, first_behind, held_by, number_by, designated_of, component_named, is_incomplete_type, component_in, component_behind, held_in, object_in, object_behind, selector_reached, selectors_reached, variable_reached, whole_object, record_known_by, record_of_object, number_in, component_selected, components_selected, component_wanted, component_within_remark, component_behind_remark, complete_behind, all_remark, selector_remark, selectors_remark}
 use Rattle.ada_resolve.specs.Records.{kinds_within}
 use Rattle.ada_resolve.specs.Remark.{wrong, wrong_if}
 use Rattle.ada_resolve.proofs.WellFormed.Names.{text_same}
 use Rattle.ada_resolve.proofs.WellFormed.Laid.{AreRecordsLaid, append_none, elementary_is, lies}
 use Rattle.ada_resolve.proofs.WellFormed.Remarks.{Quiet}
+use Rattle.ada_resolve.proofs.WellFormed.Tables.{designated_named}
 
 -- a component that is found by a name is one of these, by its number, and has the name
 abbrev pub IsNamedOf : List ℕ → List PartForm → ℕ → Option (ℕ × KnownComponent) → Type 0
@@ -65,6 +66,7 @@ designated_same types access = same (slice_get types access)
     same None = refl
     same (Some (record_of name ps cs)) = refl
     same (Some (access_to name d)) = refl
+    same (Some (object_of r)) = refl
 
 -- what is known of types stays, where more are declared
 abbrev pub Stays : List TypeForm → List TypeForm → Type 0
@@ -82,7 +84,7 @@ designated_more types more t d w e = by_form (slice_get types t) refl e
 abbrev pub IsWithin : List TypeForm → Option VariableKind → List ComponentKind → ℕ → Type 0
 IsWithin types of kinds first =
     (access : ℕ) × (d : ℕ) × (before : List ComponentKind) × (behind : List ComponentKind) × (fits.access_of of ≡ Some access) ×
-    (designated_of types access ≡ Some d) × (elementary_of types d ≡ before ++ (kinds ++ behind)) × (length before ≡ first)
+    (fits.named_in (slice_get types access) ≡ Some d) × (elementary_of types d ≡ before ++ (kinds ++ behind)) × (length before ≡ first)
 
 -- what is reached is held there, or is an object within the one behind what is held there
 abbrev pub IsReached : List TypeForm → Option VariableKind → Reached → Type 0
@@ -110,6 +112,7 @@ has_record types t j c e = by_form (slice_get types t) refl e
     by_form None is e = absurd (cc e)
     by_form (Some (record_of name ps cs)) is e = (name, ps, cs, is, e)
     by_form (Some (access_to name d)) is e = absurd (cc e)
+    by_form (Some (object_of r)) is e = absurd (cc e)
 
 -- what lies in a part of a part
 part_within : (before own middle rest behind : List ComponentKind) → before ++ ((own ++ (middle ++ rest)) ++ behind) ≡ (before ++ own) ++ (middle ++ (rest ++ behind))
@@ -150,7 +153,28 @@ held_within k types of spot t first c laid w is q = complete_or (is_incomplete_t
 -- an object behind what is held
 object_behind_is : (k : Known) (types : List TypeForm) (of : Option VariableKind) (t : TypeNo) (d : ℕ) → Stays k.types types → of ≡ Some (variable.Access t) → designated_of k.types t.0 ≡ Some d → IsWithin types of (elementary_of types d) 0
 object_behind_is k types of t d w is e =
-    (t.0, d, [], [], rw is refl, designated_more k.types types t.0 d w e, sym (append_none (elementary_of types d)), refl)
+    let there : fits.designated_type types t.0 ≡ Some d = sym (designated_same types t.0) ∙ designated_more k.types types t.0 d w e in
+    (t.0, d, [], [], rw is refl, designated_named (slice_get types t.0) d there, sym (append_none (elementary_of types d)), refl)
+
+-- the record type of a record object, by the type that the object is known by
+named_more : (types more : List TypeForm) (object d : ℕ) → Stays types more → record_of_object types object ≡ Some d → fits.named_in (slice_get more object) ≡ Some d
+unfolding record_of_object
+named_more types more object d w e = by_form (slice_get types object) refl e
+  where
+    by_form : (o : Option TypeForm) → slice_get types object ≡ o → record_known_by o ≡ Some d → fits.named_in (slice_get more object) ≡ Some d
+    by_form None is e = absurd (cc e)
+    by_form (Some (record_of name ps cs)) is e = absurd (cc e)
+    by_form (Some (access_to name t)) is e = absurd (cc e)
+    by_form (Some (object_of r)) is e = rw (w object (object_of r) is) e
+
+-- a record object is reached as a whole
+pub whole_is : (k : Known) (types : List TypeForm) (of : Option VariableKind) (object : TypeNo) → Stays k.types types → of ≡ Some (variable.Record object) → IsReached types of (variable_reached k (variable.Record object))
+whole_is k types of object w is = by_type (record_of_object k.types object.0) refl
+  where
+    by_type : (o : Option ℕ) → record_of_object k.types object.0 ≡ o → IsReached types of (whole_object o (variable.Record object))
+    by_type None e = is
+    by_type (Some d) e =
+        (object.0, d, [], [], rw is refl, named_more k.types types object.0 d w e, sym (append_none (elementary_of types d)), refl)
 
 -- the record type whose component is selected
 abbrev pub IsBehind : Known → Reached → ℕ → Type 0
@@ -181,13 +205,13 @@ kind_in_record types d n kind e = by_form (slice_get types d) refl e
     by_form None is e = absurd (cc e)
     by_form (Some (record_of name ps cs)) is e = rw e refl
     by_form (Some (access_to name u)) is e = absurd (cc e)
+    by_form (Some (object_of r)) is e = absurd (cc e)
 
 kind_is_behind : (types : List TypeForm) (of : Option VariableKind) (n : ℕ) (kind : ComponentKind) → IsWithin types of (kind ∷ []) n → fits.kind_behind types (fits.access_of of) n ≡ Some (fits.held_kind kind)
 kind_is_behind types of n kind w =
-    let d : fits.designated_type types w.0 ≡ Some w.1 = sym (designated_same types w.0) ∙ w.5 in
     let there : slice_get (elementary_of types w.1) n ≡ Some kind =
     ap (λ ks. slice_get ks n) w.6 ∙ (ap (λ m. slice_get (w.2 ++ (kind ∷ w.3)) m) (sym w.7) ∙ get_behind w.2 w.3 kind) in
-    rw w.4 (rw d (kind_in_record types w.1 n kind there))
+    rw w.4 (rw w.5 (kind_in_record types w.1 n kind there))
 
 pub held_reached : (types : List TypeForm) (of : Option VariableKind) (d first : ℕ) (text : List ℕ) (o : Option (ℕ × KnownComponent)) → IsHeld types of d first text o → IsReached types (fits.selectors_kind types of (number_in first o)) (held_in first o)
 held_reached types of d first text None h = absurd h

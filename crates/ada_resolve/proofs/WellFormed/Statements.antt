@@ -1,7 +1,7 @@
 -- A statement with which nothing is wrong has the types that it wants.
 
 use Rattle.std.proofs.Common.{◌≡◌, ℕ, ◌+◌, ◌≤◌, Bool, true, false, List, [], ◌∷◌, ◌++◌, length, length-append, refl, ap, arith, cond, eqb, eq-eqb, eqb-true}
-use Rattle.std.specs.Prelude.{◌&&◌, not, Option, Some, None, is_some}
+use Rattle.std.specs.Prelude.{not, Option, Some, None, is_some}
 use Rattle.std.proofs.lemmas.Bool.{lt-ltb}
 use Rattle.ada_text.specs.declared.spot.Spot.{Spot}
 use Rattle.ada_program.specs.declared.program.VariableKind.{VariableKind}

@@ -7,7 +7,7 @@ use Rattle.ada_program.specs.declared.program.ComponentKind.{ComponentKind}
 use Rattle.ada_program.specs.declared.program.ComponentKind.TheVariants as kind
 use Rattle.ada_program.specs.declared.program.VariableKind.{VariableKind}
 use Rattle.ada_program.specs.declared.program.VariableKind.TheVariants as variable
-use Rattle.ada_program.specs.ProgramForm.{PartForm, TypeForm, record_of, access_to, VariableForm}
+use Rattle.ada_program.specs.ProgramForm.{PartForm, TypeForm, record_of, access_to, object_of, VariableForm}
 use Rattle.ada_program.specs.WellFormed as fits
 use Rattle.ada_resolve.specs.Types.{is_designated}
 
@@ -85,19 +85,28 @@ module _ {X : Type 0} where
   get_within (z ∷ xs) (suc i) x e = let h = get_within xs i x e in omega arith
 
 -- the access types of these are among those
-abbrev pub Keeps : List TypeForm → List TypeForm → Type 0
-Keeps types more = (t : ℕ) → fits.is_access types t ≡ true → fits.is_access more t ≡ true
+abbrev pub KeepsAccesses : List TypeForm → List TypeForm → Type 0
+KeepsAccesses types more = (t : ℕ) → fits.is_access types t ≡ true → fits.is_access more t ≡ true
 
--- what fits these types fits types that keep the access types
+-- so are the types by which record objects are known
+abbrev pub KeepsObjects : List TypeForm → List TypeForm → Type 0
+KeepsObjects types more = (t : ℕ) → fits.is_object_type types t ≡ true → fits.is_object_type more t ≡ true
+
+-- and both
+abbrev pub Keeps : List TypeForm → List TypeForm → Type 0
+Keeps types more = KeepsAccesses types more × KeepsObjects types more
+
+-- what fits these types fits types that keep them
 kind_kept : (types more : List TypeForm) → Keeps types more → (k : ComponentKind) → fits.kind_fits types k ≡ true → fits.kind_fits more k ≡ true
 kind_kept types more w (kind.Integer initial) e = refl
 kind_kept types more w (kind.Boolean initial) e = refl
-kind_kept types more w (kind.Access t) e = w t.0 e
+kind_kept types more w (kind.Access t) e = w.0 t.0 e
 
 pub object_kind_kept : (types more : List TypeForm) → Keeps types more → (k : VariableKind) → fits.variable_kind_fits types k ≡ true → fits.variable_kind_fits more k ≡ true
 object_kind_kept types more w variable.Integer e = refl
 object_kind_kept types more w variable.Boolean e = refl
-object_kind_kept types more w (variable.Access t) e = w t.0 e
+object_kind_kept types more w (variable.Access t) e = w.0 t.0 e
+object_kind_kept types more w (variable.Record t) e = w.1 t.0 e
 
 pub variable_kept : (types more : List TypeForm) → Keeps types more → (v : VariableForm) → fits.variable_fits types v ≡ true → fits.variable_fits more v ≡ true
 variable_kept types more w v e =
@@ -114,12 +123,35 @@ one_kind : (o : Option TypeForm) → is_some (fits.components_in o) ≡ true →
 one_kind None a b = (cc a)
 one_kind (Some (record_of name ps cs)) a b = (cc b)
 one_kind (Some (access_to name d)) a b = (cc a)
+one_kind (Some (object_of r)) a b = (cc a)
+
+-- nor is a type by which a record object is known
+no_object : (o : Option TypeForm) → is_some (fits.components_in o) ≡ true → is_some (fits.object_in o) ≡ true → ⊥
+no_object None a b = (cc a)
+no_object (Some (record_of name ps cs)) a b = (cc b)
+no_object (Some (access_to name d)) a b = (cc a)
+no_object (Some (object_of r)) a b = (cc a)
+
+-- objects of the type that an access type designates are what its values name
+pub designated_named : (o : Option TypeForm) (d : ℕ) → fits.designated_in o ≡ Some d → fits.named_in o ≡ Some d
+designated_named None d e = absurd (cc e)
+designated_named (Some (record_of name ps cs)) d e = absurd (cc e)
+designated_named (Some (access_to name t)) d e = e
+designated_named (Some (object_of r)) d e = absurd (cc e)
 
 -- one more type
-pub access_more : (types : List TypeForm) (form : TypeForm) → Keeps types (types ++ form ∷ [])
+access_more : (types : List TypeForm) (form : TypeForm) → KeepsAccesses types (types ++ form ∷ [])
 access_more [] form t e = absurd (cc e)
 access_more (x ∷ types) form zero e = e
 access_more (x ∷ types) form (suc t) e = access_more types form t e
+
+object_more : (types : List TypeForm) (form : TypeForm) → KeepsObjects types (types ++ form ∷ [])
+object_more [] form t e = absurd (cc e)
+object_more (x ∷ types) form zero e = e
+object_more (x ∷ types) form (suc t) e = object_more types form t e
+
+pub keeps_more : (types : List TypeForm) (form : TypeForm) → Keeps types (types ++ form ∷ [])
+keeps_more types form = (access_more types form, object_more types form)
 
 pub record_more : (types : List TypeForm) (form : TypeForm) (t : ℕ) → fits.is_record types t ≡ true → fits.is_record (types ++ form ∷ []) t ≡ true
 record_more [] form t e = absurd (cc e)
@@ -127,12 +159,22 @@ record_more (x ∷ types) form zero e = e
 record_more (x ∷ types) form (suc t) e = record_more types form t e
 
 -- another definition for a record type
-pub access_set : (types : List TypeForm) (i : ℕ) (form : TypeForm) → fits.is_record types i ≡ true → Keeps types (slice_set types i form)
+access_set : (types : List TypeForm) (i : ℕ) (form : TypeForm) → fits.is_record types i ≡ true → KeepsAccesses types (slice_set types i form)
 access_set [] i form r t e = absurd (cc r)
 access_set (x ∷ types) zero form r zero e = absurd (one_kind (Some x) r e)
 access_set (x ∷ types) zero form r (suc t) e = e
 access_set (x ∷ types) (suc i) form r zero e = e
 access_set (x ∷ types) (suc i) form r (suc t) e = access_set types i form r t e
+
+object_set : (types : List TypeForm) (i : ℕ) (form : TypeForm) → fits.is_record types i ≡ true → KeepsObjects types (slice_set types i form)
+object_set [] i form r t e = absurd (cc r)
+object_set (x ∷ types) zero form r zero e = absurd (no_object (Some x) r e)
+object_set (x ∷ types) zero form r (suc t) e = e
+object_set (x ∷ types) (suc i) form r zero e = e
+object_set (x ∷ types) (suc i) form r (suc t) e = object_set types i form r t e
+
+pub keeps_set : (types : List TypeForm) (i : ℕ) (form : TypeForm) → fits.is_record types i ≡ true → Keeps types (slice_set types i form)
+keeps_set types i form r = (access_set types i form r, object_set types i form r)
 
 pub record_set : (types : List TypeForm) (i : ℕ) (name : List ℕ) (ps : List PartForm) (cs : List ComponentKind) (t : ℕ) → fits.is_record types t ≡ true → fits.is_record (slice_set types i (record_of name ps cs)) t ≡ true
 record_set [] i name ps cs t e = absurd (cc e)
@@ -152,6 +194,7 @@ record_other (x ∷ types) (suc i) form (suc t) ne e = record_other types i form
 type_kept : (types more : List TypeForm) → Keeps types more → ((t : ℕ) → fits.is_record types t ≡ true → fits.is_record more t ≡ true) → (x : TypeForm) → fits.type_fits types x ≡ true → fits.type_fits more x ≡ true
 type_kept types more a r (record_of name ps cs) e = components_kept types more a cs e
 type_kept types more a r (access_to name d) e = r d e
+type_kept types more a r (object_of t) e = r t e
 
 pub types_kept : (types more : List TypeForm) → Keeps types more → ((t : ℕ) → fits.is_record types t ≡ true → fits.is_record more t ≡ true) → (xs : List TypeForm) → list_all (fits.type_fits types) xs ≡ true → list_all (fits.type_fits more) xs ≡ true
 types_kept types more a r xs e = all_weaker (fits.type_fits types) (fits.type_fits more) (type_kept types more a r) xs e
@@ -165,15 +208,23 @@ pub right_fails : (a b : Bool) → (a || b) ≡ false → b ≡ false
 right_fails true b e = absurd (cc e)
 right_fails false b e = e
 
--- a record type that no type designates becomes another
-pub types_without : (types more : List TypeForm) (i : ℕ) → Keeps types more → ((t : ℕ) → (i ≡ t → ⊥) → fits.is_record types t ≡ true → fits.is_record more t ≡ true) → (xs : List TypeForm) → is_designated i xs ≡ false → list_all (fits.type_fits types) xs ≡ true → list_all (fits.type_fits more) xs ≡ true
-types_without types more i a r [] d e = refl
-types_without types more i a r (record_of name ps cs ∷ xs) d e =
+-- none of these is a type by which an object of the record type of this number is known
+abbrev pub OfNoObject : ℕ → List TypeForm → Type 0
+OfNoObject t types = (u r : ℕ) → slice_get types u ≡ Some (object_of r) → r ≡ t → ⊥
+
+-- a record type that no type designates, and of which there is no object, becomes another
+pub types_without : (types more : List TypeForm) (i : ℕ) → Keeps types more → ((t : ℕ) → (i ≡ t → ⊥) → fits.is_record types t ≡ true → fits.is_record more t ≡ true) → (xs : List TypeForm) → is_designated i xs ≡ false → OfNoObject i xs → list_all (fits.type_fits types) xs ≡ true → list_all (fits.type_fits more) xs ≡ true
+types_without types more i a r [] d o e = refl
+types_without types more i a r (record_of name ps cs ∷ xs) d o e =
     both_parts (list_all (fits.kind_fits more) cs) (list_all (fits.type_fits more) xs)
     (components_kept types more a cs (first_part (list_all (fits.kind_fits types) cs) (list_all (fits.type_fits types) xs) e))
-    (types_without types more i a r xs d (second_part (list_all (fits.kind_fits types) cs) (list_all (fits.type_fits types) xs) e))
-types_without types more i a r (access_to name t ∷ xs) d e =
+    (types_without types more i a r xs d (λ u t is. o (suc u) t is) (second_part (list_all (fits.kind_fits types) cs) (list_all (fits.type_fits types) xs) e))
+types_without types more i a r (access_to name t ∷ xs) d o e =
     both_parts (fits.is_record more t) (list_all (fits.type_fits more) xs)
     (r t (λ same. let no : eqb t i ≡ false = left_fails (eqb t i) (is_designated i xs) d in let on : eqb t i ≡ true = eq-eqb t i (sym same) in absurd (cc (no, on)))
     (first_part (fits.is_record types t) (list_all (fits.type_fits types) xs) e))
-    (types_without types more i a r xs (right_fails (eqb t i) (is_designated i xs) d) (second_part (fits.is_record types t) (list_all (fits.type_fits types) xs) e))
+    (types_without types more i a r xs (right_fails (eqb t i) (is_designated i xs) d) (λ u v is. o (suc u) v is) (second_part (fits.is_record types t) (list_all (fits.type_fits types) xs) e))
+types_without types more i a r (object_of t ∷ xs) d o e =
+    both_parts (fits.is_record more t) (list_all (fits.type_fits more) xs)
+    (r t (λ same. o 0 t refl (sym same)) (first_part (fits.is_record types t) (list_all (fits.type_fits types) xs) e))
+    (types_without types more i a r xs d (λ u v is. o (suc u) v is) (second_part (fits.is_record types t) (list_all (fits.type_fits types) xs) e))

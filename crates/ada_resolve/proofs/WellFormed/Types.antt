@@ -12,7 +12,7 @@ use Rattle.ada_program.specs.declared.program.PartKind.TheVariants as part
 use Rattle.ada_program.specs.declared.program.TypeNo.{TypeNo}
 use Rattle.ada_program.specs.declared.program.VariableKind.{VariableKind}
 use Rattle.ada_program.specs.Form.{DeclarationForm}
-use Rattle.ada_program.specs.ProgramForm.{PartForm, TypeForm, record_of, access_to, VariableForm}
+use Rattle.ada_program.specs.ProgramForm.{PartForm, TypeForm, record_of, access_to, object_of, VariableForm}
 use Rattle.ada_program.specs.WellFormed as fits
 use Rattle.ada_resolve.specs.declared.scope.Entity.{Entity}
 use Rattle.ada_resolve.specs.declared.scope.Entity.TheVariants as entity
@@ -59,6 +59,7 @@ elementary_fit types t all = by_form (slice_get types t) refl
     by_form None is = refl
     by_form (Some (record_of name ps cs)) is = all_get (fits.type_fits types) types t (record_of name ps cs) all is
     by_form (Some (access_to name d)) is = refl
+    by_form (Some (object_of r)) is = refl
 
 within_fit : (types : List TypeForm) (kind : PartKind) → list_all (fits.type_fits types) types ≡ true → list_all (fits.kind_fits types) (own_kinds kind) ≡ true → list_all (fits.kind_fits types) (kinds_within types kind) ≡ true
 within_fit types (part.Elementary kind) all own = own
@@ -100,11 +101,29 @@ component_has k P w c = by_entity (visible k c.type_name.text) refl
 pub composition_has : (k : Known) (P : ℕ → Type 0) → ((text : List ℕ) (t : TypeNo) (size : ℕ) → visible k text ≡ Some (entity.Record t size) → P t.0) → (cs : List ComponentTree) → OfParts (RecordHas P) (composition_of k cs).parts
 composition_has k P w cs = composed_all k (RecordHas P) (component_has k P w) no_components cs (λ i c is. absurd (cc is))
 
-record_visible : (k : Known) → PartsFit k.types k.variables (parts k) → (text : List ℕ) (t : TypeNo) (size : ℕ) → visible k text ≡ Some (entity.Record t size) → fits.is_record k.types t.0 ≡ true
+pub record_visible : (k : Known) → PartsFit k.types k.variables (parts k) → (text : List ℕ) (t : TypeNo) (size : ℕ) → visible k text ≡ Some (entity.Record t size) → fits.is_record k.types t.0 ≡ true
 record_visible k w text t size is = let f = visible_fits k w text (entity.Record t size) is in record_is k.types t.0 text f.0 f.1 f.2
 
 pub composition_laid : (k : Known) (name : List ℕ) (cs : List ComponentTree) → PartsFit k.types k.variables (parts k) → IsLaid k.types (record_of name (composition_of k cs).parts (composition_of k cs).kinds)
 composition_laid k name cs w = (composed_laid k no_components cs refl, composition_has k (λ t. fits.is_record k.types t ≡ true) (record_visible k w) cs)
+
+-- a record type that is found is the one that the name stands for
+type_is : (e : Entity) (t : TypeNo) (size : ℕ) → type_in (Some e) ≡ Some (entity.Record t size) → Some e ≡ Some (entity.Record t size)
+type_is entity.Integer t size is = absurd (cc is)
+type_is entity.Boolean t size is = absurd (cc is)
+type_is (entity.Record u n) t size is = is
+type_is (entity.Access u) t size is = absurd (cc is)
+type_is e t size is = absurd (cc is)
+
+name_is : (b c : Bool) (o : Option Entity) (t : TypeNo) (size : ℕ) → cond b None (cond c (type_in o) None) ≡ Some (entity.Record t size) → o ≡ Some (entity.Record t size)
+name_is true c o t size is = absurd (cc is)
+name_is false false o t size is = absurd (cc is)
+name_is false true None t size is = absurd (cc is)
+name_is false true (Some e) t size is = type_is e t size is
+
+pub full_visible : (k : Known) (name : NameTree) (t : TypeNo) (size : ℕ) → object_type_found k name ≡ Some (entity.Record t size) → visible k name.first.text ≡ Some (entity.Record t size)
+unfolding object_type_found
+full_visible k name t size is = name_is (is_library_root name.first.text) (is_empty name.rest) (visible k name.first.text) t size is
 
 -- a record type that a name stands for is there, and has the name
 abbrev pub IsRecordNamed : List TypeForm → List ℕ → Option TypeNo → Type 0

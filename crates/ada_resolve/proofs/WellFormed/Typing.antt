@@ -104,7 +104,7 @@ nowhere types (c ∷ cs) = nowhere types cs
 pub path_before : (types : List TypeForm) (variables : List VariableForm) (path : PathForm) (k : VariableKind) → fits.path_kind types variables path ≡ Some k → nat_lt path.root (length variables) ≡ true
 path_before types variables path k h = root_before (fits.variable_kind variables path.root) refl h
   where
-    root_before : (found : Option VariableKind) → fits.variable_kind variables path.root ≡ found → fits.selectors_kind types found path.selectors ≡ Some k → nat_lt path.root (length variables) ≡ true
+    root_before : (found : Option VariableKind) → fits.variable_kind variables path.root ≡ found → fits.selectors_kind types (fits.root_kind path.of_record found) path.selectors ≡ Some k → nat_lt path.root (length variables) ≡ true
     root_before None is e = absurd (cc (nowhere types path.selectors, e))
     root_before (Some j) is e = lt-ltb path.root (length variables) (kind_within variables path.root j is)
 
@@ -120,7 +120,7 @@ read_before types variables path t h = by_kind (fits.path_kind types variables p
 null_test_before : (types : List TypeForm) (variables : List VariableForm) (path : PathForm) (t : ScalarType) → fits.null_test_type types variables path ≡ Some t → nat_lt path.root (length variables) ≡ true
 null_test_before types variables path t h = by_kind (fits.path_kind types variables path) refl h
   where
-    by_kind : (found : Option VariableKind) → fits.path_kind types variables path ≡ found → cond (is_some (fits.access_of found)) (Some Boolean) None ≡ Some t → nat_lt path.root (length variables) ≡ true
+    by_kind : (found : Option VariableKind) → fits.path_kind types variables path ≡ found → cond (is_some (fits.value_access found)) (Some Boolean) None ≡ Some t → nat_lt path.root (length variables) ≡ true
     by_kind None is e = absurd (cc e)
     by_kind (Some k) is e = path_before types variables path k is
 

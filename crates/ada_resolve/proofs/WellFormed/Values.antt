@@ -12,7 +12,7 @@ use Rattle.ada_program.specs.declared.program.TypeNo.{TypeNo}
 use Rattle.ada_program.specs.Form.{PathForm, RightForm, reads}
 use Rattle.ada_tree.specs.Names.{Ident, PathTree}
 use Rattle.ada_tree.specs.Expressions.{ItemsTree, no_more_items, an_item, RightTree, expression_right, allocator_right, creation_right}
-use Rattle.ada_program.specs.ProgramForm.{PartForm, TypeForm, record_of, access_to, VariableForm}
+use Rattle.ada_program.specs.ProgramForm.{PartForm, TypeForm, record_of, access_to, object_of, VariableForm}
 use Rattle.ada_program.specs.WellFormed as fits
 use Rattle.ada_resolve.specs.declared.fault.NameRule.TheVariants.{WrongType, NotInProfile}
 use Rattle.ada_resolve.specs.declared.scope.Entity.{Entity}
@@ -29,7 +29,7 @@ use Rattle.ada_resolve.specs.Rights.{assigned_wanted, assigned, lent_wanted, rig
 use Rattle.ada_resolve.specs.Remark.{wrong, ◌also◌}
 use Rattle.ada_resolve.specs.Spots.{expression_spot}
 use Rattle.ada_resolve.proofs.WellFormed.Remarks.{Quiet, quiet_if, quiet_unless}
-use Rattle.ada_resolve.proofs.WellFormed.Tables.{both_parts}
+use Rattle.ada_resolve.proofs.WellFormed.Tables.{both_parts, designated_named}
 use Rattle.ada_resolve.proofs.WellFormed.Names.{EntityFits, PartsFit, visible_fits, kind_there, laid_in}
 use Rattle.ada_resolve.proofs.WellFormed.Typing.{is_of_type}
 use Rattle.ada_resolve.proofs.WellFormed.Meanings.{MeantFits, path_fits, expression_fits}
@@ -41,7 +41,10 @@ IsTargetIn types variables None = Unit {0}
 IsTargetIn types variables (Some found) = fits.path_kind types variables found.0 ≡ Some found.1
 
 variable_one : (types : List TypeForm) (variables : List VariableForm) (text : List ℕ) (spot : Spot) (e : Entity) → EntityFits types variables text e → IsTargetIn types variables (variable_target spot (Some e))
-variable_one types variables text spot (entity.Variable x kind) f = kind_there variables x.0 text kind f.0
+variable_one types variables text spot (entity.Variable x variable.Integer) f = rw (kind_there variables x.0 text variable.Integer f.0) refl
+variable_one types variables text spot (entity.Variable x variable.Boolean) f = rw (kind_there variables x.0 text variable.Boolean f.0) refl
+variable_one types variables text spot (entity.Variable x (variable.Access t)) f = rw (kind_there variables x.0 text (variable.Access t) f.0) refl
+variable_one types variables text spot (entity.Variable x (variable.Record object)) f = tt
 variable_one types variables text spot e f = tt
 
 variable_named : (types : List TypeForm) (variables : List VariableForm) (text : List ℕ) (spot : Spot) (o : Option Entity) → ((e : Entity) → o ≡ Some e → EntityFits types variables text e) → IsTargetIn types variables (variable_target spot o)
@@ -53,12 +56,14 @@ integer_kind None e = absurd (cc e)
 integer_kind (Some variable.Integer) e = refl
 integer_kind (Some variable.Boolean) e = absurd (cc e)
 integer_kind (Some (variable.Access access)) e = absurd (cc e)
+integer_kind (Some (variable.Record object)) e = absurd (cc e)
 
 boolean_kind : (o : Option VariableKind) → fits.scalar_of o ≡ Some Boolean → o ≡ Some variable.Boolean
 boolean_kind None e = absurd (cc e)
 boolean_kind (Some variable.Integer) e = absurd (cc e)
 boolean_kind (Some variable.Boolean) e = refl
 boolean_kind (Some (variable.Access access)) e = absurd (cc e)
+boolean_kind (Some (variable.Record object)) e = absurd (cc e)
 
 component_fits : (types : List TypeForm) (variables : List VariableForm) (m : Meant) → MeantFits types variables m → IsTargetIn types variables (component_target m)
 component_fits types variables (integer_value (reads path)) f = integer_kind (fits.path_kind types variables path) f
@@ -100,6 +105,7 @@ designated_is : (o : Option TypeForm) (r : ℕ) → is_access_to o r ≡ true �
 designated_is None r e = absurd (cc e)
 designated_is (Some (record_of name ps cs)) r e = absurd (cc e)
 designated_is (Some (access_to name d)) r e = ap (λ v. Some v) (eqb-true d r e)
+designated_is (Some (object_of t)) r e = absurd (cc e)
 
 pub access_designates : (types : List TypeForm) (access record_type : ℕ) → designates types access record_type ≡ true → fits.designated_type types access ≡ Some record_type
 unfolding designates
@@ -110,7 +116,7 @@ unfolding components_of
 components_are types t name ps cs e = rw e refl
 
 reached_is : (types : List TypeForm) (access t : ℕ) (name : List ℕ) (ps : List PartForm) (cs : List ComponentKind) → fits.designated_type types access ≡ Some t → slice_get types t ≡ Some (record_of name ps cs) → fits.reached_components types access ≡ Some cs
-reached_is types access t name ps cs d e = rw d (rw e refl)
+reached_is types access t name ps cs d e = rw (designated_named (slice_get types access) t d) (rw e refl)
 
 -- a new object
 filled_one : (k : Known) (text : List ℕ) (e : Entity) (access : TypeNo) (spot end_spot : Spot) (name : Ident) (items : ItemsTree) → PartsFit k.types k.variables (parts k) → EntityFits k.types k.variables text e → Quiet (allocated_wanted (Some e) k.types (Some access) spot name) → Quiet (items_remark k (filled_components k (complete_in (Some e))) (names_component items) (first_filling (filled_components k (complete_in (Some e)))) items) → Quiet (count_remark (names_component items) (filling_of k (filled_components k (complete_in (Some e))) items) end_spot) → IsSourceFor k.types k.variables (variable.Access access) false (allocation k (Some access) (complete_in (Some e)) items)
@@ -169,4 +175,5 @@ right_fits k (variable.Access access) false (allocator_right spot handle type_na
 right_fits k (variable.Access access) true (allocator_right spot handle type_name items) w q = absurd q.1.0
 right_fits k variable.Integer borrows (allocator_right spot handle type_name items) w q = absurd q.0
 right_fits k variable.Boolean borrows (allocator_right spot handle type_name items) w q = absurd q.0
+right_fits k (variable.Record object) borrows (allocator_right spot handle type_name items) w q = absurd q.0
 right_fits k kind borrows (creation_right function argument) w q = absurd q
