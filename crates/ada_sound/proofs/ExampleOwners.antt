@@ -27,7 +27,7 @@ use Rattle.ada_meaning.specs.declared.event.Why.TheVariants.{FollowsGone, EndsTw
 use Rattle.ada_meaning.specs.Named.{next}
 use Rattle.ada_meaning.specs.Run.{grants, takes}
 use Rattle.ada_sound.specs.Always.{IsChecked, FinishesAfter, Breaks, IsIllNested, HaltsAfter}
-use Rattle.ada_sound.specs.OwnerExamples.{default_stmts, default_events, owning_stmts, owning_events, pairing_stmts, pairing_events, items_stmts, items_events, outlasting_stmts, outlasting_events}
+use Rattle.ada_sound.specs.OwnerExamples.{default_stmts, default_events, record_stmts, record_events, owning_stmts, owning_events, pairing_stmts, pairing_events, items_stmts, items_events, outlasting_stmts, outlasting_events}
 use Rattle.ada_sound.proofs.Choices.{halts_after, accepted_by, breaks_by, ill_nested_by}
 use Rattle.ada_sound.proofs.Example.{steps, vec, no_name, spot, link, declarations}
 
@@ -236,3 +236,47 @@ defaults =
     halts_after defaulting default_stmts no_handlers defaulting_form refl []
     (steps 10 ++ grants true ∷ steps 4 ++ grants true ∷ steps 10 ++ takes 0 ∷ steps 2 ++ takes 0 ∷ steps 4)
     default_events Finished refl refl refl
+
+-- R.C, where R is the record object of number 0.
+abbrev of_r : ℕ → Path
+of_r c = record (part 0 c) { of_record = true }
+
+-- type Node is record Value : Integer := 5; Next : Link; end record; R : Node; X : Link;
+abbrev record_types : List TypeDefinition
+record_types = five_types ++ definition.Object (record { 0 = 0 }) ∷ []
+
+abbrev record_variables : List Variable
+record_variables = record { name = no_name; kind = variable.Record (record { 0 = 2 }); borrows = false } ∷ link ∷ []
+
+abbrev record_declarations : List Declaration
+record_declarations =
+    declaration.Collection (record { 0 = 1 }) ∷ declaration.Record (record { 0 = 0 }) (record { 0 = 2 }) ∷ declaration.Variable (record { 0 = 1 }) None ∷ []
+
+-- R.Next := new Node; X := R.Next; R.Next := null; Put_Line (Integer'Image (R.Value)); Free (X);
+abbrev record_all : List Stmt
+record_all = default_news (of_r 1) ∷ moves (whole 1) (of_r 1) ∷ clears (of_r 1) ∷ stmt.PutImage (Reads (of_r 0)) ∷ frees 1 ∷ []
+
+abbrev pub recording : Program
+recording = record {
+  types = vec record_types (omega arith);
+  variables = vec record_variables (omega arith);
+  texts = vec [] (omega arith);
+  exceptions = vec [] (omega arith);
+  declarations = vec record_declarations (omega arith);
+  statements = vec record_all (omega arith);
+  handlers = vec [] (omega arith);
+}
+
+pub recording_form : stmt_forms recording ≡ record_stmts
+recording_form = simp (statement_rules, expression_rules)
+
+pub recording_accepted : IsChecked recording
+unfolding expression_form uses_in
+recording_accepted = accepted_by recording record_stmts no_handlers recording_form refl _ _ refl refl refl
+
+pub records : FinishesAfter record_events recording
+unfolding next expression_form
+records =
+    halts_after recording record_stmts no_handlers recording_form refl []
+    (steps 9 ++ grants true ∷ steps 19 ++ takes 0 ∷ steps 5)
+    record_events Finished refl refl refl

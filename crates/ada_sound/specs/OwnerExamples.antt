@@ -1,6 +1,6 @@
 -- The statements and the events of the programs by which the laws show what is needed where components own.
 
-use Rattle.std.specs.Prelude.{ℕ, List, [], ◌∷◌, ◌++◌, None, Some, false, pos}
+use Rattle.std.specs.Prelude.{ℕ, List, [], ◌∷◌, ◌++◌, None, Some, true, false, pos}
 use Rattle.std.proofs.Math.ListN.{replicate}
 use Rattle.ada_program.specs.Form.{PathForm, integer, reads, is_null, nothing, null_item, item_of_path, item_of_value, value_of, allocates, allocates_default, collects, declares, StmtForm, assigns, frees, writes, repeats, encloses, StmtsForm, no_stmts, a_stmt, no_handlers}
 use Rattle.ada_meaning.specs.declared.state.Value.TheVariants.{Names}
@@ -70,6 +70,30 @@ default_events =
     ∷ Line (Image (pos 5))
     ∷ Back (Names (record { 0 = 1 })) 1 2 (Some 0) None (Leaving 0 0)
     ∷ Back (Names (record { 0 = 0 })) 1 1 (Some 0) None (Leaving 0 0)
+    ∷ Left 0
+    ∷ []
+
+-- R : Node; X : Link; have numbers 0 and 1. The component Value of R, of number 0, and its component Next, of number 1
+abbrev pub record_path : ℕ → PathForm
+record_path c = record (example_path 0 (c ∷ [])) { of_record = true }
+
+-- R.Next := new Node; X := R.Next; R.Next := null; Put_Line (Integer'Image (R.Value)); Free (X); where the Value of a Node is 5 at first
+abbrev pub record_stmts : StmtsForm
+record_stmts =
+    a_stmt (assigns (record_path 1) (allocates_default 1))
+    (a_stmt (assigns (example_path 1 []) (value_of (record_path 1)))
+    (a_stmt (assigns (record_path 1) nothing)
+    (a_stmt (writes (reads (record_path 0)))
+    (a_stmt (frees 1 (example_path 1 [])) no_stmts))))
+
+-- R's object is the first one, and is followed twice where its Next is a target, once where it is read, and so is its Value. The node is freed; R's
+-- object goes with its own item, of number 1, and no pool is told.
+abbrev pub record_events : List Event
+record_events =
+    replicate 6 (Followed (Names (record { 0 = 0 })))
+    ++ Line (Image (pos 5))
+    ∷ Back (Names (record { 0 = 1 })) 1 1 (Some 0) None (Freeing 1)
+    ∷ Back (Names (record { 0 = 0 })) 2 0 None None (Leaving 0 1)
     ∷ Left 0
     ∷ []
 

@@ -177,7 +177,8 @@ pub fn borrowers_only_borrow()
 /// into a list behind its first one: each of them takes what the component held that it goes to, and so a borrower meets
 /// the newer one before the older one. And one that frees a component, whose access type is not the one on the way to it:
 /// the component is null then, and to free it once more has no effect. And one whose objects have no items: it reads what
-/// a component holds at first.
+/// a component holds at first. And one with a record object, which is an object, too: a component of it gets a new object,
+/// which a take pair takes and which is freed, and the record object goes back with its own item, to no pool.
 pub fn premises_are_met()
     ensures begins { (program : Program) × IsChecked program × ReachesStatement program }
     ensures finishes { (program : Program) × IsChecked program × FinishesAfter examples.example_events program }
@@ -205,6 +206,8 @@ pub fn premises_are_met()
         × IsChecked program × FinishesAfter owner_examples.owning_events program }
     ensures defaults { (program : Program) × (stmt_forms program ≡ owner_examples.default_stmts)
         × IsChecked program × FinishesAfter owner_examples.default_events program }
+    ensures records { (program : Program) × (stmt_forms program ≡ owner_examples.record_stmts)
+        × IsChecked program × FinishesAfter owner_examples.record_events program }
     ensures walks { (program : Program) × (stmt_forms program ≡ borrower_examples.walking_stmts)
         × borrower_examples.HasBorrower program
         × IsChecked program × FinishesAfter borrower_examples.walking_events program }

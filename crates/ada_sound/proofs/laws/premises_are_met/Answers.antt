@@ -1,4 +1,4 @@
--- By fifteen programs and their runs.
+-- By seventeen programs and their runs.
 use Rattle.ada_sound.proofs.Example as example
 use Rattle.ada_sound.proofs.ExampleBlocks as blocks
 use Rattle.ada_sound.proofs.ExampleTargets as targets
@@ -45,6 +45,9 @@ returns-clause-owns c = (owners.owning, owners.owning_form, owners.owning_accept
 
 pub returns-clause-defaults : goal.returns-clause-defaults
 returns-clause-defaults c = (owners.defaulting, owners.defaulting_form, owners.defaulting_accepted, owners.defaults)
+
+pub returns-clause-records : goal.returns-clause-records
+returns-clause-records c = (owners.recording, owners.recording_form, owners.recording_accepted, owners.records)
 
 pub returns-clause-walks : goal.returns-clause-walks
 returns-clause-walks c = (borrowers.walking, borrowers.walking_form, borrowers.walking_borrows, borrowers.walking_accepted, borrowers.walks)

@@ -1,0 +1,11 @@
+with Ada.Text_IO; with Ada.Unchecked_Deallocation; with Run_Input;
+procedure Main is
+type Node; type Link is access Node;
+type Node is record Value : Integer := 0; Next : Link; end record;
+procedure Free is new Ada.Unchecked_Deallocation (Node, Link);
+type List is record Head : Link; Count : Integer := 5; end record;
+
+R : List; N : Integer := 0;
+begin
+R.Count := 1; R.Value := 2;
+end Main;
