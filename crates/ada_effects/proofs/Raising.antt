@@ -3,10 +3,10 @@
 use Rattle.std.proofs.Common.{◌≡◌, Bool, true, false, ◌||◌, ◌&&◌, not, List, [], ◌∷◌, ap, sym, subst, inl, inr}
 use Rattle.std.proofs.lemmas.Bool.{or_cases, or_left, or_right, and_parts, and_from, false_from_ne_true, both_ways, not_from_false, not_from_true, not-true}
 use Rattle.std.proofs.Math.Path.{fun_ext}
-use Rattle.ada_effects.specs.Effects.{untaken, passes, path_raises, expression_raises, items_raise, condition_raises, right_raises, declaration_raises, declarations_raise, stmt_raises, stmts_raise, branches_raise, handlers_raise}
+use Rattle.ada_effects.specs.Effects.{untaken, passes, path_raises, record_path_raises, expression_raises, items_raise, initial_raises, condition_raises, right_raises, declaration_raises, declarations_raise, stmt_raises, stmts_raise, branches_raise, handlers_raise}
 use Rattle.ada_program.specs.declared.program.Exception.{Exception}
 use Rattle.ada_program.specs.declared.program.Exception.TheVariants.{ConstraintError, StorageError, EndError}
-use Rattle.ada_program.specs.Form.{RightForm, nothing, value_of, allocates, allocates_default, computes, DeclarationForm, collects, declares, declares_record, StmtForm, skips, assigns, frees, gets, writes, writes_text, chooses, repeats, counts, exits, returns, raises, encloses, StmtsForm, no_stmts, a_stmt, BranchesForm, otherwise, a_branch, HandlersForm, no_handlers, a_handler}
+use Rattle.ada_program.specs.Form.{RightForm, nothing, value_of, allocates, allocates_default, computes, DeclarationForm, collects, declares, declares_record, StmtForm, skips, assigns, assigns_record, frees, gets, writes, writes_text, chooses, repeats, counts, exits, returns, raises, encloses, StmtsForm, no_stmts, a_stmt, BranchesForm, otherwise, a_branch, HandlersForm, no_handlers, a_handler}
 use Rattle.ada_program.specs.Handling.{is_same, is_taken}
 use Rattle.ada_effects.specs.Laws as laws
 use Rattle.ada_effects.specs.Taken.{outside, with_handlers, have_others}
@@ -48,7 +48,7 @@ either a b c d f g h = elim (or_cases a b h) [ inl x ↦ or_left c d (f x) | inr
 
 right_stays : (p q : Exception → Bool) → Within p q → (right : RightForm) → right_raises p right ≡ true → right_raises q right ≡ true
 right_stays p q w nothing h = cc
-right_stays p q w (value_of path) h = checked p q w (path_raises path.selectors) h
+right_stays p q w (value_of path) h = checked p q w (path_raises path) h
 right_stays p q w (allocates access items) h =
     either (p StorageError) (p ConstraintError && items_raise items) (q StorageError) (q ConstraintError && items_raise items)
     (w StorageError) (checked p q w (items_raise items)) h
@@ -58,7 +58,7 @@ right_stays p q w (computes e) h = checked p q w (expression_raises e) h
 declaration_stays : (p q : Exception → Bool) → Within p q → (d : DeclarationForm) → declaration_raises p d ≡ true → declaration_raises q d ≡ true
 declaration_stays p q w (collects access) h = cc
 declaration_stays p q w (declares x right) h = right_stays p q w right h
-declaration_stays p q w (declares_record x object) h = cc
+declaration_stays p q w (declares_record x object initial) h = checked p q w (initial_raises initial) h
 
 declarations_stay : (p q : Exception → Bool) → Within p q → (ds : List DeclarationForm) → declarations_raise p ds ≡ true → declarations_raise q ds ≡ true
 declarations_stay p q w [] h = cc
@@ -70,12 +70,13 @@ mutual
   stmt_stays : (f : StmtForm) (p q : Exception → Bool) → Within p q → stmt_raises p f ≡ true → stmt_raises q f ≡ true
   stmt_stays skips p q w h = cc
   stmt_stays (assigns target right) p q w h =
-      let follows = path_raises target.selectors in
+      let follows = path_raises target in
       either (p ConstraintError && follows) (right_raises p right) (q ConstraintError && follows) (right_raises q right)
       (checked p q w follows) (right_stays p q w right) h
-  stmt_stays (frees access path) p q w h = checked p q w (path_raises path.selectors) h
+  stmt_stays (assigns_record target items) p q w h = checked p q w (record_path_raises target || items_raise items) h
+  stmt_stays (frees access path) p q w h = checked p q w (path_raises path) h
   stmt_stays (gets target) p q w h =
-      let follows = path_raises target.selectors in
+      let follows = path_raises target in
       either (p EndError) (p ConstraintError && follows) (q EndError) (q ConstraintError && follows) (w EndError) (checked p q w follows) h
   stmt_stays (writes e) p q w h = checked p q w (expression_raises e) h
   stmt_stays (writes_text text) p q w h = cc
@@ -135,7 +136,7 @@ one_checked p b h = let parts = and_parts (p ConstraintError) b h in (Constraint
 
 right_has_one : (p : Exception → Bool) (right : RightForm) → right_raises p right ≡ true → One p (λ r. right_raises r right)
 right_has_one p nothing h = cc
-right_has_one p (value_of path) h = one_checked p (path_raises path.selectors) h
+right_has_one p (value_of path) h = one_checked p (path_raises path) h
 right_has_one p (allocates access items) h =
     one_of p (λ r. r StorageError) (λ r. r ConstraintError && items_raise items) (itself p StorageError) (one_checked p (items_raise items)) h
 right_has_one p (allocates_default access) h = itself p StorageError h
@@ -144,7 +145,7 @@ right_has_one p (computes e) h = one_checked p (expression_raises e) h
 declaration_has_one : (p : Exception → Bool) (d : DeclarationForm) → declaration_raises p d ≡ true → One p (λ r. declaration_raises r d)
 declaration_has_one p (collects access) h = cc
 declaration_has_one p (declares x right) h = right_has_one p right h
-declaration_has_one p (declares_record x object) h = cc
+declaration_has_one p (declares_record x object initial) h = one_checked p (initial_raises initial) h
 
 declarations_have_one : (p : Exception → Bool) (ds : List DeclarationForm) → declarations_raise p ds ≡ true → One p (λ r. declarations_raise r ds)
 declarations_have_one p [] h = cc
@@ -166,12 +167,13 @@ mutual
   stmt_has_one : (f : StmtForm) (p : Exception → Bool) → stmt_raises p f ≡ true → One p (λ r. stmt_raises r f)
   stmt_has_one skips p h = cc
   stmt_has_one (assigns target right) p h =
-      one_of p (λ r. r ConstraintError && path_raises target.selectors) (λ r. right_raises r right)
-      (one_checked p (path_raises target.selectors)) (right_has_one p right) h
-  stmt_has_one (frees access path) p h = one_checked p (path_raises path.selectors) h
+      one_of p (λ r. r ConstraintError && path_raises target) (λ r. right_raises r right)
+      (one_checked p (path_raises target)) (right_has_one p right) h
+  stmt_has_one (assigns_record target items) p h = one_checked p (record_path_raises target || items_raise items) h
+  stmt_has_one (frees access path) p h = one_checked p (path_raises path) h
   stmt_has_one (gets target) p h =
-      one_of p (λ r. r EndError) (λ r. r ConstraintError && path_raises target.selectors)
-      (itself p EndError) (one_checked p (path_raises target.selectors)) h
+      one_of p (λ r. r EndError) (λ r. r ConstraintError && path_raises target)
+      (itself p EndError) (one_checked p (path_raises target)) h
   stmt_has_one (writes e) p h = one_checked p (expression_raises e) h
   stmt_has_one (writes_text text) p h = cc
   stmt_has_one (chooses branches) p h = branches_have_one branches p h

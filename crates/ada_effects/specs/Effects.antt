@@ -7,7 +7,7 @@ use Rattle.ada_values.specs.declared.operator.BinaryOperator.{BinaryOperator}
 use Rattle.ada_values.specs.declared.operator.BinaryOperator.TheVariants as binary
 use Rattle.ada_program.specs.declared.program.Exception.{Exception}
 use Rattle.ada_program.specs.declared.program.Exception.TheVariants.{ConstraintError, StorageError, EndError}
-use Rattle.ada_program.specs.Form.{ExpressionForm, integer, boolean, reads, is_null, applied_to, chained, LinksForm, no_more_links, a_link, ItemForm, null_item, item_of_path, item_of_value, RightForm, nothing, value_of, allocates, allocates_default, computes, DeclarationForm, collects, declares, declares_record, StmtForm, skips, assigns, frees, gets, writes, writes_text, chooses, repeats, counts, exits, returns, raises, encloses, StmtsForm, no_stmts, a_stmt, BranchesForm, otherwise, a_branch, HandlersForm, no_handlers, a_handler}
+use Rattle.ada_program.specs.Form.{PathForm, RecordPathForm, ExpressionForm, integer, boolean, reads, is_null, applied_to, chained, LinksForm, no_more_links, a_link, ItemForm, null_item, item_of_path, item_of_value, item_of_record, RightForm, nothing, value_of, allocates, allocates_default, computes, DeclarationForm, collects, declares, declares_record, StmtForm, skips, assigns, assigns_record, frees, gets, writes, writes_text, chooses, repeats, counts, exits, returns, raises, encloses, StmtsForm, no_stmts, a_stmt, BranchesForm, otherwise, a_branch, HandlersForm, no_handlers, a_handler}
 use Rattle.ada_program.specs.Handling.{is_taken}
 
 -- Expressions: they raise Constraint_Error alone.
@@ -27,18 +27,34 @@ binary_raises binary.Modulo = true
 binary_raises binary.Remainder = true
 binary_raises operator = false
 
--- A path that follows an access value may find null there (4.1). The first component of a record object counts as if it were followed to.
-abbrev pub path_raises : List ℕ → Bool
-path_raises [] = false
-path_raises (c ∷ cs) = true
+-- Does a path with these components behind its variable follow an access value (4.1)? To the first component of a record object nothing is followed.
+abbrev pub follows_value : (of_record : Bool) → List ℕ → Bool
+follows_value of_record [] = false
+follows_value false (c ∷ cs) = true
+follows_value true (c ∷ []) = false
+follows_value true (c ∷ d ∷ cs) = true
+
+-- A path that follows an access value may find null there (4.1).
+abbrev pub path_raises : PathForm → Bool
+path_raises path = follows_value path.of_record path.selectors
+
+-- Is the object in which a record lies that of an access value (4.1), and no record object?
+abbrev pub is_behind_value : (of_record : Bool) → List ℕ → Bool
+is_behind_value false [] = true
+is_behind_value true [] = false
+is_behind_value of_record (c ∷ cs) = true
+
+-- A path to a record may find null where it follows an access value to its object (4.1).
+abbrev pub record_path_raises : RecordPathForm → Bool
+record_path_raises p = is_behind_value p.object.of_record p.object.selectors
 
 abbrev mutual
   -- Whether an expression may raise an exception.
   pub expression_raises : ExpressionForm → Bool
   expression_raises (integer value) = false
   expression_raises (boolean value) = false
-  expression_raises (reads path) = path_raises path.selectors
-  expression_raises (is_null equal path) = path_raises path.selectors
+  expression_raises (reads path) = path_raises path
+  expression_raises (is_null equal path) = path_raises path
   expression_raises (applied_to operator e) = unary_raises operator || expression_raises e
   expression_raises (chained e links) = expression_raises e || links_raise links
 
@@ -50,8 +66,9 @@ abbrev mutual
 -- Whether the items of an allocator may.
 abbrev pub item_raises : ItemForm → Bool
 item_raises null_item = false
-item_raises (item_of_path path) = path_raises path.selectors
+item_raises (item_of_path path) = path_raises path
 item_raises (item_of_value e) = expression_raises e
+item_raises (item_of_record p) = record_path_raises p
 
 -- Whether one of these items may raise Constraint_Error.
 abbrev pub items_raise : List ItemForm → Bool
@@ -72,16 +89,21 @@ untaken hs among e = among e && not (is_taken hs e)
 -- What is assigned: a new object may want storage.
 abbrev pub right_raises : (Exception → Bool) → RightForm → Bool
 right_raises among nothing = false
-right_raises among (value_of path) = among ConstraintError && path_raises path.selectors
+right_raises among (value_of path) = among ConstraintError && path_raises path
 right_raises among (allocates access items) = among StorageError || (among ConstraintError && items_raise items)
 right_raises among (allocates_default access) = among StorageError
 right_raises among (computes e) = among ConstraintError && expression_raises e
+
+-- What a record object is given at first may raise Constraint_Error.
+abbrev pub initial_raises : Option (List ItemForm) → Bool
+initial_raises None = false
+initial_raises (Some items) = items_raise items
 
 -- Whether a declaration may raise one of these exceptions: its initial value may. A record object wants no storage of a pool.
 abbrev pub declaration_raises : (Exception → Bool) → DeclarationForm → Bool
 declaration_raises among (collects access) = false
 declaration_raises among (declares x right) = right_raises among right
-declaration_raises among (declares_record x object) = false
+declaration_raises among (declares_record x object initial) = among ConstraintError && initial_raises initial
 
 -- Whether one of these declarations may raise one of these exceptions.
 abbrev pub declarations_raise : (Exception → Bool) → List DeclarationForm → Bool
@@ -92,9 +114,10 @@ abbrev mutual
   -- May a statement raise one of these exceptions? Handlers take what they name from the statements of their own block alone (11.4).
   pub stmt_raises : (Exception → Bool) → StmtForm → Bool
   stmt_raises among skips = false
-  stmt_raises among (assigns target right) = (among ConstraintError && path_raises target.selectors) || right_raises among right
-  stmt_raises among (frees access path) = among ConstraintError && path_raises path.selectors
-  stmt_raises among (gets target) = among EndError || (among ConstraintError && path_raises target.selectors)
+  stmt_raises among (assigns target right) = (among ConstraintError && path_raises target) || right_raises among right
+  stmt_raises among (assigns_record target items) = among ConstraintError && (record_path_raises target || items_raise items)
+  stmt_raises among (frees access path) = among ConstraintError && path_raises path
+  stmt_raises among (gets target) = among EndError || (among ConstraintError && path_raises target)
   stmt_raises among (writes e) = among ConstraintError && expression_raises e
   stmt_raises among (writes_text text) = false
   stmt_raises among (chooses branches) = branches_raise among branches

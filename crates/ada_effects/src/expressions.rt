@@ -2,10 +2,10 @@
 
 ghost use Rattle.std.specs.Prelude.{◌≡◌, map};
 ghost use Rattle.ada_effects.specs.Effects as rules;
-ghost use Rattle.ada_program.specs.Form.{condition_form, expression_form, item_form, links_form, path_form};
+ghost use Rattle.ada_program.specs.Form.{condition_form, expression_form, item_form, links_form, path_form, record_path_form};
 
 use ada_program::Path;
-use ada_program::program::{Expression, Item, Link};
+use ada_program::program::{Expression, Item, Link, RecordPath};
 use ada_values::operator::{BinaryOperator, UnaryOperator};
 
 /// Whether an expression may raise an exception.
@@ -58,15 +58,23 @@ fn binary_raises(operator: BinaryOperator) -> bool
     )
 }
 
-/// Whether a path may find null where it follows an access value (4.1). The first component of a record object counts as if
-/// it were followed to.
-pub(crate) fn path_raises(path: &Path) -> bool
-    ensures { result ≡ rules.path_raises (path_form path.now).selectors }
+/// Whether a path may find null where it follows an access value (4.1). To the first component of a record object nothing is
+/// followed.
+pub fn path_raises(path: &Path) -> bool
+    ensures { result ≡ rules.path_raises (path_form path.now) }
 {
-    !path.selectors.is_empty()
+    let named = path.selectors.len();
+    named > 1 || named == 1 && !path.of_record
 }
 
-/// Whether an item of an allocator may raise an exception.
+/// Whether a path to a record may find null where it follows an access value to the object in which the record lies (4.1).
+pub fn record_path_raises(path: &RecordPath) -> bool
+    ensures { result ≡ rules.record_path_raises (record_path_form path.now) }
+{
+    !path.object.of_record || !path.object.selectors.is_empty()
+}
+
+/// Whether an item of an aggregate may raise an exception.
 fn item_raises(item: &Item) -> bool
     ensures { result ≡ rules.item_raises (item_form item.now) }
 {
@@ -74,10 +82,11 @@ fn item_raises(item: &Item) -> bool
         Item::Null => false,
         Item::Path(path) => path_raises(path),
         Item::Value(expression) => expression_raises(expression),
+        Item::Record(path) => record_path_raises(path),
     }
 }
 
-/// Whether the items of an allocator may raise an exception.
+/// Whether the items of an aggregate may raise an exception.
 pub fn items_raise(items: &[Item]) -> bool
     ensures { result ≡ rules.items_raise (map item_form items.now) }
 {

@@ -10,5 +10,7 @@ pub mod laws;
 mod raised;
 mod taken;
 
-pub use crate::expressions::{condition_raises, expression_raises, items_raise};
+pub use crate::expressions::{
+    condition_raises, expression_raises, items_raise, path_raises, record_path_raises,
+};
 pub use crate::raised::passes;

@@ -6,7 +6,9 @@ ghost use Rattle.ada_effects.specs.Taken.{set_of, outside};
 ghost use Rattle.ada_program.specs.declared.program.Exception.TheVariants.{ConstraintError, StorageError};
 ghost use Rattle.ada_program.specs.Form.{StmtsForm, right_form, declaration_form, stmt_form, stmts_form, branches_form, handlers_form};
 
-use crate::expressions::{condition_raises, expression_raises, items_raise, path_raises};
+use crate::expressions::{
+    condition_raises, expression_raises, items_raise, path_raises, record_path_raises,
+};
 use crate::taken::{Taken, have_others};
 use ada_program::Stmt;
 use ada_program::program::{Branch, Declaration, Exception, Handler, Right};
@@ -67,6 +69,11 @@ fn declaration_raises(declaration: &Declaration, taken: &Taken) -> bool
             variable: _,
             initial: Some(right),
         } => right_raises(right, taken),
+        Declaration::Record {
+            variable: _,
+            object: _,
+            initial: Some(items),
+        } => constraint_error_leaves(taken) && items_raise(items),
         _ => false,
     }
 }
@@ -98,6 +105,9 @@ fn stmt_raises(alloc: Global, statement: &Stmt, taken: &mut Taken) -> Result<boo
         Stmt::Assign { target, value } => {
             Ok(constraint_error_leaves(taken) && path_raises(target) || right_raises(value, taken))
         }
+        Stmt::AssignRecord { target, items } => Ok(
+            constraint_error_leaves(taken) && (record_path_raises(target) || items_raise(items)),
+        ),
         Stmt::Get(target) => Ok(
             !taken.contains(Exception::EndError)
                 || constraint_error_leaves(taken) && path_raises(target),

@@ -11,7 +11,7 @@ use Rattle.ada_flow.specs.Aliases.{is_alias, tells_aliases}
 use Rattle.ada_flow.specs.declared.rule.Hold.{Hold}
 use Rattle.ada_flow.specs.declared.rule.Hold.TheVariants.{Null, Own, Alias, Lost}
 use Rattle.ada_flow.specs.declared.rule.Region.TheVariants.{Whole}
-use Rattle.ada_flow.specs.Flow.{Holds, if_own, is_among, join, join_hold, left, without_alias, without_aliases}
+use Rattle.ada_flow.specs.Flow.{Holds, if_own, is_among, join, join_hold, without_alias, without_aliases, without_types}
 
 -- of two that are not, neither is
 first_not : (a b : Bool) → (a || b) ≡ false → a ≡ false
@@ -76,20 +76,20 @@ told_of_join true b gs hs one other = refl
 told_of_join false true gs hs one other = refl
 told_of_join false false gs hs one other = ap not (none_joined gs hs (not_so (list_any is_alias gs) one) (not_so (list_any is_alias hs) other))
 
--- behind a block
+-- where collections and record objects are gone
 own_left : (b : Bool) (h : Hold) → is_alias h ≡ false → is_alias (if_own b h) ≡ false
 own_left true h own = own
 own_left false h own = refl
 
-none_left : (vs : List VariableForm) (types : List ℕ) (hs : Holds) → list_any is_alias hs ≡ false → list_any is_alias (left vs types hs) ≡ false
+none_left : (vs : List VariableForm) (types : List ℕ) (hs : Holds) → list_any is_alias hs ≡ false → list_any is_alias (without_types vs types hs) ≡ false
 none_left [] types hs none = refl
 none_left (v ∷ vs) types [] none = refl
 none_left (v ∷ vs) types (h ∷ hs) none =
-    neither (is_alias (if_own (not (is_among types (access_of (Some v.kind)))) h)) (list_any is_alias (left vs types hs))
+    neither (is_alias (if_own (not (is_among types (access_of (Some v.kind)))) h)) (list_any is_alias (without_types vs types hs))
     (own_left (not (is_among types (access_of (Some v.kind)))) h (first_not (is_alias h) (list_any is_alias hs) none))
     (none_left vs types hs (second_not (is_alias h) (list_any is_alias hs) none))
 
-pub told_of_left : (a : Bool) (vs : List VariableForm) (types : List ℕ) (hs : Holds) → IsTrue (tells_aliases a hs) → IsTrue (tells_aliases a (left vs types hs))
+pub told_of_left : (a : Bool) (vs : List VariableForm) (types : List ℕ) (hs : Holds) → IsTrue (tells_aliases a hs) → IsTrue (tells_aliases a (without_types vs types hs))
 told_of_left true vs types hs told = refl
 told_of_left false vs types hs told = ap not (none_left vs types hs (not_so (list_any is_alias hs) told))
 

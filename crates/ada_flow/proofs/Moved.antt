@@ -1,14 +1,16 @@
--- Items of an allocator that move paths, one behind the other.
+-- Items of an aggregate that move paths, one behind the other.
 
 use Rattle.std.proofs.Common.{◌≡◌, ℕ, ◌+◌, ◌<◌, Bool, ◌||◌, List, [], ◌∷◌, ◌++◌, Option, append_assoc, append-nil, length, get_or, take, drop, map, refl, sym, ap, ◌∙◌}
 use Rattle.std.proofs.Math.Bool.{or_assoc, or_comm}
 use Rattle.std.proofs.lemmas.List.{at_drop_more, take_more, map-append}
 use Rattle.std.specs.Prelude.{if◌then◌else◌}
+use Rattle.ada_text.specs.declared.spot.Spot.{Spot}
 use Rattle.ada_flow.specs.Flow.{Breach, Holds, Use, moves_it, moves_again, broken_among, leftmost, is_named, is_target, named_by_item, same_path, uses_in_item, uses_in_items, without_value, without_values}
 use Rattle.ada_flow.specs.Told.{named_by_items}
 use Rattle.ada_flow.proofs.Leftmost.{broken_among_more, leftmost_of_three}
 use Rattle.ada_program.specs.declared.program.Item.{Item}
-use Rattle.ada_program.specs.Form.{PathForm, ItemForm, null_item, item_of_path, item_of_value, item_form}
+use Rattle.ada_program.specs.Form.{PathForm, ItemForm, null_item, item_of_path, item_of_value, item_of_record, item_form}
+use Rattle.ada_program.specs.ProgramForm.{TypeForm}
 
 -- a path among more is among the first ones, or the others
 pub is_named_more : (xs ys : List PathForm) (path : PathForm) → is_named (xs ++ ys) path ≡ (is_named xs path || is_named ys path)
@@ -31,24 +33,25 @@ without_more [] ys holds = refl
 without_more (x ∷ xs) ys holds = without_more xs ys (without_value x holds)
 
 -- how an item moves its path, behind items that move the same paths
-item_uses_by_same : (target : Option PathForm) (xs ys : List PathForm) (i : ItemForm) → ((path : PathForm) → is_named xs path ≡ is_named ys path) →
-    uses_in_item target xs i ≡ uses_in_item target ys i
-item_uses_by_same target xs ys null_item same = refl
-item_uses_by_same target xs ys (item_of_path path) same =
+item_uses_by_same : (types : List TypeForm) (spot : Spot) (target : Option PathForm) (xs ys : List PathForm) (i : ItemForm) → ((path : PathForm) → is_named xs path ≡ is_named ys path) →
+    uses_in_item types spot target xs i ≡ uses_in_item types spot target ys i
+item_uses_by_same types spot target xs ys null_item same = refl
+item_uses_by_same types spot target xs ys (item_of_path path) same =
     ap (λ (b : Bool). (if b then moves_again path else moves_it (is_target target path) path) ∷ []) (same path)
-item_uses_by_same target xs ys (item_of_value e) same = refl
+item_uses_by_same types spot target xs ys (item_of_value e) same = refl
+item_uses_by_same types spot target xs ys (item_of_record p) same = refl
 
 -- one more of them
 same_behind : (zs xs ys : List PathForm) (path : PathForm) → is_named xs path ≡ is_named ys path → is_named (zs ++ xs) path ≡ is_named (zs ++ ys) path
 same_behind zs xs ys path same = is_named_more zs xs path ∙ ap (λ (b : Bool). is_named zs path || b) same ∙ sym (is_named_more zs ys path)
 
-uses_by_same : (target : Option PathForm) (xs ys : List PathForm) (is : List ItemForm) → ((path : PathForm) → is_named xs path ≡ is_named ys path) →
-    uses_in_items target xs is ≡ uses_in_items target ys is
-uses_by_same target xs ys [] same = refl
-uses_by_same target xs ys (i ∷ is) same =
-    ap (λ (us : List Use). us ++ uses_in_items target (named_by_item i ++ xs) is) (item_uses_by_same target xs ys i same)
-    ∙ ap (λ (us : List Use). uses_in_item target ys i ++ us)
-    (uses_by_same target (named_by_item i ++ xs) (named_by_item i ++ ys) is (λ path. same_behind (named_by_item i) xs ys path (same path)))
+uses_by_same : (types : List TypeForm) (spot : Spot) (target : Option PathForm) (xs ys : List PathForm) (is : List ItemForm) → ((path : PathForm) → is_named xs path ≡ is_named ys path) →
+    uses_in_items types spot target xs is ≡ uses_in_items types spot target ys is
+uses_by_same types spot target xs ys [] same = refl
+uses_by_same types spot target xs ys (i ∷ is) same =
+    ap (λ (us : List Use). us ++ uses_in_items types spot target (named_by_item i ++ xs) is) (item_uses_by_same types spot target xs ys i same)
+    ∙ ap (λ (us : List Use). uses_in_item types spot target ys i ++ us)
+    (uses_by_same types spot target (named_by_item i ++ xs) (named_by_item i ++ ys) is (λ path. same_behind (named_by_item i) xs ys path (same path)))
 
 -- what one more item moves is moved besides
 named_next : (items : List Item) (n : ℕ) (one : Item) → n < length items →
@@ -61,32 +64,32 @@ named_next items n one inside =
     ∙ ap (λ ps. named_by_items (map item_form (take n items)) ++ ps) (append-nil (named_by_item i))
 
 -- the uses in the items that are left, behind those that are done
-broken_among_next : (holds : Holds) (target : Option PathForm) (items : List Item) (n : ℕ) (one : Item) → n < length items →
-    broken_among holds (uses_in_items target (named_by_items (map item_form (take n items))) (map item_form (drop n items)))
-    ≡ leftmost (broken_among holds (uses_in_item target (named_by_items (map item_form (take n items))) (item_form (get_or items n one))))
-    (broken_among holds (uses_in_items target (named_by_items (map item_form (take (n + 1) items))) (map item_form (drop (n + 1) items))))
-broken_among_next holds target items n one inside =
+broken_among_next : (types : List TypeForm) (spot : Spot) (holds : Holds) (target : Option PathForm) (items : List Item) (n : ℕ) (one : Item) → n < length items →
+    broken_among holds (uses_in_items types spot target (named_by_items (map item_form (take n items))) (map item_form (drop n items)))
+    ≡ leftmost (broken_among holds (uses_in_item types spot target (named_by_items (map item_form (take n items))) (item_form (get_or items n one))))
+    (broken_among holds (uses_in_items types spot target (named_by_items (map item_form (take (n + 1) items))) (map item_form (drop (n + 1) items))))
+broken_among_next types spot holds target items n one inside =
     let earlier = named_by_items (map item_form (take n items)) in
     let i = item_form (get_or items n one) in
     let left = map item_form (drop (n + 1) items) in
-    at_drop_more (λ is. broken_among holds (uses_in_items target earlier (map item_form is))) items n one inside
-    ∙ broken_among_more holds (uses_in_item target earlier i) (uses_in_items target (named_by_item i ++ earlier) left)
-    ∙ ap (λ us. leftmost (broken_among holds (uses_in_item target earlier i)) (broken_among holds us))
-    (uses_by_same target (named_by_item i ++ earlier) (named_by_items (map item_form (take (n + 1) items))) left
+    at_drop_more (λ is. broken_among holds (uses_in_items types spot target earlier (map item_form is))) items n one inside
+    ∙ broken_among_more holds (uses_in_item types spot target earlier i) (uses_in_items types spot target (named_by_item i ++ earlier) left)
+    ∙ ap (λ us. leftmost (broken_among holds (uses_in_item types spot target earlier i)) (broken_among holds us))
+    (uses_by_same types spot target (named_by_item i ++ earlier) (named_by_items (map item_form (take (n + 1) items))) left
     (λ path. is_named_swapped (named_by_item i) earlier path ∙ ap (λ ps. is_named ps path) (sym (named_next items n one inside))))
 
 -- what is found in one more item is the leftmost of what was found, and of what it breaks
-pub found_next : (holds : Holds) (target : Option PathForm) (items : List Item) (n : ℕ) (one : Item) (found own joined all : Option Breach) → n < length items → one ≡ get_or items n one →
-    own ≡ broken_among holds (uses_in_item target (named_by_items (map item_form (take n items))) (item_form one)) → joined ≡ leftmost found own →
-    leftmost found (broken_among holds (uses_in_items target (named_by_items (map item_form (take n items))) (map item_form (drop n items)))) ≡ all →
-    leftmost joined (broken_among holds (uses_in_items target (named_by_items (map item_form (take (n + 1) items))) (map item_form (drop (n + 1) items)))) ≡ all
-found_next holds target items n one found own joined all inside item own_is joins before =
+pub found_next : (types : List TypeForm) (spot : Spot) (holds : Holds) (target : Option PathForm) (items : List Item) (n : ℕ) (one : Item) (found own joined all : Option Breach) → n < length items → one ≡ get_or items n one →
+    own ≡ broken_among holds (uses_in_item types spot target (named_by_items (map item_form (take n items))) (item_form one)) → joined ≡ leftmost found own →
+    leftmost found (broken_among holds (uses_in_items types spot target (named_by_items (map item_form (take n items))) (map item_form (drop n items)))) ≡ all →
+    leftmost joined (broken_among holds (uses_in_items types spot target (named_by_items (map item_form (take (n + 1) items))) (map item_form (drop (n + 1) items)))) ≡ all
+found_next types spot holds target items n one found own joined all inside item own_is joins before =
     let earlier = named_by_items (map item_form (take n items)) in
-    let left = broken_among holds (uses_in_items target (named_by_items (map item_form (take (n + 1) items))) (map item_form (drop (n + 1) items))) in
+    let left = broken_among holds (uses_in_items types spot target (named_by_items (map item_form (take (n + 1) items))) (map item_form (drop (n + 1) items))) in
     ap (λ (b : Option Breach). leftmost b left) (joins ∙ ap (leftmost found) own_is)
-    ∙ leftmost_of_three found (broken_among holds (uses_in_item target earlier (item_form one))) left
-    ∙ ap (λ (i : Item). leftmost found (leftmost (broken_among holds (uses_in_item target earlier (item_form i))) left)) item
-    ∙ sym (ap (leftmost found) (broken_among_next holds target items n one inside))
+    ∙ leftmost_of_three found (broken_among holds (uses_in_item types spot target earlier (item_form one))) left
+    ∙ ap (λ (i : Item). leftmost found (leftmost (broken_among holds (uses_in_item types spot target earlier (item_form i))) left)) item
+    ∙ sym (ap (leftmost found) (broken_among_next types spot holds target items n one inside))
     ∙ before
 
 -- which paths items move, one behind the other

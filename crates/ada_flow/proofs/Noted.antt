@@ -1,6 +1,6 @@
 -- How forms end, one after another, by what is noted of where they raise exceptions.
 
-use Rattle.std.proofs.Common.{◌≡◌, ℕ, Bool, true, false, List, [], ◌∷◌, ◌≤◌, length, arith, Option, Some, None, refl, sym, ap, ◌∙◌}
+use Rattle.std.proofs.Common.{◌≡◌, Bool, true, false, List, [], ◌∷◌, ◌≤◌, length, arith, Option, Some, None, refl, sym, ap, ◌∙◌}
 use Rattle.std.specs.Prelude.{Result, Ok, Err, if◌then◌else◌}
 use Rattle.ada_text.specs.declared.spot.Spot.{Spot}
 use Rattle.ada_effects.specs.Effects.{passes}
@@ -8,7 +8,7 @@ use Rattle.ada_program.specs.declared.program.Choice.{Choice}
 use Rattle.ada_program.specs.declared.program.Handler.{Handler}
 use Rattle.ada_flow.specs.declared.rule.Rule.{Rule}
 use Rattle.ada_flow.specs.declared.rule.Rule.TheVariants.{LoopState}
-use Rattle.ada_flow.specs.Flow.{Holds, Outcome, faults, goes, Around, begins_pair, join_option, left_option, either_of, also_raises, then_flow, computed, stmt_flow, stmts_flow, branches_flow, handlers_flow, handled, leaves_block, raising_if, left_with, ends_turn, unless_worse, are_as_good, condition_flow, loop_flow, in_loop, in_block, collected, declaration_flow, declarations_flow}
+use Rattle.ada_flow.specs.Flow.{Holds, Outcome, faults, goes, Gone, Around, begins_pair, join_option, left_option, either_of, also_raises, then_flow, computed, stmt_flow, stmts_flow, branches_flow, handlers_flow, handled, leaves_block, raising_if, left_with, ends_turn, unless_worse, are_as_good, condition_flow, loop_flow, in_loop, in_block, gone_with, declaration_flow, declarations_flow}
 use Rattle.ada_flow.specs.Told.{Noted, unwanted, wanted, also_noted, noted_behind, emptied, ending, end_handled, joined_end, judgement, noted_for}
 use Rattle.ada_flow.proofs.Joined.{join_option_of_three, join_option_none}
 use Rattle.ada_program.specs.Form.{StmtForm, StmtsForm, a_stmt, BranchesForm, a_branch, ExpressionForm, HandlersForm, no_handlers, a_handler, DeclarationForm, encloses, handlers_form}
@@ -128,17 +128,17 @@ handlers_break so_far n types variables around choices fs hs raising breach brea
     ap (joined_end so_far) (either_ends n (stmts_flow types variables around fs raising) (handlers_flow types variables around hs raising)
     ∙ ap (λ o. either_end o (λ m. ending m (handlers_flow types variables around hs raising))) breaks)
 
--- a block that is left
-abbrev pub left_end : Noted → List VariableForm → (collections : List ℕ) → End → End
-left_end n variables collections (Err breach) = Err breach
-left_end n variables collections (Ok end) = Ok (left_option variables collections end.0, noted_behind n variables collections end.1)
+-- a block that is left, with which this goes
+abbrev pub left_end : Noted → List VariableForm → (gone : Gone) → End → End
+left_end n variables gone (Err breach) = Err breach
+left_end n variables gone (Ok end) = Ok (left_option variables gone end.0, noted_behind n variables gone end.1)
 
-pub block_ends : (n : Noted) (variables : List VariableForm) (collections : List ℕ) (o : Outcome) →
-    ending n (leaves_block variables collections o) ≡ left_end n variables collections (ending (emptied n) o)
-block_ends unwanted variables collections (faults spot rule) = refl
-block_ends unwanted variables collections (goes normal raising) = refl
-block_ends (wanted before) variables collections (faults spot rule) = refl
-block_ends (wanted before) variables collections (goes normal raising) = refl
+pub block_ends : (n : Noted) (variables : List VariableForm) (gone : Gone) (o : Outcome) →
+    ending n (leaves_block variables gone o) ≡ left_end n variables gone (ending (emptied n) o)
+block_ends unwanted variables gone (faults spot rule) = refl
+block_ends unwanted variables gone (goes normal raising) = refl
+block_ends (wanted before) variables gone (faults spot rule) = refl
+block_ends (wanted before) variables gone (goes normal raising) = refl
 
 -- a loop that is left, or is not
 abbrev pub left_over : Bool → Holds → End → End
@@ -215,11 +215,11 @@ handled_behind types variables around passes fs hs (Ok (Some at, n)) = handled_e
 
 -- declarations, then statements with their handlers
 pub body_ends : (n : Noted) (types : List TypeForm) (variables : List VariableForm) (around : Around) (passes : Bool) (ds : List DeclarationForm) (fs : StmtsForm) (hs : HandlersForm) (holds : Holds) →
-    ending n (then_flow (declarations_flow variables ds holds) (λ at. handled passes (handlers_flow types variables around hs) (stmts_flow types variables around fs at)))
-    ≡ then_handled types variables around passes fs hs (ending n (declarations_flow variables ds holds))
+    ending n (then_flow (declarations_flow types variables ds holds) (λ at. handled passes (handlers_flow types variables around hs) (stmts_flow types variables around fs at)))
+    ≡ then_handled types variables around passes fs hs (ending n (declarations_flow types variables ds holds))
 body_ends n types variables around passes ds fs hs holds =
-    then_ends n (declarations_flow variables ds holds) (λ at. handled passes (handlers_flow types variables around hs) (stmts_flow types variables around fs at))
-    ∙ handled_behind types variables around passes fs hs (ending n (declarations_flow variables ds holds))
+    then_ends n (declarations_flow types variables ds holds) (λ at. handled passes (handlers_flow types variables around hs) (stmts_flow types variables around fs at))
+    ∙ handled_behind types variables around passes fs hs (ending n (declarations_flow types variables ds holds))
 
 -- the judgement by an end
 abbrev pub judged : End → Result (Unit {0}) (Spot × Rule)
@@ -232,16 +232,16 @@ judgement_by n (goes normal raising) = refl
 
 -- a whole program is judged by how it ends
 pub program_ends : (n : Noted) (types : List TypeForm) (variables : List VariableForm) (around : Around) (passes : Bool) (ds : List DeclarationForm) (fs : StmtsForm) (hs : HandlersForm) (holds : Holds) →
-    judgement (then_flow (declarations_flow variables ds holds) (λ at. handled passes (handlers_flow types variables around hs) (stmts_flow types variables around fs at)))
-    ≡ judged (then_handled types variables around passes fs hs (ending n (declarations_flow variables ds holds)))
+    judgement (then_flow (declarations_flow types variables ds holds) (λ at. handled passes (handlers_flow types variables around hs) (stmts_flow types variables around fs at)))
+    ≡ judged (then_handled types variables around passes fs hs (ending n (declarations_flow types variables ds holds)))
 program_ends n types variables around passes ds fs hs holds =
-    judgement_by n (then_flow (declarations_flow variables ds holds) (λ at. handled passes (handlers_flow types variables around hs) (stmts_flow types variables around fs at)))
+    judgement_by n (then_flow (declarations_flow types variables ds holds) (λ at. handled passes (handlers_flow types variables around hs) (stmts_flow types variables around fs at)))
     ∙ ap judged (body_ends n types variables around passes ds fs hs holds)
 
 -- declarations end as the first, or else as the others
-pub declarations_end : (n : Noted) (variables : List VariableForm) (d : DeclarationForm) (ds : List DeclarationForm) (holds : Holds) →
-    ending n (declarations_flow variables (d ∷ ds) holds) ≡ then_end (ending n (declaration_flow variables d holds)) (declarations_flow variables ds)
-declarations_end n variables d ds holds = then_ends n (declaration_flow variables d holds) (declarations_flow variables ds)
+pub declarations_end : (n : Noted) (types : List TypeForm) (variables : List VariableForm) (d : DeclarationForm) (ds : List DeclarationForm) (holds : Holds) →
+    ending n (declarations_flow types variables (d ∷ ds) holds) ≡ then_end (ending n (declaration_flow types variables d holds)) (declarations_flow types variables ds)
+declarations_end n types variables d ds holds = then_ends n (declaration_flow types variables d holds) (declarations_flow types variables ds)
 
 -- one turn of a loop, where it leads back
 pub turn_returns : (leaves : Bool) (n m k : Noted) (condition : Option ExpressionForm) (spot : Spot) (types : List TypeForm) (variables : List VariableForm) (fs : StmtsForm) (start after : Holds) →
@@ -269,49 +269,49 @@ turn_stops leaves n m k condition spot types variables fs start tests turns =
 -- a block ends as its statements do with their handlers, behind its declarations
 enclosed_ends : (n : Noted) (types : List TypeForm) (variables : List VariableForm) (around : Around) (cleared : Bool) (ds : List DeclarationForm) (fs : StmtsForm) (hs : HandlersForm) (holds : Holds) →
     ending n (stmt_flow types variables around cleared (encloses ds fs hs) holds)
-    ≡ left_end n variables (collected ds)
-    (then_handled types variables (in_block (collected ds) around) (passes fs hs) fs hs (ending (emptied n) (declarations_flow variables ds holds)))
+    ≡ left_end n variables (gone_with ds)
+    (then_handled types variables (in_block (gone_with ds) around) (passes fs hs) fs hs (ending (emptied n) (declarations_flow types variables ds holds)))
 enclosed_ends n types variables around cleared ds fs hs holds =
-    block_ends n variables (collected ds) (then_flow (declarations_flow variables ds holds) (λ at. handled (passes fs hs) (handlers_flow types variables (in_block (collected ds) around) hs) (stmts_flow types variables (in_block (collected ds) around) fs at)))
-    ∙ ap (left_end n variables (collected ds)) (body_ends (emptied n) types variables (in_block (collected ds) around) (passes fs hs) ds fs hs holds)
+    block_ends n variables (gone_with ds) (then_flow (declarations_flow types variables ds holds) (λ at. handled (passes fs hs) (handlers_flow types variables (in_block (gone_with ds) around) hs) (stmts_flow types variables (in_block (gone_with ds) around) fs at)))
+    ∙ ap (left_end n variables (gone_with ds)) (body_ends (emptied n) types variables (in_block (gone_with ds) around) (passes fs hs) ds fs hs holds)
 
 -- its declarations break a rule
 pub block_declares_badly : (n : Noted) (types : List TypeForm) (variables : List VariableForm) (around : Around) (cleared : Bool) (ds : List DeclarationForm) (fs : StmtsForm) (hs : HandlersForm) (holds : Holds) (breach : Spot × Rule) →
-    ending (emptied n) (declarations_flow variables ds holds) ≡ Err breach →
+    ending (emptied n) (declarations_flow types variables ds holds) ≡ Err breach →
     ending n (stmt_flow types variables around cleared (encloses ds fs hs) holds) ≡ Err breach
 block_declares_badly n types variables around cleared ds fs hs holds breach declares =
     enclosed_ends n types variables around cleared ds fs hs holds
-    ∙ ap (λ e. left_end n variables (collected ds) (then_handled types variables (in_block (collected ds) around) (passes fs hs) fs hs e)) declares
+    ∙ ap (λ e. left_end n variables (gone_with ds) (then_handled types variables (in_block (gone_with ds) around) (passes fs hs) fs hs e)) declares
 
 -- its statements do
-pub block_breaks : (n m : Noted) (types : List TypeForm) (variables : List VariableForm) (around : Around) (cleared : Bool) (collections : List ℕ) (ds : List DeclarationForm) (fs : StmtsForm) (hs : HandlersForm) (holds at : Holds) (breach : Spot × Rule) →
-    collections ≡ collected ds → ending (emptied n) (declarations_flow variables ds holds) ≡ Ok (Some at, m) →
-    ending (noted_for m hs) (stmts_flow types variables (in_block collections around) fs at) ≡ Err breach →
+pub block_breaks : (n m : Noted) (types : List TypeForm) (variables : List VariableForm) (around : Around) (cleared : Bool) (gone : Gone) (ds : List DeclarationForm) (fs : StmtsForm) (hs : HandlersForm) (holds at : Holds) (breach : Spot × Rule) →
+    gone ≡ gone_with ds → ending (emptied n) (declarations_flow types variables ds holds) ≡ Ok (Some at, m) →
+    ending (noted_for m hs) (stmts_flow types variables (in_block gone around) fs at) ≡ Err breach →
     ending n (stmt_flow types variables around cleared (encloses ds fs hs) holds) ≡ Err breach
-block_breaks n m types variables around cleared collections ds fs hs holds at breach same declares breaks =
+block_breaks n m types variables around cleared gone ds fs hs holds at breach same declares breaks =
     enclosed_ends n types variables around cleared ds fs hs holds
-    ∙ ap (λ e. left_end n variables (collected ds) (then_handled types variables (in_block (collected ds) around) (passes fs hs) fs hs e)) declares
-    ∙ ap (λ ts. left_end n variables (collected ds) (handled_end m (passes fs hs) (handlers_flow types variables (in_block (collected ds) around) hs) (ending (noted_for m hs) (stmts_flow types variables (in_block ts around) fs at)))) (sym same)
-    ∙ ap (λ e. left_end n variables (collected ds) (handled_end m (passes fs hs) (handlers_flow types variables (in_block (collected ds) around) hs) e)) breaks
+    ∙ ap (λ e. left_end n variables (gone_with ds) (then_handled types variables (in_block (gone_with ds) around) (passes fs hs) fs hs e)) declares
+    ∙ ap (λ g. left_end n variables (gone_with ds) (handled_end m (passes fs hs) (handlers_flow types variables (in_block (gone_with ds) around) hs) (ending (noted_for m hs) (stmts_flow types variables (in_block g around) fs at)))) (sym same)
+    ∙ ap (λ e. left_end n variables (gone_with ds) (handled_end m (passes fs hs) (handlers_flow types variables (in_block (gone_with ds) around) hs) e)) breaks
 
 -- its statements end, and its handlers do, or break a rule
-pub block_handles : (n m k : Noted) (types : List TypeForm) (variables : List VariableForm) (around : Around) (cleared : Bool) (collections : List ℕ) (ds : List DeclarationForm) (fs : StmtsForm) (hs : HandlersForm) (holds at : Holds) (normal : Option Holds) (end : End) →
-    collections ≡ collected ds → ending (emptied n) (declarations_flow variables ds holds) ≡ Ok (Some at, m) →
-    ending (noted_for m hs) (stmts_flow types variables (in_block collections around) fs at) ≡ Ok (normal, k) →
-    end_handled m (passes fs hs) (handlers_flow types variables (in_block collections around) hs) normal k ≡ end →
-    ending n (stmt_flow types variables around cleared (encloses ds fs hs) holds) ≡ left_end n variables collections end
-block_handles n m k types variables around cleared collections ds fs hs holds at normal end same declares ends handles =
+pub block_handles : (n m k : Noted) (types : List TypeForm) (variables : List VariableForm) (around : Around) (cleared : Bool) (gone : Gone) (ds : List DeclarationForm) (fs : StmtsForm) (hs : HandlersForm) (holds at : Holds) (normal : Option Holds) (end : End) →
+    gone ≡ gone_with ds → ending (emptied n) (declarations_flow types variables ds holds) ≡ Ok (Some at, m) →
+    ending (noted_for m hs) (stmts_flow types variables (in_block gone around) fs at) ≡ Ok (normal, k) →
+    end_handled m (passes fs hs) (handlers_flow types variables (in_block gone around) hs) normal k ≡ end →
+    ending n (stmt_flow types variables around cleared (encloses ds fs hs) holds) ≡ left_end n variables gone end
+block_handles n m k types variables around cleared gone ds fs hs holds at normal end same declares ends handles =
     enclosed_ends n types variables around cleared ds fs hs holds
-    ∙ ap (λ e. left_end n variables (collected ds) (then_handled types variables (in_block (collected ds) around) (passes fs hs) fs hs e)) declares
-    ∙ ap (λ ts. left_end n variables ts (handled_end m (passes fs hs) (handlers_flow types variables (in_block ts around) hs) (ending (noted_for m hs) (stmts_flow types variables (in_block ts around) fs at)))) (sym same)
-    ∙ ap (λ e. left_end n variables collections (handled_end m (passes fs hs) (handlers_flow types variables (in_block collections around) hs) e)) ends
-    ∙ ap (left_end n variables collections) handles
+    ∙ ap (λ e. left_end n variables (gone_with ds) (then_handled types variables (in_block (gone_with ds) around) (passes fs hs) fs hs e)) declares
+    ∙ ap (λ g. left_end n variables g (handled_end m (passes fs hs) (handlers_flow types variables (in_block g around) hs) (ending (noted_for m hs) (stmts_flow types variables (in_block g around) fs at)))) (sym same)
+    ∙ ap (λ e. left_end n variables gone (handled_end m (passes fs hs) (handlers_flow types variables (in_block gone around) hs) e)) ends
+    ∙ ap (left_end n variables gone) handles
 
 -- a program whose declarations, statements and handlers come to an end obeys the rules
 pub program_obeys : (n m k : Noted) (types : List TypeForm) (variables : List VariableForm) (around : Around) (passes : Bool) (ds : List DeclarationForm) (fs : StmtsForm) (hs : HandlersForm) (holds at : Holds) (normal : Option Holds) (end : Option Holds × Noted) →
-    ending n (declarations_flow variables ds holds) ≡ Ok (Some at, m) → ending (noted_for m hs) (stmts_flow types variables around fs at) ≡ Ok (normal, k) →
+    ending n (declarations_flow types variables ds holds) ≡ Ok (Some at, m) → ending (noted_for m hs) (stmts_flow types variables around fs at) ≡ Ok (normal, k) →
     end_handled m passes (handlers_flow types variables around hs) normal k ≡ Ok end →
-    judgement (then_flow (declarations_flow variables ds holds) (λ at. handled passes (handlers_flow types variables around hs) (stmts_flow types variables around fs at))) ≡ Ok tt
+    judgement (then_flow (declarations_flow types variables ds holds) (λ at. handled passes (handlers_flow types variables around hs) (stmts_flow types variables around fs at))) ≡ Ok tt
 program_obeys n m k types variables around passes ds fs hs holds at normal end declares ends handles =
     program_ends n types variables around passes ds fs hs holds
     ∙ ap (λ e. judged (then_handled types variables around passes fs hs e)) declares

@@ -1,20 +1,22 @@
 -- The rules of the flow of values: what each variable may be relied on for, from statement to statement.
 
 use Rattle.std.specs.Prelude.{◌≡◌, ℕ, Bool, true, false, ◌&&◌, ◌||◌, not, ◌==◌, nat_lt, if◌then◌else◌, List, [], ◌∷◌, ◌++◌, length, map, Option, Some, None}
-use Rattle.std.specs.List.{slice_index_or, slice_set}
+use Rattle.std.specs.List.{list_any, slice_get, slice_index_or, slice_set}
 use Rattle.std.proofs.Math.ListN.{replicate}
 use Rattle.ada_text.specs.declared.spot.Spot.{Spot}
+use Rattle.ada_program.specs.declared.program.ComponentKind.{ComponentKind}
+use Rattle.ada_program.specs.declared.program.ComponentKind.TheVariants as component
 use Rattle.ada_program.specs.declared.program.Program.{Program}
 use Rattle.ada_program.specs.declared.program.VariableKind.{VariableKind}
-use Rattle.ada_program.specs.Form.{PathForm, ExpressionForm, integer, boolean, reads, is_null, applied_to, chained, LinksForm, no_more_links, a_link, ItemForm, null_item, item_of_path, item_of_value, RightForm, nothing, value_of, allocates, allocates_default, computes, StmtForm, skips, assigns, frees, gets, writes, writes_text, chooses, repeats, counts, exits, returns, raises, encloses, StmtsForm, no_stmts, a_stmt, BranchesForm, otherwise, a_branch, HandlersForm, no_handlers, a_handler, DeclarationForm, collects, declares, declares_record, declaration_forms, stmt_forms, handler_forms}
+use Rattle.ada_program.specs.Form.{PathForm, RecordPathForm, ExpressionForm, integer, boolean, reads, is_null, applied_to, chained, LinksForm, no_more_links, a_link, ItemForm, null_item, item_of_path, item_of_value, item_of_record, RightForm, nothing, value_of, allocates, allocates_default, computes, StmtForm, skips, assigns, assigns_record, frees, gets, writes, writes_text, chooses, repeats, counts, exits, returns, raises, encloses, StmtsForm, no_stmts, a_stmt, BranchesForm, otherwise, a_branch, HandlersForm, no_handlers, a_handler, DeclarationForm, collects, declares, declares_record, declaration_forms, stmt_forms, handler_forms}
 use Rattle.ada_program.specs.ProgramForm.{TypeForm, type_form, VariableForm, variable_form}
-use Rattle.ada_program.specs.WellFormed.{access_of, variable_kind, selected_kind, path_access, is_this, is_borrower}
-use Rattle.ada_effects.specs.Effects.{expression_raises, path_raises, passes}
+use Rattle.ada_program.specs.WellFormed.{record_components, reached_components, access_of, variable_kind, selected_kind, path_access, is_this, is_borrower}
+use Rattle.ada_effects.specs.Effects.{expression_raises, path_raises, record_path_raises, items_raise, initial_raises, passes}
 use Rattle.ada_flow.specs.declared.rule.Hold.{Hold}
 use Rattle.ada_flow.specs.declared.rule.Hold.TheVariants.{Null, Own, Alias, Lost}
 use Rattle.ada_flow.specs.declared.rule.Region.TheVariants.{Whole}
 use Rattle.ada_flow.specs.declared.rule.Rule.{Rule}
-use Rattle.ada_flow.specs.declared.rule.Rule.TheVariants.{LostValue, AliasMoved, TakePair, LoopState, UnsafePath}
+use Rattle.ada_flow.specs.declared.rule.Rule.TheVariants.{LostValue, AliasMoved, TakePair, LoopState, UnsafePath, RecordCopied}
 
 -- What the variables of a body hold, by their numbers.
 abbrev pub Holds : Type 0
@@ -81,15 +83,18 @@ ends_with may_raise before after = goes (Some after) (raising_if may_raise befor
 
 -- Paths that are used (4.1, 4.5.2, 5.2).
 
--- A path that a statement uses: its value is read, or an access value is compared with null, or lent to a borrower, or moved: out of a variable, or
--- out of a component, which the same or the next statement overwrites then, or none does; or it is moved though an item before it moves it already
--- (4.8).
+-- What a statement uses: a path, whose value is read, or an access value that is compared with null, or lent to a borrower, or moved: out of a
+-- variable, or out of a component, which the same or the next statement overwrites then, or none does; or it is moved though an item before it moves
+-- it already (4.8); or the path to the object in which a record lies; or a record as a whole, which goes to what stands here, and of which some
+-- component owns what it names, or none does (4.3.1, 5.2).
 pub data Use : Type 0 where
   reads_it : PathForm → Use
   compares_it : PathForm → Use
   borrows_it : PathForm → Use
   moves_it : (overwritten : Bool) → PathForm → Use
   moves_again : PathForm → Use
+  reaches_it : PathForm → Use
+  copies_to : (owning : Bool) → Spot → Use
 
 unfoldable mutual
   -- The paths in an expression, in text order.
@@ -116,6 +121,7 @@ abbrev pub moved_by_item : ItemForm → List ℕ
 moved_by_item null_item = []
 moved_by_item (item_of_path path) = variable_of path.selectors path.root
 moved_by_item (item_of_value e) = []
+moved_by_item (item_of_record p) = []
 
 -- Are these the same selectors?
 abbrev pub same_selectors : List ℕ → List ℕ → Bool
@@ -143,34 +149,57 @@ is_target (Some target) path = same_path target path
 abbrev pub item_move : (target : Option PathForm) → (earlier : List PathForm) → PathForm → Use
 item_move target earlier path = if is_named earlier path then moves_again path else moves_it (is_target target path) path
 
--- The paths in an item of an aggregate, behind items that name these paths.
-abbrev pub uses_in_item : (target : Option PathForm) → (earlier : List PathForm) → ItemForm → List Use
-uses_in_item target earlier null_item = []
-uses_in_item target earlier (item_of_path path) = item_move target earlier path ∷ []
-uses_in_item target earlier (item_of_value e) = uses_in e
+-- Is a component of an access type, and so owns what it names?
+abbrev pub is_owning : ComponentKind → Bool
+is_owning (component.Integer initial) = false
+is_owning (component.Boolean initial) = false
+is_owning (component.Access access) = true
+
+-- Has a record type a component that owns what it names, at any depth?
+abbrev pub owns_among : Option (List ComponentKind) → Bool
+owns_among None = false
+owns_among (Some components) = list_any is_owning components
+
+-- Has the record type of a number such a component?
+abbrev pub is_owning_record : List TypeForm → (record_type : ℕ) → Bool
+is_owning_record types t = owns_among (record_components types t)
+
+-- The paths in an item of an aggregate, behind items that name these paths; a record is copied to what stands at the spot.
+abbrev pub uses_in_item : List TypeForm → (spot : Spot) → (target : Option PathForm) → (earlier : List PathForm) → ItemForm → List Use
+uses_in_item types spot target earlier null_item = []
+uses_in_item types spot target earlier (item_of_path path) = item_move target earlier path ∷ []
+uses_in_item types spot target earlier (item_of_value e) = uses_in e
+uses_in_item types spot target earlier (item_of_record p) = copies_to (is_owning_record types p.record_type) spot ∷ reaches_it p.object ∷ []
 
 -- The path that an item moves, if it moves one.
 abbrev pub named_by_item : ItemForm → List PathForm
 named_by_item null_item = []
 named_by_item (item_of_path path) = path ∷ []
 named_by_item (item_of_value e) = []
+named_by_item (item_of_record p) = []
 
 -- The paths in items, in the order of the components.
-abbrev pub uses_in_items : (target : Option PathForm) → (earlier : List PathForm) → List ItemForm → List Use
-uses_in_items target earlier [] = []
-uses_in_items target earlier (i ∷ is) = uses_in_item target earlier i ++ uses_in_items target (named_by_item i ++ earlier) is
+abbrev pub uses_in_items : List TypeForm → (spot : Spot) → (target : Option PathForm) → (earlier : List PathForm) → List ItemForm → List Use
+uses_in_items types spot target earlier [] = []
+uses_in_items types spot target earlier (i ∷ is) =
+    uses_in_item types spot target earlier i ++ uses_in_items types spot target (named_by_item i ++ earlier) is
 
 -- How an assignment uses the path whose value it assigns (5.2): it lends the value to a borrower, and else moves it.
 abbrev pub value_use : (borrows cleared : Bool) → PathForm → Use
 value_use borrows cleared path = if borrows then borrows_it path else moves_it cleared path
 
--- The paths in what is assigned, to a borrower or not, and to a component or not, where the next statement clears what is moved, or does not.
-abbrev pub uses_in_right : (borrows cleared : Bool) → (target : Option PathForm) → RightForm → List Use
-uses_in_right borrows cleared target nothing = []
-uses_in_right borrows cleared target (value_of path) = value_use borrows cleared path ∷ []
-uses_in_right borrows cleared target (allocates access items) = uses_in_items target [] items
-uses_in_right borrows cleared target (allocates_default access) = []
-uses_in_right borrows cleared target (computes e) = uses_in e
+-- The paths in what is assigned to what stands at the spot, to a borrower or not, and to a component or not, where the next statement clears what is
+-- moved, or does not.
+abbrev pub uses_in_right : List TypeForm → (spot : Spot) → (borrows cleared : Bool) → (target : Option PathForm) → RightForm → List Use
+uses_in_right types spot borrows cleared target nothing = []
+uses_in_right types spot borrows cleared target (value_of path) = value_use borrows cleared path ∷ []
+uses_in_right types spot borrows cleared target (allocates access items) = uses_in_items types spot target [] items
+uses_in_right types spot borrows cleared target (allocates_default access) = []
+uses_in_right types spot borrows cleared target (computes e) = uses_in e
+
+-- The paths in the items that a record gets that stands at the spot (4.3.1, 5.2).
+abbrev pub uses_in_record : List TypeForm → (spot : Spot) → (record_type : ℕ) → List ItemForm → List Use
+uses_in_record types spot t items = copies_to (is_owning_record types t) spot ∷ uses_in_items types spot None [] items
 
 -- The path of a target is followed up to the object in which its component lies (5.2); a variable is not.
 abbrev pub uses_in_target : PathForm → List Use
@@ -222,6 +251,11 @@ abbrev pub moved_behind : (overwritten : Bool) → List ℕ → Hold → Spot �
 moved_behind overwritten [] hold spot = moved_by hold spot
 moved_behind overwritten (c ∷ cs) hold spot = taken_by overwritten hold spot
 
+-- A record is copied as a whole only if none of its components owns what it names: else there would be two owners.
+abbrev pub copied_to : (owning : Bool) → Spot → Option Breach
+copied_to false spot = None
+copied_to true spot = Some (spot, RecordCopied)
+
 -- The rule that a use of a path breaks, if it breaks one: of two items that move one path, the second moves what is lost.
 abbrev pub broken_in : Holds → Use → Option Breach
 broken_in holds (reads_it path) = lost_behind path.selectors (hold_at holds path.root) path.spot
@@ -229,6 +263,8 @@ broken_in holds (compares_it path) = lost_by (hold_at holds path.root) path.spot
 broken_in holds (borrows_it path) = lost_by (hold_at holds path.root) path.spot
 broken_in holds (moves_it overwritten path) = moved_behind overwritten path.selectors (hold_at holds path.root) path.spot
 broken_in holds (moves_again path) = Some (path.spot, LostValue)
+broken_in holds (reaches_it path) = lost_by (hold_at holds path.root) path.spot
+broken_in holds (copies_to owning spot) = copied_to owning spot
 
 -- The leftmost of the rules that paths break.
 abbrev pub broken_among : Holds → List Use → Option Breach
@@ -322,27 +358,33 @@ right_hold borrows (computes e) holds = Lost
 -- Whether an assignment may raise an exception where it evaluates what is assigned: there may be no storage.
 abbrev pub evaluation_raises : RightForm → Bool
 evaluation_raises nothing = false
-evaluation_raises (value_of path) = path_raises path.selectors
+evaluation_raises (value_of path) = path_raises path
 evaluation_raises (allocates access items) = true
 evaluation_raises (allocates_default access) = true
 evaluation_raises (computes e) = expression_raises e
 
--- After a variable, a borrower or not, gets a value (3.3.1, 5.2): what was moved goes there.
-abbrev pub gives_value : (borrows cleared : Bool) → (x : ℕ) → RightForm → Holds → Outcome
-gives_value borrows cleared x right holds =
-    using_paths (uses_in_right borrows cleared None right) holds
+-- After a variable that stands at the spot, a borrower or not, gets a value (3.3.1, 5.2): what was moved goes there.
+abbrev pub gives_value : List TypeForm → (spot : Spot) → (borrows cleared : Bool) → (x : ℕ) → RightForm → Holds → Outcome
+gives_value types spot borrows cleared x right holds =
+    using_paths (uses_in_right types spot borrows cleared None right) holds
     (ends_with (evaluation_raises right) holds
     (slice_set (without_values (moved_by_right borrows right) holds) x (right_hold borrows right holds)))
 
 -- After a variable gets a value: it is a borrower, or not.
-abbrev pub gives : List VariableForm → (cleared : Bool) → (x : ℕ) → RightForm → Holds → Outcome
-gives variables cleared x right holds = gives_value (is_borrower variables x) cleared x right holds
+abbrev pub gives : List TypeForm → List VariableForm → (spot : Spot) → (cleared : Bool) → (x : ℕ) → RightForm → Holds → Outcome
+gives types variables spot cleared x right holds = gives_value types spot (is_borrower variables x) cleared x right holds
 
 -- After a component gets a value (5.2), whose object is found first: it owns what it gets, and no variable changes but those that are moved.
-abbrev pub gives_component : (cleared : Bool) → PathForm → RightForm → Holds → Outcome
-gives_component cleared path right holds =
-    using_paths (uses_in_target path ++ uses_in_right false cleared (Some path) right) holds
-    (ends_with true holds (without_values (moved_by_right false right) holds))
+abbrev pub gives_component : List TypeForm → (cleared : Bool) → PathForm → RightForm → Holds → Outcome
+gives_component types cleared path right holds =
+    using_paths (uses_in_target path ++ uses_in_right types path.spot false cleared (Some path) right) holds
+    (ends_with (path_raises path || evaluation_raises right) holds (without_values (moved_by_right false right) holds))
+
+-- After a record gets the values of items (5.2), whose object is found first: no variable changes.
+abbrev pub gives_record : List TypeForm → RecordPathForm → List ItemForm → Holds → Outcome
+gives_record types target items holds =
+    using_paths (reaches_it target.object ∷ uses_in_record types target.object.spot target.record_type items) holds
+    (ends_with (record_path_raises target || items_raise items) holds holds)
 
 -- Statements (5.1).
 
@@ -377,9 +419,9 @@ released variables x spot holds (Alias r) = faults spot AliasMoved
 released variables x spot holds Lost = faults spot LostValue
 
 -- A target: a variable, or a component.
-abbrev pub gives_path : List VariableForm → (cleared : Bool) → List ℕ → PathForm → RightForm → Holds → Outcome
-gives_path variables cleared [] path right holds = gives variables cleared path.root right holds
-gives_path variables cleared (c ∷ cs) path right holds = gives_component cleared path right holds
+abbrev pub gives_path : List TypeForm → List VariableForm → (cleared : Bool) → List ℕ → PathForm → RightForm → Holds → Outcome
+gives_path types variables cleared [] path right holds = gives types variables path.spot cleared path.root right holds
+gives_path types variables cleared (c ∷ cs) path right holds = gives_component types cleared path right holds
 
 -- A take pair (5.2): `T := P.C;` and `P.C := null;`, one behind the other, move a value out of a component.
 
@@ -429,7 +471,7 @@ freed_behind true Lost spot = Some (spot, LostValue)
 abbrev pub released_behind : List TypeForm → List VariableForm → PathForm → Holds → Option ℕ → Outcome
 released_behind types variables path holds access =
     unless_broken (freed_behind (passes_own types variables path access) (hold_at holds path.root) path.spot)
-    (ends_with true (behind_end variables access holds) (behind_end variables access holds))
+    (ends_with (path_raises path) (behind_end variables access holds) (behind_end variables access holds))
 
 -- After Free of a variable, or of a component.
 abbrev pub frees_path : List TypeForm → List VariableForm → List ℕ → PathForm → Holds → Outcome
@@ -491,6 +533,7 @@ abbrev mutual
   pub opened_by : List VariableForm → StmtForm → Holds → Holds
   opened_by variables skips holds = holds
   opened_by variables (assigns target right) holds = opened_target variables target.selectors target.root holds
+  opened_by variables (assigns_record target items) holds = holds
   opened_by variables (frees access path) holds = holds
   opened_by variables (gets target) holds = holds
   opened_by variables (writes e) holds = holds
@@ -520,6 +563,7 @@ abbrev mutual
   pub has_exit : StmtForm → Bool
   has_exit skips = false
   has_exit (assigns target right) = false
+  has_exit (assigns_record target items) = false
   has_exit (frees access path) = false
   has_exit (gets target) = false
   has_exit (writes e) = false
@@ -576,33 +620,67 @@ loop_flow condition leaves end_spot turn start =
 
 -- Blocks (5.6).
 
+-- What is gone behind a block, of which nothing may be relied on there: its access types, whose collections go with it, the types by which its record
+-- objects are known, and its variables.
+pub record Gone : Type 0 where
+  pub types : List ℕ
+  pub variables : List ℕ
+
 -- The access types whose collections declarations create, and the types by which the record objects are known that they create.
 abbrev pub collected : List DeclarationForm → List ℕ
 collected [] = []
 collected (collects access ∷ ds) = access ∷ collected ds
 collected (declares x right ∷ ds) = collected ds
-collected (declares_record x object ∷ ds) = object ∷ collected ds
+collected (declares_record x object initial ∷ ds) = object ∷ collected ds
+
+-- The variables that declarations create.
+abbrev pub declared : List DeclarationForm → List ℕ
+declared [] = []
+declared (collects access ∷ ds) = declared ds
+declared (declares x right ∷ ds) = x ∷ declared ds
+declared (declares_record x object initial ∷ ds) = x ∷ declared ds
+
+-- What goes with a block that has these declarations.
+abbrev pub gone_with : List DeclarationForm → Gone
+gone_with ds = record { types = collected ds; variables = declared ds }
+
+-- Nothing is gone.
+abbrev pub nothing_gone : Gone
+nothing_gone = record { types = []; variables = [] }
+
+-- What goes with two blocks.
+abbrev pub gone_with_both : Gone → Gone → Gone
+gone_with_both inner outer = record { types = inner.types ++ outer.types; variables = inner.variables ++ outer.variables }
 
 -- Is this one of them?
 abbrev pub is_among : List ℕ → Option ℕ → Bool
 is_among [] access = false
 is_among (t ∷ ts) access = is_this t access || is_among ts access
 
--- Behind a block its collections and its record objects are gone: a variable of one of their types is lost.
-abbrev pub left : List VariableForm → (types : List ℕ) → Holds → Holds
-left [] types holds = []
-left (v ∷ vs) types [] = []
-left (v ∷ vs) types (h ∷ hs) = if_own (not (is_among types (access_of (Some v.kind)))) h ∷ left vs types hs
+-- Where collections and record objects are gone, a variable of one of their types is lost.
+abbrev pub without_types : List VariableForm → (types : List ℕ) → Holds → Holds
+without_types [] types holds = []
+without_types (v ∷ vs) types [] = []
+without_types (v ∷ vs) types (h ∷ hs) = if_own (not (is_among types (access_of (Some v.kind)))) h ∷ without_types vs types hs
+
+-- Where variables are gone, they are lost.
+abbrev pub without_variables : List ℕ → Holds → Holds
+without_variables [] holds = holds
+without_variables (x ∷ xs) holds = without_variables xs (slice_set holds x Lost)
+
+-- What is left behind blocks.
+abbrev pub left : List VariableForm → Gone → Holds → Holds
+left variables gone holds = without_variables gone.variables (without_types variables gone.types holds)
 
 -- What is known behind a block that is left on a way that may not be gone.
-abbrev pub left_option : List VariableForm → (types : List ℕ) → Option Holds → Option Holds
-left_option variables types None = None
-left_option variables types (Some holds) = Some (left variables types holds)
+abbrev pub left_option : List VariableForm → Gone → Option Holds → Option Holds
+left_option variables gone None = None
+left_option variables gone (Some holds) = Some (left variables gone holds)
 
--- The outcome of a block, behind which its collections are gone.
-abbrev pub leaves_block : List VariableForm → (types : List ℕ) → Outcome → Outcome
-leaves_block variables types (faults spot rule) = faults spot rule
-leaves_block variables types (goes normal raising) = goes (left_option variables types normal) (left_option variables types raising)
+-- The outcome of a block, behind which what is its own is gone.
+abbrev pub leaves_block : List VariableForm → Gone → Outcome → Outcome
+leaves_block variables gone (faults spot rule) = faults spot rule
+leaves_block variables gone (goes normal raising) = goes (left_option variables gone normal) (left_option variables gone raising)
 
 -- Statements with their handlers (11.4): each handler begins with what is known wherever the statements may raise an exception. What no
 -- handler takes is raised by the whole. Where nothing raises, no handler is examined.
@@ -611,44 +689,64 @@ handled passes handlers (faults spot rule) = faults spot rule
 handled passes handlers (goes normal None) = goes normal None
 handled passes handlers (goes normal (Some raising)) = either_of (goes normal (raising_if passes raising)) (handlers raising)
 
--- Where a statement stands: the start of the innermost loop around it, if there is one, and the access types whose collections are created by
--- blocks between that loop and the statement.
+-- Where a statement stands: the start of the innermost loop around it, if there is one, and what goes with the blocks between that loop and the
+-- statement.
 pub record Around : Type 0 where
   pub start : Option Holds
-  pub inside : List ℕ
+  pub inside : Gone
 
 -- In no loop and no block.
 abbrev pub outermost : Around
-outermost = record { start = None; inside = [] }
+outermost = record { start = None; inside = nothing_gone }
 
 -- Around the statements of a loop: its start, and no block since.
 abbrev pub in_loop : Option Holds → Around
-in_loop start = record { start = start; inside = [] }
+in_loop start = record { start = start; inside = nothing_gone }
 
--- Around the statements of a block with collections of these types.
-abbrev pub in_block : List ℕ → Around → Around
-in_block types around = record around { inside = types ++ around.inside }
+-- Around the statements of a block with which this goes.
+abbrev pub in_block : Gone → Around → Around
+in_block gone around = record around { inside = gone_with_both gone around.inside }
 
 -- An exit (5.7): at a condition, what is known is known behind it, too.
 abbrev pub exit_of : Option ExpressionForm → Holds → Outcome
 exit_of None holds = goes None None
 exit_of (Some e) holds = computed e holds
 
--- Inside a loop with this start it leaves blocks first, with the collections of these types.
-abbrev pub exit_flow : List VariableForm → Option Holds → (inside : List ℕ) → Option ExpressionForm → Spot → Holds → Outcome
+-- Inside a loop with this start it leaves blocks first, with which this goes.
+abbrev pub exit_flow : List VariableForm → Option Holds → (inside : Gone) → Option ExpressionForm → Spot → Holds → Outcome
 exit_flow variables None inside condition spot holds = exit_of condition holds
 exit_flow variables (Some start) inside condition spot holds = unless_worse start (left variables inside holds) spot (exit_of condition holds)
 
+-- Where the name of a variable is declared: nowhere, if there is none.
+abbrev pub spot_in : Option VariableForm → Spot
+spot_in None = record { line = 0; column = 0 }
+spot_in (Some v) = v.spot
+
+-- Where the name of the variable of a number is declared.
+abbrev pub declared_at : List VariableForm → ℕ → Spot
+declared_at variables x = spot_in (slice_get variables x)
+
+-- The record type of the object that is known by a type, where it is known.
+abbrev pub owns_at_first : List TypeForm → (object_type : ℕ) → Bool
+owns_at_first types t = owns_among (reached_components types t)
+
+-- The paths in the initial value of a record object that stands at the spot, where there is one.
+abbrev pub uses_in_initial : List TypeForm → (spot : Spot) → (object_type : ℕ) → Option (List ItemForm) → List Use
+uses_in_initial types spot t None = []
+uses_in_initial types spot t (Some items) = copies_to (owns_at_first types t) spot ∷ uses_in_items types spot None [] items
+
 -- Declarations, in order (3.11). A record object owns itself as long as it is there.
-abbrev pub declaration_flow : List VariableForm → DeclarationForm → Holds → Outcome
-declaration_flow variables (collects access) holds = ends_with false holds holds
-declaration_flow variables (declares x right) holds = gives variables false x right holds
-declaration_flow variables (declares_record x object) holds = ends_with false holds (slice_set holds x (Own Whole))
+abbrev pub declaration_flow : List TypeForm → List VariableForm → DeclarationForm → Holds → Outcome
+declaration_flow types variables (collects access) holds = ends_with false holds holds
+declaration_flow types variables (declares x right) holds = gives types variables (declared_at variables x) false x right holds
+declaration_flow types variables (declares_record x object initial) holds =
+    using_paths (uses_in_initial types (declared_at variables x) object initial) holds
+    (ends_with (initial_raises initial) holds (slice_set holds x (Own Whole)))
 
 -- The flow of declarations, in order (3.11).
-abbrev pub declarations_flow : List VariableForm → List DeclarationForm → Holds → Outcome
-declarations_flow variables [] holds = ends_with false holds holds
-declarations_flow variables (d ∷ ds) holds = then_flow (declaration_flow variables d holds) (declarations_flow variables ds)
+abbrev pub declarations_flow : List TypeForm → List VariableForm → List DeclarationForm → Holds → Outcome
+declarations_flow types variables [] holds = ends_with false holds holds
+declarations_flow types variables (d ∷ ds) holds = then_flow (declaration_flow types variables d holds) (declarations_flow types variables ds)
 
 -- The bounds of a `for` loop are computed once, before it begins (5.5).
 abbrev pub bounds_flow : (low high : ExpressionForm) → Holds → Outcome
@@ -662,7 +760,8 @@ abbrev mutual
   -- After a statement, which is the first one of a take pair, or is not.
   pub stmt_flow : List TypeForm → List VariableForm → Around → (cleared : Bool) → StmtForm → Holds → Outcome
   stmt_flow types variables around cleared skips holds = ends_with false holds holds
-  stmt_flow types variables around cleared (assigns target right) holds = gives_path variables cleared target.selectors target right holds
+  stmt_flow types variables around cleared (assigns target right) holds = gives_path types variables cleared target.selectors target right holds
+  stmt_flow types variables around cleared (assigns_record target items) holds = gives_record types target items holds
   stmt_flow types variables around cleared (frees access path) holds = frees_path types variables path.selectors path holds
   stmt_flow types variables around cleared (gets target) holds = gets_path target.selectors target holds
   stmt_flow types variables around cleared (writes e) holds = computed e holds
@@ -677,10 +776,10 @@ abbrev mutual
   stmt_flow types variables around cleared (returns spot) holds = goes None None
   stmt_flow types variables around cleared (raises e) holds = goes None (Some holds)
   stmt_flow types variables around cleared (encloses ds fs hs) holds =
-      leaves_block variables (collected ds)
-      (then_flow (declarations_flow variables ds holds)
-      (λ at. handled (passes fs hs) (handlers_flow types variables (in_block (collected ds) around) hs)
-      (stmts_flow types variables (in_block (collected ds) around) fs at)))
+      leaves_block variables (gone_with ds)
+      (then_flow (declarations_flow types variables ds holds)
+      (λ at. handled (passes fs hs) (handlers_flow types variables (in_block (gone_with ds) around) hs)
+      (stmts_flow types variables (in_block (gone_with ds) around) fs at)))
 
   -- After statements, in order.
   pub stmts_flow : List TypeForm → List VariableForm → Around → StmtsForm → Holds → Outcome
@@ -716,7 +815,7 @@ variables_of program = map variable_form program.variables.items
 -- After the declarations, the statements and the handlers of the main procedure.
 abbrev pub program_flow : Program → Outcome
 program_flow program =
-    then_flow (declarations_flow (variables_of program) (declaration_forms program) (first_holds program))
+    then_flow (declarations_flow (types_of program) (variables_of program) (declaration_forms program) (first_holds program))
     (λ at. handled (passes (stmt_forms program) (handler_forms program))
     (handlers_flow (types_of program) (variables_of program) outermost (handler_forms program))
     (stmts_flow (types_of program) (variables_of program) outermost (stmt_forms program) at))

@@ -10,6 +10,7 @@ use Rattle.ada_flow.specs.declared.around.Around.{Around as HeldAround}
 use Rattle.ada_flow.specs.declared.fault.Breach.{Breach}
 use Rattle.ada_flow.specs.declared.fault.FlowFault.{FlowFault}
 use Rattle.ada_flow.specs.declared.fault.FlowFault.TheVariants.{Broken, NoMemory}
+use Rattle.ada_flow.specs.declared.gone.Gone.{Gone as HeldGone}
 use Rattle.ada_flow.specs.declared.known.Known.{Known}
 use Rattle.ada_flow.specs.declared.marks.Marks.{Marks}
 use Rattle.ada_flow.specs.declared.raised.Raised.{Raised}
@@ -24,12 +25,12 @@ use Rattle.ada_program.specs.declared.program.Path.{Path}
 use Rattle.ada_program.specs.declared.program.Right.{Right}
 use Rattle.ada_program.specs.declared.program.Stmt.{Stmt}
 use Rattle.ada_program.specs.declared.program.TypeNo.{TypeNo}
-use Rattle.ada_program.specs.declared.program.Variable.{Variable}
+use Rattle.ada_program.specs.declared.program.VariableNo.{VariableNo}
 use Rattle.ada_program.specs.Form.{PathForm, ItemForm, ExpressionForm, StmtsForm, branches_form, HandlersForm, no_handlers, a_handler, condition_form, declaration_form, handlers_form, path_form, right_form, stmts_form}
 use Rattle.ada_program.specs.ProgramForm.{TypeForm, type_form, VariableForm, variable_form}
 use Rattle.ada_program.specs.WellFormed.{access_of}
 use Rattle.ada_effects.specs.Effects.{passes}
-use Rattle.ada_flow.specs.Flow.{Outcome, faults, goes, Holds, Around, if_own, is_among, is_left, join_option, left, left_option, in_loop, loop_flow, named_by_item, opened_by_all, counting_start, exit_flow, gives_path, raising_if, unless_worse, declarations_flow, handlers_flow, stmts_flow, branches_flow, program_flow}
+use Rattle.ada_flow.specs.Flow.{Outcome, faults, goes, Holds, Gone, Around, are_as_good, if_own, is_among, is_left, join_option, left, left_option, in_loop, loop_flow, named_by_item, opened_by_all, counting_start, exit_flow, gives_path, raising_if, declarations_flow, handlers_flow, stmts_flow, branches_flow, program_flow}
 
 -- The judgement of a whole program: no rule is broken, or this is the first one, and where.
 abbrev pub judgement : Outcome → Result (Unit {0}) (Spot × Rule)
@@ -61,7 +62,15 @@ broken (Some breach) = Some (breach.spot, breach.rule)
 abbrev pub type_number : TypeNo → ℕ
 type_number t = t.0
 
--- Where a statement stands: the types and the variables of its program, the start of the innermost loop, and the access types of blocks.
+-- The number of a variable.
+abbrev pub variable_number : VariableNo → ℕ
+variable_number x = x.0
+
+-- What is gone behind blocks, as the code keeps it.
+abbrev pub gone_of : HeldGone → Gone
+gone_of gone = record { types = map type_number gone.types.items; variables = map variable_number gone.variables.items }
+
+-- Where a statement stands: the types and the variables of its program, the start of the innermost loop, and what goes with blocks.
 abbrev pub types_in : HeldAround → List TypeForm
 types_in around = map type_form around.types.now
 
@@ -75,22 +84,22 @@ start_in around = option_copied around.start
 
 -- What stands around a form, as the code keeps it.
 abbrev pub around_of : HeldAround → Around
-around_of around = record { start = start_in around; inside = map type_number around.inside.now }
+around_of around = record { start = start_in around; inside = gone_of around.inside.now }
 
--- Is there an access type, and is it marked? One past the last mark is not.
+-- Is there such a type, and is it marked? One past the last mark is not.
 abbrev pub is_marked : Marks → Option ℕ → Bool
 is_marked marks None = false
 is_marked marks (Some t) = slice_index_or marks.at.items t false
 
--- These access types are marked, and no others.
+-- These types are marked, and no others.
 abbrev pub AreMarks : Marks → (types : List ℕ) → Type 0
 AreMarks marks types = (t : ℕ) → is_marked marks (Some t) ≡ is_among types (Some t)
 
--- What variables hold behind a block whose access types are marked: those of a marked type are lost.
-abbrev pub left_marked : List VariableForm → Marks → Holds → Holds
-left_marked [] marks holds = []
-left_marked (v ∷ vs) marks [] = []
-left_marked (v ∷ vs) marks (h ∷ hs) = if_own (not (is_marked marks (access_of (Some v.kind)))) h ∷ left_marked vs marks hs
+-- What variables hold where the collections and the record objects of the marked types are gone: those of a marked type are lost.
+abbrev pub without_marked : List VariableForm → Marks → Holds → Holds
+without_marked [] marks holds = []
+without_marked (v ∷ vs) marks [] = []
+without_marked (v ∷ vs) marks (h ∷ hs) = if_own (not (is_marked marks (access_of (Some v.kind)))) h ∷ without_marked vs marks hs
 
 -- What is noted of the places where a form may raise an exception: nothing, where neither a handler nor a block around wants to know it; or
 -- what the variables hold there.
@@ -108,10 +117,10 @@ abbrev pub also_noted : Noted → Option Holds → Noted
 also_noted unwanted raising = unwanted
 also_noted (wanted before) raising = wanted (join_option before raising)
 
--- What is noted of a raising point in a block that is left, with the collections of these types.
-abbrev pub noted_behind : Noted → List VariableForm → (types : List ℕ) → Noted → Noted
-noted_behind before variables types unwanted = before
-noted_behind before variables types (wanted raising) = also_noted before (left_option variables types raising)
+-- What is noted of a raising point in a block that is left, with which this goes.
+abbrev pub noted_behind : Noted → List VariableForm → Gone → Noted → Noted
+noted_behind before variables gone unwanted = before
+noted_behind before variables gone (wanted raising) = also_noted before (left_option variables gone raising)
 
 -- Nothing is noted yet, where as much is wanted.
 abbrev pub emptied : Noted → Noted
@@ -179,16 +188,16 @@ abbrev pub Follows : {X : Type 0} → Result X Breach → Option (Spot × Rule) 
 Follows (Ok x) broken = broken ≡ None
 Follows (Err breach) broken = broken ≡ Some (breach.spot, breach.rule)
 
--- Before the condition of an exit: less may not be known of a variable, behind the blocks that are left, than at the start of the loop.
-abbrev pub exit_begins : List VariableForm → Option Holds → (inside : List ℕ) → Spot → Holds → Outcome
-exit_begins variables None inside spot holds = goes (Some holds) None
-exit_begins variables (Some start) inside spot holds = unless_worse start (left variables inside holds) spot (goes (Some holds) None)
+-- Does an exit lead out of a loop, and out of blocks, with no less than is known at the loop's start? It does where there is no loop.
+abbrev pub exit_keeps : List VariableForm → Option Holds → (inside : Gone) → Holds → Bool
+exit_keeps variables None inside holds = true
+exit_keeps variables (Some start) inside holds = are_as_good (left variables inside holds) start
 
 -- The outcomes of forms, as the code keeps them.
 
 -- An exit that stands here.
 abbrev pub exit_in : HeldAround → Option ExpressionForm → Spot → Holds → Outcome
-exit_in around condition spot holds = exit_flow (variables_in around) (start_in around) (map type_number around.inside.now) condition spot holds
+exit_in around condition spot holds = exit_flow (variables_in around) (start_in around) (gone_of around.inside.now) condition spot holds
 
 -- The handlers of statements that stand here, with what is known where an exception is raised.
 abbrev pub handlers_in : HeldAround → List Handler → Holds → Outcome
@@ -217,9 +226,9 @@ for_of around parameter body end holds =
     turns_of around None true body end (counting_start (variables_in around) parameter (stmts_form body) holds)
 
 -- An assignment, which is the first one of a take pair, or is not.
-abbrev pub assignment_of : List Variable → (cleared : Bool) → Path → Right → Holds → Outcome
-assignment_of variables cleared target value holds =
-    gives_path (map variable_form variables) cleared (path_form target).selectors (path_form target) (right_form value) holds
+abbrev pub assignment_of : HeldAround → (cleared : Bool) → Path → Right → Holds → Outcome
+assignment_of around cleared target value holds =
+    gives_path (types_in around) (variables_in around) cleared (path_form target).selectors (path_form target) (right_form value) holds
 
 -- The component that an assignment goes to, if it goes to one.
 abbrev pub target_of : Option (Bor Path) → Option PathForm
@@ -232,5 +241,5 @@ named_by_items [] = []
 named_by_items (i ∷ is) = named_by_item i ++ named_by_items is
 
 -- Declarations, in order.
-abbrev pub declarations_of : List Variable → List Declaration → Holds → Outcome
-declarations_of variables declarations holds = declarations_flow (map variable_form variables) (map declaration_form declarations) holds
+abbrev pub declarations_of : HeldAround → List Declaration → Holds → Outcome
+declarations_of around declarations holds = declarations_flow (types_in around) (variables_in around) (map declaration_form declarations) holds

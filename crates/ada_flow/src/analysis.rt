@@ -1,41 +1,43 @@
 //! The flow of values through initial values and assignments, and through a whole program.
 
-ghost use Rattle.std.specs.Prelude.{map};
 ghost use Rattle.ada_flow.specs.Flow.{gives, gives_component, gets_path, declaration_flow, program_flow};
-ghost use Rattle.ada_flow.specs.Told.{Leads, assignment_of, breach_of, declarations_of, judgement};
+ghost use Rattle.ada_flow.specs.Told.{Leads, assignment_of, breach_of, declarations_of, judgement, types_in, variables_in};
 ghost use Rattle.ada_program.specs.Form.{path_form, right_form, declaration_form};
-ghost use Rattle.ada_program.specs.ProgramForm.{variable_form};
 ghost use Rattle.ada_text.specs.Exactly.{Exactly};
 
 use crate::around::Around;
 use crate::blocks::handled;
 use crate::fault::FlowFault;
 use crate::follow::follow_target;
+use crate::gone::Gone;
 use crate::known::Known;
 use crate::moves::{evaluation_raises, lose_moved, right_hold, use_assignment, use_right};
 use crate::raised::Raised;
-use crate::rule::{Hold, Region};
+use crate::records::create_record;
+use crate::rule::Hold;
 use crate::statements::statements;
+use ada_effects::path_raises;
 use ada_program::borrowers::is_borrower;
-use ada_program::program::{Declaration, Right, Variable};
-use ada_program::{Path, Program, VariableNo};
+use ada_program::program::{Declaration, Right};
+use ada_program::{Path, Program, Spot, VariableNo};
 use std::alloc::Global;
 
-/// A variable gets a value: it is evaluated first, and what is moved goes there.
+/// A variable that stands at the spot gets a value: it is evaluated first, and what is moved goes there.
 fn give(
     alloc: Global,
-    variables: &[Variable],
+    around: &Around<'_>,
     known: &mut Known,
     raised: &mut Raised,
+    spot: Spot,
     cleared: bool,
     target: VariableNo,
     value: &Right,
 ) -> Result<(), FlowFault>
     ensures { Leads result known.new.holds.items raised.old raised.new
-        (gives (map variable_form variables.now) cleared target.0 (right_form value.now) known.old.holds.items) }
+        (gives (types_in around.now) (variables_in around.now) spot cleared target.0 (right_form value.now) known.old.holds.items) }
 {
-    let borrows = is_borrower(variables, target.0);
-    use_right(known.holds(), borrows, cleared, value)?;
+    let borrows = is_borrower(around.variables, target.0);
+    use_right(around.types, spot, known.holds(), borrows, cleared, value)?;
     raised.note_if(evaluation_raises(value), alloc, known)?;
     let hold = right_hold(known.holds(), borrows, value);
     lose_moved(known, borrows, value);
@@ -46,6 +48,7 @@ fn give(
 /// A component gets a value, and its object is found first; no variable changes but those that are moved.
 fn give_component(
     alloc: Global,
+    around: &Around<'_>,
     known: &mut Known,
     raised: &mut Raised,
     cleared: bool,
@@ -53,10 +56,14 @@ fn give_component(
     value: &Right,
 ) -> Result<(), FlowFault>
     ensures { Leads result known.new.holds.items raised.old raised.new
-        (gives_component cleared (path_form target.now) (right_form value.now) known.old.holds.items) }
+        (gives_component (types_in around.now) cleared (path_form target.now) (right_form value.now) known.old.holds.items) }
 {
-    use_assignment(known.holds(), cleared, target, value)?;
-    raised.note(alloc, known)?;
+    use_assignment(around.types, known.holds(), cleared, target, value)?;
+    raised.note_if(
+        path_raises(target) || evaluation_raises(value),
+        alloc,
+        known,
+    )?;
     lose_moved(known, false, value);
     Ok(())
 }
@@ -64,7 +71,7 @@ fn give_component(
 /// An assignment: its target is a variable or a component.
 pub(crate) fn assign(
     alloc: Global,
-    variables: &[Variable],
+    around: &Around<'_>,
     known: &mut Known,
     raised: &mut Raised,
     cleared: bool,
@@ -72,12 +79,21 @@ pub(crate) fn assign(
     value: &Right,
 ) -> Result<(), FlowFault>
     ensures { Leads result known.new.holds.items raised.old raised.new
-        (assignment_of variables.now cleared target.now value.now known.old.holds.items) }
+        (assignment_of around.now cleared target.now value.now known.old.holds.items) }
 {
     if target.selectors.is_empty() {
-        give(alloc, variables, known, raised, cleared, target.root, value)
+        give(
+            alloc,
+            around,
+            known,
+            raised,
+            target.spot,
+            cleared,
+            target.root,
+            value,
+        )
     } else {
-        give_component(alloc, known, raised, cleared, target, value)
+        give_component(alloc, around, known, raised, cleared, target, value)
     }
 }
 
@@ -104,20 +120,23 @@ pub(crate) fn get(
 /// One declaration.
 fn declaration(
     alloc: Global,
-    variables: &[Variable],
+    around: &Around<'_>,
     known: &mut Known,
     raised: &mut Raised,
     declaration: &Declaration,
 ) -> Result<(), FlowFault>
     ensures { Leads result known.new.holds.items raised.old raised.new
-        (declaration_flow (map variable_form variables.now) (declaration_form declaration.now) known.old.holds.items) }
+        (declaration_flow (types_in around.now) (variables_in around.now) (declaration_form declaration.now) known.old.holds.items) }
 {
     match declaration {
         Declaration::Collection(_) => Ok(()),
         Declaration::Variable {
             variable,
             initial: Some(value),
-        } => give(alloc, variables, known, raised, false, *variable, value),
+        } => {
+            let spot = around.declared_at(*variable);
+            give(alloc, around, known, raised, spot, false, *variable, value)
+        }
         Declaration::Variable {
             variable,
             initial: None,
@@ -127,11 +146,9 @@ fn declaration(
         }
         Declaration::Record {
             variable,
-            object: _,
-        } => {
-            known.put(*variable, Hold::Own(Region::Whole));
-            Ok(())
-        }
+            object,
+            initial,
+        } => create_record(alloc, around, known, raised, *variable, *object, initial),
     }
 }
 
@@ -139,16 +156,16 @@ fn declaration(
 #[tactic(auto, using(std::proofs::lemmas::Grind::common_steps, crate::proofs::Noted::noted_steps))]
 pub(crate) fn declare(
     alloc: Global,
-    variables: &[Variable],
+    around: &Around<'_>,
     known: &mut Known,
     raised: &mut Raised,
     declarations: &[Declaration],
 ) -> Result<(), FlowFault>
     ensures { Leads result known.new.holds.items raised.old raised.new
-        (declarations_of variables.now declarations.now known.old.holds.items) }
+        (declarations_of around.now declarations.now known.old.holds.items) }
 {
     'declarations: for one in declarations {
-        declaration(alloc, variables, known, raised, one)?;
+        declaration(alloc, around, known, raised, one)?;
     }
     Ok(())
 }
@@ -161,17 +178,13 @@ pub(crate) fn declare(
 pub fn flow(alloc: Global, program: &Program) -> Result<(), FlowFault>
     ensures { Exactly (λ _. tt) breach_of result (judgement (program_flow program.now)) }
 {
-    let around = Around {
-        types: &program.types,
-        variables: &program.variables,
-        start: None,
-        inside: &[],
-    };
+    let nothing = Gone::nothing(alloc);
+    let around = Around::in_no_loop(&program.types, &program.variables, &nothing);
     let mut known = Known::of_lost(alloc, program.variables.len())?;
     let mut raised = Raised::Unwanted;
     declare(
         alloc,
-        around.variables,
+        &around,
         &mut known,
         &mut raised,
         &program.declarations,

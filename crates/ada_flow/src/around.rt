@@ -1,13 +1,14 @@
 //! Where a statement stands.
 
-ghost use Rattle.std.specs.Prelude.{◌≡◌, Some, map};
-ghost use Rattle.ada_flow.specs.Flow.{in_loop};
-ghost use Rattle.ada_flow.specs.Told.{around_of, types_in, variables_in};
+ghost use Rattle.std.specs.Prelude.{◌≡◌, Some, None, map};
+ghost use Rattle.ada_flow.specs.Flow as rules;
+ghost use Rattle.ada_flow.specs.Told.{around_of, gone_of, types_in, variables_in};
 ghost use Rattle.ada_program.specs.ProgramForm.{type_form, variable_form};
 
+use crate::gone::Gone;
 use crate::rule::Hold;
-use ada_program::TypeNo;
 use ada_program::program::{TypeDefinition, Variable};
+use ada_program::{Spot, VariableNo};
 
 /// Where a statement stands.
 #[derive(Clone, Copy)]
@@ -18,26 +19,55 @@ pub(crate) struct Around<'a> {
     pub(crate) variables: &'a [Variable],
     /// What is known where the innermost loop around it starts, if there is one.
     pub(crate) start: Option<&'a [Hold]>,
-    /// The access types whose collections are created by blocks between that loop and the statement.
-    pub(crate) inside: &'a [TypeNo],
+    /// What goes with the blocks between that loop and the statement.
+    pub(crate) inside: &'a Gone,
 }
 
 impl<'a> Around<'a> {
-    /// In a loop with this start, and in no block inside it.
+    /// In no loop, and in blocks with which this goes.
+    pub(crate) fn in_no_loop(
+        types: &'a [TypeDefinition],
+        variables: &'a [Variable],
+        inside: &'a Gone,
+    ) -> Around<'a>
+        ensures types { types_in result ≡ map type_form types.now }
+        ensures variables { variables_in result ≡ map variable_form variables.now }
+        ensures place { around_of result ≡ record { start = None; inside = gone_of inside.now } }
+    {
+        Around {
+            types,
+            variables,
+            start: None,
+            inside,
+        }
+    }
+
+    /// In a loop with this start, and in blocks inside it with which this goes.
     pub(crate) fn in_loop(
         types: &'a [TypeDefinition],
         variables: &'a [Variable],
         start: &'a [Hold],
+        inside: &'a Gone,
     ) -> Around<'a>
         ensures types { types_in result ≡ map type_form types.now }
         ensures variables { variables_in result ≡ map variable_form variables.now }
-        ensures place { around_of result ≡ in_loop (Some start.now) }
+        ensures place { around_of result ≡ record { start = Some start.now; inside = gone_of inside.now } }
     {
         Around {
             types,
             variables,
             start: Some(start),
-            inside: &[],
+            inside,
+        }
+    }
+
+    /// Where the name of a variable is declared: nowhere, if there is no such variable.
+    pub(crate) fn declared_at(&self, variable: VariableNo) -> Spot
+        ensures { result ≡ rules.declared_at (variables_in self.now) variable.0 }
+    {
+        match self.variables.get(variable.0) {
+            None => Spot { line: 0, column: 0 },
+            Some(variable) => variable.spot,
         }
     }
 }

@@ -1,9 +1,6 @@
-//! The flow of values through blocks, and through statements with their handlers.
+//! The flow of values through statements with their handlers.
 
-ghost use Rattle.std.specs.Prelude.{◌≡◌, IfOk, ◌++◌, map};
-ghost use Rattle.ada_flow.specs.Flow as rules;
-ghost use Rattle.ada_flow.specs.Told.{Ends, Handles, handled_in, handlers_in, held, noted, type_number};
-ghost use Rattle.ada_program.specs.Form.{declaration_form};
+ghost use Rattle.ada_flow.specs.Told.{Ends, Handles, handled_in, handlers_in, held, noted};
 
 use crate::around::Around;
 use crate::fault::FlowFault;
@@ -12,47 +9,9 @@ use crate::known::Known;
 use crate::raised::Raised;
 use crate::statements::statements;
 use ada_effects::passes;
-use ada_program::program::{Declaration, Handler};
-use ada_program::{Stmt, TypeNo};
-use std::alloc::{AllocError, Global};
-
-/// The access types whose collections declarations create, and the types by which their record objects are known.
-pub(crate) fn collected(
-    alloc: Global,
-    declarations: &[Declaration],
-) -> Result<Vec<TypeNo>, AllocError>
-    ensures { IfOk result
-        (λ types. map type_number types.items ≡ rules.collected (map declaration_form declarations.now)) }
-{
-    let mut types = Vec::new(alloc);
-    'declarations: for one in declarations {
-        match one {
-            Declaration::Collection(known)
-            | Declaration::Record {
-                variable: _,
-                object: known,
-            } => {
-                types.push(*known)?;
-            }
-            Declaration::Variable { .. } => {}
-        }
-    }
-    Ok(types)
-}
-
-/// The types of a block, and those of the blocks around it.
-pub(crate) fn joined_types(
-    alloc: Global,
-    types: &[TypeNo],
-    others: &[TypeNo],
-) -> Result<Vec<TypeNo>, AllocError>
-    ensures { IfOk result
-        (λ all. map type_number all.items ≡ map type_number types.now ++ map type_number others.now) }
-{
-    let mut all = types.to_vec(alloc)?;
-    all.extend_from_slice(others)?;
-    Ok(all)
-}
+use ada_program::Stmt;
+use ada_program::program::Handler;
+use std::alloc::Global;
 
 /// How statements end with their handlers: each handler begins with what is known wherever the statements may raise an exception.
 #[cycle(flowing)]

@@ -105,6 +105,13 @@ fn broken_in_test(holds: &[Hold], path: &Path) -> Option<Breach>
     lost_by(hold_of(holds, path.root), path.spot)
 }
 
+/// The rule that the path to the object in which a record lies breaks: its variable must not be lost.
+pub(crate) fn broken_in_reach(holds: &[Hold], path: &Path) -> Option<Breach>
+    ensures { broken result ≡ rules.broken_in holds.now (rules.reaches_it (path_form path.now)) }
+{
+    lost_by(hold_of(holds, path.root), path.spot)
+}
+
 /// What is lost is neither followed nor compared.
 pub(crate) fn lost_by(hold: Hold, spot: Spot) -> Option<Breach>
     ensures { broken result ≡ rules.lost_by hold spot }

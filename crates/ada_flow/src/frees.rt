@@ -13,6 +13,7 @@ use crate::holds::{have_alias, hold_of};
 use crate::known::Known;
 use crate::raised::Raised;
 use crate::rule::{Hold, Rule};
+use ada_effects::path_raises;
 use ada_program::lookup::{access_of, is_this, path_access, selected_kind, variable_kind};
 use ada_program::program::{TypeDefinition, Variable};
 use ada_program::{Path, Spot};
@@ -167,7 +168,7 @@ fn release_component(
     let hold = hold_of(known.holds(), path.root);
     unless_broken(freed_behind(passes, hold, path.spot))?;
     end_object(variables, known, access);
-    raised.note(alloc, known)?;
+    raised.note_if(path_raises(path), alloc, known)?;
     Ok(())
 }
 

@@ -5,10 +5,11 @@
 //! read through, compared, lent, moved nor freed (S1), what another owns is neither moved nor freed (S2), a value is
 //! moved out of a component only where the next statement sets that component to null, or where the component gets
 //! the new object that takes the value (S3), no way leads back to a loop's start, or out of the loop, with less than
-//! is known at that start (S5), and no component is freed whose path follows a value of the component's own access
-//! type (S6). Of the rules that one simple statement breaks the leftmost is told. Behind a block the variables of the
-//! access types whose collections it created are lost, and a handler begins with what is known wherever its statements
-//! may raise an exception (11.4).
+//! is known at that start (S5), no component is freed whose path follows a value of the component's own access
+//! type (S6), and no record with a component of an access type is copied, nor does an aggregate with one stand outside
+//! an allocator (S11). Of the rules that one simple statement breaks the leftmost is told. Behind a block its variables are
+//! lost, and so are those of the access types whose collections it created, and a handler begins with what is known
+//! wherever its statements may raise an exception (11.4).
 //!
 //! A borrower (3.10) holds null or an alias, or is lost: the value of a path is lent to it, and stays where it is. By S2
 //! nothing is moved out of an alias, and it frees nothing. Where an owner is moved its aliases stay, since the object does.
@@ -16,16 +17,17 @@
 //! `Free (P.C)` every alias of the component's access type is, and so it is where the statement raises an exception,
 //! since a value on the path is null.
 //!
-//! A statement costs no more than its size, and so it does once more for each loop around it; an allocator costs the
-//! number of its items besides for each name in the paths that they move, since no path is moved twice; a branch, a
-//! loop, an exit and a handler cost the number of variables besides, since each way begins with a copy of what is known
-//! and ends where it is joined or compared. A `Free` costs the number of variables besides where one may hold an alias: it goes
-//! over what is known of each, and looks up the access type of an alias alone. Where none does, as in each program
-//! without borrowers, it costs no more than its size. A block, and an exit from blocks, marks the access types of the
-//! blocks that are left by their numbers, and then goes over the variables once: that costs the number of types
-//! besides. Where a handler around wants to know it, each place that may raise an exception costs the number of
-//! variables, too, and each block around its size once more, to tell what its handlers let pass; elsewhere nothing is
-//! noted.
+//! A statement costs no more than its size, and so it does once more for each loop around it; an aggregate costs the
+//! number of its items besides for each name in the paths that they move, since no path is moved twice; a record that is
+//! copied, or that gets a value as a whole, costs the number of its components besides, among which one of an access type
+//! is looked for; a branch, a loop, an exit and a handler cost the number of variables besides, since each way begins with a
+//! copy of what is known and ends where it is joined or compared. A `Free` costs the number of variables besides where one
+//! may hold an alias: it goes over what is known of each, and looks up the access type of an alias alone. Where none does,
+//! as in each program without borrowers, it costs no more than its size. A block, and an exit from blocks, marks the access
+//! types of the blocks that are left by their numbers, and then goes over the variables once, and over those that the
+//! blocks declare: that costs the number of types besides. Where a handler around wants to know it, each place that may
+//! raise an exception costs the number of variables, too, and each block around its size once more, to tell what its
+//! handlers let pass; elsewhere nothing is noted.
 #![tactic(auto)]
 
 mod analysis;
@@ -35,6 +37,7 @@ mod compute;
 mod fault;
 mod follow;
 mod frees;
+mod gone;
 mod holds;
 mod joins;
 mod kinds;
@@ -42,8 +45,10 @@ mod known;
 mod loops;
 mod marks;
 mod moves;
+mod owning;
 mod pairs;
 mod raised;
+mod records;
 mod repetition;
 mod rule;
 mod statements;

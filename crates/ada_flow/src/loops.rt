@@ -3,13 +3,10 @@
 ghost use Rattle.std.specs.Prelude.{◌≡◌, ◌||◌, map};
 ghost use Rattle.ada_flow.specs.Flow as rules;
 ghost use Rattle.ada_program.specs.Form.{StmtsForm, path_form, stmt_form, stmts_form, branches_form, handlers_form};
-ghost use Rattle.ada_flow.specs.Told.{left_marked};
 ghost use Rattle.ada_program.specs.ProgramForm.{variable_form};
 
 use crate::holds::hold_of;
-use crate::kinds::hold_behind;
 use crate::known::Known;
-use crate::marks::Marks;
 use crate::rule::{Hold, Region};
 use ada_program::borrowers::is_borrower;
 use ada_program::program::{Branch, Handler, Variable};
@@ -95,6 +92,7 @@ fn open_by(variables: &[Variable], known: &mut Known, statement: &Stmt)
             open_handlers(variables, known, handlers);
         }
         Stmt::Null
+        | Stmt::AssignRecord { .. }
         | Stmt::Free { .. }
         | Stmt::Get(_)
         | Stmt::PutImage(_)
@@ -160,6 +158,7 @@ fn has_exit(statement: &Stmt) -> bool
         } => have_exit(statements) || handlers_have_exit(handlers),
         Stmt::Null
         | Stmt::Assign { .. }
+        | Stmt::AssignRecord { .. }
         | Stmt::Free { .. }
         | Stmt::Get(_)
         | Stmt::PutImage(_)
@@ -204,27 +203,6 @@ pub(crate) fn are_as_good(holds: &[Hold], start: &[Hold]) -> bool
 {
     for (number, wanted) in start.iter().enumerate() {
         if !is_as_good(hold_of(holds, VariableNo(number)), *wanted) {
-            return false;
-        }
-    }
-    true
-}
-
-/// Whether all variables are as good as at the start, behind blocks with the collections of the marked types.
-pub(crate) fn are_as_good_behind(
-    variables: &[Variable],
-    marks: &Marks,
-    holds: &[Hold],
-    start: &[Hold],
-) -> bool
-    ensures { result ≡ rules.are_as_good
-        (left_marked (map variable_form variables.now) marks.now holds.now) start.now }
-{
-    for (number, wanted) in start.iter().enumerate() {
-        if !is_as_good(
-            hold_behind(variables, marks, holds, VariableNo(number)),
-            *wanted,
-        ) {
             return false;
         }
     }

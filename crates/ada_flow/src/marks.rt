@@ -1,4 +1,4 @@
-//! Access types, marked by their numbers: one look tells whether a type is among them.
+//! Types by which objects are known, marked by their numbers: one look tells whether a type is among them.
 
 ghost use Rattle.std.specs.Prelude.{◌≡◌, ◌==◌, ◌||◌, ℕ, false, IfOk, OnOk, Some, map, slice_index_or};
 ghost use Rattle.ada_flow.specs.Told.{AreMarks, is_marked, type_number};
@@ -8,7 +8,7 @@ use ada_program::TypeNo;
 use ada_program::program::VariableKind;
 use std::alloc::{AllocError, Global};
 
-/// A set of access types.
+/// A set of access types, and of types by which record objects are known.
 #[derive(Drop)]
 pub(crate) struct Marks {
     // Which types are in it, by their numbers; those behind the last one are not.

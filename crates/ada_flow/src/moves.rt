@@ -1,34 +1,41 @@
 //! What an assignment moves: the rules that moved paths break, and what is known behind the move.
 
-ghost use Rattle.std.specs.Prelude.{◌≡◌, false, [], ◌++◌, None, Some, map};
+ghost use Rattle.std.specs.Prelude.{◌≡◌, false, [], ◌∷◌, ◌++◌, None, Some, map};
 ghost use Rattle.ada_flow.specs.Flow as rules;
 ghost use Rattle.ada_flow.specs.Told.{Follows, broken, named_by_items, target_of};
-ghost use Rattle.ada_program.specs.Form.{path_form, item_form, right_form};
+ghost use Rattle.ada_program.specs.Form.{path_form, item_form, record_path_form, right_form};
+ghost use Rattle.ada_program.specs.ProgramForm.{type_form};
 
 use crate::fault::Breach;
-use crate::follow::{broken_in, broken_in_target, leftmost, lost_by, unless_broken};
+use crate::follow::{
+    broken_in, broken_in_reach, broken_in_target, leftmost, lost_by, unless_broken,
+};
 use crate::holds::hold_of;
 use crate::known::Known;
+use crate::owning::{copied_to, is_owning_record};
 use crate::pairs::is_same_path;
 use crate::rule::{Hold, Region, Rule};
-use ada_effects::expression_raises;
-use ada_program::program::{Item, Right};
+use ada_effects::{expression_raises, path_raises};
+use ada_program::program::{Item, RecordPath, Right, TypeDefinition};
 use ada_program::{Path, Spot};
 
-/// Uses what is assigned to a variable, a borrower or not, where the next statement clears what is moved, or does not.
+/// Uses what is assigned to a variable that stands at the spot, a borrower or not, where the next statement clears what is
+/// moved, or does not.
 ///
 /// # Errors
 /// The leftmost rule that a path of it breaks.
 pub(crate) fn use_right(
+    types: &[TypeDefinition],
+    spot: Spot,
     holds: &[Hold],
     borrows: bool,
     cleared: bool,
     value: &Right,
 ) -> Result<(), Breach>
-    ensures { Follows result
-        (rules.broken_among holds.now (rules.uses_in_right borrows cleared None (right_form value.now))) }
+    ensures { let uses = rules.uses_in_right (map type_form types.now) spot borrows cleared None (right_form value.now) in
+        Follows result (rules.broken_among holds.now uses) }
 {
-    unless_broken(broken_in_right(holds, borrows, cleared, None, value))
+    unless_broken(broken_in_right(types, spot, holds, borrows, cleared, None, value))
 }
 
 /// Uses the path of a component that gets a value, and what is assigned to it: a component is no borrower.
@@ -36,24 +43,36 @@ pub(crate) fn use_right(
 /// # Errors
 /// The leftmost rule that a path breaks.
 pub(crate) fn use_assignment(
+    types: &[TypeDefinition],
     holds: &[Hold],
     cleared: bool,
     target: &Path,
     value: &Right,
 ) -> Result<(), Breach>
     ensures { let place = rules.uses_in_target (path_form target.now) in
-        let to = Some (path_form target.now) in
-        let assigned = rules.uses_in_right false cleared to (right_form value.now) in
+        let to = path_form target.now in
+        let assigned = rules.uses_in_right (map type_form types.now) to.spot false cleared (Some to) (right_form value.now) in
         Follows result (rules.broken_among holds.now (place ++ assigned)) }
 {
     unless_broken(leftmost(
         broken_in_target(holds, target),
-        broken_in_right(holds, false, cleared, Some(target), value),
+        broken_in_right(
+            types,
+            target.spot,
+            holds,
+            false,
+            cleared,
+            Some(target),
+            value,
+        ),
     ))
 }
 
-/// The leftmost rule that what is assigned breaks, to a borrower or not, to this component or to a variable.
+/// The leftmost rule that what is assigned to what stands at the spot breaks, to a borrower or not, to this component or to
+/// a variable.
 fn broken_in_right(
+    types: &[TypeDefinition],
+    spot: Spot,
     holds: &[Hold],
     borrows: bool,
     cleared: bool,
@@ -61,13 +80,13 @@ fn broken_in_right(
     value: &Right,
 ) -> Option<Breach>
     ensures { let place = target_of target.entry in
-        let uses = rules.uses_in_right borrows cleared place (right_form value.now) in
+        let uses = rules.uses_in_right (map type_form types.now) spot borrows cleared place (right_form value.now) in
         broken result ≡ rules.broken_among holds.now uses }
 {
     match value {
         Right::Null | Right::Default(_) => None,
         Right::Path(path) => leftmost(broken_in_value(holds, borrows, cleared, path), None),
-        Right::Allocator { access: _, items } => broken_in_items(holds, target, items),
+        Right::Allocator { access: _, items } => broken_in_items(types, spot, holds, target, items),
         Right::Value(expression) => broken_in(holds, expression),
     }
 }
@@ -91,34 +110,65 @@ fn broken_in_loan(holds: &[Hold], path: &Path) -> Option<Breach>
     lost_by(hold_of(holds, path.root), path.spot)
 }
 
-/// The leftmost rule that the items of an allocator break, whose object goes to this component or to a variable.
-fn broken_in_items(holds: &[Hold], target: Option<&Path>, items: &[Item]) -> Option<Breach>
+/// The leftmost rule that the items of an aggregate break which goes to what stands at the spot: to this component, or to a
+/// variable or a record.
+pub(crate) fn broken_in_items(
+    types: &[TypeDefinition],
+    spot: Spot,
+    holds: &[Hold],
+    target: Option<&Path>,
+    items: &[Item],
+) -> Option<Breach>
     ensures { let place = target_of target.entry in
-        broken result ≡ rules.broken_among holds.now (rules.uses_in_items place [] (map item_form items.now)) }
+        let uses = rules.uses_in_items (map type_form types.now) spot place [] (map item_form items.now) in
+        broken result ≡ rules.broken_among holds.now uses }
 {
     let mut found = None;
     for (number, item) in items.iter().enumerate() {
-        found = leftmost(found, broken_in_item(holds, target, &items[..number], item));
+        found = leftmost(
+            found,
+            broken_in_item(types, spot, holds, target, &items[..number], item),
+        );
     }
     found
 }
 
-/// The leftmost rule that an item breaks behind earlier items of its allocator.
+/// The leftmost rule that an item breaks behind earlier items of its aggregate, which goes to what stands at the spot.
 fn broken_in_item(
+    types: &[TypeDefinition],
+    spot: Spot,
     holds: &[Hold],
     target: Option<&Path>,
     earlier: &[Item],
     item: &Item,
 ) -> Option<Breach>
     ensures { let named = named_by_items (map item_form earlier.now) in
-        let uses = rules.uses_in_item (target_of target.entry) named (item_form item.now) in
+        let uses = rules.uses_in_item (map type_form types.now) spot (target_of target.entry) named (item_form item.now) in
         broken result ≡ rules.broken_among holds.now uses }
 {
     match item {
         Item::Null => None,
         Item::Path(path) => leftmost(broken_in_item_move(holds, target, earlier, path), None),
         Item::Value(expression) => broken_in(holds, expression),
+        Item::Record(path) => broken_in_copy(types, spot, holds, path),
     }
+}
+
+/// The leftmost rule that copying a record breaks to what stands at the spot.
+fn broken_in_copy(
+    types: &[TypeDefinition],
+    spot: Spot,
+    holds: &[Hold],
+    path: &RecordPath,
+) -> Option<Breach>
+    ensures { let from = record_path_form path.now in
+        let copies = rules.copies_to (rules.is_owning_record (map type_form types.now) from.record_type) spot in
+        broken result ≡ rules.broken_among holds.now (copies ∷ rules.reaches_it from.object ∷ []) }
+{
+    leftmost(
+        copied_to(is_owning_record(types, path.record), spot),
+        leftmost(broken_in_reach(holds, &path.object), None),
+    )
 }
 
 /// The rule that an item breaks by moving a path: each is moved once, and of components the target alone.
@@ -173,7 +223,7 @@ fn item_is(item: &Item, path: &Path) -> bool
 {
     match item {
         Item::Path(named) => is_same_path(named, path),
-        Item::Null | Item::Value(_) => false,
+        Item::Null | Item::Value(_) | Item::Record(_) => false,
     }
 }
 
@@ -266,7 +316,7 @@ pub(crate) fn evaluation_raises(value: &Right) -> bool
 {
     match value {
         Right::Null => false,
-        Right::Path(path) => !path.selectors.is_empty(),
+        Right::Path(path) => path_raises(path),
         Right::Allocator { .. } | Right::Default(_) => true,
         Right::Value(expression) => expression_raises(expression),
     }
@@ -302,7 +352,7 @@ fn lose_item(known: &mut Known, item: &Item)
 {
     match item {
         Item::Path(path) => lose_path(known, path),
-        Item::Null | Item::Value(_) => {}
+        Item::Null | Item::Value(_) | Item::Record(_) => {}
     }
 }
 

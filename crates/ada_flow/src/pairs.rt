@@ -15,6 +15,7 @@ pub(crate) fn begins_pair(statement: &Stmt, behind: &[Stmt]) -> bool
     match statement {
         Stmt::Assign { target, value } => takes(target, value, behind),
         Stmt::Null
+        | Stmt::AssignRecord { .. }
         | Stmt::Free { .. }
         | Stmt::Get(_)
         | Stmt::PutImage(_)
@@ -73,6 +74,7 @@ fn sets_to_null(path: &Path, statement: &Stmt) -> bool
         Stmt::Assign { target, value } => matches!(value, Right::Null)
             && is_same_path(target, path),
         Stmt::Null
+        | Stmt::AssignRecord { .. }
         | Stmt::Free { .. }
         | Stmt::Get(_)
         | Stmt::PutImage(_)

@@ -2,14 +2,14 @@
 
 ghost use Rattle.std.specs.Prelude.{◌≡◌, Some, None, OnOk, map};
 ghost use Rattle.ada_flow.specs.Flow.{raising_if};
-ghost use Rattle.ada_flow.specs.Told.{held, noted, also_noted, noted_behind, emptied, is_wanted, noted_for, type_number};
+ghost use Rattle.ada_flow.specs.Told.{held, noted, also_noted, noted_behind, emptied, gone_of, is_wanted, noted_for};
 ghost use Rattle.ada_program.specs.Form.{handlers_form};
 ghost use Rattle.ada_program.specs.ProgramForm.{variable_form};
 
+use crate::gone::Gone;
 use crate::joins::{join_ends, join_into};
 use crate::kinds::leave_end;
 use crate::known::Known;
-use ada_program::TypeNo;
 use ada_program::program::{Handler, Variable};
 use std::alloc::{AllocError, Global};
 
@@ -96,19 +96,19 @@ impl Raised {
         }
     }
 
-    /// What is raised in a block is raised behind it, where its collections are gone.
+    /// What is raised in a block is raised behind it, where what is its own is gone.
     pub(crate) fn add_behind(
         &mut self,
         alloc: Global,
         variables: &[Variable],
-        types: &[TypeNo],
+        gone: &Gone,
         raised: Raised,
     ) -> Result<(), AllocError>
-        ensures { OnOk result (noted self.new ≡ noted_behind (noted self.old) (map variable_form variables.now) (map type_number types.now) (noted raised)) }
+        ensures { OnOk result (noted self.new ≡ noted_behind (noted self.old) (map variable_form variables.now) (gone_of gone.now) (noted raised)) }
     {
         match raised {
             Raised::Unwanted => {}
-            Raised::Wanted(known) => self.add(leave_end(alloc, variables, types, known)?),
+            Raised::Wanted(known) => self.add(leave_end(alloc, variables, gone, known)?),
         }
         Ok(())
     }

@@ -1,21 +1,22 @@
 //! The flow of values through loops: one turn tells what each turn does, from what is known where each begins.
 
-ghost use Rattle.std.specs.Prelude.{Some, None, map};
+ghost use Rattle.std.specs.Prelude.{◌≡◌, IfOk, Some, None};
 ghost use Rattle.ada_flow.specs.Flow.{goes, unless_worse};
-ghost use Rattle.ada_flow.specs.Told.{AreMarks, Ends, Tells, around_of, exit_begins, for_of, loop_of, turns_of, type_number, variables_in};
+ghost use Rattle.ada_flow.specs.Told.{Ends, Tells, exit_keeps, for_of, gone_of, loop_of, start_in, turns_of, variables_in};
 
 use crate::around::Around;
 use crate::compute::compute_condition;
 use crate::fault::{Breach, FlowFault};
+use crate::gone::Gone;
+use crate::kinds::leave;
 use crate::known::Known;
-use crate::loops::{are_as_good, are_as_good_behind, have_exit, open_all};
-use crate::marks::Marks;
+use crate::loops::{are_as_good, have_exit, open_all};
 use crate::raised::Raised;
 use crate::rule::{Hold, Rule};
 use crate::statements::statements;
 use ada_program::program::Expression;
 use ada_program::{Spot, Stmt, VariableNo};
-use std::alloc::Global;
+use std::alloc::{AllocError, Global};
 
 /// A way may lead back to a loop's start only with what is known at that start.
 fn unless_worse(holds: &[Hold], start: &[Hold], spot: Spot) -> Result<(), Breach>
@@ -32,28 +33,22 @@ fn unless_worse(holds: &[Hold], start: &[Hold], spot: Spot) -> Result<(), Breach
     }
 }
 
-/// An exit leads out of a loop, and out of the blocks in it, only with what is known at the loop's start.
-/// Marked are the access types of those blocks.
+/// Whether an exit leads out of a loop, and out of the blocks in it, with no less than is known at the loop's start.
+/// Costs the number of variables.
 pub(crate) fn keeps_start(
+    alloc: Global,
     around: &Around<'_>,
-    inside: &Marks,
-    holds: &[Hold],
-    spot: Spot,
-) -> Result<(), Breach>
-    requires { AreMarks inside.now (map type_number around.now.inside.now) }
-    ensures { let place = around_of around.now in
-        Tells result holds.now (exit_begins (variables_in around.now) place.start place.inside spot holds.now) }
+    known: &Known,
+) -> Result<bool, AllocError>
+    ensures { IfOk result (λ keeps. keeps
+        ≡ exit_keeps (variables_in around.now) (start_in around.now) (gone_of around.now.inside.now) known.now.holds.items) }
 {
-    let Some(start) = around.start else {
-        return Ok(());
-    };
-    if are_as_good_behind(around.variables, inside, holds, start) {
-        Ok(())
-    } else {
-        Err(Breach {
-            spot,
-            rule: Rule::LoopState,
-        })
+    match around.start {
+        None => Ok(true),
+        Some(start) => {
+            let behind = leave(alloc, around.variables, around.inside, known.copy(alloc)?)?;
+            Ok(are_as_good(behind.holds(), start))
+        }
     }
 }
 
@@ -112,7 +107,8 @@ fn turn(
         (turns_of around.now condition.now leaves body.now end start.holds.items) }
 {
     compute_condition(alloc, &start, raised, condition)?;
-    let within = Around::in_loop(around.types, around.variables, start.holds());
+    let nothing = Gone::nothing(alloc);
+    let within = Around::in_loop(around.types, around.variables, start.holds(), &nothing);
     if let Some(after) = statements(alloc, &within, start.copy(alloc)?, raised, body)? {
         unless_worse(after.holds(), start.holds(), end)?;
     }

@@ -33,4 +33,7 @@ pub enum Rule {
     LoopState,
     /// A component is freed whose path follows a value of the component's own access type: the object that is freed may be one on the way.
     UnsafePath,
+    /// A record is copied that has a component of an access type, or an aggregate with such a component stands outside an allocator: what it names
+    /// would have two owners.
+    RecordCopied,
 }

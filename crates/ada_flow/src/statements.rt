@@ -7,22 +7,25 @@ ghost use Rattle.ada_program.specs.Form.{condition_form, stmt_form, stmts_form};
 
 use crate::analysis::{assign, declare, get};
 use crate::around::Around;
-use crate::blocks::{collected, handled, joined_types};
+use crate::blocks::handled;
 use crate::compute::compute;
 use crate::fault::FlowFault;
 use crate::frees::release;
+use crate::gone::Gone;
 use crate::joins::join_ends;
 use crate::kinds::leave_end;
 use crate::known::Known;
-use crate::marks::Marks;
 use crate::pairs::begins_pair;
 use crate::raised::Raised;
+use crate::records::give_record;
 use crate::repetition::{count, keeps_start, repeat};
+use crate::rule::Rule;
 use ada_program::program::{Branch, Expression};
 use ada_program::{Spot, Stmt};
 use std::alloc::Global;
 
 /// `exit`, inside a loop, if it stands in one.
+#[tactic(auto, using(std::proofs::lemmas::Grind::common_steps, crate::proofs::Behind::exit_steps))]
 fn exit(
     alloc: Global,
     around: &Around<'_>,
@@ -34,8 +37,12 @@ fn exit(
     ensures { Ends result raised.old raised.new
         (exit_in around.now (condition_form condition.now) spot known.holds.items) }
 {
-    let inside = Marks::of(alloc, around.inside)?;
-    keeps_start(around, &inside, known.holds(), spot)?;
+    if !keeps_start(alloc, around, &known)? {
+        return Err(FlowFault::Broken {
+            spot,
+            rule: Rule::LoopState,
+        });
+    }
     match condition {
         None => Ok(None),
         Some(condition) => {
@@ -62,15 +69,10 @@ fn statement(
     match statement {
         Stmt::Null | Stmt::PutText(_) => {}
         Stmt::Assign { target, value } => {
-            assign(
-                alloc,
-                around.variables,
-                &mut known,
-                raised,
-                cleared,
-                target,
-                value,
-            )?;
+            assign(alloc, around, &mut known, raised, cleared, target, value)?;
+        }
+        Stmt::AssignRecord { target, items } => {
+            give_record(alloc, around, &known, raised, target, items)?;
         }
         Stmt::Free { access: _, path } => release(
             alloc,
@@ -119,8 +121,8 @@ fn statement(
             statements,
             handlers,
         } => {
-            let types = collected(alloc, declarations)?;
-            let inside = joined_types(alloc, &types, around.inside)?;
+            let gone = Gone::with(alloc, declarations)?;
+            let inside = gone.and(alloc, around.inside)?;
             let within = Around {
                 types: around.types,
                 variables: around.variables,
@@ -128,12 +130,12 @@ fn statement(
                 inside: &inside,
             };
             let mut own = raised.emptied();
-            declare(alloc, around.variables, &mut known, &mut own, declarations)?;
+            declare(alloc, around, &mut known, &mut own, declarations)?;
             let mut inner = own.with_handlers(handlers);
             let end = self::statements(alloc, &within, known, &mut inner, statements)?;
             let end = handled(alloc, &within, inner, end, &mut own, handlers, statements)?;
-            raised.add_behind(alloc, around.variables, &types, own)?;
-            return Ok(leave_end(alloc, around.variables, &types, end)?);
+            raised.add_behind(alloc, around.variables, &gone, own)?;
+            return Ok(leave_end(alloc, around.variables, &gone, end)?);
         }
     }
     Ok(Some(known))

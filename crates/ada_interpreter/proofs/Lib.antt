@@ -10,3 +10,5 @@ pub mod ChangeLemmas
 pub mod CommonStepLemmas
 -- the last component of a path, and those before it
 pub mod ComponentLemmas
+-- components of one object that get their values one after another
+pub mod RecordLemmas

@@ -11,7 +11,7 @@ use Rattle.ada_meaning.specs.declared.state.Value.{Value}
 use Rattle.ada_meaning.specs.declared.state.Value.TheVariants.{Names}
 use Rattle.ada_meaning.specs.Heap.{Cell}
 use Rattle.ada_meaning.specs.Named.{Object, object_at, changed, parted, finished, returned, filled, new_object, is_member, members_from, members_of}
-use Rattle.ada_interpreter.specs.Objects.{is_member_by, is_member_at, members_among, Kept, nothing_kept, kept_at, AreGiven, Shows, AreShelved, entered, discounted, discounted_at, listed_home, gone, IsTidied}
+use Rattle.ada_interpreter.specs.Objects.{is_member_by, is_member_at, members_among, Kept, nothing_kept, kept_at, AreGiven, Shows, AreShelved, entered, discounted, discounted_at, listed_home, gone, filled_from, IsTidied}
 
 -- a name other than the one of this number
 abbrev is_other : ℕ → Id → Bool
@@ -265,6 +265,9 @@ returned_shelved xs kept o shelved = same_by returned xs kept o (object_at xs o)
 
 pub filled_shelved : (c : ℕ) (v : Value) (xs : List Object) (kept : List Kept) (o : Id) → AreShelved xs kept → AreShelved (changed (filled c v) (object_at xs o) xs o) kept
 filled_shelved c v xs kept o shelved = same_by (filled c v) xs kept o (object_at xs o) (λ x i. refl) refl shelved
+
+pub filled_from_shelved : (first : ℕ) (vs : List Value) (xs : List Object) (kept : List Kept) (o : Id) → AreShelved xs kept → AreShelved (changed (filled_from first vs) (object_at xs o) xs o) kept
+filled_from_shelved first vs xs kept o shelved = same_by (filled_from first vs) xs kept o (object_at xs o) (λ x i. refl) refl shelved
 
 -- entries are taken away that are no members
 pub tidied_shelved : (xs : List Object) (before after : List Kept) → ((i : ℕ) → IsTidied xs i (kept_at before i) (kept_at after i)) → AreShelved xs before → AreShelved xs after

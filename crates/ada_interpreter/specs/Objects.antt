@@ -95,6 +95,15 @@ listed_home (Some object) = if object.listed then Some object.cell.home.item els
 abbrev pub gone : Object → Object
 gone object = record object { stage = Gone }
 
+-- Values once those from a number on are others, one after another; what would come behind the end is dropped.
+abbrev pub set_from : List Value → (first : ℕ) → (others : List Value) → List Value
+set_from values first [] = values
+set_from values first (v ∷ vs) = set_from (slice_set values first v) (first + 1) vs
+
+-- An object once its components have other values, from one on (5.2).
+abbrev pub filled_from : (first : ℕ) → List Value → Object → Object
+filled_from first vs object = record object { cell = record (object.cell) { values = set_from object.cell.values first vs } }
+
 -- Entries are taken away, none of them a member's.
 pub record Trims (objects : List Object) (item : ℕ) (before after : List Id) : Type 0 where
   pub members : members_among objects item (reverse after) ≡ members_among objects item (reverse before)

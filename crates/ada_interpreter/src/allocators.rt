@@ -20,7 +20,7 @@ use ada_program::{Program, TypeNo};
 use std::alloc::AllocError;
 
 impl<'a> Process<'a> {
-    /// The items of an allocator that are left, in the order of the components (4.8).
+    /// The items of an aggregate that are left, in the order of the components (4.3.1).
     pub(crate) fn fill(&mut self, items: &'a [Item]) -> Result<Turn, AllocError>
         ensures { let s = state_of self.old in
             Turns (step.items_next named (map item_form items.now) (passed s))
@@ -35,7 +35,7 @@ impl<'a> Process<'a> {
         }
     }
 
-    /// An item is evaluated.
+    /// An item is evaluated: the object of a record that is copied is found first.
     fn item(&mut self, item: &'a Item, rest: Frame<'a>) -> Result<Turn, AllocError>
         ensures { let s = state_of self.old in
             Turns (step.item_next named (item_form item.now) (replaced (frame_of rest.entry) s))
@@ -52,6 +52,15 @@ impl<'a> Process<'a> {
                 self.replace_by_two(Frame::Computes(expression), rest)?;
                 Ok(QUIET)
             }
+            Item::Record(path) => self.find(
+                path.object.root,
+                path.object.selectors.as_slice(),
+                Frame::Copies {
+                    first: path.first,
+                    record_type: path.record,
+                },
+                rest,
+            ),
         }
     }
 

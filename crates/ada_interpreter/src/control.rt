@@ -96,13 +96,27 @@ impl<'a> Process<'a> {
             Frame::Applies(operator) => self.apply(operator),
             Frame::AppliesAlone(operator) => self.apply_alone(operator),
             Frame::Fills(items) => self.fill(items),
+            Frame::Copies { first, record_type } => self.copy(program, first, record_type),
             Frame::Creates { access, count } => Ok(self.ask(program, access, count)),
             Frame::Stores(variable) => Ok(self.store(variable)),
             Frame::Targets { component, right } => self.target(component, right),
             Frame::StoresIn { object, component } => Ok(self.store_in(object, component)),
+            Frame::TargetsRecord {
+                first,
+                record_type,
+                items,
+            } => self.target_record(program, first, record_type, items),
+            Frame::StoresRecord {
+                object,
+                first,
+                count,
+            } => Ok(self.store_record(object, first, count)),
             Frame::Receives(component) => Ok(self.receive(component)),
             Frame::FreesIn { access, component } => self.free_in(access, component),
             Frame::Declares(variable) => self.create(variable),
+            Frame::DeclaresRecord { variable, object } => {
+                self.declare_record(program, variable, object)
+            }
             Frame::Writes => Ok(self.write()),
             Frame::Ends(object) => Ok(self.end(object)),
             Frame::GivesBack {

@@ -75,8 +75,14 @@ pub(crate) enum Frame<'a> {
     Applies(BinaryOperator),
     /// An operator is to be applied to the newest operand (4.5.4, 4.5.6).
     AppliesAlone(UnaryOperator),
-    /// The items of an allocator that are left to be evaluated (4.8).
+    /// The items of an aggregate that are left to be evaluated (4.3.1).
     Fills(&'a [Item]),
+    /// The newest operand gives access to an object in which a record of this type lies, from a component on: its
+    /// components become the newest operands (4.3.1).
+    Copies {
+        first: ComponentNo,
+        record_type: TypeNo,
+    },
     /// A pool is to be asked for a new object, whose components are the newest operands, as many as `count` (4.8).
     Creates {
         access: TypeNo,
@@ -95,6 +101,19 @@ pub(crate) enum Frame<'a> {
         object: Value,
         component: ComponentNo,
     },
+    /// The newest operand gives access to an object in which a record of this type lies, from a component on, that is
+    /// assigned to: what its components get is evaluated next (5.2).
+    TargetsRecord {
+        first: ComponentNo,
+        record_type: TypeNo,
+        items: &'a [Item],
+    },
+    /// The newest operands go to the components of an object, as many as `count` from one on (5.2).
+    StoresRecord {
+        object: Value,
+        first: ComponentNo,
+        count: usize,
+    },
     /// The newest operand gives access to an object, whose component takes the next number of the input.
     Receives(ComponentNo),
     /// The newest operand gives access to an object, whose component is freed by the instance for this access type
@@ -105,6 +124,11 @@ pub(crate) enum Frame<'a> {
     },
     /// The newest operand is the initial value of a variable, which then is created (3.3.1).
     Declares(VariableNo),
+    /// The newest operands are the components of a record object, which then is created (3.3.1).
+    DeclaresRecord {
+        variable: VariableNo,
+        object: TypeNo,
+    },
     /// The newest operand is to be written (A.10.7).
     Writes,
     /// An object ceases to exist (13.11.2).

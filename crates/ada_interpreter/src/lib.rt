@@ -5,7 +5,8 @@
 //! one request at most, and takes the newest member; [`Listed`] follows a list of answers.
 //!
 //! A step costs constant time, whatever the program has allocated and entered: a collection knows its members, an object
-//! its collection, and an access type its newest open collection. An exception looks at the handlers that it comes to.
+//! its collection, and an access type its newest open collection. An exception looks at the handlers that it comes to,
+//! and the step that copies or fills a record costs as much as the record is long.
 #![tactic(auto)]
 
 mod allocators;
@@ -27,6 +28,7 @@ mod masters;
 mod objects;
 mod operators;
 mod process;
+mod records;
 mod stack;
 mod steps;
 mod turn;

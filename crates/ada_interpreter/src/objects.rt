@@ -3,11 +3,11 @@
 ghost use Rattle.std.specs.Prelude.{◌≡◌, ℕ, ◌<◌, [], ◌∷◌, ◌++◌, length, reverse, map, vec_len, OnOk, OnErr, IfOk, MatchOption};
 ghost use Rattle.std.specs.List.{slice_index_or, slice_set};
 ghost use Rattle.ada_meaning.specs.Heap.{on_gone, finds};
-ghost use Rattle.ada_meaning.specs.Step.{initial_value};
+ghost use Rattle.ada_meaning.specs.Step.{initial_value, stored_from};
 ghost use Rattle.ada_meaning.specs.Named.{named, object_at, seen, lent_by, new_object, changed, parted, finished, returned, filled, members};
-ghost use Rattle.ada_interpreter.specs.Objects.{cell_of, declared_cell, object_of, kept_of, kept_at, entered, discounted_at, listed_home, gone, is_member_at, members_among, Trims, IsTidied};
+ghost use Rattle.ada_interpreter.specs.Objects.{cell_of, declared_cell, object_of, kept_of, kept_at, entered, discounted_at, listed_home, gone, filled_from, is_member_at, members_among, Trims, IsTidied};
 
-use crate::values::{initial_values, set_value};
+use crate::values::{initial_values, set_value, set_values};
 use ada_meaning::{Id, Stage, Value};
 use ada_program::TypeNo;
 use ada_program::program::{ComponentKind, ComponentNo};
@@ -130,18 +130,27 @@ impl Objects {
         Ok(o)
     }
 
-    /// A new record object, whose components hold what they hold at first (3.3.1); its home is an item of its own.
+    /// What components hold at first, in their order (3.3.1).
+    pub(crate) fn initial_values(
+        &self,
+        components: &[ComponentKind],
+    ) -> Result<Vec<Value>, AllocError>
+        ensures { IfOk result (λ values. values.items ≡ map (initial_value named) components.now) }
+    {
+        initial_values(self.alloc, components)
+    }
+
+    /// A new record object, whose components hold these values (3.3.1); its home is an item of its own.
     pub(crate) fn create_declared(
         &mut self,
         object: TypeNo,
         item: usize,
-        components: &[ComponentKind],
+        values: Vec<Value>,
     ) -> Result<Id, AllocError>
         ensures name { IfOk result (λ o. o ≡ record { 0 = length self.old }) }
-        ensures object { let cell = declared_cell object.0 item (map (initial_value named) components.now) in
+        ensures object { let cell = declared_cell object.0 item values.items in
             OnOk result (self.new ≡ self.old ++ new_object cell ∷ []) }
     {
-        let values = initial_values(self.alloc, components)?;
         self.create(Cell {
             access: object,
             number: 0,
@@ -182,6 +191,13 @@ impl Objects {
         ensures { self.new ≡ changed (filled component.0 value) (object_at self.old o) self.old o }
     {
         set_component(&mut self.objects, o, component, value);
+    }
+
+    /// The components of the object of a name get other values, from one on (5.2).
+    pub(crate) fn store_from(&mut self, o: Id, first: ComponentNo, values: &[Value])
+        ensures { self.new ≡ stored_from named self.old (Value.Names o) first.0 values.now }
+    {
+        set_components(&mut self.objects, o, first, values);
     }
 
     /// How many members the collection of an item has.
@@ -251,6 +267,17 @@ fn set_component(objects: &mut Vec<Object>, o: Id, component: ComponentNo, value
     if o.0 < objects.len() {
         let object = &mut objects[o.0];
         set_value(object.cell.values.as_mut_slice(), component.0, value);
+    }
+}
+
+/// The components of the object of a name have other values, from one on.
+fn set_components(objects: &mut Vec<Object>, o: Id, first: ComponentNo, values: &[Value])
+    ensures { let xs = map object_of objects.old.items in
+        map object_of objects.new.items ≡ changed (filled_from first.0 values.now) (object_at xs o) xs o }
+{
+    if o.0 < objects.len() {
+        let object = &mut objects[o.0];
+        set_values(object.cell.values.as_mut_slice(), first.0, values);
     }
 }
 

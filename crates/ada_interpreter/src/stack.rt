@@ -100,6 +100,14 @@ impl<T: Drop> Stack<T> {
         self.items.clear();
     }
 
+    /// Takes so many of the newest items off, or all if there are not so many.
+    pub(crate) fn shorten_by(&mut self, count: usize)
+        ensures { self.new ≡ drop count self.old }
+    {
+        let kept = self.items.len().saturating_sub(count);
+        self.items.truncate(kept);
+    }
+
     /// Takes so many of the newest items off, or all if there are not so many: in the order in which they were put on.
     pub(crate) fn take(&mut self, count: usize) -> Result<Vec<T>, AllocError>
         ensures taken { IfOk result (λ taken. taken.items ≡ reverse (take count self.old)) }
@@ -111,6 +119,14 @@ impl<T: Drop> Stack<T> {
 }
 
 impl<T: Copy + Drop> Stack<T> {
+    /// So many of the newest items, or all if there are not so many: in the order in which they were put on.
+    pub(crate) fn newest(&self, count: usize) -> &[T]
+        ensures { result.now ≡ reverse (take count self.now) }
+    {
+        let kept = self.items.len().saturating_sub(count);
+        &self.items[kept..]
+    }
+
     /// The item so far from the newest, the 0th.
     #[tactic(auto, using(crate::proofs::StackLemmas::newest_first))]
     pub(crate) fn at(&self, i: usize) -> Option<T>

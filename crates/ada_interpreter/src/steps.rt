@@ -1,11 +1,11 @@
 //! Declarations and statements.
 
-ghost use Rattle.std.specs.Prelude.{◌≡◌, map, OnOk};
+ghost use Rattle.std.specs.Prelude.{◌≡◌, map};
 ghost use Rattle.std.specs.Option.{option_copied};
 ghost use Rattle.ada_program.specs.Form.{initial_form, right_form, stmt_form, stmts_form, handlers_form, declaration_form};
 ghost use Rattle.ada_meaning.specs.Frame as frame;
 ghost use Rattle.ada_meaning.specs.Event.{Quiet};
-ghost use Rattle.ada_meaning.specs.State.{declared, record_object};
+ghost use Rattle.ada_meaning.specs.State.{declared};
 ghost use Rattle.ada_meaning.specs.Step as step;
 ghost use Rattle.ada_meaning.specs.Named.{named, reads_integer};
 ghost use Rattle.ada_interpreter.specs.Process.{frame_of, state_of, passed, replaced, pushed, Turns, IsTurn};
@@ -16,7 +16,7 @@ use crate::process::Process;
 use crate::turn::{QUIET, Turn};
 use ada_meaning::{Event, Halt, Line, Mode, Value};
 use ada_program::program::{Declaration, Handler, Right};
-use ada_program::{Program, Stmt, TypeNo, VariableNo};
+use ada_program::{Program, Stmt, VariableNo};
 use ada_values::Value as Scalar;
 use std::alloc::AllocError;
 
@@ -56,7 +56,7 @@ impl<'a> Process<'a> {
     }
 
     /// A declaration (3.11): a collection is created; a variable is created once its initial value is known; a record
-    /// object is created.
+    /// object is created, once the items of its initial value are known where they are written.
     fn declare(
         &mut self,
         program: &Program,
@@ -82,34 +82,31 @@ impl<'a> Process<'a> {
                 )?;
                 Ok(QUIET)
             }
-            Declaration::Record { variable, object } => {
+            Declaration::Record {
+                variable,
+                object,
+                initial: None,
+            } => {
                 self.replace(rest)?;
-                self.make(program, *variable, *object)?;
+                self.make_initial(program, *variable, *object)?;
+                Ok(QUIET)
+            }
+            Declaration::Record {
+                variable,
+                object,
+                initial: Some(items),
+            } => {
+                self.replace_by_three(
+                    Frame::Fills(items.as_slice()),
+                    Frame::DeclaresRecord {
+                        variable: *variable,
+                        object: *object,
+                    },
+                    rest,
+                )?;
                 Ok(QUIET)
             }
         }
-    }
-
-    /// A record object is created, with what its components hold at first (3.3.1): its variable holds its name, and the
-    /// innermost master owns it.
-    fn make(
-        &mut self,
-        program: &Program,
-        variable: VariableNo,
-        object: TypeNo,
-    ) -> Result<(), AllocError>
-        ensures { let types = program.now.types.items in let s = state_of self.old in
-            OnOk result
-            (state_of self.new ≡ step.owned (record_object object.0) (step.made named types variable.0 object.0 s)) }
-    {
-        let components = match program.components(object) {
-            Some(components) => components,
-            None => &[],
-        };
-        let item = self.masters.height();
-        let name = self.objects.create_declared(object, item, components)?;
-        self.put(variable, Value::Names(name));
-        self.masters.own(Owned::Record(object))
     }
 
     /// The statements that are left (5.1).
@@ -141,6 +138,7 @@ impl<'a> Process<'a> {
                 Ok(QUIET)
             }
             Stmt::Assign { target, value } => self.assign(target, value, rest),
+            Stmt::AssignRecord { target, items } => self.assign_record(target, items, rest),
             Stmt::Free { access, path } => self.free(*access, path, rest),
             Stmt::Get(target) => self.get(target, rest),
             Stmt::PutImage(expression) => {
@@ -274,7 +272,7 @@ impl<'a> Process<'a> {
                     Frame::Fills(items.as_slice()),
                     Frame::Creates {
                         access: *access,
-                        count: items.len(),
+                        count: program.words(*access),
                     },
                 )?;
                 Ok(QUIET)

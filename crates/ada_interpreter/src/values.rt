@@ -1,9 +1,11 @@
 //! Values by number: total reads and writes.
 
-ghost use Rattle.std.specs.Prelude.{◌≡◌, map, IfOk};
+ghost use Rattle.std.specs.Prelude.{◌≡◌, drop, map, IfOk};
 ghost use Rattle.std.specs.List.{slice_index_or, slice_set};
-ghost use Rattle.ada_meaning.specs.Step.{initial_value};
+ghost use Rattle.std.specs.Option.{option_copied};
+ghost use Rattle.ada_meaning.specs.Step.{initial_value, record_in};
 ghost use Rattle.ada_meaning.specs.Named.{named, reads_boolean, reads_integer};
+ghost use Rattle.ada_interpreter.specs.Objects.{set_from};
 
 use ada_meaning::Value;
 use ada_program::program::ComponentKind;
@@ -27,6 +29,43 @@ pub(crate) fn set_value(values: &mut [Value], i: usize, value: Value)
 {
     if i < values.len() {
         values[i] = value;
+    }
+}
+
+/// Values become others, from a number on; what would come behind the end is dropped.
+pub(crate) fn set_values(values: &mut [Value], first: usize, others: &[Value])
+    ensures { values.new ≡ set_from values.old first others.now }
+{
+    let mut i = first;
+    for value in others {
+        if i >= values.len() {
+            break;
+        }
+        values[i] = *value;
+        i += 1;
+    }
+}
+
+/// The values of a record that lies among these, from a number on; none, if there are too few.
+pub(crate) fn record_in(values: &[Value], first: usize, count: usize) -> Option<&[Value]>
+    ensures { option_copied result ≡ record_in values.now first count }
+{
+    let behind = values_behind(values, first);
+    if count <= behind.len() {
+        Some(&behind[..count])
+    } else {
+        None
+    }
+}
+
+/// The values from a number on.
+fn values_behind(values: &[Value], first: usize) -> &[Value]
+    ensures { result.now ≡ drop first values.now }
+{
+    if first < values.len() {
+        &values[first..]
+    } else {
+        &[]
     }
 }
 

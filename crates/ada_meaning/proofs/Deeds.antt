@@ -1,12 +1,12 @@
 -- What one step does to the heap, and what follows for runs.
 
-use Rattle.std.proofs.Common.{◌≡◌, ℕ, ℤ, int_le, ◌==◌, Bool, true, false, if◌then◌else◌, List, [], ◌∷◌, ◌++◌, Option, Some, None, Result, Ok, Err, refl, ap}
+use Rattle.std.proofs.Common.{◌≡◌, ℕ, ℤ, int_le, Bool, true, false, if◌then◌else◌, List, [], ◌∷◌, ◌++◌, Option, Some, None, Result, Ok, Err, refl, ap}
 use Rattle.std.specs.List.{slice_get, slice_set, slice_index_or}
 use Rattle.ada_program.specs.declared.program.Program.{Program}
 use Rattle.ada_program.specs.declared.program.TypeDefinition.{TypeDefinition}
-use Rattle.ada_program.specs.Form.{ExpressionForm, integer, boolean, reads, is_null, applied_to, chained, LinksForm, no_more_links, a_link, ItemForm, null_item, item_of_path, item_of_value, RightForm, nothing, value_of, allocates, allocates_default, computes, StmtForm, skips, assigns, frees, gets, writes, writes_text, chooses, repeats, counts, exits, raises, encloses, StmtsForm, no_stmts, a_stmt, BranchesForm, otherwise, a_branch, HandlersForm, DeclarationForm, collects, declares, declares_record}
+use Rattle.ada_program.specs.Form.{ExpressionForm, integer, boolean, reads, is_null, applied_to, chained, LinksForm, no_more_links, a_link, ItemForm, null_item, item_of_path, item_of_value, item_of_record, RightForm, nothing, value_of, allocates, allocates_default, computes, StmtForm, skips, assigns, assigns_record, frees, gets, writes, writes_text, chooses, repeats, counts, exits, raises, encloses, StmtsForm, no_stmts, a_stmt, BranchesForm, otherwise, a_branch, HandlersForm, DeclarationForm, collects, declares, declares_record}
 use Rattle.ada_program.specs.Form as form
-use Rattle.ada_program.specs.Typed.{words_of}
+use Rattle.ada_program.specs.Typed.{reached_of, words_of, width_of}
 use Rattle.ada_values.specs.declared.operator.BinaryOperator.{BinaryOperator}
 use Rattle.ada_values.specs.declared.fault.OperatorFault.{OperatorFault}
 use Rattle.ada_values.specs.declared.fault.OperatorFault.TheVariants.{Overflow, DivisionByZero, WrongType}
@@ -24,8 +24,8 @@ use Rattle.ada_meaning.specs.Frame.{Frame, is_master, is_loop, Landing, passes_o
 use Rattle.ada_meaning.specs.Frame as frame
 use Rattle.ada_meaning.specs.State.{Owned, declared, collection, record_object, Item, Master, height, home_of, pool_of}
 use Rattle.ada_meaning.specs.Heap.{Cell, Found, on_null, on_gone, on_other, finds}
-use Rattle.ada_meaning.specs.Step.{same_pool, told_back, record_cell, halts, moves, tells, asks, picks, at, popped, held, newest, reading, component_next, follow_next, path_next, expression_next, null_test_next, is_decided, link_next, links_next, outcome_next, item_next, items_next, answered, new_next, new_cell, right_next, free_next, end_next, given_back, back_next, before_last, last_of, assign_next, target_next, stored_next, store_next, received_next, receive_next, frees_next, freed_next, free_component_next, free_in_next, branches_next, decided_next, turn_next, repeats_next, turned_next, count_turn_next, counts_next, ranges_next, gets_next, exit_next, exited_next, stmt_next, stmts_next, line_next, declaration_next, declarations_next, members_next, item_leave_next, master_leave_next, leave_next, frame_next, landed, pass_next, running_next, jump_next, mode_next}
-use Rattle.ada_meaning.specs.Named.{Object, State, Next, next, named, look, lent, lent_by, reads_boolean, reads_null, reads_integer, unary_given, binary_given, members, object_at, changed, on_object, new_object, parted, finished, returned, filled, an_integer}
+use Rattle.ada_meaning.specs.Step.{same_pool, told_back, record_cell, record_in, stored_from, newest_ones, without_newest, initial_values, copied_next, copies_next, record_target_next, record_stored_next, store_record_next, record_next, halts, moves, tells, asks, picks, at, popped, held, newest, reading, component_next, follow_next, path_next, expression_next, null_test_next, is_decided, link_next, links_next, outcome_next, item_next, items_next, answered, new_next, new_cell, right_next, free_next, end_next, given_back, back_next, before_last, last_of, assign_next, target_next, stored_next, store_next, received_next, receive_next, frees_next, freed_next, free_component_next, free_in_next, branches_next, decided_next, turn_next, repeats_next, turned_next, count_turn_next, counts_next, ranges_next, gets_next, exit_next, exited_next, stmt_next, stmts_next, line_next, declaration_next, declarations_next, members_next, item_leave_next, master_leave_next, leave_next, frame_next, landed, pass_next, running_next, jump_next, mode_next}
+use Rattle.ada_meaning.specs.Named.{Object, State, Next, next, named, look, lent, lent_by, reads_boolean, reads_null, reads_integer, unary_given, binary_given, members, object_at, changed, on_object, new_object, parted, finished, returned, an_integer}
 use Rattle.ada_meaning.specs.Run.{Event, Choice, settled, grants, takes, Leads, Step}
 use Rattle.ada_meaning.specs.Law.{back_of}
 
@@ -33,13 +33,13 @@ abbrev Heap : Type 0
 Heap = List Object
 
 -- What one step does to the heap: nothing, or one object more is there, or one leaves its collection, or it ceases to exist, or its words,
--- which were out, go back, or a component of it has another value.
+-- which were out, go back, or components of it, from one on, have other values.
 pub data Deed (xs : Heap) (e : Event) (ys : Heap) : Type 0 where
   same : back_of e ≡ None → ys ≡ xs → Deed xs e ys
   adds : (object : Object) → back_of e ≡ None → ys ≡ xs ++ object ∷ [] → Deed xs e ys
   parts : (v : Value) → back_of e ≡ None → ys ≡ on_object parted xs v → Deed xs e ys
   finishes : (v : Value) → back_of e ≡ None → ys ≡ on_object finished xs v → Deed xs e ys
-  fills : (o : Value) (c : ℕ) (v : Value) → back_of e ≡ None → ys ≡ on_object (filled c v) xs o → Deed xs e ys
+  fills : (o : Value) (c : ℕ) (vs : List Value) → back_of e ≡ None → ys ≡ stored_from named xs o c vs → Deed xs e ys
   returns : (o : Id) (object : Object) → back_of e ≡ Some o → object_at xs o ≡ Some object → object.out ≡ true → ys ≡ slice_set xs o.0 (returned object) → Deed xs e ys
 
 -- What comes next does so, whatever is answered.
@@ -101,10 +101,22 @@ item_does : (item : ItemForm) (s : State) → Does s.heap (item_next named item 
 item_does null_item s = same refl refl
 item_does (item_of_path path) s = path_does path.selectors (held named s path.root) s
 item_does (item_of_value e) s = same refl refl
+item_does (item_of_record p) s = path_does p.object.selectors (held named s p.object.root) (at (frame.Copies p.first p.record_type ∷ s.control) s)
 
 items_do : (items : List ItemForm) (s : State) → Does s.heap (items_next named items s)
 items_do [] s = same refl refl
 items_do (i ∷ is) s = item_does i (at (frame.Fills is ∷ s.control) s)
+
+-- A record that is copied.
+copied_does : (o : Value) (found : Option (List Value)) (s : State) → Does s.heap (copied_next named o found s)
+copied_does o None s = tt
+copied_does o (Some vs) s = same refl refl
+
+copies_do : (o : Value) (first count : ℕ) (found : Found (Cell Value)) (s : State) → Does s.heap (copies_next named o first count found s)
+copies_do o first count on_null s = same refl refl
+copies_do o first count on_gone s = tt
+copies_do o first count on_other s = tt
+copies_do o first count (finds cell) s = copied_does o (record_in cell.values first count) s
 
 answered_does : (access count item words : ℕ) (s : State) (granted : Bool) → Deed s.heap Quiet (answered named access count item words s granted).heap
 answered_does access count item words s true = adds (new_object (new_cell named access count item s)) refl refl
@@ -168,13 +180,30 @@ target_does o c right (finds cell) s = same refl refl
 
 stored_does : (o : Value) (c : ℕ) (v : Value) (before : Option Value) (s : State) → Does s.heap (stored_next named o c v before s)
 stored_does o c v None s = tt
-stored_does o c v (Some before) s = fills o c v refl refl
+stored_does o c v (Some before) s = fills o c (v ∷ []) refl refl
 
 store_does : (o : Value) (c : ℕ) (v : Value) (found : Found (Cell Value)) (s : State) → Does s.heap (store_next named o c v found s)
 store_does o c v on_null s = tt
 store_does o c v on_gone s = tt
 store_does o c v on_other s = tt
 store_does o c v (finds cell) s = stored_does o c v (slice_get cell.values c) s
+
+-- A record that is assigned to.
+record_target_does : (o : Value) (first count : ℕ) (items : List ItemForm) (found : Found (Cell Value)) (s : State) → Does s.heap (record_target_next named o first count items found s)
+record_target_does o first count items on_null s = same refl refl
+record_target_does o first count items on_gone s = tt
+record_target_does o first count items on_other s = tt
+record_target_does o first count items (finds cell) s = same refl refl
+
+record_stored_does : (o : Value) (first : ℕ) (vs : List Value) (before : Option (List Value)) (s : State) → Does s.heap (record_stored_next named o first vs before s)
+record_stored_does o first vs None s = tt
+record_stored_does o first vs (Some before) s = fills o first vs refl refl
+
+store_record_does : (o : Value) (first count : ℕ) (found : Found (Cell Value)) (s : State) → Does s.heap (store_record_next named o first count found s)
+store_record_does o first count on_null s = tt
+store_record_does o first count on_gone s = tt
+store_record_does o first count on_other s = tt
+store_record_does o first count (finds cell) s = record_stored_does o first (newest_ones named count s) (record_in cell.values first count) (without_newest named count s)
 
 frees_do : (cs : List ℕ) (access x : ℕ) (s : State) → Does s.heap (frees_next named cs access x s)
 frees_do [] access x s = free_does access x (held named s x) (look s.heap (held named s x)) s
@@ -242,7 +271,7 @@ gets_do [] x (i ∷ is) s = same refl refl
 received_does : (o : Value) (c : ℕ) (input : List ℤ) (before : Option Value) (s : State) → Does s.heap (received_next named o c input before s)
 received_does o c input None s = tt
 received_does o c [] (Some before) s = same refl refl
-received_does o c (i ∷ is) (Some before) s = fills o c (an_integer i) refl refl
+received_does o c (i ∷ is) (Some before) s = fills o c (an_integer i ∷ []) refl refl
 
 receive_does : (o : Value) (c : ℕ) (found : Found (Cell Value)) (s : State) → Does s.heap (receive_next named o c found s)
 receive_does o c on_null s = same refl refl
@@ -262,6 +291,8 @@ exited_does (Some false) s = same refl refl
 stmt_does : (f : StmtForm) (s : State) → Does s.heap (stmt_next named f s)
 stmt_does skips s = same refl refl
 stmt_does (assigns target right) s = assign_does target.selectors target.root right s
+stmt_does (assigns_record target items) s =
+    path_does target.object.selectors (held named s target.object.root) (at (frame.TargetsRecord target.first target.record_type items ∷ s.control) s)
 stmt_does (frees access path) s = frees_do path.selectors access path.root s
 stmt_does (gets target) s = gets_do target.selectors target.root s.input s
 stmt_does (writes e) s = same refl refl
@@ -282,10 +313,14 @@ line_does : (read : Option ℤ) (s : State) → Does s.heap (line_next named rea
 line_does None s = tt
 line_does (Some i) s = same refl refl
 
+record_does : (types : List TypeDefinition) (x t : ℕ) (initial : Option (List ItemForm)) (s : State) → Does s.heap (record_next named types x t initial s)
+record_does types x t None s = adds (new_object (record_cell named t (height s.masters) (initial_values named (reached_of types t)))) refl refl
+record_does types x t (Some items) s = same refl refl
+
 declaration_does : (types : List TypeDefinition) (d : DeclarationForm) (s : State) → Does s.heap (declaration_next named types d s)
 declaration_does types (collects access) s = same refl refl
 declaration_does types (declares x right) s = same refl refl
-declaration_does types (declares_record x t) s = adds (new_object (record_cell named types t (height s.masters))) refl refl
+declaration_does types (declares_record x t initial) s = record_does types x t initial s
 
 declarations_do : (types : List TypeDefinition) (ds : List DeclarationForm) (fs : StmtsForm) (hs : HandlersForm) (s : State) → Does s.heap (declarations_next named types ds fs hs s)
 declarations_do types [] fs hs s = same refl refl
@@ -331,13 +366,18 @@ frame_does types (frame.Continues links) s = links_do links s
 frame_does types (frame.Applies operator) s = outcome_does (binary_given operator (newest named (popped s)) (newest named s)) (popped (popped s))
 frame_does types (frame.AppliesAlone operator) s = outcome_does (unary_given operator (newest named s)) (popped s)
 frame_does types (frame.Fills items) s = items_do items s
+frame_does types (frame.Copies first t) s = copies_do (newest named s) first (width_of types t) (look s.heap (newest named s)) (popped s)
 frame_does types (frame.Creates access count) s = new_does access count (words_of types access) (home_of access s.masters) s
 frame_does types (frame.Stores x) s = same refl refl
 frame_does types (frame.Targets c right) s = target_does (newest named s) c right (look s.heap (newest named s)) (popped s)
 frame_does types (frame.StoresIn object c) s = store_does object c (newest named s) (look s.heap object) (popped s)
+frame_does types (frame.TargetsRecord first t items) s =
+    record_target_does (newest named s) first (width_of types t) items (look s.heap (newest named s)) (popped s)
+frame_does types (frame.StoresRecord object first count) s = store_record_does object first count (look s.heap object) s
 frame_does types (frame.Receives c) s = receive_does (newest named s) c (look s.heap (newest named s)) (popped s)
 frame_does types (frame.FreesIn access c) s = free_in_does access (newest named s) c (look s.heap (newest named s)) (popped s)
 frame_does types (frame.Declares x) s = same refl refl
+frame_does types (frame.DeclaresRecord x t) s = adds (new_object (record_cell named t (height s.masters) (newest_ones named (words_of types t) s))) refl refl
 frame_does types frame.Writes s = line_does (reads_integer (newest named s)) (popped s)
 frame_does types (frame.Ends v) s = end_does v (look s.heap v) s
 frame_does types (frame.GivesBack v cause pool) s = back_does v cause pool s

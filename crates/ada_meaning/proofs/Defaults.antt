@@ -14,18 +14,18 @@ use Rattle.ada_meaning.specs.declared.state.Value.{Value}
 use Rattle.ada_meaning.specs.declared.state.Mode.TheVariants.{Running}
 use Rattle.ada_meaning.specs.Event.{Quiet}
 use Rattle.ada_meaning.specs.Frame.{Frame, Elaborates, Evaluates, Creates}
-use Rattle.ada_meaning.specs.State.{Activation, home_of, height, record_object}
-use Rattle.ada_meaning.specs.Step.{at, moves, new_next, new_cell, in_front, initial_value, owned, made, record_cell}
+use Rattle.ada_meaning.specs.State.{Activation, home_of, height}
+use Rattle.ada_meaning.specs.Step.{at, moves, new_next, new_cell, in_front, initial_value, initial_values, made, record_cell}
 use Rattle.ada_meaning.specs.Run.{Event, grants, Leads}
 use Rattle.ada_meaning.specs.Named.{Object, new_object, State, named, next}
 use Rattle.ada_meaning.specs.Defaults.{HoldsAtFirst, HoldAtFirst, MakesByDefault, MakesRecords}
 
 -- What is kept newest first is taken back in order.
-kept_in_front : (vs os : List Value) → in_front vs os ≡ reverse vs ++ os
+pub kept_in_front : (vs os : List Value) → in_front vs os ≡ reverse vs ++ os
 kept_in_front [] os = refl
 kept_in_front (v ∷ vs) os = kept_in_front vs (v ∷ os) ∙ sym (append_assoc (reverse vs) (v ∷ []) os) ∙ ap (λ us. us ++ os) (sym (reverse_onto vs v []))
 
-taken_back : (vs os : List Value) → reverse (take (length vs) (in_front vs os)) ≡ vs
+pub taken_back : (vs os : List Value) → reverse (take (length vs) (in_front vs os)) ≡ vs
 taken_back vs os =
     let front : take (length (reverse vs)) (reverse vs ++ os) ≡ reverse vs = take-append_seam (reverse vs) os in
     ap (λ us. reverse (take (length vs) us)) (kept_in_front vs os) ∙
@@ -81,12 +81,12 @@ makes_by_default program access kinds behind before mid after running suspended 
 
 -- A record object is made in one step.
 module _ (types : List TypeDefinition) (x t : ℕ) (ds : List DeclarationForm) (fs : StmtsForm) (hs : HandlersForm) (behind : List (Frame Value)) where
-  record_step : (s : State) → s.mode ≡ Running → s.control ≡ Elaborates (declares_record x t ∷ ds) fs hs ∷ behind → next types s ≡ moves Quiet (owned (record_object t) (made named types x t (at (Elaborates ds fs hs ∷ behind) s)))
+  record_step : (s : State) → s.mode ≡ Running → s.control ≡ Elaborates (declares_record x t None ∷ ds) fs hs ∷ behind → next types s ≡ moves Quiet (made named types x t (initial_values named (reached_of types t)) (at (Elaborates ds fs hs ∷ behind) s))
   unfolding next
   record_step s runs is = rw (runs, is) refl
 
 pub makes_records : MakesRecords
 makes_records program x t kinds ds fs hs behind before after running suspended event reached runs is active step =
     let moved = rw (record_step program.types.items x t ds fs hs behind before runs is) at step in
-    let values : record_cell named program.types.items t (height before.masters) ≡ record { access = t; number = 0; home = record { item = height before.masters; pool = None; subpool = None }; values = map (initial_value named) kinds } = rw (reached) refl in
-    (new_object (record_cell named program.types.items t (height before.masters)), ap (λ (u : State). u.heap) moved.1, refl, refl, rw (reached) (hold_at_first kinds), ap (λ (u : State). u.activations) moved.1 ∙ rw (active) refl)
+    let cell = record_cell named t (height before.masters) (initial_values named (reached_of program.types.items t)) in
+    (new_object cell, ap (λ (u : State). u.heap) moved.1, refl, refl, rw (reached) (hold_at_first kinds), ap (λ (u : State). u.activations) moved.1 ∙ rw (active) refl)

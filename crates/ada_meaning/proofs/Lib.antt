@@ -8,6 +8,8 @@ pub mod Deeds
 pub mod Lives
 -- what objects of allocators without items hold when they come to be
 pub mod Defaults
+-- records that are copied as wholes
+pub mod Records
 -- where a statement begins
 pub mod Beginnings
 -- what the law of the innermost master refuses

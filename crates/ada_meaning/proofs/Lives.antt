@@ -1,6 +1,6 @@
 -- Objects over any run: each keeps its name, is gone for ever, and gives its words back once.
 
-use Rattle.std.proofs.Common.{◌≡◌, ℕ, zero, suc, true, false, List, [], ◌∷◌, ◌++◌, Option, Some, None, arith, refl, sym, ap, ◌∙◌, subst}
+use Rattle.std.proofs.Common.{◌≡◌, ℕ, zero, suc, ◌+◌, true, false, List, [], ◌∷◌, ◌++◌, Option, Some, None, arith, refl, sym, ap, ◌∙◌, subst}
 use Rattle.std.specs.List.{slice_get, slice_set, AllPairs, AllByRecursion}
 use Rattle.std.proofs.lemmas.List.Elements.{All-from_recursion}
 use Rattle.std.proofs.lemmas.List.Kept.{AllPairs-cons}
@@ -9,7 +9,8 @@ use Rattle.ada_meaning.specs.declared.state.Id.{Id}
 use Rattle.ada_meaning.specs.declared.state.Value.{Value}
 use Rattle.ada_meaning.specs.declared.state.Value.TheVariants.{Null, Names, Scalar}
 use Rattle.ada_meaning.specs.declared.state.Stage.TheVariants.{Gone}
-use Rattle.ada_meaning.specs.Named.{Object, State, object_at, changed, on_object, parted, finished, returned, filled}
+use Rattle.ada_meaning.specs.Named.{Object, State, named, object_at, changed, on_object, parted, finished, returned, filled, store}
+use Rattle.ada_meaning.specs.Step.{stored_from}
 use Rattle.ada_meaning.specs.Run.{Event, Choice, Step, Run, here, there}
 use Rattle.ada_meaning.specs.Law.{back_of, Differ, BackTwoObjects}
 use Rattle.ada_meaning.specs.Life.{Remains, KeepsObjects}
@@ -73,12 +74,17 @@ keeps_later (x ∷ xs) [] zs a b = absurd a
 keeps_later (x ∷ xs) (y ∷ ys) [] a b = absurd b
 keeps_later (x ∷ xs) (y ∷ ys) (z ∷ zs) a b = (remains_later x y z a.0 b.0, keeps_later xs ys zs a.1 b.1)
 
+keeps_stored : (xs : Heap) (o : Value) (c : ℕ) (vs : List Value) → KeepsObjects xs (stored_from named xs o c vs)
+keeps_stored xs o c [] = keeps_same xs
+keeps_stored xs o c (v ∷ vs) =
+    keeps_later xs (store xs o c v) (stored_from named (store xs o c v) o (c + 1) vs) (keeps_on (filled c v) xs o (remains_filled c v)) (keeps_stored (store xs o c v) o (c + 1) vs)
+
 deed_keeps : (xs : Heap) (e : Event) (ys : Heap) → Deed xs e ys → KeepsObjects xs ys
 deed_keeps xs e ys (same b is) = subst (λ (zs : Heap). KeepsObjects xs zs) (sym is) (keeps_same xs)
 deed_keeps xs e ys (adds x b is) = subst (λ (zs : Heap). KeepsObjects xs zs) (sym is) (keeps_more xs x)
 deed_keeps xs e ys (parts v b is) = subst (λ (zs : Heap). KeepsObjects xs zs) (sym is) (keeps_on parted xs v remains_parted)
 deed_keeps xs e ys (finishes v b is) = subst (λ (zs : Heap). KeepsObjects xs zs) (sym is) (keeps_on finished xs v remains_finished)
-deed_keeps xs e ys (fills o c v b is) = subst (λ (zs : Heap). KeepsObjects xs zs) (sym is) (keeps_on (filled c v) xs o (remains_filled c v))
+deed_keeps xs e ys (fills o c vs b is) = subst (λ (zs : Heap). KeepsObjects xs zs) (sym is) (keeps_stored xs o c vs)
 deed_keeps xs e ys (returns o x b was out is) = subst (λ (zs : Heap). KeepsObjects xs zs) (sym is) (keeps_set xs o.0 x (returned x) was (remains_returned x))
 
 -- Over any run each name keeps its object.
@@ -115,7 +121,7 @@ deed_back xs e ys o (same b is) back = absurd (cc)
 deed_back xs e ys o (adds x b is) back = absurd (cc)
 deed_back xs e ys o (parts v b is) back = absurd (cc)
 deed_back xs e ys o (finishes v b is) back = absurd (cc)
-deed_back xs e ys o (fills v c u b is) back = absurd (cc)
+deed_back xs e ys o (fills v c vs b is) back = absurd (cc)
 deed_back xs e ys o (returns other x b was out is) back =
     let one : other ≡ o = cc in
     let at_other : IsBackAt ys other = (returned x, (ap (λ (zs : Heap). object_at zs other) is ∙ set_at xs other.0 x (returned x) was, refl)) in
@@ -126,7 +132,7 @@ deed_differs xs e ys o x (same b is) at_o back = rw b tt
 deed_differs xs e ys o x (adds y b is) at_o back = rw b tt
 deed_differs xs e ys o x (parts v b is) at_o back = rw b tt
 deed_differs xs e ys o x (finishes v b is) at_o back = rw b tt
-deed_differs xs e ys o x (fills v c u b is) at_o back = rw b tt
+deed_differs xs e ys o x (fills v c vs b is) at_o back = rw b tt
 deed_differs xs e ys o x (returns other y b was out is) at_o back =
     rw b (λ (one : o ≡ other).
     let twice : Some x ≡ Some y = sym at_o ∙ ap (object_at xs) one ∙ was in

@@ -5,7 +5,8 @@ use Rattle.std.specs.List.{slice_get, slice_set, slice_index_or, AllByRecursion}
 use Rattle.ada_meaning.specs.declared.state.Id.{Id}
 use Rattle.ada_meaning.specs.declared.state.Value.{Value}
 use Rattle.ada_meaning.specs.declared.state.Value.TheVariants.{Null, Names, Scalar}
-use Rattle.ada_meaning.specs.Named.{Object, changed, on_object, parted, finished, returned, filled, is_member, members_from, members}
+use Rattle.ada_meaning.specs.Step.{stored_from}
+use Rattle.ada_meaning.specs.Named.{Object, named, changed, on_object, parted, finished, returned, filled, store, is_member, members_from, members}
 use Rattle.ada_meaning.specs.Ending.{object_weight, heap_weight}
 
 -- A value names an object that is in its collection, among objects that are numbered from `n` on.
@@ -87,6 +88,10 @@ parted_lighter objects v = on_object_lighter parted objects v (λ object. omega 
 
 pub filled_lighter : (objects : List Object) (v : Value) (c : ℕ) (u : Value) → heap_weight (on_object (filled c u) objects v) ≤ heap_weight objects
 filled_lighter objects v c u = on_object_lighter (filled c u) objects v (λ object. omega arith)
+
+pub stored_lighter : (objects : List Object) (v : Value) (c : ℕ) (vs : List Value) → heap_weight (stored_from named objects v c vs) ≤ heap_weight objects
+stored_lighter objects v c [] = omega arith
+stored_lighter objects v c (u ∷ us) = omega (arith, filled_lighter objects v c u, stored_lighter (store objects v c u) v (c + 1) us)
 
 -- A member that is taken out of its collection makes the heap lighter by all that it weighs.
 taken_object : (objects : List Object) (o : Id) (object : Object) (at_o : Option Object) → slice_get objects o.0 ≡ Some object → at_o ≡ Some object → object.listed ≡ true → heap_weight (changed parted at_o objects o) + 3 ≡ heap_weight objects

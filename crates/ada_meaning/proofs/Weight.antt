@@ -1,12 +1,12 @@
 -- Each step that begins no statement makes a state lighter, so that a run comes to the next statement, or to its end.
 
-use Rattle.std.proofs.Common.{◌≡◌, ◌≢◌, ℕ, ℤ, ◌+◌, ◌<◌, ◌≤◌, ◌==◌, int_le, Bool, true, false, ◌||◌, if◌then◌else◌, List, [], ◌∷◌, length, Option, Some, None, Result, Ok, Err, arith, refl}
+use Rattle.std.proofs.Common.{◌≡◌, ◌≢◌, ℕ, ℤ, ◌+◌, ◌<◌, ◌≤◌, int_le, Bool, true, false, ◌||◌, if◌then◌else◌, List, [], ◌∷◌, length, Option, Some, None, Result, Ok, Err, arith, refl}
 use Rattle.std.specs.List.{slice_get, slice_index_or}
 use Rattle.ada_program.specs.declared.program.Program.{Program}
 use Rattle.ada_program.specs.declared.program.TypeDefinition.{TypeDefinition}
-use Rattle.ada_program.specs.Form.{ExpressionForm, integer, boolean, reads, is_null, applied_to, chained, LinksForm, no_more_links, a_link, ItemForm, null_item, item_of_path, item_of_value, RightForm, nothing, value_of, allocates, allocates_default, computes, StmtForm, skips, assigns, frees, gets, writes, writes_text, chooses, repeats, counts, exits, returns, raises, encloses, StmtsForm, no_stmts, a_stmt, BranchesForm, otherwise, a_branch, HandlersForm, DeclarationForm, collects, declares, declares_record}
+use Rattle.ada_program.specs.Form.{ExpressionForm, integer, boolean, reads, is_null, applied_to, chained, LinksForm, no_more_links, a_link, ItemForm, null_item, item_of_path, item_of_value, item_of_record, RightForm, nothing, value_of, allocates, allocates_default, computes, StmtForm, skips, assigns, assigns_record, frees, gets, writes, writes_text, chooses, repeats, counts, exits, returns, raises, encloses, StmtsForm, no_stmts, a_stmt, BranchesForm, otherwise, a_branch, HandlersForm, DeclarationForm, collects, declares, declares_record}
 use Rattle.ada_program.specs.Handling.{handler_of}
-use Rattle.ada_program.specs.Typed.{words_of}
+use Rattle.ada_program.specs.Typed.{reached_of, words_of, width_of}
 use Rattle.ada_values.specs.declared.operator.BinaryOperator.{BinaryOperator}
 use Rattle.ada_values.specs.declared.fault.OperatorFault.{OperatorFault}
 use Rattle.ada_values.specs.declared.fault.OperatorFault.TheVariants.{Overflow, DivisionByZero, WrongType}
@@ -24,12 +24,12 @@ use Rattle.ada_meaning.specs.Frame as frame
 use Rattle.ada_meaning.specs.State.{Owned, declared, collection, record_object, Item, Master, height, home_of, pool_of, begins, begins_in, begins_among}
 use Rattle.ada_meaning.specs.Event.{Back, Quiet}
 use Rattle.ada_meaning.specs.Heap.{Cell, Found, on_null, on_gone, on_other, finds}
-use Rattle.ada_meaning.specs.Step.{same_pool, told_back, record_cell, halts, moves, tells, asks, picks, at, older, owning, shorter, popped, held, newest, reading, component_next, follow_next, path_next, expression_next, null_test_next, is_decided, link_next, links_next, outcome_next, item_next, items_next, answered, new_next, new_cell, right_next, free_next, end_next, given_back, back_next, assign_next, frees_next, freed_next, free_component_next, free_in_next, branches_next, decided_next, turn_next, repeats_next, turned_next, count_turn_next, counts_next, ranges_next, gets_next, exit_next, exited_next, stmt_next, line_next, before_last, last_of, target_next, stored_next, store_next, received_next, receive_next, declaration_next, declarations_next, members_next, item_leave_next, master_leave_next, leave_next, frame_next, pass_next, running_next, mode_next}
+use Rattle.ada_meaning.specs.Step.{same_pool, told_back, record_cell, record_in, newest_ones, without_newest, initial_values, copied_next, copies_next, record_target_next, record_stored_next, store_record_next, record_next, halts, moves, tells, asks, picks, at, older, owning, shorter, popped, held, newest, reading, component_next, follow_next, path_next, expression_next, null_test_next, is_decided, link_next, links_next, outcome_next, item_next, items_next, answered, new_next, new_cell, right_next, free_next, end_next, given_back, back_next, assign_next, frees_next, freed_next, free_component_next, free_in_next, branches_next, decided_next, turn_next, repeats_next, turned_next, count_turn_next, counts_next, ranges_next, gets_next, exit_next, exited_next, stmt_next, line_next, before_last, last_of, target_next, stored_next, store_next, received_next, receive_next, declaration_next, declarations_next, members_next, item_leave_next, master_leave_next, leave_next, frame_next, pass_next, running_next, mode_next}
 use Rattle.ada_meaning.specs.Named.{State, Next, next, named, look, lent, reads_boolean, reads_null, reads_integer, unary_given, binary_given, members, on_object, returned, new_object, an_integer}
 use Rattle.ada_meaning.specs.Run.{Event, Choice, settled, grants, takes, Leads, Step}
 use Rattle.ada_meaning.specs.Beginning.{BeginsStatement}
-use Rattle.ada_meaning.specs.Ending.{expression_weight, links_weight, item_weight, items_weight, right_weight, branches_weight, condition_weight, declaration_weight, declarations_weight, frame_weight, has_handlers, pass_weight, passed_weight, by_mode, behind_weight, run_weight, exit_weight, heap_weight, masters_weight, weight, GoesOn, WithinStatement, here, there}
-use Rattle.ada_meaning.proofs.Members.{member_listed, heap_append, finished_lighter, returned_lighter, filled_lighter, parted_lighter, taken_lighter}
+use Rattle.ada_meaning.specs.Ending.{expression_weight, links_weight, item_weight, items_weight, right_weight, branches_weight, condition_weight, initial_weight, declaration_weight, declarations_weight, frame_weight, has_handlers, pass_weight, passed_weight, by_mode, behind_weight, run_weight, exit_weight, heap_weight, masters_weight, weight, GoesOn, WithinStatement, here, there}
+use Rattle.ada_meaning.proofs.Members.{member_listed, heap_append, finished_lighter, returned_lighter, filled_lighter, stored_lighter, parted_lighter, taken_lighter}
 use Rattle.ada_meaning.proofs.Beginnings.{statements_begin}
 
 -- What the objects and the items weigh, and the weight of a state, open.
@@ -106,13 +106,17 @@ frame_passed (frame.Continues links) passed exited run h i = omega (arith, h, so
 frame_passed (frame.Applies operator) passed exited run h i = omega (arith, h)
 frame_passed (frame.AppliesAlone operator) passed exited run h i = omega (arith, h)
 frame_passed (frame.Fills items) passed exited run h i = omega (arith, h, some_items items)
+frame_passed (frame.Copies first t) passed exited run h i = omega (arith, h)
 frame_passed (frame.Creates access count) passed exited run h i = omega (arith, h)
 frame_passed (frame.Stores x) passed exited run h i = omega (arith, h)
 frame_passed (frame.Targets c right) passed exited run h i = omega (arith, h)
 frame_passed (frame.StoresIn object c) passed exited run h i = omega (arith, h)
+frame_passed (frame.TargetsRecord first t items) passed exited run h i = omega (arith, h)
+frame_passed (frame.StoresRecord object first count) passed exited run h i = omega (arith, h)
 frame_passed (frame.Receives c) passed exited run h i = omega (arith, h)
 frame_passed (frame.FreesIn access c) passed exited run h i = omega (arith, h)
 frame_passed (frame.Declares x) passed exited run h i = omega (arith, h)
+frame_passed (frame.DeclaresRecord x t) passed exited run h i = omega (arith, h)
 frame_passed frame.Writes passed exited run h i = omega (arith, h)
 frame_passed (frame.Ends v) passed exited run h i = omega (arith, h)
 frame_passed (frame.GivesBack v cause pool) passed exited run h i = omega (arith, h)
@@ -195,10 +199,23 @@ item_lightens : (item : ItemForm) (s : State) (w : ℕ) → load (running s) + i
 item_lightens null_item s w h = omega (arith, h)
 item_lightens (item_of_path path) s w h = path_lightens path.selectors (held named s path.root) s w (omega (arith, h))
 item_lightens (item_of_value e) s w h = omega (arith, h)
+item_lightens (item_of_record p) s w h =
+    path_lightens p.object.selectors (held named s p.object.root) (at (frame.Copies p.first p.record_type ∷ s.control) s) w (omega (arith, h))
 
 items_lighten : (items : List ItemForm) (s : State) (w : ℕ) → load (running s) + items_weight items ≤ w → Lightens (items_next named items (running s)) w
 items_lighten [] s w h = omega (arith, h)
 items_lighten (i ∷ is) s w h = item_lightens i (at (frame.Fills is ∷ s.control) s) w (omega (arith, h))
+
+-- A record that is copied.
+copied_lightens : (o : Value) (found : Option (List Value)) (s : State) (w : ℕ) → load (running s) + 1 ≤ w → Lightens (copied_next named o found (running s)) w
+copied_lightens o None s w h = λ memory. cc
+copied_lightens o (Some vs) s w h = omega (arith, h)
+
+copies_lighten : (o : Value) (first count : ℕ) (found : Found (Cell Value)) (s : State) (w : ℕ) → load (running s) + 1 ≤ w → Lightens (copies_next named o first count found (running s)) w
+copies_lighten o first count on_null s w h = omega (arith, h, passed_run s.control)
+copies_lighten o first count on_gone s w h = λ memory. cc
+copies_lighten o first count on_other s w h = λ memory. cc
+copies_lighten o first count (finds cell) s w h = copied_lightens o (record_in cell.values first count) s w h
 
 answered_lightens : (access count item words : ℕ) (s : State) (w : ℕ) → load (running s) + 4 ≤ w → (granted : Bool) → load (answered named access count item words (running s) granted) < w
 answered_lightens access count item words s w h true = omega (arith, h, heap_append s.heap (new_object (new_cell named access count item s) ∷ []))
@@ -252,6 +269,24 @@ store_lightens o c v on_null s w h = λ memory. cc
 store_lightens o c v on_gone s w h = λ memory. cc
 store_lightens o c v on_other s w h = λ memory. cc
 store_lightens o c v (finds cell) s w h = stored_lightens o c v (slice_get cell.values c) s w h
+
+-- Records that are assigned to.
+record_target_lightens : (o : Value) (first count : ℕ) (items : List ItemForm) (found : Found (Cell Value)) (s : State) (w : ℕ) → load (running s) + 2 + items_weight items ≤ w → Lightens (record_target_next named o first count items found (running s)) w
+record_target_lightens o first count items on_null s w h = omega (arith, h, passed_run s.control)
+record_target_lightens o first count items on_gone s w h = λ memory. cc
+record_target_lightens o first count items on_other s w h = λ memory. cc
+record_target_lightens o first count items (finds cell) s w h = omega (arith, h)
+
+record_stored_lightens : (o : Value) (first : ℕ) (vs : List Value) (before : Option (List Value)) (s : State) (w : ℕ) → load (running s) + 1 ≤ w → Lightens (record_stored_next named o first vs before (running s)) w
+record_stored_lightens o first vs None s w h = λ memory. cc
+record_stored_lightens o first vs (Some before) s w h = omega (arith, h, stored_lighter s.heap o first vs)
+
+store_record_lightens : (o : Value) (first count : ℕ) (found : Found (Cell Value)) (s : State) (w : ℕ) → load (running s) + 1 ≤ w → Lightens (store_record_next named o first count found (running s)) w
+store_record_lightens o first count on_null s w h = λ memory. cc
+store_record_lightens o first count on_gone s w h = λ memory. cc
+store_record_lightens o first count on_other s w h = λ memory. cc
+store_record_lightens o first count (finds cell) s w h =
+    record_stored_lightens o first (newest_ones named count s) (record_in cell.values first count) (without_newest named count s) w h
 
 received_lightens : (o : Value) (c : ℕ) (input : List ℤ) (before : Option Value) (s : State) (w : ℕ) → load (running s) + 1 ≤ w → Lightens (received_next named o c input before (running s)) w
 received_lightens o c input None s w h = λ memory. cc
@@ -335,11 +370,15 @@ line_lightens None s w h = λ memory. cc
 line_lightens (Some i) s w h = omega (arith, h)
 
 -- Declarations.
+record_lightens : (types : List TypeDefinition) (x t : ℕ) (initial : Option (List ItemForm)) (s : State) (w : ℕ) → load (running s) + 5 + initial_weight initial ≤ w → Lightens (record_next named types x t initial (running s)) w
+record_lightens types x t None s w h =
+    omega (arith, h, masters_owning (record { number = height s.masters; owned = record_object t }) s.masters, heap_append s.heap (new_object (record_cell named t (height s.masters) (initial_values named (reached_of types t))) ∷ []))
+record_lightens types x t (Some items) s w h = omega (arith, h)
+
 declaration_lightens : (types : List TypeDefinition) (d : DeclarationForm) (s : State) (w : ℕ) → load (running s) + declaration_weight d ≤ w → Lightens (declaration_next named types d (running s)) w
 declaration_lightens types (collects access) s w h = omega (arith, h, masters_owning (record { number = height s.masters; owned = collection access }) s.masters)
 declaration_lightens types (declares x right) s w h = omega (arith, h)
-declaration_lightens types (declares_record x t) s w h =
-    omega (arith, h, masters_owning (record { number = height s.masters; owned = record_object t }) s.masters, heap_append s.heap (new_object (record_cell named types t (height s.masters)) ∷ []))
+declaration_lightens types (declares_record x t initial) s w h = record_lightens types x t initial s w (omega (arith, h))
 
 declarations_lighten : (types : List TypeDefinition) (ds : List DeclarationForm) (fs : StmtsForm) (hs : HandlersForm) (s : State) (w : ℕ) → load (running s) + 5 + declarations_weight ds ≤ w → Lightens (declarations_next named types ds fs hs (running s)) w
 declarations_lighten types [] fs hs s w h = omega (arith, h, does_once fs (frame.Handles hs ∷ frame.Closes ∷ s.control))
@@ -393,6 +432,8 @@ frame_lightens types (frame.Applies operator) s w b h =
     outcome_lightens (binary_given operator (newest named (popped s)) (newest named s)) (popped (popped s)) w (omega (arith, h))
 frame_lightens types (frame.AppliesAlone operator) s w b h = outcome_lightens (unary_given operator (newest named s)) (popped s) w (omega (arith, h))
 frame_lightens types (frame.Fills items) s w b h = items_lighten items s w (omega (arith, h))
+frame_lightens types (frame.Copies first t) s w b h =
+    copies_lighten (newest named s) first (width_of types t) (look s.heap (newest named s)) (popped s) w (omega (arith, h))
 frame_lightens types (frame.Creates access count) s w b h =
     new_lightens access count (words_of types access) (home_of access s.masters) s w (omega (arith, h))
 frame_lightens types (frame.Stores x) s w b h = omega (arith, h)
@@ -400,11 +441,16 @@ frame_lightens types (frame.Targets c right) s w b h =
     target_lightens (newest named s) c right (look s.heap (newest named s)) (popped s) w (omega (arith, h))
 frame_lightens types (frame.StoresIn object c) s w b h =
     store_lightens object c (newest named s) (look s.heap object) (popped s) w (omega (arith, h))
+frame_lightens types (frame.TargetsRecord first t items) s w b h =
+    record_target_lightens (newest named s) first (width_of types t) items (look s.heap (newest named s)) (popped s) w (omega (arith, h))
+frame_lightens types (frame.StoresRecord object first count) s w b h = store_record_lightens object first count (look s.heap object) s w (omega (arith, h))
 frame_lightens types (frame.Receives c) s w b h =
     receive_lightens (newest named s) c (look s.heap (newest named s)) (popped s) w (omega (arith, h))
 frame_lightens types (frame.FreesIn access c) s w b h =
     free_in_lightens access (newest named s) c (look s.heap (newest named s)) (popped s) w (omega (arith, h))
 frame_lightens types (frame.Declares x) s w b h = omega (arith, h, masters_owning (record { number = height s.masters; owned = declared x }) s.masters)
+frame_lightens types (frame.DeclaresRecord x t) s w b h =
+    omega (arith, h, masters_owning (record { number = height s.masters; owned = record_object t }) s.masters, heap_append s.heap (new_object (record_cell named t (height s.masters) (newest_ones named (words_of types t) s)) ∷ []))
 frame_lightens types frame.Writes s w b h = line_lightens (reads_integer (newest named s)) (popped s) w (omega (arith, h))
 frame_lightens types (frame.Ends v) s w b h = end_lightens v (look s.heap v) s w (omega (arith, h))
 frame_lightens types (frame.GivesBack v cause pool) s w b h = back_lightens v cause pool (lent s.heap v) s w (omega (arith, h))
@@ -445,13 +491,17 @@ exception_lands e (frame.Continues links) = tt
 exception_lands e (frame.Applies operator) = tt
 exception_lands e (frame.AppliesAlone operator) = tt
 exception_lands e (frame.Fills items) = tt
+exception_lands e (frame.Copies first t) = tt
 exception_lands e (frame.Creates access count) = tt
 exception_lands e (frame.Stores x) = tt
 exception_lands e (frame.Targets c right) = tt
 exception_lands e (frame.StoresIn object c) = tt
+exception_lands e (frame.TargetsRecord first t items) = tt
+exception_lands e (frame.StoresRecord object first count) = tt
 exception_lands e (frame.Receives c) = tt
 exception_lands e (frame.FreesIn access c) = tt
 exception_lands e (frame.Declares x) = tt
+exception_lands e (frame.DeclaresRecord x t) = tt
 exception_lands e frame.Writes = tt
 exception_lands e (frame.Ends v) = tt
 exception_lands e (frame.GivesBack v cause pool) = tt
@@ -495,13 +545,17 @@ master_no_loop (frame.Continues links) is = refl
 master_no_loop (frame.Applies operator) is = refl
 master_no_loop (frame.AppliesAlone operator) is = refl
 master_no_loop (frame.Fills items) is = refl
+master_no_loop (frame.Copies first t) is = refl
 master_no_loop (frame.Creates access count) is = refl
 master_no_loop (frame.Stores x) is = refl
 master_no_loop (frame.Targets c right) is = refl
 master_no_loop (frame.StoresIn object c) is = refl
+master_no_loop (frame.TargetsRecord first t items) is = refl
+master_no_loop (frame.StoresRecord object first count) is = refl
 master_no_loop (frame.Receives c) is = refl
 master_no_loop (frame.FreesIn access c) is = refl
 master_no_loop (frame.Declares x) is = refl
+master_no_loop (frame.DeclaresRecord x t) is = refl
 master_no_loop frame.Writes is = refl
 master_no_loop (frame.Ends v) is = refl
 master_no_loop (frame.GivesBack v cause pool) is = refl
@@ -612,6 +666,8 @@ exit_goes_on (Some e) s = tt
 stmt_goes_on : (f : StmtForm) (s : State) → GoesOn (stmt_next named f s)
 stmt_goes_on skips s = tt
 stmt_goes_on (assigns target right) s = assign_goes_on target.selectors target.root right s
+stmt_goes_on (assigns_record target items) s =
+    path_goes_on target.object.selectors (held named s target.object.root) (at (frame.TargetsRecord target.first target.record_type items ∷ s.control) s)
 stmt_goes_on (frees access path) s = frees_go_on path.selectors access path.root s
 stmt_goes_on (gets target) s = gets_go_on target.selectors target.root s.input s
 stmt_goes_on (writes e) s = tt

@@ -1,6 +1,6 @@
 -- What record objects and the objects of allocators without items hold when they come to be (4.8, 3.3.1), in any run of any program.
 
-use Rattle.std.specs.Prelude.{◌≡◌, ℕ, true, List, [], ◌∷◌, ◌++◌, length, Option, Some, None}
+use Rattle.std.specs.Prelude.{◌≡◌, ℕ, true, List, [], ◌∷◌, ◌++◌, length, Some, None}
 use Rattle.std.specs.List.{slice_set}
 use Rattle.ada_values.specs.declared.value.Value.TheVariants as scalar
 use Rattle.ada_program.specs.declared.program.ComponentKind.{ComponentKind}
@@ -40,14 +40,14 @@ MakesByDefault =
     → Step program before settled first mid → Step program mid (grants true) second after
     → (object : Object) × (after.heap ≡ before.heap ++ object ∷ []) × (object.cell.access ≡ access) × HoldAtFirst kinds object.cell.values
 
--- What comes to be where a record object is declared: one object more, known by its type, of no pool, whose components hold this; and its variable
--- names it.
+-- What comes to be where a record object is declared without an initial value: one object more, known by its type, of no pool, whose components hold
+-- this; and its variable names it.
 abbrev pub MakesRecords : Type 0
 MakesRecords =
     (program : Program) (x object_type : ℕ) (kinds : List ComponentKind) (ds : List DeclarationForm) (fs : StmtsForm) (hs : HandlersForm)
     (behind : List (Frame Value)) (before after : State) (running : Activation Value) (suspended : List (Activation Value)) (event : Event)
     → reached_of program.types.items object_type ≡ Some kinds
-    → before.mode ≡ Running → before.control ≡ frame.Elaborates (declares_record x object_type ∷ ds) fs hs ∷ behind
+    → before.mode ≡ Running → before.control ≡ frame.Elaborates (declares_record x object_type None ∷ ds) fs hs ∷ behind
     → before.activations ≡ running ∷ suspended → Step program before settled event after
     → (object : Object) × (after.heap ≡ before.heap ++ object ∷ []) × (object.cell.access ≡ object_type) × (object.cell.home.pool ≡ None)
     × HoldAtFirst kinds object.cell.values

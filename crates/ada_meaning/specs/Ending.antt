@@ -2,7 +2,7 @@
 
 use Rattle.std.specs.Prelude.{◌≡◌, ◌≢◌, ℕ, Bool, true, false, ◌||◌, ◌+◌, ◌<◌, ◌≤◌, if◌then◌else◌, List, [], ◌∷◌, length, Option, Some, None}
 use Rattle.ada_program.specs.declared.program.Program.{Program}
-use Rattle.ada_program.specs.Form.{PathForm, ExpressionForm, integer, boolean, reads, is_null, applied_to, chained, LinksForm, no_more_links, a_link, ItemForm, null_item, item_of_path, item_of_value, RightForm, nothing, value_of, allocates, allocates_default, computes, a_stmt, BranchesForm, otherwise, a_branch, DeclarationForm, collects, declares, declares_record}
+use Rattle.ada_program.specs.Form.{PathForm, ExpressionForm, integer, boolean, reads, is_null, applied_to, chained, LinksForm, no_more_links, a_link, ItemForm, null_item, item_of_path, item_of_value, item_of_record, RightForm, nothing, value_of, allocates, allocates_default, computes, a_stmt, BranchesForm, otherwise, a_branch, DeclarationForm, collects, declares, declares_record}
 use Rattle.ada_meaning.specs.declared.event.Halt.TheVariants.{Memory}
 use Rattle.ada_meaning.specs.declared.state.Value.{Value}
 use Rattle.ada_meaning.specs.declared.state.Mode.{Mode}
@@ -33,11 +33,12 @@ abbrev mutual
   links_weight no_more_links = 1
   links_weight (a_link operator e links) = 2 + expression_weight e + links_weight links
 
--- An item of an allocator.
+-- An item of an aggregate: a record is copied once its object is found.
 abbrev pub item_weight : ItemForm → ℕ
 item_weight null_item = 1
 item_weight (item_of_path path) = path_weight path
 item_weight (item_of_value e) = 1 + expression_weight e
+item_weight (item_of_record p) = 1 + path_weight p.object
 
 -- All of them, and a step where none is left.
 abbrev pub items_weight : List ItemForm → ℕ
@@ -62,11 +63,16 @@ abbrev pub condition_weight : Option ExpressionForm → ℕ
 condition_weight None = 0
 condition_weight (Some e) = 1 + expression_weight e
 
+-- The initial value of a record object, where there is one.
+abbrev pub initial_weight : Option (List ItemForm) → ℕ
+initial_weight None = 0
+initial_weight (Some items) = 1 + items_weight items
+
 -- A declaration: the item that it makes weighs 1, since it is to be left, too, and a record object 3 more, since it is to be ended.
 abbrev pub declaration_weight : DeclarationForm → ℕ
 declaration_weight (collects access) = 2
 declaration_weight (declares x right) = 3 + right_weight right
-declaration_weight (declares_record x object) = 5
+declaration_weight (declares_record x object initial) = 5 + initial_weight initial
 
 -- Declarations, and a step where none is left.
 abbrev pub declarations_weight : List DeclarationForm → ℕ
@@ -94,13 +100,17 @@ frame_weight (frame.Continues links) = links_weight links
 frame_weight (frame.Applies operator) = 1
 frame_weight (frame.AppliesAlone operator) = 1
 frame_weight (frame.Fills items) = items_weight items
+frame_weight (frame.Copies first t) = 1
 frame_weight (frame.Creates access count) = 4
 frame_weight (frame.Stores x) = 1
 frame_weight (frame.Targets c right) = 2 + right_weight right
 frame_weight (frame.StoresIn o c) = 1
+frame_weight (frame.TargetsRecord first t items) = 2 + items_weight items
+frame_weight (frame.StoresRecord o first count) = 1
 frame_weight (frame.Receives c) = 1
 frame_weight (frame.FreesIn access c) = 4
 frame_weight (frame.Declares x) = 2
+frame_weight (frame.DeclaresRecord x t) = 5
 frame_weight frame.Writes = 1
 frame_weight (frame.Ends v) = 1
 frame_weight (frame.GivesBack v cause pool) = 1

@@ -51,6 +51,9 @@ pub data Frame (V : Type 0) : Type 0 where
   AppliesAlone : UnaryOperator → Frame V
   -- the items of an allocator that are left to be evaluated (4.8)
   Fills : List ItemForm → Frame V
+  -- the newest operand gives access to an object in which a record of this type lies, from a component on: its components become the newest operands
+  -- (4.3.1)
+  Copies : (first record_type : ℕ) → Frame V
   -- a pool is to be asked for a new object of an access type, whose components are the newest operands, as many as `count` (4.8)
   Creates : (access count : ℕ) → Frame V
   -- the newest operand goes to a variable (5.2)
@@ -59,12 +62,19 @@ pub data Frame (V : Type 0) : Type 0 where
   Targets : (component : ℕ) → RightForm → Frame V
   -- the newest operand goes to a component of an object (5.2)
   StoresIn : (object : V) → (component : ℕ) → Frame V
+  -- the newest operand gives access to an object in which a record of this type lies, from a component on, that is assigned to: what its components get
+  -- is evaluated next (5.2)
+  TargetsRecord : (first record_type : ℕ) → List ItemForm → Frame V
+  -- the newest operands go to the components of an object, as many as `count` from one on (5.2)
+  StoresRecord : (object : V) → (first count : ℕ) → Frame V
   -- the newest operand gives access to an object, whose component takes the next number of the input
   Receives : (component : ℕ) → Frame V
   -- the newest operand gives access to an object, whose component is freed by the instance for this access type (13.11.2)
   FreesIn : (access component : ℕ) → Frame V
   -- the newest operand is the initial value of a variable, which then is created (3.3.1)
   Declares : (variable : ℕ) → Frame V
+  -- the newest operands are the components of a record object, which then is created (3.3.1)
+  DeclaresRecord : (variable object_type : ℕ) → Frame V
   -- the newest operand is to be written (A.10.7)
   Writes : Frame V
   -- an object ceases to exist (13.11.2)

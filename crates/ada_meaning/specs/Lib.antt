@@ -22,6 +22,8 @@ pub mod Law
 pub mod Life
 -- what objects of allocators without items hold when they come to be (4.8)
 pub mod Defaults
+-- records that are copied as wholes (4.3.1, 5.2)
+pub mod Records
 -- where a statement begins (5.1)
 pub mod Beginning
 -- every run ends

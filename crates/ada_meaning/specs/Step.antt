@@ -9,8 +9,8 @@ use Rattle.ada_values.specs.declared.fault.OperatorFault.TheVariants.{Overflow, 
 use Rattle.ada_program.specs.declared.program.ComponentKind.{ComponentKind}
 use Rattle.ada_program.specs.declared.program.ComponentKind.TheVariants as component
 use Rattle.ada_program.specs.declared.program.TypeDefinition.{TypeDefinition}
-use Rattle.ada_program.specs.Form.{ExpressionForm, integer, boolean, reads, is_null, applied_to, chained, LinksForm, no_more_links, a_link, ItemForm, null_item, item_of_path, item_of_value, RightForm, nothing, value_of, allocates, allocates_default, computes, StmtForm, skips, assigns, frees, gets, writes, writes_text, chooses, repeats, counts, exits, returns, raises, encloses, StmtsForm, no_stmts, a_stmt, BranchesForm, otherwise, a_branch, HandlersForm, DeclarationForm, collects, declares, declares_record}
-use Rattle.ada_program.specs.Typed.{reached_of, words_of}
+use Rattle.ada_program.specs.Form.{ExpressionForm, integer, boolean, reads, is_null, applied_to, chained, LinksForm, no_more_links, a_link, ItemForm, null_item, item_of_path, item_of_value, item_of_record, RightForm, nothing, value_of, allocates, allocates_default, computes, StmtForm, skips, assigns, assigns_record, frees, gets, writes, writes_text, chooses, repeats, counts, exits, returns, raises, encloses, StmtsForm, no_stmts, a_stmt, BranchesForm, otherwise, a_branch, HandlersForm, DeclarationForm, collects, declares, declares_record}
+use Rattle.ada_program.specs.Typed.{reached_of, words_of, width_of}
 use Rattle.ada_meaning.specs.declared.state.Mode.{Mode}
 use Rattle.ada_meaning.specs.declared.state.Mode.TheVariants.{Running, Raising, Exiting, Returning}
 use Rattle.ada_meaning.specs.declared.event.Cause.{Cause}
@@ -152,6 +152,14 @@ abbrev pub in_front : {V : Type 0} → List V → List V → List V
 in_front [] older = older
 in_front (v ∷ vs) older = in_front vs (v ∷ older)
 
+-- So many values, if there are so many.
+abbrev pub if_whole : {V : Type 0} → (count : ℕ) → List V → Option (List V)
+if_whole count vs = if length vs == count then Some vs else None
+
+-- The components of a record that lies in an object with these components, from one on: none, if the object has too few.
+abbrev pub record_in : {V : Type 0} → List V → (first count : ℕ) → Option (List V)
+record_in values first count = if_whole count (take count (drop first values))
+
 -- How a run ends where nothing is left to do, or to pass: an exit always has a loop.
 abbrev pub end_of : Mode → Halt
 end_of Running = Finished
@@ -232,10 +240,31 @@ module _ {V H : Type 0} (ops : Ops V H) where
   item_next null_item s = moves Quiet (computed ops.null s)
   item_next (item_of_path path) s = path_next path.selectors (held s path.root) s
   item_next (item_of_value e) s = moves Quiet (at (frame.Computes e ∷ s.control) s)
+  item_next (item_of_record p) s =
+      path_next p.object.selectors (held s p.object.root) (at (frame.Copies p.first p.record_type ∷ s.control) s)
 
   abbrev pub items_next : List ItemForm → State V H → Next V H
   items_next [] s = moves Quiet s
   items_next (i ∷ is) s = item_next i (at (frame.Fills is ∷ s.control) s)
+
+  -- Records as wholes (4.3.1, 5.2): the components of one are copied, in order. Null in its place raises Constraint_Error, as where a component is
+  -- followed to.
+  abbrev pub copied_next : V → Option (List V) → State V H → Next V H
+  copied_next o None s = halts Stuck
+  copied_next o (Some vs) s = moves (Followed o) (set_operands (in_front vs (operands s)) s)
+
+  abbrev pub copies_next : V → (first count : ℕ) → Found (Cell V) → State V H → Next V H
+  copies_next o first count on_null s = moves Quiet (raised ConstraintError s)
+  copies_next o first count on_gone s = halts (Erroneous FollowsGone)
+  copies_next o first count on_other s = halts Stuck
+  copies_next o first count (finds cell) s = copied_next o (record_in cell.values first count) s
+
+  -- The newest operands, as many as `count`, in the order in which they were computed; and the state without them.
+  abbrev pub newest_ones : (count : ℕ) → State V H → List V
+  newest_ones count s = reverse (take count (operands s))
+
+  abbrev pub without_newest : (count : ℕ) → State V H → State V H
+  without_newest count s = set_operands (drop count (operands s)) s
 
   -- The new object: its components are the newest operands, in the order in which they were computed.
   abbrev pub new_cell : (access count item : ℕ) → State V H → Cell V
@@ -243,7 +272,7 @@ module _ {V H : Type 0} (ops : Ops V H) where
     access = access;
     number = counted s.allocated;
     home = record { item = item; pool = Some (pool_of access); subpool = None };
-    values = reverse (take count (operands s));
+    values = newest_ones count s;
   }
 
   -- A granted allocator: the object exists, and the value that names it is the newest operand. A refused one raises Storage_Error (11.1).
@@ -281,7 +310,7 @@ module _ {V H : Type 0} (ops : Ops V H) where
   abbrev pub right_next : List TypeDefinition → RightForm → State V H → Next V H
   right_next types nothing s = moves Quiet (computed ops.null s)
   right_next types (value_of path) s = path_next path.selectors (held s path.root) s
-  right_next types (allocates access items) s = moves Quiet (at (frame.Fills items ∷ frame.Creates access (length items) ∷ s.control) s)
+  right_next types (allocates access items) s = moves Quiet (at (frame.Fills items ∷ frame.Creates access (words_of types access) ∷ s.control) s)
   right_next types (allocates_default access) s =
       moves Quiet (at (frame.Creates access (words_of types access) ∷ s.control) (initialized types access s))
   right_next types (computes e) s = moves Quiet (at (frame.Computes e ∷ s.control) s)
@@ -346,6 +375,30 @@ module _ {V H : Type 0} (ops : Ops V H) where
   store_next o c v on_gone s = halts (Erroneous FollowsGone)
   store_next o c v on_other s = halts Stuck
   store_next o c v (finds cell) s = stored_next o c v (slice_get cell.values c) s
+
+  -- A record as a target: the object in which it lies is found first, then the items are evaluated, and then its components get their values at once.
+  abbrev pub record_target_next : V → (first count : ℕ) → List ItemForm → Found (Cell V) → State V H → Next V H
+  record_target_next o first count items on_null s = moves Quiet (raised ConstraintError s)
+  record_target_next o first count items on_gone s = halts (Erroneous FollowsGone)
+  record_target_next o first count items on_other s = halts Stuck
+  record_target_next o first count items (finds cell) s =
+      moves (Followed o) (at (frame.Fills items ∷ frame.StoresRecord o first count ∷ s.control) s)
+
+  -- The components of an object from one on get these values.
+  abbrev pub stored_from : H → V → (c : ℕ) → List V → H
+  stored_from h o c [] = h
+  stored_from h o c (v ∷ vs) = stored_from (ops.store h o c v) o (c + 1) vs
+
+  abbrev pub record_stored_next : V → (first : ℕ) → List V → Option (List V) → State V H → Next V H
+  record_stored_next o first vs None s = halts Stuck
+  record_stored_next o first vs (Some before) s = moves (Followed o) (record s { heap = stored_from s.heap o first vs })
+
+  abbrev pub store_record_next : V → (first count : ℕ) → Found (Cell V) → State V H → Next V H
+  store_record_next o first count on_null s = halts Stuck
+  store_record_next o first count on_gone s = halts (Erroneous FollowsGone)
+  store_record_next o first count on_other s = halts Stuck
+  store_record_next o first count (finds cell) s =
+      record_stored_next o first (newest_ones count s) (record_in cell.values first count) (without_newest count s)
 
   abbrev pub frees_next : List ℕ → (access x : ℕ) → State V H → Next V H
   frees_next [] access x s = free_next access x (held s x) (ops.look s.heap (held s x)) s
@@ -438,6 +491,8 @@ module _ {V H : Type 0} (ops : Ops V H) where
   abbrev pub stmt_next : StmtForm → State V H → Next V H
   stmt_next skips s = moves Quiet s
   stmt_next (assigns target right) s = assign_next target.selectors target.root right s
+  stmt_next (assigns_record target items) s =
+      path_next target.object.selectors (held s target.object.root) (at (frame.TargetsRecord target.first target.record_type items ∷ s.control) s)
   stmt_next (frees access path) s = frees_next path.selectors access path.root s
   stmt_next (gets target) s = gets_next target.selectors target.root s.input s
   stmt_next (writes e) s = moves Quiet (at (frame.Computes e ∷ frame.Writes ∷ s.control) s)
@@ -460,27 +515,32 @@ module _ {V H : Type 0} (ops : Ops V H) where
   line_next None s = halts Stuck
   line_next (Some i) s = moves (Line (Image i)) s
 
-  -- A record object (3.3.1): its home is its own item, and its components hold what their declarations say.
-  abbrev pub record_cell : List TypeDefinition → (object_type item : ℕ) → Cell V
-  record_cell types t item = record {
+  -- A record object (3.3.1): its home is its own item, and its components hold these values.
+  abbrev pub record_cell : (object_type item : ℕ) → List V → Cell V
+  record_cell t item values = record {
     access = t;
     number = 0;
     home = record { item = item; pool = None; subpool = None };
-    values = initial_values (reached_of types t);
+    values = values;
   }
 
-  -- The variable holds the name of the object, which is there from now on.
-  abbrev pub made : List TypeDefinition → (x object_type : ℕ) → State V H → State V H
-  made types x t s =
-      put x (ops.created s.heap (words_of types t))
-      (record s { heap = ops.create s.heap (words_of types t) (record_cell types t (height s.masters)) })
+  -- The variable holds the name of the object, which is there from now on, and which the innermost master owns.
+  abbrev pub made : List TypeDefinition → (x object_type : ℕ) → List V → State V H → State V H
+  made types x t values s =
+      owned (record_object t) (put x (ops.created s.heap (words_of types t))
+      (record s { heap = ops.create s.heap (words_of types t) (record_cell t (height s.masters) values) }))
+
+  -- Where no initial value is written, its components hold what their declarations say; else the items of its initial value come first.
+  abbrev pub record_next : List TypeDefinition → (x object_type : ℕ) → (initial : Option (List ItemForm)) → State V H → Next V H
+  record_next types x t None s = moves Quiet (made types x t (initial_values (reached_of types t)) s)
+  record_next types x t (Some items) s = moves Quiet (at (frame.Fills items ∷ frame.DeclaresRecord x t ∷ s.control) s)
 
   -- Declarations (3.11): a collection is created; a variable is created once its initial value is known; a record object is created. Then the
   -- statements come, and their handlers with them: these don't cover the declarations (11.4).
   abbrev pub declaration_next : List TypeDefinition → DeclarationForm → State V H → Next V H
   declaration_next types (collects access) s = moves Quiet (owned (collection access) s)
   declaration_next types (declares x right) s = moves Quiet (at (frame.Evaluates right ∷ frame.Declares x ∷ s.control) s)
-  declaration_next types (declares_record x t) s = moves Quiet (owned (record_object t) (made types x t s))
+  declaration_next types (declares_record x t initial) s = record_next types x t initial s
 
   abbrev pub declarations_next : List TypeDefinition → List DeclarationForm → StmtsForm → HandlersForm → State V H → Next V H
   declarations_next types [] fs hs s = moves Quiet (at (frame.Does fs ∷ frame.Handles hs ∷ frame.Closes ∷ s.control) s)
@@ -533,13 +593,19 @@ module _ {V H : Type 0} (ops : Ops V H) where
   frame_next types (frame.Applies operator) s = outcome_next (ops.binary operator (newest (popped s)) (newest s)) (popped (popped s))
   frame_next types (frame.AppliesAlone operator) s = outcome_next (ops.unary operator (newest s)) (popped s)
   frame_next types (frame.Fills items) s = items_next items s
+  frame_next types (frame.Copies first t) s = copies_next (newest s) first (width_of types t) (ops.look s.heap (newest s)) (popped s)
   frame_next types (frame.Creates access count) s = new_next access count (words_of types access) (home_of access s.masters) s
   frame_next types (frame.Stores x) s = moves Quiet (put x (newest s) (popped s))
   frame_next types (frame.Targets c right) s = target_next (newest s) c right (ops.look s.heap (newest s)) (popped s)
   frame_next types (frame.StoresIn o c) s = store_next o c (newest s) (ops.look s.heap o) (popped s)
+  frame_next types (frame.TargetsRecord first t items) s =
+      record_target_next (newest s) first (width_of types t) items (ops.look s.heap (newest s)) (popped s)
+  frame_next types (frame.StoresRecord o first count) s = store_record_next o first count (ops.look s.heap o) s
   frame_next types (frame.Receives c) s = receive_next (newest s) c (ops.look s.heap (newest s)) (popped s)
   frame_next types (frame.FreesIn access c) s = free_in_next access (newest s) c (ops.look s.heap (newest s)) (popped s)
   frame_next types (frame.Declares x) s = moves Quiet (owned (declared x) (put x (newest s) (popped s)))
+  frame_next types (frame.DeclaresRecord x t) s =
+      moves Quiet (made types x t (newest_ones (words_of types t) s) (without_newest (words_of types t) s))
   frame_next types frame.Writes s = line_next (ops.reads_integer (newest s)) (popped s)
   frame_next types (frame.Ends v) s = end_next v (ops.look s.heap v) s
   frame_next types (frame.GivesBack v cause pool) s = back_next v cause pool (ops.lent s.heap v) s

@@ -4,6 +4,7 @@ ghost use Rattle.ada_meaning.specs.Beginning.{StatementsBegin};
 ghost use Rattle.ada_meaning.specs.Defaults.{MakesByDefault, MakesRecords};
 ghost use Rattle.ada_meaning.specs.Life.{NamesAreUsedOnce, GoneForEver, BackOnce};
 ghost use Rattle.ada_meaning.specs.Ending.{StepsMakeLighter, StatesGoOn, StatementsEnd};
+ghost use Rattle.ada_meaning.specs.Records.{RecordsAreCopied};
 
 /// Each step that begins no statement makes the weight of the state smaller, so a loop that runs a machine comes to the
 /// next statement, or to the end.
@@ -49,4 +50,10 @@ pub fn makes_by_default()
 /// So does a record object where it is declared; its variable names it, and it is of no pool (3.3.1).
 pub fn makes_records()
     ensures { MakesRecords }
+{}
+
+/// A record that is copied holds, component by component, what the copied one held before; nothing else of the target's
+/// object changes, and no other object (4.3.1, 5.2). Copied onto itself it stays as it is.
+pub fn copies_are_alike()
+    ensures { RecordsAreCopied }
 {}

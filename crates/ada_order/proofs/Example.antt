@@ -59,7 +59,7 @@ types = definition.Record no_name (vec value (omega arith)) (vec (component.Inte
 
 -- X : A; Y : B; Z : C;
 abbrev of_type : ℕ → Variable
-of_type access = record { name = no_name; kind = variable.Access (record { 0 = access }); borrows = false }
+of_type access = record { name = no_name; spot = spot; kind = variable.Access (record { 0 = access }); borrows = false }
 
 abbrev path : ℕ → Path
 path x = record { root = record { 0 = x }; of_record = false; selectors = vec [] (omega arith); spot = spot }

@@ -4,9 +4,9 @@ use Rattle.std.proofs.Common.{◌≡◌, ℕ, ℤ, Bool, true, false, if◌then�
 use Rattle.std.specs.Prelude.{int_le}
 use Rattle.std.specs.List.{slice_get}
 use Rattle.ada_program.specs.declared.program.TypeDefinition.{TypeDefinition}
-use Rattle.ada_program.specs.Form.{ExpressionForm, integer, boolean, reads, is_null, applied_to, chained, LinksForm, no_more_links, a_link, ItemForm, null_item, item_of_path, item_of_value, RightForm, nothing, value_of, allocates, allocates_default, computes, StmtForm, skips, assigns, frees, gets, writes, writes_text, chooses, repeats, counts, exits, raises, encloses, StmtsForm, no_stmts, a_stmt, BranchesForm, otherwise, a_branch, HandlersForm, DeclarationForm, collects, declares, declares_record}
+use Rattle.ada_program.specs.Form.{ExpressionForm, integer, boolean, reads, is_null, applied_to, chained, LinksForm, no_more_links, a_link, ItemForm, null_item, item_of_path, item_of_value, item_of_record, RightForm, nothing, value_of, allocates, allocates_default, computes, StmtForm, skips, assigns, assigns_record, frees, gets, writes, writes_text, chooses, repeats, counts, exits, raises, encloses, StmtsForm, no_stmts, a_stmt, BranchesForm, otherwise, a_branch, HandlersForm, DeclarationForm, collects, declares, declares_record}
 use Rattle.ada_program.specs.Form as form
-use Rattle.ada_program.specs.Typed.{words_of}
+use Rattle.ada_program.specs.Typed.{words_of, width_of}
 use Rattle.ada_values.specs.declared.operator.BinaryOperator.{BinaryOperator}
 use Rattle.ada_values.specs.declared.fault.OperatorFault.{OperatorFault}
 use Rattle.ada_values.specs.declared.fault.OperatorFault.TheVariants.{Overflow, DivisionByZero, WrongType}
@@ -22,7 +22,7 @@ use Rattle.ada_meaning.specs.Frame.{Frame, is_master, Landing, passes_on, goes_b
 use Rattle.ada_meaning.specs.Frame as frame
 use Rattle.ada_meaning.specs.State.{declared, collection, record_object, home_of}
 use Rattle.ada_meaning.specs.Heap.{Cell, Found, on_null, on_gone, on_other, finds}
-use Rattle.ada_meaning.specs.Step.{halts, at, popped, held, newest, reading, component_next, follow_next, path_next, expression_next, null_test_next, is_decided, link_next, links_next, outcome_next, item_next, items_next, answered, new_next, right_next, free_next, end_next, same_pool, told_back, given_back, back_next, before_last, last_of, assign_next, target_next, stored_next, store_next, received_next, receive_next, frees_next, freed_next, free_component_next, free_in_next, branches_next, decided_next, turn_next, repeats_next, turned_next, count_turn_next, counts_next, ranges_next, gets_next, exit_next, exited_next, stmt_next, stmts_next, line_next, declaration_next, declarations_next, frame_next, landed, pass_next, jump_next}
+use Rattle.ada_meaning.specs.Step.{record_in, newest_ones, without_newest, copied_next, copies_next, record_target_next, record_stored_next, store_record_next, record_next, halts, at, popped, held, newest, reading, component_next, follow_next, path_next, expression_next, null_test_next, is_decided, link_next, links_next, outcome_next, item_next, items_next, answered, new_next, right_next, free_next, end_next, same_pool, told_back, given_back, back_next, before_last, last_of, assign_next, target_next, stored_next, store_next, received_next, receive_next, frees_next, freed_next, free_component_next, free_in_next, branches_next, decided_next, turn_next, repeats_next, turned_next, count_turn_next, counts_next, ranges_next, gets_next, exit_next, exited_next, stmt_next, stmts_next, line_next, declaration_next, declarations_next, frame_next, landed, pass_next, jump_next}
 use Rattle.ada_meaning.specs.Named.{Object, State, Next, named, look, lent, reads_boolean, reads_null, reads_integer, unary_given, binary_given}
 use Rattle.ada_meaning.specs.Run.{Event}
 use Rattle.ada_meaning.specs.Law.{left_by}
@@ -83,10 +83,23 @@ item_works : (item : ItemForm) (s : State) → Plain s.control → Works s (item
 item_works null_item s p = stays refl p refl refl
 item_works (item_of_path path) s p = path_works path.selectors (held named s path.root) s p
 item_works (item_of_value e) s p = stays refl (tt, p) refl refl
+item_works (item_of_record r) s p =
+    path_works r.object.selectors (held named s r.object.root) (at (frame.Copies r.first r.record_type ∷ s.control) s) (tt, p)
 
 items_work : (items : List ItemForm) (s : State) → Plain s.control → Works s (items_next named items s)
 items_work [] s p = stays refl p refl refl
 items_work (i ∷ is) s p = item_works i (at (frame.Fills is ∷ s.control) s) (tt, p)
+
+-- A record that is copied.
+copied_works : (o : Value) (found : Option (List Value)) (s : State) → Plain s.control → Works s (copied_next named o found s)
+copied_works o None s p = tt
+copied_works o (Some vs) s p = stays refl p refl refl
+
+copies_work : (o : Value) (first count : ℕ) (found : Found (Cell Value)) (s : State) → Plain s.control → Works s (copies_next named o first count found s)
+copies_work o first count on_null s p = stays refl p refl refl
+copies_work o first count on_gone s p = tt
+copies_work o first count on_other s p = tt
+copies_work o first count (finds cell) s p = copied_works o (record_in cell.values first count) s p
 
 answered_works : (access count item words : ℕ) (s : State) (granted : Bool) → Plain s.control → Work s.masters s.next Quiet (answered named access count item words s granted)
 answered_works access count item words s true p = stays refl p refl refl
@@ -154,6 +167,24 @@ store_works o c v on_null s p = tt
 store_works o c v on_gone s p = tt
 store_works o c v on_other s p = tt
 store_works o c v (finds cell) s p = stored_works o c v (slice_get cell.values c) s p
+
+-- A record that is assigned to.
+record_target_works : (o : Value) (first count : ℕ) (items : List ItemForm) (found : Found (Cell Value)) (s : State) → Plain s.control → Works s (record_target_next named o first count items found s)
+record_target_works o first count items on_null s p = stays refl p refl refl
+record_target_works o first count items on_gone s p = tt
+record_target_works o first count items on_other s p = tt
+record_target_works o first count items (finds cell) s p = stays refl (tt, (tt, p)) refl refl
+
+record_stored_works : (o : Value) (first : ℕ) (vs : List Value) (before : Option (List Value)) (s : State) → Plain s.control → Works s (record_stored_next named o first vs before s)
+record_stored_works o first vs None s p = tt
+record_stored_works o first vs (Some before) s p = stays refl p refl refl
+
+store_record_works : (o : Value) (first count : ℕ) (found : Found (Cell Value)) (s : State) → Plain s.control → Works s (store_record_next named o first count found s)
+store_record_works o first count on_null s p = tt
+store_record_works o first count on_gone s p = tt
+store_record_works o first count on_other s p = tt
+store_record_works o first count (finds cell) s p =
+    record_stored_works o first (newest_ones named count s) (record_in cell.values first count) (without_newest named count s) p
 
 frees_work : (cs : List ℕ) (access x : ℕ) (s : State) → Plain s.control → Works s (frees_next named cs access x s)
 frees_work [] access x s p = free_works access x (held named s x) (look s.heap (held named s x)) s p
@@ -243,6 +274,8 @@ exited_works (Some false) s p = stays refl p refl refl
 stmt_works : (f : StmtForm) (s : State) → Plain s.control → Works s (stmt_next named f s)
 stmt_works skips s p = stays refl p refl refl
 stmt_works (assigns target right) s p = assign_works target.selectors target.root right s p
+stmt_works (assigns_record target items) s p =
+    path_works target.object.selectors (held named s target.object.root) (at (frame.TargetsRecord target.first target.record_type items ∷ s.control) s) (tt, p)
 stmt_works (frees access path) s p = frees_work path.selectors access path.root s p
 stmt_works (gets target) s p = gets_work target.selectors target.root s.input s p
 stmt_works (writes e) s p = stays refl (tt, (tt, p)) refl refl
@@ -263,10 +296,14 @@ line_works : (read : Option ℤ) (s : State) → Plain s.control → Works s (li
 line_works None s p = tt
 line_works (Some i) s p = stays refl p refl refl
 
+record_works : (types : List TypeDefinition) (x t : ℕ) (initial : Option (List ItemForm)) (s : State) → Plain s.control → Works s (record_next named types x t initial s)
+record_works types x t None s p = owns (record_object t) refl p refl refl
+record_works types x t (Some items) s p = stays refl (tt, (tt, p)) refl refl
+
 declaration_works : (types : List TypeDefinition) (d : DeclarationForm) (s : State) → Plain s.control → Works s (declaration_next named types d s)
 declaration_works types (collects access) s p = owns (collection access) refl p refl refl
 declaration_works types (declares x right) s p = stays refl (tt, (tt, p)) refl refl
-declaration_works types (declares_record x t) s p = owns (record_object t) refl p refl refl
+declaration_works types (declares_record x t initial) s p = record_works types x t initial s p
 
 declarations_work : (types : List TypeDefinition) (ds : List DeclarationForm) (fs : StmtsForm) (hs : HandlersForm) (s : State) → Plain s.control → Works s (declarations_next named types ds fs hs s)
 declarations_work types [] fs hs s p = stays refl (tt, (tt, (tt, p))) refl refl
@@ -305,13 +342,18 @@ frame_works types (frame.Continues links) s is p = links_work links s p
 frame_works types (frame.Applies operator) s is p = outcome_works (binary_given operator (newest named (popped s)) (newest named s)) (popped (popped s)) p
 frame_works types (frame.AppliesAlone operator) s is p = outcome_works (unary_given operator (newest named s)) (popped s) p
 frame_works types (frame.Fills items) s is p = items_work items s p
+frame_works types (frame.Copies first t) s is p = copies_work (newest named s) first (width_of types t) (look s.heap (newest named s)) (popped s) p
 frame_works types (frame.Creates access count) s is p = new_works access count (words_of types access) (home_of access s.masters) s p
 frame_works types (frame.Stores x) s is p = stays refl p refl refl
 frame_works types (frame.Targets c right) s is p = target_works (newest named s) c right (look s.heap (newest named s)) (popped s) p
 frame_works types (frame.StoresIn object c) s is p = store_works object c (newest named s) (look s.heap object) (popped s) p
+frame_works types (frame.TargetsRecord first t items) s is p =
+    record_target_works (newest named s) first (width_of types t) items (look s.heap (newest named s)) (popped s) p
+frame_works types (frame.StoresRecord object first count) s is p = store_record_works object first count (look s.heap object) s p
 frame_works types (frame.Receives c) s is p = receive_works (newest named s) c (look s.heap (newest named s)) (popped s) p
 frame_works types (frame.FreesIn access c) s is p = free_in_works access (newest named s) c (look s.heap (newest named s)) (popped s) p
 frame_works types (frame.Declares x) s is p = owns (declared x) refl p refl refl
+frame_works types (frame.DeclaresRecord x t) s is p = owns (record_object t) refl p refl refl
 frame_works types frame.Writes s is p = line_works (reads_integer (newest named s)) (popped s) p
 frame_works types (frame.Ends v) s is p = end_works v (look s.heap v) s p
 frame_works types (frame.GivesBack v cause pool) s is p = back_works v cause pool (lent s.heap v) s (back_is_plain v cause pool is) p

@@ -2,13 +2,14 @@
 
 use Rattle.std.proofs.Common.{◌≡◌, ◌≢◌, ℕ, zero, suc, Bool, true, false, List, [], ◌∷◌, refl, sym, ap, ◌∙◌, ◌⊎◌, inl, inr}
 use Rattle.std.specs.Prelude.{Option, Some, ◌==◌, ◌&&◌, ◌||◌, not}
+use Rattle.std.specs.List.{slice_set}
 use Rattle.std.proofs.lemmas.Bool.{eqb-true, eq-eqb}
 use Rattle.ada_program.specs.ProgramForm.{VariableForm}
 use Rattle.ada_program.specs.WellFormed.{access_of, is_this}
 use Rattle.ada_flow.specs.declared.rule.Hold.{Hold}
 use Rattle.ada_flow.specs.declared.rule.Hold.TheVariants as held
 use Rattle.ada_flow.specs.declared.rule.Region.TheVariants.{Whole}
-use Rattle.ada_flow.specs.Flow.{Holds, hold_at, variable_access, if_own, is_as_good, is_among, left, without_alias, without_aliases}
+use Rattle.ada_flow.specs.Flow.{Holds, hold_at, variable_access, if_own, is_as_good, is_among, Gone, without_types, without_variables, left, without_alias, without_aliases}
 use Rattle.ada_meaning.specs.declared.state.Id.{Id}
 use Rattle.ada_meaning.specs.declared.state.Value.{Value}
 use Rattle.ada_meaning.specs.declared.state.Value.TheVariants.{Names}
@@ -16,7 +17,7 @@ use Rattle.ada_meaning.specs.State.{Activation}
 use Rattle.ada_meaning.specs.Named.{Object, object_at, store}
 use Rattle.ada_owners.specs.Places.{Place, variable, component, elsewhere, value_at, access_at, put_in, is_component, is_lent}
 use Rattle.ada_owners.specs.Reliance.{Owns, Borrows, Kinds, component_kind, kind_of, Reliance, component_hold, hold_of, with_hold, with_lent, Fits, IsInHand}
-use Rattle.ada_owners.proofs.Kernel.{same_place, says_right, lost_owns}
+use Rattle.ada_owners.proofs.Kernel.{same_or_not, same_place, says_right, lost_owns}
 use Rattle.ada_owners.proofs.Objects.{read_same, read_other}
 use Rattle.ada_owners.proofs.Changes.{weaken, hand_worse, taken, nulls, held_anew, put_hand, put_copy, put_blank, store_hand}
 
@@ -237,29 +238,69 @@ none_borrows kinds access r vs t same outer (variable x) a e = forget_borrows vs
 none_borrows kinds access r vs t same outer (component o c) a e = component_borrows (is_lent r.lent o c) a
 none_borrows kinds access r vs t same outer (elsewhere d x) a e = outer d x a e
 
--- Behind a block the variables of its access types are lost.
+-- Behind a block the variables of its access types are lost, and its own.
 pub if_own_good : (b : Bool) (h : Hold) → is_as_good h (if_own b h) ≡ true
 if_own_good true h = good_same h
 if_own_good false h = good_lost h
 
-pub left_good : (vs : List VariableForm) (types : List ℕ) (holds : Holds) (x : ℕ) → is_as_good (hold_at holds x) (hold_at (left vs types holds) x) ≡ true
-left_good [] types holds x = good_lost (hold_at holds x)
-left_good (v ∷ vs) types [] x = refl
-left_good (v ∷ vs) types (h ∷ hs) zero = if_own_good (not (is_among types (access_of (Some v.kind)))) h
-left_good (v ∷ vs) types (h ∷ hs) (suc x) = left_good vs types hs x
+types_good : (vs : List VariableForm) (types : List ℕ) (holds : Holds) (x : ℕ) → is_as_good (hold_at holds x) (hold_at (without_types vs types holds) x) ≡ true
+types_good [] types holds x = good_lost (hold_at holds x)
+types_good (v ∷ vs) types [] x = refl
+types_good (v ∷ vs) types (h ∷ hs) zero = if_own_good (not (is_among types (access_of (Some v.kind)))) h
+types_good (v ∷ vs) types (h ∷ hs) (suc x) = types_good vs types hs x
 
 if_own_lost : (b : Bool) (h : Hold) → if_own (not b) h ≢ held.Lost → b ≡ false
 if_own_lost true h ne = absurd (ne refl)
 if_own_lost false h ne = refl
 
-pub left_relied : (vs : List VariableForm) (types : List ℕ) (holds : Holds) (x : ℕ) → hold_at (left vs types holds) x ≢ held.Lost → is_among types (variable_access vs x) ≡ false
-left_relied [] types holds x ne = absurd (ne refl)
-left_relied (v ∷ vs) types [] x ne = absurd (ne refl)
-left_relied (v ∷ vs) types (h ∷ hs) zero ne = if_own_lost (is_among types (access_of (Some v.kind))) h ne
-left_relied (v ∷ vs) types (h ∷ hs) (suc x) ne = left_relied vs types hs x ne
+types_relied : (vs : List VariableForm) (types : List ℕ) (holds : Holds) (x : ℕ) → hold_at (without_types vs types holds) x ≢ held.Lost → is_among types (variable_access vs x) ≡ false
+types_relied [] types holds x ne = absurd (ne refl)
+types_relied (v ∷ vs) types [] x ne = absurd (ne refl)
+types_relied (v ∷ vs) types (h ∷ hs) zero ne = if_own_lost (is_among types (access_of (Some v.kind))) h ne
+types_relied (v ∷ vs) types (h ∷ hs) (suc x) ne = types_relied vs types hs x ne
 
-pub left_fits : {kinds : Kinds} {objects : List Object} {activations : List (Activation Value)} (r : Reliance) (vs : List VariableForm) (types : List ℕ) → Fits kinds objects activations (hold_of r) → Fits kinds objects activations (hold_of (record r { holds = left vs types r.holds }))
-left_fits r vs types f = holds_fits r vs (left vs types r.holds) (left_good vs types r.holds) f
+-- So are the block's variables: each other one holds what it did.
+abbrev StaysOrLost : (before after : Hold) → Type 0
+StaysOrLost before after = (after ≡ before) ⊎ (after ≡ held.Lost)
+
+one_lost : (holds : Holds) (y x : ℕ) → StaysOrLost (hold_at holds x) (hold_at (slice_set holds y held.Lost) x)
+one_lost holds y x = go (same_or_not x y)
+  where
+    go : (x ≡ y) ⊎ (x ≢ y) → StaysOrLost (hold_at holds x) (hold_at (slice_set holds y held.Lost) x)
+    go (inl e) = rw e (inr (elim (read_same holds y held.Lost held.Lost) [ inl is ↦ is | inr is ↦ is ]))
+    go (inr ne) = inl (read_other holds y x held.Lost held.Lost ne)
+
+then_lost : (a b c : Hold) → StaysOrLost a b → StaysOrLost b c → StaysOrLost a c
+then_lost a b c first (inr e) = inr e
+then_lost a b c (inl d) (inl e) = inl (e ∙ d)
+then_lost a b c (inr d) (inl e) = inr (e ∙ d)
+
+variables_lost : (xs : List ℕ) (holds : Holds) (x : ℕ) → StaysOrLost (hold_at holds x) (hold_at (without_variables xs holds) x)
+variables_lost [] holds x = inl refl
+variables_lost (y ∷ ys) holds x =
+    let after = slice_set holds y held.Lost in
+    then_lost (hold_at holds x) (hold_at after x) (hold_at (without_variables ys after) x) (one_lost holds y x) (variables_lost ys after x)
+
+good_stays : (a b c : Hold) → is_as_good a b ≡ true → StaysOrLost b c → is_as_good a c ≡ true
+good_stays a b c e (inl is) = rw is e
+good_stays a b c e (inr is) = rw is (good_lost a)
+
+pub left_good : (vs : List VariableForm) (gone : Gone) (holds : Holds) (x : ℕ) → is_as_good (hold_at holds x) (hold_at (left vs gone holds) x) ≡ true
+left_good vs gone holds x =
+    let inner = without_types vs gone.types holds in
+    good_stays (hold_at holds x) (hold_at inner x) (hold_at (left vs gone holds) x) (types_good vs gone.types holds x) (variables_lost gone.variables inner x)
+
+relied_stays : (before after : Hold) → StaysOrLost before after → after ≢ held.Lost → before ≢ held.Lost
+relied_stays before after (inl is) ne lost = ne (is ∙ lost)
+relied_stays before after (inr is) ne lost = ne is
+
+pub left_relied : (vs : List VariableForm) (gone : Gone) (holds : Holds) (x : ℕ) → hold_at (left vs gone holds) x ≢ held.Lost → is_among gone.types (variable_access vs x) ≡ false
+left_relied vs gone holds x ne =
+    let inner = without_types vs gone.types holds in
+    types_relied vs gone.types holds x (relied_stays (hold_at inner x) (hold_at (left vs gone holds) x) (variables_lost gone.variables inner x) ne)
+
+pub left_fits : {kinds : Kinds} {objects : List Object} {activations : List (Activation Value)} (r : Reliance) (vs : List VariableForm) (gone : Gone) → Fits kinds objects activations (hold_of r) → Fits kinds objects activations (hold_of (record r { holds = left vs gone r.holds }))
+left_fits r vs gone f = holds_fits r vs (left vs gone r.holds) (left_good vs gone r.holds) f
 
 -- The holds of suspended activations become worse, and all else stays.
 worse_outer : (r : Reliance) (outer : ℕ → Holds) → ((d x : ℕ) → is_as_good (hold_at (r.outer d) x) (hold_at (outer d) x) ≡ true) → (p : Place) → is_as_good (hold_of r p) (hold_of (record r { outer = outer }) p) ≡ true

@@ -1,4 +1,3 @@
 -- lemmas of this crate
 mod InOrder
-mod Items
 mod Viewed

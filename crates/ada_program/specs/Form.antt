@@ -28,6 +28,7 @@ use Rattle.ada_program.specs.declared.program.VariableNo.{VariableNo}
 use Rattle.ada_program.specs.declared.program.TextNo.{TextNo}
 use Rattle.ada_program.specs.declared.program.Link.{Link}
 use Rattle.ada_program.specs.declared.program.Path.{Path}
+use Rattle.ada_program.specs.declared.program.RecordPath.{RecordPath}
 
 -- A path (4.1): the variable that it begins with, whether that is a record object, the components named behind it, each of the object that the
 -- value before it gives access to, and where the path stands. The first component of a record object is its own: nothing is followed to it.
@@ -36,6 +37,13 @@ pub record PathForm : Type 0 where
   pub of_record : Bool
   pub selectors : List ℕ
   pub spot : Spot
+
+-- A path to a record (4.1): the path to the object in which it lies, a record object or an access value, the number of its first elementary
+-- component there, and its type.
+pub record RecordPathForm : Type 0 where
+  pub object : PathForm
+  pub first : ℕ
+  pub record_type : ℕ
 
 mutual
   -- An expression (4.4): an Integer, a Boolean, the value that a path names, whether an access value is null, or is not (4.5.2), an operator
@@ -53,11 +61,12 @@ mutual
     no_more_links : LinksForm
     a_link : BinaryOperator → ExpressionForm → LinksForm → LinksForm
 
--- An item of an aggregate (4.3.1): null, the access value that a path names, or an expression.
+-- An item of an aggregate (4.3.1): null, the access value that a path names, an expression, or a record, which is copied.
 pub data ItemForm : Type 0 where
   null_item : ItemForm
   item_of_path : PathForm → ItemForm
   item_of_value : ExpressionForm → ItemForm
+  item_of_record : RecordPathForm → ItemForm
 
 -- What is assigned (5.2): null, the access value that a path names, a new object of an access type (4.8) with items for its components, or with
 -- what they hold at first (3.3.1), or an expression.
@@ -68,21 +77,22 @@ pub data RightForm : Type 0 where
   allocates_default : (access : ℕ) → RightForm
   computes : ExpressionForm → RightForm
 
--- A declaration (3.11): its elaboration creates the collection of an access type (7.6.1), a variable with its initial value, or a record object,
--- whose components hold what their declarations say (3.3.1).
+-- A declaration (3.11): its elaboration creates the collection of an access type (7.6.1), a variable with its initial value, or a record object
+-- with the items of its initial value; where there are none, its components hold what their declarations say (3.3.1).
 pub data DeclarationForm : Type 0 where
   collects : (access : ℕ) → DeclarationForm
   declares : (variable : ℕ) → RightForm → DeclarationForm
-  declares_record : (variable object_type : ℕ) → DeclarationForm
+  declares_record : (variable object_type : ℕ) → (initial : Option (List ItemForm)) → DeclarationForm
 
 mutual
-  -- A statement (5.1): what it assigns to what (5.2), what it frees by the instance for which access type (13.11.2), to what the next number
-  -- of the input goes, which value or which text it writes (A.10.7), among which statements it chooses (5.3), which it repeats, while a
-  -- condition is true, for each value of a parameter, or for ever (5.5), the exit from the innermost loop, perhaps on a condition (5.7), the
-  -- return from the body (6.5), the exception that it raises (11.3), or a block: a master of its own (5.6).
+  -- A statement (5.1): what it assigns to what, or to which record (5.2), what it frees by the instance for which access type (13.11.2), to what
+  -- the next number of the input goes, which value or which text it writes (A.10.7), among which statements it chooses (5.3), which it repeats,
+  -- while a condition is true, for each value of a parameter, or for ever (5.5), the exit from the innermost loop, perhaps on a condition (5.7),
+  -- the return from the body (6.5), the exception that it raises (11.3), or a block: a master of its own (5.6).
   pub data StmtForm : Type 0 where
     skips : StmtForm
     assigns : (target : PathForm) → RightForm → StmtForm
+    assigns_record : (target : RecordPathForm) → List ItemForm → StmtForm
     frees : (access : ℕ) → (path : PathForm) → StmtForm
     gets : (target : PathForm) → StmtForm
     writes : ExpressionForm → StmtForm
@@ -118,6 +128,10 @@ component_number c = c.0
 abbrev pub path_form : Path → PathForm
 path_form p = record { root = p.root.0; of_record = p.of_record; selectors = map component_number p.selectors.items; spot = p.spot }
 
+-- A path to a record as plain data.
+abbrev pub record_path_form : RecordPath → RecordPathForm
+record_path_form p = record { object = path_form p.object; first = p.first.0; record_type = p.record.0 }
+
 unfoldable mutual
   -- An expression.
   pub expression_form : Expression → ExpressionForm
@@ -143,6 +157,7 @@ abbrev pub item_form : Item → ItemForm
 item_form item.Null = null_item
 item_form (item.Path path) = item_of_path (path_form path)
 item_form (item.Value e) = item_of_value (expression_form e)
+item_form (item.Record path) = item_of_record (record_path_form path)
 
 -- What a right side assigns.
 abbrev pub right_form : Right → RightForm
@@ -157,11 +172,16 @@ abbrev pub initial_form : Option Right → RightForm
 initial_form None = nothing
 initial_form (Some value) = right_form value
 
+-- The items of an initial value, where there is one.
+abbrev pub initial_items : Option (Vec Item) → Option (List ItemForm)
+initial_items None = None
+initial_items (Some items) = Some (map item_form items.items)
+
 -- What a declaration creates.
 abbrev pub declaration_form : Declaration → DeclarationForm
 declaration_form (Collection access) = collects access.0
 declaration_form (Variable variable initial) = declares variable.0 (initial_form initial)
-declaration_form (Record variable object) = declares_record variable.0 object.0
+declaration_form (Record variable object initial) = declares_record variable.0 object.0 (initial_items initial)
 
 -- The condition of a loop or of an exit, where there is one.
 abbrev pub condition_form : Option Expression → Option ExpressionForm
@@ -173,6 +193,7 @@ unfoldable mutual
   pub stmt_form : Stmt → StmtForm
   stmt_form stmt.Null = skips
   stmt_form (stmt.Assign target value) = assigns (path_form target) (right_form value)
+  stmt_form (stmt.AssignRecord target items) = assigns_record (record_path_form target) (map item_form items.items)
   stmt_form (stmt.Free access path) = frees access.0 (path_form path)
   stmt_form (stmt.Get target) = gets (path_form target)
   stmt_form (stmt.PutImage e) = writes (expression_form e)
@@ -274,6 +295,10 @@ pub assigns_form : (target : Path) (value : Right) → stmt_form (stmt.Assign ta
 unfolding stmt_form
 assigns_form target value = refl
 
+pub assigns_record_form : (target : RecordPath) (items : Vec Item) → stmt_form (stmt.AssignRecord target items) ≡ assigns_record (record_path_form target) (map item_form items.items)
+unfolding stmt_form
+assigns_record_form target items = refl
+
 pub frees_form : (access : TypeNo) (path : Path) → stmt_form (stmt.Free access path) ≡ frees access.0 (path_form path)
 unfolding stmt_form
 frees_form access path = refl
@@ -359,4 +384,4 @@ encloses_form declarations statements handlers =
     ap (encloses (map declaration_form declarations.items) (stmts_form statements.items)) (handlers_hidden handlers)
 
 -- The view of a statement, step by step.
-pub ruleset statement_rules = (skips_form, assigns_form, frees_form, gets_form, writes_form, writes_text_form, chooses_form, repeats_form, counts_form, exits_form, returns_form, raises_form, encloses_form)
+pub ruleset statement_rules = (skips_form, assigns_form, assigns_record_form, frees_form, gets_form, writes_form, writes_text_form, chooses_form, repeats_form, counts_form, exits_form, returns_form, raises_form, encloses_form)

@@ -12,13 +12,14 @@ use Rattle.ada_program.specs.declared.program.Item.{Item}
 use Rattle.ada_program.specs.declared.program.Link.{Link}
 use Rattle.ada_program.specs.declared.program.Path.{Path}
 use Rattle.ada_program.specs.declared.program.Program.{Program}
+use Rattle.ada_program.specs.declared.program.RecordPath.{RecordPath}
 use Rattle.ada_program.specs.declared.program.Right.{Right}
 use Rattle.ada_program.specs.declared.program.ScalarType.{ScalarType}
 use Rattle.ada_program.specs.declared.program.Stmt.{Stmt}
 use Rattle.ada_program.specs.declared.program.TypeDefinition.{TypeDefinition}
 use Rattle.ada_program.specs.declared.program.Variable.{Variable}
 use Rattle.ada_program.specs.declared.program.VariableKind.{VariableKind}
-use Rattle.ada_program.specs.Form.{path_form, expression_form, links_form, item_form, right_form, condition_form, declaration_form, StmtsForm, stmt_form, stmts_form, branches_form, handlers_form}
+use Rattle.ada_program.specs.Form.{path_form, record_path_form, expression_form, links_form, item_form, right_form, condition_form, declaration_form, StmtsForm, stmt_form, stmts_form, branches_form, handlers_form}
 use Rattle.ada_program.specs.ProgramForm.{TypeForm, type_form, VariableForm, variable_form, program_form}
 use Rattle.ada_program.specs.WellFormed as fits
 use Rattle.ada_program.specs.WellFormed.{Creation}
@@ -70,10 +71,19 @@ abbrev pub has_type : List TypeDefinition → List Variable → ScalarType → E
 has_type types variables type e =
     fits.has_type (types_in types) (variables_in variables) type (expression_form e)
 
+-- Whether a path leads to a record of its type (4.1).
+abbrev pub is_record_path : List TypeDefinition → List Variable → RecordPath → Bool
+is_record_path types variables p = fits.is_record_path (types_in types) (variables_in variables) (record_path_form p)
+
 -- Whether an item is a value of a component (4.3.1).
-abbrev pub item_fits : List TypeDefinition → List Variable → ComponentKind → Item → Bool
-item_fits types variables kind i =
-    fits.item_fits (types_in types) (variables_in variables) kind (item_form i)
+abbrev pub component_item_fits : List TypeDefinition → List Variable → ComponentKind → Item → Bool
+component_item_fits types variables kind i =
+    fits.component_item_fits (types_in types) (variables_in variables) kind (item_form i)
+
+-- Whether an item is for the first of these components (4.3.1).
+abbrev pub item_fits : List TypeDefinition → List Variable → List ComponentKind → Item → Bool
+item_fits types variables components i =
+    fits.item_fits (types_in types) (variables_in variables) components (item_form i)
 
 -- Whether there is one item for each component, in order (4.3.1).
 abbrev pub items_fit : List TypeDefinition → List Variable → List ComponentKind → List Item → Bool
@@ -158,6 +168,11 @@ is_integer_target types variables path =
 abbrev pub condition_fits : List TypeDefinition → List Variable → Option Expression → Bool
 condition_fits types variables condition =
     fits.condition_fits (types_in types) (variables_in variables) (condition_form condition)
+
+-- Whether the items of a record are values of its components, and no borrowers (4.3.1).
+abbrev pub record_fits : List TypeDefinition → List Variable → Option (List ComponentKind) → List Item → Bool
+record_fits types variables components items =
+    fits.record_fits (types_in types) (variables_in variables) components (map item_form items)
 
 -- Whether a statement names variables and texts of the program, and has the types that it wants.
 abbrev pub statement_fits : List TypeDefinition → List Variable → (texts exceptions : List (String Global)) → (inside_loop : Bool) → Stmt → Bool

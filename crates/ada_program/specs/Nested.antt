@@ -4,7 +4,7 @@ use Rattle.std.specs.Prelude.{◌≡◌, ℕ, Bool, true, false, ◌&&◌, ◌||
 use Rattle.std.specs.List.{list_all}
 use Rattle.ada_program.specs.declared.program.ComponentKind.{ComponentKind}
 use Rattle.ada_program.specs.declared.program.ComponentKind.TheVariants as component
-use Rattle.ada_program.specs.Form.{DeclarationForm, collects, declares, declares_record, StmtForm, skips, assigns, frees, gets, writes, writes_text, chooses, repeats, counts, exits, returns, raises, encloses, StmtsForm, no_stmts, a_stmt, BranchesForm, otherwise, a_branch, HandlersForm, no_handlers, a_handler}
+use Rattle.ada_program.specs.Form.{DeclarationForm, collects, declares, declares_record, StmtForm, skips, assigns, assigns_record, frees, gets, writes, writes_text, chooses, repeats, counts, exits, returns, raises, encloses, StmtsForm, no_stmts, a_stmt, BranchesForm, otherwise, a_branch, HandlersForm, no_handlers, a_handler}
 use Rattle.ada_program.specs.ProgramForm.{TypeForm, ProgramForm}
 use Rattle.ada_program.specs.WellFormed.{reached_components}
 
@@ -13,14 +13,14 @@ abbrev pub collected : List DeclarationForm → List ℕ
 collected [] = []
 collected (collects access ∷ ds) = access ∷ collected ds
 collected (declares x right ∷ ds) = collected ds
-collected (declares_record x object ∷ ds) = collected ds
+collected (declares_record x object initial ∷ ds) = collected ds
 
 -- The types by which the record objects are known that declarations create.
 abbrev pub record_objects : List DeclarationForm → List ℕ
 record_objects [] = []
 record_objects (collects access ∷ ds) = record_objects ds
 record_objects (declares x right ∷ ds) = record_objects ds
-record_objects (declares_record x object ∷ ds) = object ∷ record_objects ds
+record_objects (declares_record x object initial ∷ ds) = object ∷ record_objects ds
 
 -- Is the number one of these?
 abbrev pub is_one_of : List ℕ → ℕ → Bool
@@ -57,6 +57,7 @@ abbrev mutual
   pub statement_nests : List TypeForm → (around : List ℕ) → StmtForm → Bool
   statement_nests types around skips = true
   statement_nests types around (assigns target right) = true
+  statement_nests types around (assigns_record target items) = true
   statement_nests types around (frees access path) = true
   statement_nests types around (gets target) = true
   statement_nests types around (writes e) = true

@@ -2,6 +2,7 @@
 
 use Rattle.std.specs.Prelude.{ℕ, Bool, List, map}
 use Rattle.std.specs.String.{string_bytes}
+use Rattle.ada_text.specs.declared.spot.Spot.{Spot}
 use Rattle.ada_program.specs.declared.program.ComponentKind.{ComponentKind}
 use Rattle.ada_program.specs.declared.program.Part.{Part}
 use Rattle.ada_program.specs.declared.program.PartKind.{PartKind}
@@ -25,9 +26,10 @@ pub data TypeForm : Type 0 where
   access_to : List ℕ → ℕ → TypeForm
   object_of : (record_type : ℕ) → TypeForm
 
--- A variable: its name, what it holds (3.3.1), and whether it is a borrower: one of an anonymous access type (3.10).
+-- A variable: its name, where it is declared, what it holds (3.3.1), and whether it is a borrower: one of an anonymous access type (3.10).
 pub record VariableForm : Type 0 where
   pub name : List ℕ
+  pub spot : Spot
   pub kind : VariableKind
   pub borrows : Bool
 
@@ -53,7 +55,7 @@ type_form (definition.Object record_type) = object_of record_type.0
 
 -- A variable, as the program keeps it.
 abbrev pub variable_form : Variable → VariableForm
-variable_form o = record { name = string_bytes o.name; kind = o.kind; borrows = o.borrows }
+variable_form o = record { name = string_bytes o.name; spot = o.spot; kind = o.kind; borrows = o.borrows }
 
 -- A program, whatever it keeps its parts in.
 abbrev pub program_form : Program → ProgramForm

@@ -46,3 +46,7 @@ count_of (Some components) = length components
 -- How many words an object takes that the values of an access type designate (13.11).
 abbrev pub words_of : List TypeDefinition → ℕ → ℕ
 words_of types access = count_of (reached_of types access)
+
+-- How many elementary components a record type has: none, if it is no record type.
+abbrev pub width_of : List TypeDefinition → ℕ → ℕ
+width_of types t = count_of (components_of types t)

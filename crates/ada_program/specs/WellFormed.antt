@@ -1,6 +1,6 @@
 -- What a well-formed program is: each number is that of something there, and each form has the types that it wants.
 
-use Rattle.std.specs.Prelude.{◌≡◌, ℕ, ◌+◌, Bool, true, false, ◌&&◌, ◌||◌, not, ◌==◌, nat_lt, if◌then◌else◌, List, [], ◌∷◌, ◌++◌, length, map, count_by, Option, Some, None, is_some}
+use Rattle.std.specs.Prelude.{◌≡◌, ℕ, ◌+◌, Bool, true, false, ◌&&◌, ◌||◌, not, ◌==◌, nat_lt, if◌then◌else◌, List, [], ◌∷◌, ◌++◌, length, drop, map, count_by, Option, Some, None, is_some}
 use Rattle.std.specs.List.{list_all, slice_get}
 use Rattle.ada_values.specs.declared.operator.UnaryOperator.{UnaryOperator}
 use Rattle.ada_values.specs.declared.operator.UnaryOperator.TheVariants as unary
@@ -16,7 +16,7 @@ use Rattle.ada_program.specs.declared.program.VariableKind.{VariableKind}
 use Rattle.ada_program.specs.declared.program.VariableKind.TheVariants as variable
 use Rattle.ada_program.specs.declared.program.ScalarType.{ScalarType}
 use Rattle.ada_program.specs.declared.program.ScalarType.TheVariants.{Integer, Boolean}
-use Rattle.ada_program.specs.Form.{PathForm, ExpressionForm, integer, boolean, reads, is_null, applied_to, chained, LinksForm, no_more_links, a_link, ItemForm, null_item, item_of_path, item_of_value, RightForm, nothing, value_of, allocates, allocates_default, computes, StmtForm, skips, assigns, frees, gets, writes, writes_text, chooses, repeats, counts, exits, returns, raises, encloses, StmtsForm, no_stmts, a_stmt, BranchesForm, otherwise, a_branch, HandlersForm, no_handlers, a_handler, DeclarationForm, collects, declares, declares_record}
+use Rattle.ada_program.specs.Form.{PathForm, RecordPathForm, ExpressionForm, integer, boolean, reads, is_null, applied_to, chained, LinksForm, no_more_links, a_link, ItemForm, null_item, item_of_path, item_of_value, item_of_record, RightForm, nothing, value_of, allocates, allocates_default, computes, StmtForm, skips, assigns, assigns_record, frees, gets, writes, writes_text, chooses, repeats, counts, exits, returns, raises, encloses, StmtsForm, no_stmts, a_stmt, BranchesForm, otherwise, a_branch, HandlersForm, no_handlers, a_handler, DeclarationForm, collects, declares, declares_record}
 use Rattle.ada_program.specs.ProgramForm.{TypeForm, record_of, access_to, object_of, VariableForm, ProgramForm}
 
 -- The type that an access type designates (3.10): none, if it is no access type.
@@ -115,13 +115,14 @@ pub data Creation : Type 0 where
 abbrev pub creation : DeclarationForm → Creation
 creation (collects access) = of_collection access
 creation (declares x right) = of_variable x
-creation (declares_record x object) = of_variable x
+creation (declares_record x object initial) = of_variable x
 
 abbrev mutual
   -- What a statement creates, in the order of the text.
   pub created_by : StmtForm → List Creation
   created_by skips = []
   created_by (assigns target right) = []
+  created_by (assigns_record target items) = []
   created_by (frees access path) = []
   created_by (gets target) = []
   created_by (writes e) = []
@@ -163,20 +164,20 @@ creates_from count k (of_variable x ∷ cs) = (x == k) && creates_from count (k 
 abbrev pub is_object : DeclarationForm → Bool
 is_object (collects access) = false
 is_object (declares x right) = true
-is_object (declares_record x object) = true
+is_object (declares_record x object initial) = true
 
 -- In each part collections are created before the first variable (3.11).
 abbrev pub collections_first : List DeclarationForm → Bool
 collections_first [] = true
 collections_first (collects access ∷ ds) = collections_first ds
 collections_first (declares x right ∷ ds) = list_all is_object ds
-collections_first (declares_record x object ∷ ds) = list_all is_object ds
+collections_first (declares_record x object initial ∷ ds) = list_all is_object ds
 
 -- A collection is that of an access type (7.6.1).
 abbrev pub collection_fits : List TypeForm → DeclarationForm → Bool
 collection_fits types (collects access) = is_access types access
 collection_fits types (declares x right) = true
-collection_fits types (declares_record x object) = true
+collection_fits types (declares_record x object initial) = true
 
 -- Whether the collection of this access type is created.
 abbrev pub is_collection : ℕ → Creation → Bool
@@ -363,25 +364,95 @@ abbrev mutual
 abbrev pub has_type : List TypeForm → List VariableForm → ScalarType → ExpressionForm → Bool
 has_type types variables type e = is_type type (type_of types variables e)
 
--- An item of an aggregate is null or a path of the component's very type for an access component, and else an expression of the component's
--- type (4.3.1).
-abbrev pub item_fits : List TypeForm → List VariableForm → ComponentKind → ItemForm → Bool
-item_fits types variables (component.Integer initial) null_item = false
-item_fits types variables (component.Integer initial) (item_of_path path) = false
-item_fits types variables (component.Integer initial) (item_of_value e) = has_type types variables Integer e
-item_fits types variables (component.Boolean initial) null_item = false
-item_fits types variables (component.Boolean initial) (item_of_path path) = false
-item_fits types variables (component.Boolean initial) (item_of_value e) = has_type types variables Boolean e
-item_fits types variables (component.Access access) null_item = true
-item_fits types variables (component.Access access) (item_of_path path) = is_this access.0 (path_access types variables path)
-item_fits types variables (component.Access access) (item_of_value e) = false
+-- Whether two components hold values of one type, whatever they hold at first (3.8).
+abbrev pub is_alike : ComponentKind → ComponentKind → Bool
+is_alike (component.Integer initial) (component.Integer other) = true
+is_alike (component.Integer initial) (component.Boolean other) = false
+is_alike (component.Integer initial) (component.Access access) = false
+is_alike (component.Boolean initial) (component.Integer other) = false
+is_alike (component.Boolean initial) (component.Boolean other) = true
+is_alike (component.Boolean initial) (component.Access access) = false
+is_alike (component.Access access) (component.Integer other) = false
+is_alike (component.Access access) (component.Boolean other) = false
+is_alike (component.Access access) (component.Access other) = access.0 == other.0
 
--- There is one item for each elementary component, in order (4.3.1).
+-- Whether the first of some components are those of a record, in order.
+abbrev pub begins_with : List ComponentKind → (record_components : List ComponentKind) → Bool
+begins_with components [] = true
+begins_with [] (k ∷ ks) = false
+begins_with (c ∷ components) (k ∷ ks) = is_alike c k && begins_with components ks
+
+-- Whether the first of some components are those of a record type.
+abbrev pub begins_with_record : List ComponentKind → Option (List ComponentKind) → Bool
+begins_with_record components None = false
+begins_with_record components (Some ks) = begins_with components ks
+
+-- Whether the components of an object, from a number on, begin with those of a record type.
+abbrev pub has_record_at : Option (List ComponentKind) → (first : ℕ) → Option (List ComponentKind) → Bool
+has_record_at None first ks = false
+has_record_at (Some components) first ks = begins_with_record (drop first components) ks
+
+-- The components of the object to which a path leads, where it is a record object or an access value.
+abbrev pub object_components : List TypeForm → Option ℕ → Option (List ComponentKind)
+object_components types None = None
+object_components types (Some t) = reached_components types t
+
+-- A path leads to a record of its type (4.1): such a record lies in the object to which the path leads, from that component on.
+abbrev pub is_record_path : List TypeForm → List VariableForm → RecordPathForm → Bool
+is_record_path types variables p =
+    has_record_at (object_components types (access_of (path_kind types variables p.object))) p.first (record_components types p.record_type)
+
+-- An item for one component is null or a path of the component's very type for an access component, and else an expression of the component's
+-- type (4.3.1).
+abbrev pub component_item_fits : List TypeForm → List VariableForm → ComponentKind → ItemForm → Bool
+component_item_fits types variables (component.Integer initial) null_item = false
+component_item_fits types variables (component.Integer initial) (item_of_path path) = false
+component_item_fits types variables (component.Integer initial) (item_of_value e) = has_type types variables Integer e
+component_item_fits types variables (component.Integer initial) (item_of_record p) = false
+component_item_fits types variables (component.Boolean initial) null_item = false
+component_item_fits types variables (component.Boolean initial) (item_of_path path) = false
+component_item_fits types variables (component.Boolean initial) (item_of_value e) = has_type types variables Boolean e
+component_item_fits types variables (component.Boolean initial) (item_of_record p) = false
+component_item_fits types variables (component.Access access) null_item = true
+component_item_fits types variables (component.Access access) (item_of_path path) = is_this access.0 (path_access types variables path)
+component_item_fits types variables (component.Access access) (item_of_value e) = false
+component_item_fits types variables (component.Access access) (item_of_record p) = false
+
+-- An item that fills one component is for the first of these, where there is one.
+abbrev pub first_fits : List TypeForm → List VariableForm → List ComponentKind → ItemForm → Bool
+first_fits types variables [] i = false
+first_fits types variables (kind ∷ components) i = component_item_fits types variables kind i
+
+-- An item is for the first of these components, a record for as many as it has (4.3.1).
+abbrev pub item_fits : List TypeForm → List VariableForm → List ComponentKind → ItemForm → Bool
+item_fits types variables components null_item = first_fits types variables components null_item
+item_fits types variables components (item_of_path path) = first_fits types variables components (item_of_path path)
+item_fits types variables components (item_of_value e) = first_fits types variables components (item_of_value e)
+item_fits types variables components (item_of_record p) =
+    is_record_path types variables p && begins_with_record components (record_components types p.record_type)
+
+-- How many components a record type has: none, if it is no record type.
+abbrev pub width_in : Option (List ComponentKind) → ℕ
+width_in None = 0
+width_in (Some components) = length components
+
+-- How many components an item fills.
+abbrev pub item_width : List TypeForm → ItemForm → ℕ
+item_width types null_item = 1
+item_width types (item_of_path path) = 1
+item_width types (item_of_value e) = 1
+item_width types (item_of_record p) = width_in (record_components types p.record_type)
+
+-- No component is left.
+abbrev pub is_none_left : List ComponentKind → Bool
+is_none_left [] = true
+is_none_left (kind ∷ components) = false
+
+-- There are items for these elementary components, in order, each for the first that are left (4.3.1).
 abbrev pub items_fit : List TypeForm → List VariableForm → List ComponentKind → List ItemForm → Bool
-items_fit types variables [] [] = true
-items_fit types variables [] (i ∷ items) = false
-items_fit types variables (kind ∷ components) [] = false
-items_fit types variables (kind ∷ components) (i ∷ items) = item_fits types variables kind i && items_fit types variables components items
+items_fit types variables components [] = is_none_left components
+items_fit types variables components (i ∷ items) =
+    item_fits types variables components i && items_fit types variables (drop (item_width types i) components) items
 
 -- There is such a record type, and the items are those of an object of it (4.8).
 abbrev pub is_filled : List TypeForm → List VariableForm → Option (List ComponentKind) → List ItemForm → Bool
@@ -425,6 +496,7 @@ abbrev pub item_owns : List VariableForm → ItemForm → Bool
 item_owns variables null_item = true
 item_owns variables (item_of_path path) = not (names_borrower variables path)
 item_owns variables (item_of_value e) = true
+item_owns variables (item_of_record p) = true
 
 -- What is assigned suits what it goes to, a borrower or not (3.10.2, 4.6): what a borrower holds goes to borrowers only, and a new object goes to
 -- what owns it.
@@ -455,6 +527,7 @@ abbrev pub item_before : ℕ → ItemForm → Bool
 item_before x null_item = true
 item_before x (item_of_path path) = nat_lt path.root x
 item_before x (item_of_value e) = expression_before x e
+item_before x (item_of_record p) = nat_lt p.object.root x
 
 -- An initial value names only variables that are declared before (8.3).
 abbrev pub names_before : ℕ → RightForm → Bool
@@ -472,12 +545,23 @@ is_record_object t (Some variable.Boolean) = false
 is_record_object t (Some (variable.Access access)) = false
 is_record_object t (Some (variable.Record object)) = object.0 == t
 
+-- The items of a record are values of its components, and no borrowers (4.3.1).
+abbrev pub record_fits : List TypeForm → List VariableForm → Option (List ComponentKind) → List ItemForm → Bool
+record_fits types variables components items = is_filled types variables components items && list_all (item_owns variables) items
+
+-- The items of a record object's initial value, where there is one, fit its components, and name what is declared before (3.3.1).
+abbrev pub record_initial_fits : List TypeForm → List VariableForm → (x : ℕ) → Option (List ComponentKind) → Option (List ItemForm) → Bool
+record_initial_fits types variables x components None = true
+record_initial_fits types variables x components (Some items) =
+    list_all (item_before x) items && record_fits types variables components items
+
 -- An initial value names what is declared before, and is one that could be assigned (3.3.1); a record object is known by its own type.
 abbrev pub initial_fits : List TypeForm → List VariableForm → DeclarationForm → Bool
 initial_fits types variables (collects access) = true
 initial_fits types variables (declares x right) =
     names_before x right && right_fits types variables (variable_kind variables x) right && lends_to variables (is_borrower variables x) right
-initial_fits types variables (declares_record x object) = is_record_object object (variable_kind variables x)
+initial_fits types variables (declares_record x object initial) =
+    is_record_object object (variable_kind variables x) && record_initial_fits types variables x (reached_components types object) initial
 
 -- Two access types designate one record type (13.11.2): the types that they designate, if any, are the same.
 abbrev pub same_record : Option ℕ → Option ℕ → Bool
@@ -529,6 +613,8 @@ abbrev mutual
   statement_fits types variables texts exceptions inside_loop skips = true
   statement_fits types variables texts exceptions inside_loop (assigns target right) =
       right_fits types variables (path_kind types variables target) right && lends_to variables (names_borrower variables target) right
+  statement_fits types variables texts exceptions inside_loop (assigns_record target items) =
+      is_record_path types variables target && record_fits types variables (record_components types target.record_type) items
   statement_fits types variables texts exceptions inside_loop (frees access path) =
       is_freed_by types access (path_access types variables path) && not (names_borrower variables path)
   statement_fits types variables texts exceptions inside_loop (gets target) = is_integer_target types variables target

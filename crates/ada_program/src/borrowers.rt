@@ -39,7 +39,7 @@ pub(crate) fn lends_to(variables: &[Variable], borrows: bool, value: &Right) -> 
 }
 
 /// Whether no item is a borrower.
-fn items_own(variables: &[Variable], items: &[Item]) -> bool
+pub(crate) fn items_own(variables: &[Variable], items: &[Item]) -> bool
     ensures { result ≡ list_all (kept.item_owns variables.now) items.now }
 {
     items.iter().all(|item| item_owns(variables, item))
@@ -50,7 +50,7 @@ fn item_owns(variables: &[Variable], item: &Item) -> bool
     ensures { result ≡ kept.item_owns variables.now item.now }
 {
     match item {
-        Item::Null | Item::Value(_) => true,
+        Item::Null | Item::Value(_) | Item::Record(_) => true,
         Item::Path(path) => !names_borrower(variables, path),
     }
 }

@@ -74,6 +74,7 @@ impl Seen {
             | Declaration::Record {
                 variable,
                 object: _,
+                initial: _,
             } => self.after_variable(variable.0),
         }
     }
@@ -185,6 +186,7 @@ fn after_statement(seen: Seen, statement: &Stmt) -> Option<Seen>
     match statement {
         Stmt::Null
         | Stmt::Assign { .. }
+        | Stmt::AssignRecord { .. }
         | Stmt::Free { .. }
         | Stmt::Get(_)
         | Stmt::PutImage(_)

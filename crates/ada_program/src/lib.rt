@@ -10,6 +10,7 @@ mod creations;
 mod kinds;
 pub mod lookup;
 pub mod program;
+mod records;
 mod targets;
 mod typing;
 mod values;

@@ -67,14 +67,14 @@ pub(crate) fn is_record(types: &[TypeDefinition], number: usize) -> bool
     }
 }
 
-/// The components of the objects that values of a type name (3.10).
-pub(crate) fn reached_components<'p>(
+/// The elementary components of a record type: none, if it is no record type.
+pub fn record_components<'p>(
     types: &'p [TypeDefinition],
-    access: usize,
+    number: usize,
 ) -> Option<&'p [ComponentKind]>
-    ensures { option_copied result ≡ fits.reached_components (types_in types.now) access }
+    ensures { option_copied result ≡ fits.record_components (types_in types.now) number }
 {
-    match types.get(named_type(types, access)?) {
+    match types.get(number) {
         Some(
             TypeDefinition::Record {
                 name: _,
@@ -84,6 +84,16 @@ pub(crate) fn reached_components<'p>(
         ) => Some(components),
         Some(TypeDefinition::Access { .. } | TypeDefinition::Object { .. }) | None => None,
     }
+}
+
+/// The components of the objects that values of a type name (3.10).
+pub fn reached_components<'p>(
+    types: &'p [TypeDefinition],
+    access: usize,
+) -> Option<&'p [ComponentKind]>
+    ensures { option_copied result ≡ fits.reached_components (types_in types.now) access }
+{
+    record_components(types, named_type(types, access)?)
 }
 
 /// What a variable holds.

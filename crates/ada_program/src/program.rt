@@ -91,6 +91,8 @@ pub enum ComponentKind {
 #[derive(Drop)]
 pub struct Variable {
     pub name: String,
+    /// Where its name is declared.
+    pub spot: Spot,
     pub kind: VariableKind,
     /// Whether it is a borrower: declared with `access T` (3.10), it holds null or names an object that another owns.
     /// Its kind is that of the access type whose values it borrows.
@@ -142,11 +144,12 @@ pub enum Declaration {
         variable: VariableNo,
         initial: Option<Right>,
     },
-    /// A record object is created, known by a type of its own. Its components get what they hold at first where no value
-    /// is given (3.3.1).
+    /// A record object is created, known by a type of its own. Its components get the initial value, by its items in the
+    /// order of the components; where none is written, what they hold at first (3.3.1).
     Record {
         variable: VariableNo,
         object: TypeNo,
+        initial: Option<Vec<Item>>,
     },
 }
 
@@ -159,6 +162,12 @@ pub enum Stmt {
     Assign {
         target: Path,
         value: Right,
+    },
+    /// The components of a record get the values of the items, in order (5.2): those of an aggregate, or another record of
+    /// the type, which is one item.
+    AssignRecord {
+        target: RecordPath,
+        items: Vec<Item>,
     },
     /// A call of the instance of Unchecked_Deallocation for an access type (13.11.2).
     Free {
@@ -239,7 +248,8 @@ pub enum Right {
     Value(Expression),
 }
 
-/// An item of an allocator, for one component.
+/// An item of an aggregate (4.3.1), for one elementary component, or for those of a record. The items of an aggregate in
+/// another one stand in its place.
 #[derive(Drop)]
 pub enum Item {
     Null,
@@ -247,6 +257,8 @@ pub enum Item {
     Path(Path),
     /// An Integer or a Boolean (4.4).
     Value(Expression),
+    /// A record, whose components are copied.
+    Record(RecordPath),
 }
 
 /// An expression of type Integer or Boolean (4.4). Parentheses, named numbers and enumeration literals are gone.
@@ -295,9 +307,21 @@ pub struct Path {
     pub spot: Spot,
 }
 
+/// A path to a record (4.1): to a record object, to the object that an access value gives access to (`X.all`), or to a
+/// component of either that is a record.
+#[derive(Drop)]
+pub struct RecordPath {
+    /// The path to the object in which the record lies: a record object, or an access value.
+    pub object: Path,
+    /// The number of the record's first elementary component in the object.
+    pub first: ComponentNo,
+    /// Its record type.
+    pub record: TypeNo,
+}
+
 impl Program {
     ghost use Rattle.std.specs.Prelude.{◌≡◌, option_copied, option_map};
-    ghost use Rattle.ada_program.specs.Typed.{designated_of, reached_of, words_of};
+    ghost use Rattle.ada_program.specs.Typed.{designated_of, reached_of, width_of, words_of};
 
     /// The elementary components of the objects that the type's values name, in order.
     /// None, if the type is neither an access type to a record type nor that of a record object.
@@ -327,6 +351,22 @@ impl Program {
             } => Some(*designated),
             TypeDefinition::Object { record } => Some(*record),
             TypeDefinition::Record { .. } => None,
+        }
+    }
+
+    /// How many elementary components a record type has: 0, if the type is none.
+    pub fn width(&self, number: TypeNo) -> usize
+        ensures { result ≡ width_of self.now.types.items number.0 }
+    {
+        match self.types.get(number.0) {
+            Some(
+                TypeDefinition::Record {
+                    name: _,
+                    parts: _,
+                    components,
+                },
+            ) => components.len(),
+            _ => 0,
         }
     }
 

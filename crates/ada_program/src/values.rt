@@ -8,9 +8,9 @@ ghost use Rattle.ada_program.specs.WellFormed as fits;
 
 use crate::lookup::{is_this, path_access, reached_components};
 use crate::program::{
-    ComponentKind, Expression, Item, Link, Right, ScalarType, TypeDefinition, Variable,
-    VariableKind,
+    Expression, Item, Link, Right, ScalarType, TypeDefinition, Variable, VariableKind,
 };
+use crate::records::items_fit;
 use crate::typing::has_type;
 
 /// Whether there is something to assign to, and what is assigned fits it (5.2).
@@ -83,62 +83,6 @@ fn is_filled(
     }
 }
 
-/// Whether there is one item for each component, in order.
-fn items_fit(
-    types: &[TypeDefinition],
-    variables: &[Variable],
-    components: &[ComponentKind],
-    items: &[Item],
-) -> bool
-    ensures { result ≡ kept.items_fit types.now variables.now components.now items.now }
-{
-    for (at, item) in items.iter().enumerate() {
-        let fills = match components.get(at) {
-            None => false,
-            Some(kind) => item_fits(types, variables, *kind, item),
-        };
-        if !fills {
-            return false;
-        }
-    }
-    components.len() <= items.len()
-}
-
-/// Whether an item is a value of a component.
-fn item_fits(
-    types: &[TypeDefinition],
-    variables: &[Variable],
-    kind: ComponentKind,
-    item: &Item,
-) -> bool
-    ensures { result ≡ kept.item_fits types.now variables.now kind item.now }
-{
-    match (kind, item) {
-        (ComponentKind::Access(_), Item::Null) => true,
-        (ComponentKind::Access(access), Item::Path(path)) => is_this(
-            access.0,
-            path_access(types, variables, path),
-        ),
-        (ComponentKind::Integer { initial: _ }, Item::Value(expression)) => has_type(
-            types,
-            variables,
-            ScalarType::Integer,
-            expression,
-        ),
-        (ComponentKind::Boolean { initial: _ }, Item::Value(expression)) => has_type(
-            types,
-            variables,
-            ScalarType::Boolean,
-            expression,
-        ),
-        (ComponentKind::Access(_), Item::Value(_)) => false,
-        (
-            ComponentKind::Integer { initial: _ } | ComponentKind::Boolean { initial: _ },
-            Item::Null | Item::Path(_),
-        ) => false,
-    }
-}
-
 /// Whether an initial value names only variables that are declared before (8.3).
 #[tactic(auto, using(std::proofs::lemmas::Grind::common_steps, crate::proofs::Viewed::views))]
 pub(crate) fn names_before(number: usize, value: &Right) -> bool
@@ -153,7 +97,7 @@ pub(crate) fn names_before(number: usize, value: &Right) -> bool
 }
 
 /// Whether items name only variables before the one of a number.
-fn items_before(number: usize, items: &[Item]) -> bool
+pub(crate) fn items_before(number: usize, items: &[Item]) -> bool
     ensures { result ≡ list_all (λ i. fits.item_before number (item_form i)) items.now }
 {
     items.iter().all(|item| item_before(number, item))
@@ -167,6 +111,7 @@ fn item_before(number: usize, item: &Item) -> bool
         Item::Null => true,
         Item::Path(path) => path.root.0 < number,
         Item::Value(expression) => expression_before(number, expression),
+        Item::Record(path) => path.object.root.0 < number,
     }
 }
 

@@ -11,14 +11,18 @@ ghost use Rattle.ada_program.specs.WellFormed as fits;
 use crate::borrowers::{is_borrower, lends_to, names_borrower};
 use crate::creations::{creates_in_order, has_collections};
 use crate::kinds::{types_fit, variables_fit};
-use crate::lookup::{is_access, path_access, path_kind, scalar_of, variable_kind};
+use crate::lookup::{
+    is_access, path_access, path_kind, reached_components, record_components, scalar_of,
+    variable_kind,
+};
 use crate::program::{
     Branch, Choice, Declaration, Exception, Expression, Handler, Program, ScalarType, Stmt,
     TypeDefinition, TypeNo, Variable, VariableKind,
 };
+use crate::records::{is_record_path, record_fits};
 use crate::targets::{is_freed_by, is_integer_target};
 use crate::typing::{has_type, is_type};
-use crate::values::{names_before, right_fits};
+use crate::values::{items_before, names_before, right_fits};
 
 impl Program {
     /// Whether the program is well formed; the resolver gives no other.
@@ -106,6 +110,7 @@ fn initials_fit(
 }
 
 /// Whether an initial value, where one is written, names earlier variables and has the variable's type.
+#[tactic(auto, using(std::proofs::lemmas::Grind::common_steps, crate::proofs::Viewed::views))]
 fn initial_fits(types: &[TypeDefinition], variables: &[Variable], declaration: &Declaration) -> bool
     ensures { result ≡ kept.initial_fits types.now variables.now declaration.now }
 {
@@ -129,9 +134,18 @@ fn initial_fits(types: &[TypeDefinition], variables: &[Variable], declaration: &
                 value,
             )
             && lends_to(variables, is_borrower(variables, variable.0), value),
-        Declaration::Record { variable, object } => {
-            is_record_object(*object, variable_kind(variables, variable.0))
-        }
+        Declaration::Record {
+            variable,
+            object,
+            initial: None,
+        } => is_record_object(*object, variable_kind(variables, variable.0)),
+        Declaration::Record {
+            variable,
+            object,
+            initial: Some(items),
+        } => is_record_object(*object, variable_kind(variables, variable.0))
+            && items_before(variable.0, items)
+            && record_fits(types, variables, reached_components(types, object.0), items),
     }
 }
 
@@ -188,6 +202,13 @@ fn statement_fits(
             path_kind(types, variables, target),
             value,
         ) && lends_to(variables, names_borrower(variables, target), value),
+        Stmt::AssignRecord { target, items } => is_record_path(types, variables, target)
+            && record_fits(
+                types,
+                variables,
+                record_components(types, target.record.0),
+                items,
+            ),
         Stmt::Free { access, path } => is_freed_by(
             types,
             access.0,

@@ -9,16 +9,17 @@ use Rattle.ada_program.specs.declared.program.VariableKind.TheVariants as variab
 use Rattle.ada_program.specs.declared.program.VariableNo.{VariableNo}
 use Rattle.ada_program.specs.ProgramForm.{TypeForm, VariableForm}
 use Rattle.ada_resolve.specs.declared.fault.NameRule.TheVariants.{DeclaredTwice}
+use Rattle.ada_resolve.specs.declared.library.Withs.{Withs}
 use Rattle.ada_resolve.specs.declared.scope.Entity.{Entity}
 use Rattle.ada_resolve.specs.declared.scope.Entity.TheVariants as entity
-use Rattle.ada_resolve.specs.Known.{Known, Named, Part, named, entered, first_named, named_in, inner_first, visible, parts, with_part}
+use Rattle.ada_resolve.specs.Known.{Known, Named, Part, named, entered, first_named, named_in, inner_first, outermost, unit_named, visible, parts, with_part}
 use Rattle.ada_resolve.specs.Library.{predefined, is_library_root, is_taken}
 use Rattle.ada_resolve.specs.Objects.{next_variable}
 use Rattle.ada_resolve.specs.Remark.{wrong_if}
 use Rattle.ada_resolve.specs.Resolution.{with_parameter}
 use Rattle.ada_resolve.specs.Naming.{Context, Place, Binding, Meaning, an_incomplete_type, a_type, a_number, an_exception, an_instance, a_variable, a_parameter, meaning_among, meaning_at, IsBound, truth_name, IsPredefined, the_integers, the_booleans, a_truth_value, the_constraint_error, the_program_error, the_storage_error, under_ada, under_system, the_pools, the_input}
 use Rattle.ada_resolve.specs.Reading.{inside, behind, with_loop_parameter}
-use Rattle.ada_resolve.proofs.WellFormed.Names.{PartsFit, named_entered, text_same}
+use Rattle.ada_resolve.proofs.WellFormed.Names.{PartsFit, first_of_two, named_entered, text_same, unit_only}
 use Rattle.ada_resolve.proofs.WellFormed.Remarks.{Quiet, quiet_if}
 
 -- what the name of a declared entity is bound to
@@ -97,6 +98,7 @@ EntityRead p text (entity.Exception exception.StorageError) = text ≡ codes "ST
 EntityRead p text (entity.Exception exception.EndError) = ⊥
 EntityRead p text (entity.Exception (exception.Declared n)) = IsBound p text (an_exception n.0)
 EntityRead p text entity.Procedure = Unit {0}
+EntityRead p text entity.LibraryUnit = Unit {0}
 EntityRead p text (entity.Incomplete t) = IsBound p text (an_incomplete_type t.0)
 EntityRead p text (entity.Record t size) = IsBound p text (a_type t.0)
 EntityRead p text (entity.Access t) = IsBound p text (a_type t.0)
@@ -163,19 +165,21 @@ declared_read p text entity.Integer m same is = absurd (cc same)
 declared_read p text entity.Boolean m same is = absurd (cc same)
 declared_read p text (entity.Truth b) m same is = absurd (cc same)
 declared_read p text entity.Procedure m same is = absurd (cc same)
+declared_read p text entity.LibraryUnit m same is = absurd (cc same)
 
 stands_read : (p : Context) (text : List ℕ) (e : Entity) → Stands (Some e) (meaning_at p.place text) → EntityRead p text e
 stands_read p text e s = declared_read p text e s.0 s.1 s.2
 
-inner_read : (p : Context) (text : List ℕ) (x : Entity) (own : Option Entity) (b : Bool) → Stands own (meaning_at p.place text) → inner_first own b (predefined text) ≡ Some x → EntityRead p text x
-inner_read p text x (Some y) b s e = let is : y ≡ x = cc e in subst (λ (z : Entity). EntityRead p text z) is (stands_read p text y s)
-inner_read p text x None true s e = let is : entity.Procedure ≡ x = cc e in subst (λ (z : Entity). EntityRead p text z) is tt
-inner_read p text x None false s e = predefined_read p text x e
+inner_read : (p : Context) (withs : Withs) (text : List ℕ) (x : Entity) (own : Option Entity) (b : Bool) → Stands own (meaning_at p.place text) → inner_first own b (outermost withs text) ≡ Some x → EntityRead p text x
+inner_read p withs text x (Some y) b s e = let is : y ≡ x = cc e in subst (λ (z : Entity). EntityRead p text z) is (stands_read p text y s)
+inner_read p withs text x None true s e = let is : entity.Procedure ≡ x = cc e in subst (λ (z : Entity). EntityRead p text z) is tt
+inner_read p withs text x None false s e =
+    first_of_two (EntityRead p text) (predefined text) (unit_named withs text) x (predefined_read p text) (λ y. unit_only (EntityRead p text) withs text y tt) e
 
 -- what is visible is read
 pub visible_read : (k : Known) (p : Context) → Agrees k p.place → (text : List ℕ) (x : Entity) → visible k text ≡ Some x → EntityRead p text x
 unfolding visible
-visible_read k p w text x e = inner_read p text x (named_in text (parts k)) (bytes_eq text k.procedure) (stands_among k p.place w text) e
+visible_read k p w text x e = inner_read p k.withs text x (named_in text (parts k)) (bytes_eq text k.procedure) (stands_among k p.place w text) e
 
 -- what is bound to a loop parameter stands for it
 parameter_is : (e : Entity) (x : ℕ) → bound_to e ≡ Some (a_parameter x) → (n : VariableNo) × (e ≡ entity.Parameter n)
@@ -195,6 +199,7 @@ parameter_is entity.Integer x same = absurd (cc same)
 parameter_is entity.Boolean x same = absurd (cc same)
 parameter_is (entity.Truth b) x same = absurd (cc same)
 parameter_is entity.Procedure x same = absurd (cc same)
+parameter_is entity.LibraryUnit x same = absurd (cc same)
 
 parameter_named : (o : Option Entity) (m : Option Meaning) (x : ℕ) → Stands o m → m ≡ Some (a_parameter x) → (n : VariableNo) × (o ≡ Some (entity.Parameter n))
 parameter_named None m x s is = let no : None ≡ Some (a_parameter x) = sym s ∙ is in absurd (cc no)
@@ -204,7 +209,7 @@ pub parameter_visible : (k : Known) (p : Context) → Agrees k p.place → (text
 unfolding visible
 parameter_visible k p w text x is =
     let n = parameter_named (named_in text (parts k)) (meaning_at p.place text) x (stands_among k p.place w text) is in
-    (n.0, ap (λ (o : Option Entity). inner_first o (bytes_eq text k.procedure) (predefined text)) n.1)
+    (n.0, ap (λ (o : Option Entity). inner_first o (bytes_eq text k.procedure) (outermost k.withs text)) n.1)
 
 -- one more name
 stands_more : (b : Bool) (e : Entity) (meaning : Meaning) (o : Option Entity) (m : Option Meaning) → bound_to e ≡ Some meaning → Stands o m → Stands (cond b (Some e) o) (cond b (Some meaning) m)
@@ -247,7 +252,7 @@ agrees_parameter k place name w = record {
   outer = stands_among k place w;
   first_type = w.types;
   types = w.types;
-  variables = ap (λ (n : ℕ). n + 1) w.variables ∙ sym (length-append k.variables (record { name = name.text; kind = variable.Integer; borrows = false } ∷ []));
+  variables = ap (λ (n : ℕ). n + 1) w.variables ∙ sym (length-append k.variables (record { name = name.text; spot = name.spot; kind = variable.Integer; borrows = false } ∷ []));
   exceptions = w.exceptions;
   texts = w.texts;
 }

@@ -20,6 +20,8 @@ use Rattle.ada_program.specs.ProgramForm.{TypeForm, record_of, access_to, object
 use Rattle.ada_program.specs.WellFormed as well
 use Rattle.ada_resolve.specs.declared.fault.NameRule.TheVariants.{Layout}
 use Rattle.ada_resolve.specs.Borrowers.{borrower_remark, borrower_known}
+use Rattle.ada_resolve.specs.declared.rights.Held.{Held}
+use Rattle.ada_resolve.specs.declared.rights.Held.TheVariants as held
 use Rattle.ada_resolve.specs.declared.scope.Entity.{Entity}
 use Rattle.ada_resolve.specs.declared.scope.Entity.TheVariants as entity
 use Rattle.ada_resolve.specs.Known.{Known, Named, named, declared, new_name_remark, type_begins, no_variable_yet}
@@ -28,7 +30,7 @@ use Rattle.ada_resolve.specs.Exceptions.{next_exception}
 use Rattle.ada_resolve.specs.Statics.{static_value}
 use Rattle.ada_resolve.specs.Records.{components_written, composition_of, record_type_remark, record_type_known}
 use Rattle.ada_resolve.specs.Instances.{freed_found, generic_remark, is_collected, instance_of, with_elaborated}
-use Rattle.ada_resolve.specs.Objects.{missing_collections, ends_types, after_types, next_variable, next_record, object_remark, variable_created, record_created, created_of, object_known, kind_of, object_type_found, initial_found, initial_source}
+use Rattle.ada_resolve.specs.Objects.{missing_collections, ends_types, after_types, next_variable, next_record, object_remark, variable_created, record_created, created_of, object_known, held_of, object_type_found, initial_found, initial_items_in, initial_source, initial_value_in}
 use Rattle.ada_resolve.specs.Resolution.{gives, At, known_at, declaration_remark, declaration_known, declarations_told}
 use Rattle.ada_resolve.specs.Naming.{Context, Place, Meaning, an_incomplete_type, a_type, a_number, an_exception, an_instance, a_variable, meaning_among, IsTypeRead, IsInstanceRead}
 use Rattle.ada_resolve.specs.Reading.{read_at, IsNew, with_binding, with_incomplete_type, with_new_type, with_new_exception, with_new_variable, with_new_record, AreObjectsRead, is_one_of, AreCompleted, declared_type, IsPartRead, part_incomplete_type, part_completion, part_new_type, part_number, part_exception, part_instance, part_objects}
@@ -133,6 +135,7 @@ completed_place k place w c text t is = by_name (named text k.here.names) refl (
     by_entity entity.Boolean there so = cc so
     by_entity (entity.Truth b) there so = cc so
     by_entity entity.Procedure there so = cc so
+    by_entity entity.LibraryUnit there so = cc so
 
     by_name : (o : Option Entity) → named text k.here.names ≡ o → Stands o (meaning_among text place.here) → ⊥
     by_name None there s = let no : None ≡ Some (an_incomplete_type t) = sym s ∙ is in cc no
@@ -199,10 +202,10 @@ variable_agrees k m at name v form is w =
     at.types (at.variables + 1) at.exceptions (ap (λ (n : ℕ). Some (a_variable n)) (sym w.variables)) w.types (one_longer k.variables v at.variables w.variables) w.exceptions w)
 
 -- `X : T := ..;`
-value_made : (name : Ident) (type_name : NameTree) (initial : Option RightTree) (of : VariableKind) (k m : Known) → Quiet (new_name_remark k name name.spot) → ((p : Context) → Readable k p → ObjectRead k p type_name initial of) → m ≡ variable_created k name false of (initial_source (initial_found k (Some of) initial)) → Made (object_declaration name type_name initial) name k m
-value_made name type_name initial of k m new said is =
-    let v : VariableForm = record { name = name.text; kind = of; borrows = false } in
-    let source = initial_source (initial_found k (Some of) initial) in
+value_made : (name : Ident) (type_name : NameTree) (initial : Option RightTree) (kind : Held) (of : VariableKind) (k m : Known) → Quiet (new_name_remark k name name.spot) → ((p : Context) → Readable k p → ObjectRead k p type_name initial kind of) → m ≡ variable_created k name false of (initial_source (initial_value_in (initial_found k (Some kind) initial))) → Made (object_declaration name type_name initial) name k m
+value_made name type_name initial kind of k m new said is =
+    let v : VariableForm = record { name = name.text; spot = name.spot; kind = of; borrows = false } in
+    let source = initial_source (initial_value_in (initial_found k (Some kind) initial)) in
     record {
       v = v;
       types = k.types;
@@ -221,11 +224,11 @@ value_made name type_name initial of k m new said is =
     }
 
 -- `R : T;`
-record_made : (name : Ident) (type_name : NameTree) (initial : Option RightTree) (t : TypeNo) (k m : Known) → Quiet (new_name_remark k name name.spot) → ((p : Context) → Readable k p → RecordRead p type_name initial t.0) → m ≡ record_created k name t → Made (object_declaration name type_name initial) name k m
+record_made : (name : Ident) (type_name : NameTree) (initial : Option RightTree) (t : TypeNo) (k m : Known) → Quiet (new_name_remark k name name.spot) → ((p : Context) → Readable k p → RecordRead k p type_name initial t) → m ≡ record_created k name t (initial_items_in (initial_found k (Some (held.Record t)) initial)) → Made (object_declaration name type_name initial) name k m
 record_made name type_name initial t k m new said is =
-    let v : VariableForm = record { name = name.text; kind = next_record k; borrows = false } in
+    let v : VariableForm = record { name = name.text; spot = name.spot; kind = next_record k; borrows = false } in
     let types = k.types ++ object_of t.0 ∷ [] in
-    let form = declares_record (length k.variables) (length k.types) in
+    let form = declares_record (length k.variables) (length k.types) (initial_items_in (initial_found k (Some (held.Record t)) initial)) in
     record {
       v = v;
       types = types;
@@ -256,10 +259,10 @@ record_made name type_name initial t k m new said is =
     }
 
 -- an object of either sort
-object_made_of : (name : Ident) (type_name : NameTree) (initial : Option RightTree) (k m : Known) (o : Option Entity) → Quiet (new_name_remark k name name.spot) → IsObjectType o → ((p : Context) → Readable k p → TypeRead k p type_name initial o) → m ≡ created_of k name o (initial_found k (kind_of o) initial) → Made (object_declaration name type_name initial) name k m
-object_made_of name type_name initial k m (Some entity.Integer) new typed said is = value_made name type_name initial variable.Integer k m new said is
-object_made_of name type_name initial k m (Some entity.Boolean) new typed said is = value_made name type_name initial variable.Boolean k m new said is
-object_made_of name type_name initial k m (Some (entity.Access t)) new typed said is = value_made name type_name initial (variable.Access t) k m new said is
+object_made_of : (name : Ident) (type_name : NameTree) (initial : Option RightTree) (k m : Known) (o : Option Entity) → Quiet (new_name_remark k name name.spot) → IsObjectType o → ((p : Context) → Readable k p → TypeRead k p type_name initial o) → m ≡ created_of k name o (initial_found k (held_of o) initial) → Made (object_declaration name type_name initial) name k m
+object_made_of name type_name initial k m (Some entity.Integer) new typed said is = value_made name type_name initial held.Integer variable.Integer k m new said is
+object_made_of name type_name initial k m (Some entity.Boolean) new typed said is = value_made name type_name initial held.Boolean variable.Boolean k m new said is
+object_made_of name type_name initial k m (Some (entity.Access t)) new typed said is = value_made name type_name initial (held.Access t) (variable.Access t) k m new said is
 object_made_of name type_name initial k m (Some (entity.Record t size)) new typed said is = record_made name type_name initial t k m new said is
 object_made_of name type_name initial k m o new typed said is = absurd typed
 
@@ -272,7 +275,7 @@ object_made name type_name initial k m q is =
 borrower_made : (name designated : Ident) (initial : Option RightTree) (k m : Known) → Sound k → Quiet (borrower_remark k name designated initial) → m ≡ borrower_known k name initial → Made (borrower_declaration name designated initial) name k m
 borrower_made name designated initial k m s q is =
     let r = lent_of k name designated initial s.names q in
-    let v : VariableForm = record { name = name.text; kind = variable.Access r.access; borrows = true } in
+    let v : VariableForm = record { name = name.text; spot = name.spot; kind = variable.Access r.access; borrows = true } in
     let form = declares (length k.variables) (value_of r.path) in
     let is_so : m ≡ with_made k name k.types v form = is ∙ borrower_is k name designated initial r in
     record {
@@ -569,7 +572,7 @@ collected_more (collects s ∷ es) t u = rw (collected_more es t u) (turn (eqb s
     turn true false c = refl
     turn false b c = refl
 collected_more (declares x value ∷ es) t u = collected_more es t u
-collected_more (declares_record x object ∷ es) t u = collected_more es t u
+collected_more (declares_record x object initial ∷ es) t u = collected_more es t u
 
 instance_first : (k m z : Known) (p : Context) (spot : Spot) (name : Ident) (generic : NameTree) (object access : Ident) (ds : DeclarationsTree) (r : Freed k m p name object access) → IsNew p.place name → IsInstanceRead p generic object access r.t.0 → PartRead (read_at (with_binding name (an_instance r.t.0) p.place) p) ds m z → PartRead p (a_declaration (instance spot name generic object access) ds) k z
 instance_first k m z p spot name generic object access ds r new own on = record {

@@ -29,7 +29,7 @@ record_there : (k : Known) (p : Context) (name : Ident) (t : TypeNo) → Readabl
 record_there k p name t w found there = (found.1, there.0, there.1, w.ahead.types t.0 _ there.2)
 
 -- `B : access T := P;`
-pub borrower_read : (k : Known) (p : Context) (name designated : Ident) (initial : Option RightTree) (x : ℕ) → Readable k p → Quiet (record_remark k designated) → (r : Lent k designated initial) → slice_get p.variables x ≡ Some (record { name = name.text; kind = variable.Access r.access; borrows = true }) → IsBorrowerRead p name designated initial x (value_of r.path)
+pub borrower_read : (k : Known) (p : Context) (name designated : Ident) (initial : Option RightTree) (x : ℕ) → Readable k p → Quiet (record_remark k designated) → (r : Lent k designated initial) → slice_get p.variables x ≡ Some (record { name = name.text; spot = name.spot; kind = variable.Access r.access; borrows = true }) → IsBorrowerRead p name designated initial x (value_of r.path)
 borrower_read k p name designated initial x w q r there = record {
   access = r.access;
   t = r.of.0;

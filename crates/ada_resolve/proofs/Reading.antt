@@ -1,7 +1,7 @@
 -- What expressions, calls and other statements with no others in them mean is what they say at their place.
 
 use Rattle.std.proofs.Common.{◌≡◌, ◌∙◌, inl, inr, ℕ, ◌+◌, Bool, true, false, cond, List, [], ◌∷◌, ◌++◌, length, refl, sym, ap, subst, zero, suc, arith, eqb, eqb-true, eq-eqb}
-use Rattle.std.specs.Prelude.{codes, Option, Some, None, bytes_eq, is_some, not, map}
+use Rattle.std.specs.Prelude.{codes, Option, Some, None, bytes_eq, is_some, not}
 use Rattle.std.specs.List.{slice_get, slice_set, list_all}
 use Rattle.std.proofs.Math.ListN.{replicate}
 use Rattle.std.proofs.lemmas.Bool.{ne_eqb}
@@ -15,6 +15,7 @@ use Rattle.ada_tree.specs.Declarations.{ChoiceTree, named_choice, others_choice}
 use Rattle.ada_tree.specs.Expressions.{ArgumentTree, expression_argument, text_argument, attribute_argument, RightTree, expression_right, allocator_right, creation_right, ItemsTree, no_more_items, an_item, ExpressionTree, number_expression, null_expression, path_expression, aggregate_expression, enclosed_expression, unary_expression, binary_expression}
 use Rattle.ada_tree.specs.Statements.{StatementTree, null_statement, assignment, call, exit_statement, return_statement, raise_statement}
 use Rattle.ada_program.specs.declared.program.ComponentKind.{ComponentKind}
+use Rattle.ada_program.specs.declared.program.ComponentKind.TheVariants as kind
 use Rattle.ada_program.specs.declared.program.PartKind.{PartKind}
 use Rattle.ada_program.specs.declared.program.PartKind.TheVariants as part
 use Rattle.ada_program.specs.declared.program.Exception.{Exception}
@@ -23,10 +24,12 @@ use Rattle.ada_program.specs.declared.program.VariableKind.{VariableKind}
 use Rattle.ada_program.specs.declared.program.VariableKind.TheVariants as variable
 use Rattle.ada_program.specs.declared.program.VariableNo.{VariableNo}
 use Rattle.ada_program.specs.declared.program.TypeNo.{TypeNo}
-use Rattle.ada_program.specs.Form.{PathForm, reads, ItemForm, RightForm, allocates, StmtForm}
+use Rattle.ada_program.specs.Form.{PathForm, RecordPathForm, reads, ItemForm, RightForm, allocates, StmtForm}
 use Rattle.ada_program.specs.ProgramForm.{PartForm, TypeForm, VariableForm, record_of, access_to, object_of}
 use Rattle.ada_program.specs.WellFormed as fits
 use Rattle.ada_resolve.specs.declared.components.KnownComponent.{KnownComponent}
+use Rattle.ada_resolve.specs.declared.rights.Held.{Held}
+use Rattle.ada_resolve.specs.declared.rights.Held.TheVariants as held
 use Rattle.ada_resolve.specs.declared.scope.Entity.{Entity}
 use Rattle.ada_resolve.specs.declared.scope.Entity.TheVariants as entity
 use Rattle.ada_resolve.specs.declared.selectors.Reached.{Reached}
@@ -34,36 +37,36 @@ use Rattle.ada_resolve.specs.declared.selectors.Reached.TheVariants as reached
 use Rattle.ada_resolve.specs.declared.fault.NameRule.TheVariants.{UnknownName, WrongType, NotInProfile}
 use Rattle.ada_resolve.specs.Known.{Known, parts, visible, is_empty, is_with, if_with, parts_of, library_wrong, library_remark, library_found, library_path_remark, library_path_found}
 use Rattle.ada_resolve.specs.Library.{is_library_root, library_name}
-use Rattle.ada_resolve.specs.Paths.{component_at, component_in, component_named, component_wanted, component_within_remark, complete_behind, held_by, known_component, number_by, Meant, unknown, null_value, access_value, integer_value, boolean_value, selected_path, variable_path, components_of, record_known_by, record_of_object, whole_object, designated_of, is_incomplete_type, held_in, object_in, selectors_reached, number_in, components_selected, reached_meant, variable_meant, entity_meant, named_meant, path_meant, selectors_remark, no_object, variable_path_remark, value_wanted, named_remark, path_remark}
-use Rattle.ada_resolve.specs.Operators.{Signature, arithmetic, ordering, equality, logical, signature_of, integer_in, boolean_in, asks_equal, equality_meant, binary_by, unary_meant, integer_wanted, boolean_wanted, equal_wanted, operands_by, operand_remark}
-use Rattle.ada_resolve.specs.Expressions.{expression_meant, expression_remark}
+use Rattle.ada_resolve.specs.Paths.{written_wanted, component_at, component_in, component_named, component_wanted, component_within_remark, complete_behind, held_by, known_component, number_by, Meant, unknown, null_value, access_value, integer_value, boolean_value, record_value, aggregate_value, selected_path, components_of, record_known_by, record_of_object, whole_object, designated_of, is_incomplete_type, held_in, object_in, selectors_reached, number_in, components_selected, reached_meant, variable_meant, entity_meant, path_meant, selectors_remark, record_type_wanted, variable_path_remark, value_wanted, path_remark}
+use Rattle.ada_resolve.specs.Operators.{record_value_wanted, Signature, arithmetic, ordering, equality, logical, signature_of, integer_in, boolean_in, asks_equal, equality_meant, binary_by, unary_meant, integer_wanted, boolean_wanted, equal_wanted, operands_by, operand_remark}
+use Rattle.ada_resolve.specs.Expressions.{after_items, all_items_remark, expression_meant, expression_remark, filling_of, items_remark}
 use Rattle.ada_resolve.specs.declared.library.LibraryName.{LibraryName}
 use Rattle.ada_resolve.specs.declared.library.LibraryName.TheVariants.{TextIo, PutLine, UncheckedDeallocation, RunInput, Get, EndError, OtherUnit, Unknown}
 use Rattle.ada_resolve.specs.declared.library.Withs.{Withs}
-use Rattle.ada_resolve.specs.Calls.{freed_wanted, got_wanted, actual_wanted, actual_remark, freeing, getting, taking, written_wanted, actual_found, taker_remark, taker_found, library_call_remark, library_call_found, own_call_remark, own_call_found, call_remark, call_found}
+use Rattle.ada_resolve.specs.Calls.{freed_wanted, got_wanted, actual_wanted, actual_remark, freeing, getting, taking, actual_found, taker_remark, taker_found, library_call_remark, library_call_found, own_call_remark, own_call_found, call_remark, call_found}
 use Rattle.ada_resolve.specs.declared.calls.Callee.{Callee}
 use Rattle.ada_resolve.specs.declared.calls.Callee.TheVariants as callee
 use Rattle.ada_resolve.specs.Exceptions.{exception_of_library, end_error_wanted, exception_in, exception_wanted, exception_name_remark, exception_found, raising, choice_remark, exception_or_others, choice_meant, choices_remark, choices_meant}
 use Rattle.ada_resolve.specs.Lines.{line_remark, line_found, put_line_remark, put_line_found}
 use Rattle.ada_resolve.specs.Arguments.{image_wanted, image_remark, image_value_remark}
-use Rattle.ada_resolve.specs.Naming.{Context, IsExceptionNamed, IsInstanceNamed, IsVariableNamed, IsObjectNamed}
-use Rattle.ada_resolve.specs.Reading.{IsPutLine, IsGet, IsImage, type_behind, at_value, at_object, IsBegun, IsComponentNamed, AreSelectorsRead, at_end, by_all, by_value, to_value, to_record, IsPathRead, IsTargetRead, IsValueRead, read_path, read_number, read_truth, AsksEqual, null_on_right, null_on_left, IsExpressionRead, IsNull, IsMoveRead, IsConditionRead, IsItemRead, IsItemFor, at_place, by_name, further, AreItemsRead, IsAllocationRead, IsRightRead, IsSimpleRead, IsChoiceRead, AreChoicesRead}
-use Rattle.ada_resolve.specs.Allocators.{allocated_wanted, allocated_remark, complete_in, allocated_found, filled_components, aggregate_remark, allocation, aggregate_found, default_allocation, default_found, allocator_remark, allocator_found}
-use Rattle.ada_resolve.specs.Rights.{assigned_wanted, assigned, right_remark, right_found}
-use Rattle.ada_resolve.specs.Assignments.{variable_target, component_target, target_found, variable_wanted, target_wanted, target_remark, kind_of_target, target_borrows, assignment_remark, assignment_of, assignment_found}
+use Rattle.ada_resolve.specs.Naming.{Context, IsFullTypeNamed, IsExceptionNamed, IsInstanceNamed, IsVariableNamed, IsObjectNamed}
+use Rattle.ada_resolve.specs.Reading.{IsPutLine, IsGet, IsImage, type_behind, Way, at_value, at_object, IsBegun, IsWayRead, IsRecordTargetRead, IsCopyRead, IsAggregate, how_many, IsGiven, to_elementary, by_copy, by_aggregate, AreGiven, none_given, one_given, IsWholeRead, IsComponentNamed, AreSelectorsRead, at_end, by_all, by_value, to_value, to_record, IsPathRead, IsTargetRead, IsValueRead, read_path, read_number, read_truth, AsksEqual, null_on_right, null_on_left, IsExpressionRead, IsNull, IsMoveRead, IsConditionRead, IsItemFor, at_place, by_name, further, AreItemsRead, IsAllocationRead, IsRightRead, IsSimpleRead, IsChoiceRead, AreChoicesRead}
+use Rattle.ada_resolve.specs.Allocators.{allocated_wanted, allocated_remark, aggregate_remark, allocation, aggregate_found, default_allocation, default_found, allocator_remark, allocator_found}
+use Rattle.ada_resolve.specs.Rights.{Assigned, a_value, a_whole, assigned_wanted, assigned, new_assigned, right_remark, right_found}
+use Rattle.ada_resolve.specs.Assignments.{Target, value_target, record_target, target_meant, target_found, target_wanted, target_remark, held_by_target, target_borrows, assignment_remark, assignment_of, assignment_found}
 use Rattle.ada_resolve.specs.Statements.{condition_remark, condition_meant, optional_condition_remark, optional_condition_meant, statement_remark, statement_found, statement_meant, form_or_null, text_in, simple_texts, bound_remark, bound_meant}
-use Rattle.ada_resolve.specs.Types.{designates}
+use Rattle.ada_resolve.specs.Types.{complete_found, complete_in, complete_remark, complete_type_wanted, designates}
 use Rattle.ada_resolve.specs.Remark.{Remark, wrong, ◌also◌, wrong_if}
 use Rattle.ada_resolve.specs.Spots.{expression_spot}
-use Rattle.ada_resolve.specs.Items.{Filling, component_for, item_meant, fits_remark, for_remark, is_alike, item_remark, filled_for, after_item, items_remark, after_items, first_filling, names_component, count_remark, item_or_null, filling_of}
+use Rattle.ada_resolve.specs.Items.{Filling, component_for, item_meant, fits_remark, for_remark, is_alike, filled_for, filled_components, after_item, aggregate_meant, component_item_remark, first_filling, flattened, names_component, count_remark}
 use Rattle.ada_resolve.proofs.Agreeing.{Agrees, Ahead, EntityRead, Readable, visible_read, parameter_visible}
 use Rattle.ada_resolve.proofs.WellFormed.Remarks.{Quiet, quiet_unless}
-use Rattle.ada_resolve.proofs.WellFormed.Values.{access_designates, components_are}
+use Rattle.ada_resolve.proofs.WellFormed.Values.{access_designates}
 use Rattle.ada_resolve.proofs.WellFormed.Names.{EntityFits, IsVariableIn, PartsFit, visible_fits, kind_there, text_same}
-use Rattle.ada_resolve.proofs.WellFormed.Meanings.{MeantFits, expression_fits, path_fits}
+use Rattle.ada_resolve.proofs.WellFormed.Meanings.{MeantFits, path_fits}
 use Rattle.ada_resolve.proofs.WellFormed.Selected.{IsNamedOf, name_at, has_record, designated_same, designated_more}
 use Rattle.ada_resolve.proofs.WellFormed.Tables.{get_other}
-use Rattle.ada_resolve.proofs.WellFormed.Items.{items_there}
+use Rattle.ada_resolve.proofs.WellFormed.Items.{components_are, expression_fits, items_there}
 use Rattle.ada_resolve.proofs.ItemCounts.{items_all}
 
 -- something is meant
@@ -77,12 +80,26 @@ meant_is types variables null_value f = tt
 meant_is types variables (access_value path t) f = tt
 meant_is types variables (integer_value e) f = tt
 meant_is types variables (boolean_value e) f = tt
+meant_is types variables (record_value path) f = tt
+meant_is types variables (aggregate_value t items) f = tt
 
 expression_known : (k : Known) (e : ExpressionTree) → PartsFit k.types k.variables (parts k) → Quiet (expression_remark k e) → IsMeant (expression_meant k e)
 expression_known k e w q = meant_is k.types k.variables (expression_meant k e) (expression_fits k e w q)
 
 path_known : (k : Known) (tree : PathTree) → PartsFit k.types k.variables (parts k) → Quiet (path_remark k tree) → IsMeant (path_meant k tree)
 path_known k tree w q = meant_is k.types k.variables (path_meant k tree) (path_fits k tree w q)
+
+-- an aggregate means its items, in the order of the components
+pub record AggregateRead (p : Context) (e : ExpressionTree) (t : ℕ) (forms : List ItemForm) : Type 0 where
+  pub type_name : Ident
+  pub items : ItemsTree
+  pub parts : List PartForm
+  pub components : List ComponentKind
+  pub written : IsAggregate e type_name items
+  pub bound : IsFullTypeNamed p type_name.text t
+  pub there : slice_get p.types t ≡ Some (record_of type_name.text parts components)
+  pub count : how_many items ≡ length parts
+  pub given : AreGiven p items 0 parts forms
 
 -- what an expression means is what it says
 abbrev pub MeantRead : Context → ExpressionTree → Meant → Type 0
@@ -91,6 +108,8 @@ MeantRead p e null_value = IsNull e
 MeantRead p e (access_value path t) = IsMoveRead p e path
 MeantRead p e (integer_value form) = IsExpressionRead p e form
 MeantRead p e (boolean_value form) = IsExpressionRead p e form
+MeantRead p e (record_value path) = IsCopyRead p e path
+MeantRead p e (aggregate_value t forms) = AggregateRead p e t.0 forms
 
 -- a component that is found by a name is one of these, by its place, and has the name
 abbrev the_part : List ℕ → KnownComponent → PartForm
@@ -128,11 +147,17 @@ within_read k p spot t c w q = complete_or (is_incomplete_type k t) q
     complete_or true q = absurd q
     complete_or false q = found_or (component_named 0 c.text (components_of k.types t)) refl q
 
+-- where what is reached stands
+abbrev way_of : Reached → Way
+way_of reached.Nothing = at_value None
+way_of (reached.Value kind) = at_value (Some kind)
+way_of (reached.Object t first) = at_object t.0 first
+
 -- what stands behind what is reached
-abbrev AreReadBehind : Context → Reached → List SelectorTree → List ℕ → Type 0
-AreReadBehind p reached.Nothing ss cs = ⊥
-AreReadBehind p (reached.Value kind) ss cs = AreSelectorsRead p (at_value (Some kind)) ss cs
-AreReadBehind p (reached.Object t first) ss cs = AreSelectorsRead p (at_object t.0 first) ss cs
+abbrev AreReadBehind : Context → Reached → List SelectorTree → List ℕ → Way → Type 0
+AreReadBehind p reached.Nothing ss cs end = ⊥
+AreReadBehind p (reached.Value kind) ss cs end = AreSelectorsRead p (at_value (Some kind)) ss cs end
+AreReadBehind p (reached.Object t first) ss cs end = AreSelectorsRead p (at_object t.0 first) ss cs end
 
 -- something is reached
 abbrev IsThere : Reached → Type 0
@@ -149,11 +174,11 @@ held_there p t before text (Some found) h = by_kind found.1.kind
     by_kind (part.Record inner) = tt
 
 -- a component of an object, and what is selected from it
-held_read : (p : Context) (t before : ℕ) (c : Ident) (ss : List SelectorTree) (cs : List ℕ) (o : Option (ℕ × KnownComponent)) → IsNamed p t c.text o → AreReadBehind p (held_in before o) ss cs → AreSelectorsRead p (at_object t before) (component c ∷ ss) (number_in before o ++ cs)
-held_read p t before c ss cs None h r = absurd h
-held_read p t before c ss cs (Some found) h r = by_kind found.1.kind h r
+held_read : (p : Context) (t before : ℕ) (c : Ident) (ss : List SelectorTree) (cs : List ℕ) (end : Way) (o : Option (ℕ × KnownComponent)) → IsNamed p t c.text o → AreReadBehind p (held_in before o) ss cs end → AreSelectorsRead p (at_object t before) (component c ∷ ss) (number_in before o ++ cs) end
+held_read p t before c ss cs end None h r = absurd h
+held_read p t before c ss cs end (Some found) h r = by_kind found.1.kind h r
   where
-    by_kind : (kind : PartKind) → IsComponentNamed p t c.text kind found.1.first → AreReadBehind p (held_by kind (before + found.1.first)) ss cs → AreSelectorsRead p (at_object t before) (component c ∷ ss) (number_by kind (before + found.1.first) ++ cs)
+    by_kind : (kind : PartKind) → IsComponentNamed p t c.text kind found.1.first → AreReadBehind p (held_by kind (before + found.1.first)) ss cs end → AreSelectorsRead p (at_object t before) (component c ∷ ss) (number_by kind (before + found.1.first) ++ cs) end
     by_kind (part.Elementary kind) h r = to_value h r
     by_kind (part.Record inner) h r = to_record h r
 
@@ -165,40 +190,40 @@ value_designates : (k : Known) (p : Context) (t : TypeNo) (d : ℕ) → Ahead k 
 value_designates k p t d w e = type_designated k p t.0 d w (sym (designated_same k.types t.0) ∙ e)
 
 -- a component behind an access value, and what is selected from it
-behind_read : (k : Known) (p : Context) (spot : Spot) (t : TypeNo) (o : Option ℕ) (c : Ident) (ss : List SelectorTree) (cs : List ℕ) → Ahead k p → designated_of k.types t.0 ≡ o → Quiet (component_within_remark k spot o c) → (IsThere (held_in 0 (component_in k o c)) → AreReadBehind p (held_in 0 (component_in k o c)) ss cs) → AreSelectorsRead p (at_value (Some (variable.Access t))) (component c ∷ ss) (number_in 0 (component_in k o c) ++ cs)
-behind_read k p spot t None c ss cs w is q rest = absurd q
-behind_read k p spot t (Some d) c ss cs w is q rest =
+behind_read : (k : Known) (p : Context) (spot : Spot) (t : TypeNo) (o : Option ℕ) (c : Ident) (ss : List SelectorTree) (cs : List ℕ) (end : Way) → Ahead k p → designated_of k.types t.0 ≡ o → Quiet (component_within_remark k spot o c) → (IsThere (held_in 0 (component_in k o c)) → AreReadBehind p (held_in 0 (component_in k o c)) ss cs end) → AreSelectorsRead p (at_value (Some (variable.Access t))) (component c ∷ ss) (number_in 0 (component_in k o c) ++ cs) end
+behind_read k p spot t None c ss cs end w is q rest = absurd q
+behind_read k p spot t (Some d) c ss cs end w is q rest =
     let o = component_in k (Some d) c in
     let named_so = within_read k p spot d c w q in
-    by_value (value_designates k p t d w is) (held_read p d 0 c ss cs o named_so (rest (held_there p d 0 c.text o named_so)))
+    by_value (value_designates k p t d w is) (held_read p d 0 c ss cs end o named_so (rest (held_there p d 0 c.text o named_so)))
 
 -- `all`, and what is selected behind it
-all_read : (k : Known) (p : Context) (spot all : Spot) (t : TypeNo) (o : Option ℕ) (ss : List SelectorTree) (cs : List ℕ) → Ahead k p → designated_of k.types t.0 ≡ o → Quiet (complete_behind k spot o) → (IsThere (object_in k o) → AreReadBehind p (object_in k o) ss cs) → AreSelectorsRead p (at_value (Some (variable.Access t))) (dereference all ∷ ss) cs
-all_read k p spot all t None ss cs w is q rest = absurd q
-all_read k p spot all t (Some d) ss cs w is q rest = complete_or (is_incomplete_type k d) q rest
+all_read : (k : Known) (p : Context) (spot all : Spot) (t : TypeNo) (o : Option ℕ) (ss : List SelectorTree) (cs : List ℕ) (end : Way) → Ahead k p → designated_of k.types t.0 ≡ o → Quiet (complete_behind k spot o) → (IsThere (object_in k o) → AreReadBehind p (object_in k o) ss cs end) → AreSelectorsRead p (at_value (Some (variable.Access t))) (dereference all ∷ ss) cs end
+all_read k p spot all t None ss cs end w is q rest = absurd q
+all_read k p spot all t (Some d) ss cs end w is q rest = complete_or (is_incomplete_type k d) q rest
   where
-    complete_or : (b : Bool) → Quiet (wrong_if b spot WrongType) → (IsThere (cond b reached.Nothing (reached.Object (record { 0 = d }) 0)) → AreReadBehind p (cond b reached.Nothing (reached.Object (record { 0 = d }) 0)) ss cs) → AreSelectorsRead p (at_value (Some (variable.Access t))) (dereference all ∷ ss) cs
+    complete_or : (b : Bool) → Quiet (wrong_if b spot WrongType) → (IsThere (cond b reached.Nothing (reached.Object (record { 0 = d }) 0)) → AreReadBehind p (cond b reached.Nothing (reached.Object (record { 0 = d }) 0)) ss cs end) → AreSelectorsRead p (at_value (Some (variable.Access t))) (dereference all ∷ ss) cs end
     complete_or true q rest = absurd q
     complete_or false q rest = by_all (value_designates k p t d w is) (rest tt)
 
 -- selectors, one behind the other
-selectors_read : (k : Known) (p : Context) (spot : Spot) (at : Reached) (ss : List SelectorTree) → Ahead k p → Quiet (selectors_remark k spot at ss) → Quiet (no_object (selectors_reached k at ss) spot) → IsThere at → AreReadBehind p at ss (components_selected k at ss)
-selectors_read k p spot reached.Nothing ss w q e there = absurd there
-selectors_read k p spot (reached.Value kind) [] w q e there = at_end
-selectors_read k p spot (reached.Object t first) [] w q e there = absurd e
-selectors_read k p spot (reached.Value (variable.Access t)) (component c ∷ ss) w q e there =
+selectors_read : (k : Known) (p : Context) (spot : Spot) (at : Reached) (ss : List SelectorTree) → Ahead k p → Quiet (selectors_remark k spot at ss) → IsThere at → AreReadBehind p at ss (components_selected k at ss) (way_of (selectors_reached k at ss))
+selectors_read k p spot reached.Nothing ss w q there = absurd there
+selectors_read k p spot (reached.Value kind) [] w q there = at_end
+selectors_read k p spot (reached.Object t first) [] w q there = at_end
+selectors_read k p spot (reached.Value (variable.Access t)) (component c ∷ ss) w q there =
     let next = held_in 0 (component_in k (designated_of k.types t.0) c) in
-    behind_read k p spot t (designated_of k.types t.0) c ss (components_selected k next ss) w refl q.0 (λ on. selectors_read k p spot next ss w q.1 e on)
-selectors_read k p spot (reached.Object t first) (component c ∷ ss) w q e there =
+    behind_read k p spot t (designated_of k.types t.0) c ss (components_selected k next ss) (way_of (selectors_reached k next ss)) w refl q.0 (λ on. selectors_read k p spot next ss w q.1 on)
+selectors_read k p spot (reached.Object t first) (component c ∷ ss) w q there =
     let o = component_in k (Some t.0) c in
     let named_so = within_read k p spot t.0 c w q.0 in
-    held_read p t.0 first c ss (components_selected k (held_in first o) ss) o named_so
-    (selectors_read k p spot (held_in first o) ss w q.1 e (held_there p t.0 first c.text o named_so))
-selectors_read k p spot (reached.Value (variable.Access t)) (dereference all ∷ ss) w q e there =
+    held_read p t.0 first c ss (components_selected k (held_in first o) ss) (way_of (selectors_reached k (held_in first o) ss)) o named_so
+    (selectors_read k p spot (held_in first o) ss w q.1 (held_there p t.0 first c.text o named_so))
+selectors_read k p spot (reached.Value (variable.Access t)) (dereference all ∷ ss) w q there =
     let next = object_in k (designated_of k.types t.0) in
-    all_read k p spot all t (designated_of k.types t.0) ss (components_selected k next ss) w refl q.0 (λ on. selectors_read k p spot next ss w q.1 e on)
-selectors_read k p spot at (component c ∷ ss) w q e there = absurd q.0
-selectors_read k p spot at (dereference all ∷ ss) w q e there = absurd q.0
+    all_read k p spot all t (designated_of k.types t.0) ss (components_selected k next ss) (way_of (selectors_reached k next ss)) w refl q.0 (λ on. selectors_read k p spot next ss w q.1 on)
+selectors_read k p spot at (component c ∷ ss) w q there = absurd q.0
+selectors_read k p spot at (dereference all ∷ ss) w q there = absurd q.0
 
 -- what a variable that is no record object holds
 abbrev HoldsValue : VariableKind → Type 0
@@ -213,39 +238,31 @@ value_begun types (variable.Access t) h = (refl, refl)
 value_begun types (variable.Record object) h = absurd h
 
 -- what a path that is read means, by what it reaches
-meant_whole : (p : Context) (tree : PathTree) (path : PathForm) → IsPathRead p tree path → (at : Reached) → MeantRead p (path_expression tree) (reached_meant path at)
-meant_whole p tree path whole (reached.Value variable.Integer) = read_path whole
-meant_whole p tree path whole (reached.Value variable.Boolean) = read_path whole
-meant_whole p tree path whole (reached.Value (variable.Access t)) = whole
-meant_whole p tree path whole at = tt
+meant_whole : (p : Context) (tree : PathTree) (path : PathForm) (at : Reached) → IsWayRead p tree path (way_of at) → MeantRead p (path_expression tree) (reached_meant path at)
+meant_whole p tree path (reached.Value variable.Integer) whole = read_path (record { kind = Some variable.Integer; leads = whole })
+meant_whole p tree path (reached.Value variable.Boolean) whole = read_path (record { kind = Some variable.Boolean; leads = whole })
+meant_whole p tree path (reached.Value (variable.Access t)) whole = record { kind = Some (variable.Access t); leads = whole }
+meant_whole p tree path (reached.Value (variable.Record object)) whole = tt
+meant_whole p tree path (reached.Object t first) whole = whole
+meant_whole p tree path reached.Nothing whole = tt
 
 -- a variable that holds a value, and what is selected behind that
-value_path_read : (k : Known) (p : Context) (x : VariableNo) (name : Ident) (of : VariableKind) (ss : List SelectorTree) → HoldsValue of → Ahead k p → IsObjectNamed p name.text x.0 → fits.variable_kind p.variables x.0 ≡ Some of → Quiet (selectors_remark k name.spot (reached.Value of) ss) → Quiet (no_object (selectors_reached k (reached.Value of) ss) name.spot) → IsPathRead p (record { root = name; selectors = ss }) (selected_path x false name.spot (components_selected k (reached.Value of) ss))
-value_path_read k p x name of ss h w b v q e = record {
+value_path_read : (k : Known) (p : Context) (x : VariableNo) (name : Ident) (of : VariableKind) (ss : List SelectorTree) → HoldsValue of → Ahead k p → IsObjectNamed p name.text x.0 → fits.variable_kind p.variables x.0 ≡ Some of → Quiet (selectors_remark k name.spot (reached.Value of) ss) → IsWayRead p (record { root = name; selectors = ss }) (selected_path x false name.spot (components_selected k (reached.Value of) ss)) (way_of (selectors_reached k (reached.Value of) ss))
+value_path_read k p x name of ss h w b v q = record {
   root = b;
   way = at_value (Some of);
   begins = subst (λ (o : Option VariableKind). IsBegun p.types o false (at_value (Some of))) (sym v) (value_begun p.types of h);
-  selectors = selectors_read k p name.spot (reached.Value of) ss w q e tt;
+  selectors = selectors_read k p name.spot (reached.Value of) ss w q tt;
   spot = refl;
 }
 
--- a variable alone
-variable_read : (p : Context) (x : VariableNo) (name : Ident) (of : VariableKind) → HoldsValue of → IsObjectNamed p name.text x.0 → fits.variable_kind p.variables x.0 ≡ Some of → IsPathRead p (record { root = name; selectors = [] }) (variable_path x name.spot)
-variable_read p x name of h b v = record {
-  root = b;
-  way = at_value (Some of);
-  begins = subst (λ (o : Option VariableKind). IsBegun p.types o false (at_value (Some of))) (sym v) (value_begun p.types of h);
-  selectors = at_end;
-  spot = refl;
-}
-
--- a component of a record object, and what is selected behind it
-object_path_read : (k : Known) (p : Context) (x : VariableNo) (name : Ident) (object : TypeNo) (t : ℕ) (ss : List SelectorTree) → Ahead k p → IsObjectNamed p name.text x.0 → fits.variable_kind p.variables x.0 ≡ Some (variable.Record object) → slice_get k.types object.0 ≡ Some (object_of t) → Quiet (selectors_remark k name.spot (reached.Object (record { 0 = t }) 0) ss) → Quiet (no_object (selectors_reached k (reached.Object (record { 0 = t }) 0) ss) name.spot) → IsPathRead p (record { root = name; selectors = ss }) (selected_path x true name.spot (components_selected k (reached.Object (record { 0 = t }) 0) ss))
-object_path_read k p x name object t ss w b v is q e = record {
+-- a record object or a component of it, and what is selected behind it
+object_path_read : (k : Known) (p : Context) (x : VariableNo) (name : Ident) (object : TypeNo) (t : ℕ) (ss : List SelectorTree) → Ahead k p → IsObjectNamed p name.text x.0 → fits.variable_kind p.variables x.0 ≡ Some (variable.Record object) → slice_get k.types object.0 ≡ Some (object_of t) → Quiet (selectors_remark k name.spot (reached.Object (record { 0 = t }) 0) ss) → IsWayRead p (record { root = name; selectors = ss }) (selected_path x true name.spot (components_selected k (reached.Object (record { 0 = t }) 0) ss)) (way_of (selectors_reached k (reached.Object (record { 0 = t }) 0) ss))
+object_path_read k p x name object t ss w b v is q = record {
   root = b;
   way = at_object t 0;
   begins = subst (λ (o : Option VariableKind). IsBegun p.types o true (at_object t 0)) (sym v) (refl, t, w.types object.0 (object_of t) is, refl);
-  selectors = selectors_read k p name.spot (reached.Object (record { 0 = t }) 0) ss w q e tt;
+  selectors = selectors_read k p name.spot (reached.Object (record { 0 = t }) 0) ss w q tt;
   spot = refl;
 }
 
@@ -262,10 +279,10 @@ record_place_read k p x name object ss w b v q = by_form (slice_get k.types obje
     tree : PathTree
     tree = record { root = name; selectors = ss }
 
-    by_form : (o : Option TypeForm) → slice_get k.types object.0 ≡ o → Quiet (selectors_remark k name.spot (whole_object (record_known_by o) (variable.Record object)) ss also no_object (selectors_reached k (whole_object (record_known_by o) (variable.Record object)) ss) name.spot) → MeantRead p (path_expression tree) (reached_meant (selected_path x true name.spot (components_selected k (whole_object (record_known_by o) (variable.Record object)) ss)) (selectors_reached k (whole_object (record_known_by o) (variable.Record object)) ss))
+    by_form : (o : Option TypeForm) → slice_get k.types object.0 ≡ o → Quiet (selectors_remark k name.spot (whole_object (record_known_by o) (variable.Record object)) ss also record_type_wanted (selectors_reached k (whole_object (record_known_by o) (variable.Record object)) ss) name.spot) → MeantRead p (path_expression tree) (reached_meant (selected_path x true name.spot (components_selected k (whole_object (record_known_by o) (variable.Record object)) ss)) (selectors_reached k (whole_object (record_known_by o) (variable.Record object)) ss))
     by_form (Some (object_of t)) is q =
         let at = reached.Object (record { 0 = t }) 0 in
-        meant_whole p tree (selected_path x true name.spot (components_selected k at ss)) (object_path_read k p x name object t ss w b v is q.0 q.1) (selectors_reached k at ss)
+        meant_whole p tree (selected_path x true name.spot (components_selected k at ss)) (selectors_reached k at ss) (object_path_read k p x name object t ss w b v is q.0)
     by_form (Some (record_of n ps cs)) is q = unknown_read k p name (selected_path x true name.spot (components_selected k (reached.Value (variable.Record object)) ss)) object ss q.0
     by_form (Some (access_to n d)) is q = unknown_read k p name (selected_path x true name.spot (components_selected k (reached.Value (variable.Record object)) ss)) object ss q.0
     by_form None is q = unknown_read k p name (selected_path x true name.spot (components_selected k (reached.Value (variable.Record object)) ss)) object ss q.0
@@ -273,25 +290,25 @@ record_place_read k p x name object ss w b v q = by_form (slice_get k.types obje
 place_read : (k : Known) (p : Context) (x : VariableNo) (name : Ident) (of : VariableKind) (ss : List SelectorTree) → Ahead k p → IsObjectNamed p name.text x.0 → fits.variable_kind p.variables x.0 ≡ Some of → Quiet (variable_path_remark k name.spot of ss) → MeantRead p (path_expression (record { root = name; selectors = ss })) (variable_meant k x name.spot of ss)
 place_read k p x name variable.Integer ss w b v q =
     meant_whole p (record { root = name; selectors = ss }) (selected_path x false name.spot (components_selected k (reached.Value variable.Integer) ss))
-    (value_path_read k p x name variable.Integer ss tt w b v q.0 q.1) (selectors_reached k (reached.Value variable.Integer) ss)
+    (selectors_reached k (reached.Value variable.Integer) ss) (value_path_read k p x name variable.Integer ss tt w b v q.0)
 place_read k p x name variable.Boolean ss w b v q =
     meant_whole p (record { root = name; selectors = ss }) (selected_path x false name.spot (components_selected k (reached.Value variable.Boolean) ss))
-    (value_path_read k p x name variable.Boolean ss tt w b v q.0 q.1) (selectors_reached k (reached.Value variable.Boolean) ss)
+    (selectors_reached k (reached.Value variable.Boolean) ss) (value_path_read k p x name variable.Boolean ss tt w b v q.0)
 place_read k p x name (variable.Access t) ss w b v q =
     meant_whole p (record { root = name; selectors = ss }) (selected_path x false name.spot (components_selected k (reached.Value (variable.Access t)) ss))
-    (value_path_read k p x name (variable.Access t) ss tt w b v q.0 q.1) (selectors_reached k (reached.Value (variable.Access t)) ss)
+    (selectors_reached k (reached.Value (variable.Access t)) ss) (value_path_read k p x name (variable.Access t) ss tt w b v q.0)
 place_read k p x name (variable.Record object) ss w b v q = record_place_read k p x name object ss w b v q
 
 -- what a variable is known to hold
 declared_kind : (k : Known) (p : Context) (x : VariableNo) (text : List ℕ) (of : VariableKind) → Ahead k p → IsVariableIn k.variables text of x.0 → fits.variable_kind p.variables x.0 ≡ Some of
-declared_kind k p x text of w f = kind_there p.variables x.0 text of (f.0, w.variables x.0 (record { name = text; kind = of; borrows = f.0 }) f.1)
+declared_kind k p x text of w f = kind_there p.variables x.0 text of (f.0, f.1, w.variables x.0 (record { name = text; spot = f.0; kind = of; borrows = f.1 }) f.2)
 
 -- what a name stands for
 entity_read : (k : Known) (p : Context) (e : Entity) (name : Ident) (ss : List SelectorTree) → Ahead k p → EntityFits k.types k.variables name.text e → EntityRead p name.text e → Quiet (value_wanted k (Some e) name ss) → MeantRead p (path_expression (record { root = name; selectors = ss })) (entity_meant k (Some e) name.spot ss)
 entity_read k p (entity.Variable x of) name ss w f t q =
     place_read k p x name of ss w (inl t) (declared_kind k p x name.text of w f.0) q
 entity_read k p (entity.Parameter x) name ss w f t q =
-    place_read k p x name variable.Integer ss w (inr t) (kind_there p.variables x.0 name.text variable.Integer (false, w.variables x.0 (record { name = name.text; kind = variable.Integer; borrows = false }) f)) q
+    place_read k p x name variable.Integer ss w (inr t) (kind_there p.variables x.0 name.text variable.Integer (f.0, false, w.variables x.0 (record { name = name.text; spot = f.0; kind = variable.Integer; borrows = false }) f.1)) q
 entity_read k p (entity.Number n) name [] w f t q = read_number refl t
 entity_read k p (entity.Number n) name (s ∷ ss) w f t q = tt
 entity_read k p (entity.Truth b) name [] w f t q = read_truth refl t
@@ -354,37 +371,31 @@ enclosed_read p spot e null_value r = r
 enclosed_read p spot e (access_value path t) r = r
 enclosed_read p spot e (integer_value form) r = r
 enclosed_read p spot e (boolean_value form) r = r
+enclosed_read p spot e (record_value path) r = r
+enclosed_read p spot e (aggregate_value t forms) r =
+    record { type_name = r.type_name; items = r.items; parts = r.parts; components = r.components; written = r.written; bound = r.bound; there = r.there; count = r.count; given = r.given }
 
--- an expression
-expression_read : (k : Known) (p : Context) (e : ExpressionTree) → Readable k p → Quiet (expression_remark k e) → MeantRead p e (expression_meant k e)
-unfolding expression_meant expression_remark
-expression_read k p (number_expression spot n) w q = refl
-expression_read k p (null_expression spot) w q = tt
-expression_read k p (path_expression tree) w q = path_read k p tree w q.1
-expression_read k p (aggregate_expression type_name items) w q = absurd q
-expression_read k p (enclosed_expression spot inner) w q = enclosed_read p spot inner (expression_meant k inner) (expression_read k p inner w q)
-expression_read k p (unary_expression o spot operand) w q =
-    unary_read p o spot operand (expression_meant k operand) (expression_spot operand) (expression_known k operand w.fits q.1.0) (expression_read k p operand w q.1.0) q.1.1
-expression_read k p (binary_expression o left right) w q =
-    binary_read p o (signature_of o) left right (expression_meant k left) (expression_meant k right) (expression_spot left) (expression_spot right) refl
-    (expression_known k left w.fits q.1.0) (expression_known k right w.fits q.1.1.0) (expression_read k p left w q.1.0) (expression_read k p right w q.1.1.0) q.1.1.1
+-- what a value gives a component
 
--- what an item gives its component
-item_read : (p : Context) (variables : List VariableForm) (e : ExpressionTree) (k : PartKind) (m : Meant) (spot : Spot) → IsMeant m → MeantRead p e m → Quiet (fits_remark variables k m spot) → IsItemRead p e (item_meant m)
-item_read p variables e k (integer_value form) spot f r q = r
-item_read p variables e k (boolean_value form) spot f r q = r
-item_read p variables e k (access_value path t) spot f r q = r
-item_read p variables e k null_value spot f r q = r
-item_read p variables e k unknown spot f r q = absurd f
+record_given : (p : Context) (e : ExpressionTree) (t : TypeNo) (m : Meant) (spot : Spot) → IsMeant m → MeantRead p e m → Quiet (record_value_wanted t m spot) → IsGiven p (part.Record t) e (item_meant m)
+record_given p e t (record_value path) spot f r q = by_copy (sym (eqb-true t.0 path.record_type (quiet_unless (eqb t.0 path.record_type) spot WrongType q))) r
+record_given p e t (aggregate_value found forms) spot f r q =
+    let same : t.0 ≡ found.0 = eqb-true t.0 found.0 (quiet_unless (eqb t.0 found.0) spot WrongType q) in
+    by_aggregate r.type_name r.items r.parts r.components r.written
+    (subst (λ (u : ℕ). IsFullTypeNamed p r.type_name.text u) (sym same) r.bound)
+    (subst (λ (u : ℕ). slice_get p.types u ≡ Some (record_of r.type_name.text r.parts r.components)) (sym same) r.there) r.count r.given
+record_given p e t unknown spot f r q = absurd f
+record_given p e t m spot f r q = absurd q
 
--- a component that has an item is elementary
-abbrev IsElementary : PartKind → Type 0
-IsElementary k = (kind : ComponentKind) × (k ≡ part.Elementary kind)
-
-item_elementary : (variables : List VariableForm) (k : PartKind) (m : Meant) (spot : Spot) → IsMeant m → Quiet (fits_remark variables k m spot) → IsElementary k
-item_elementary variables (part.Elementary kind) m spot f q = (kind, refl)
-item_elementary variables (part.Record t) unknown spot f q = absurd f
-item_elementary variables (part.Record t) m spot f q = absurd q
+item_read : (p : Context) (variables : List VariableForm) (e : ExpressionTree) (k : PartKind) (m : Meant) (spot : Spot) → IsMeant m → MeantRead p e m → Quiet (fits_remark variables k m spot) → IsGiven p k e (item_meant m)
+item_read p variables e (part.Record t) m spot f r q = record_given p e t m spot f r q
+item_read p variables e (part.Elementary k) (integer_value form) spot f r q = to_elementary r
+item_read p variables e (part.Elementary k) (boolean_value form) spot f r q = to_elementary r
+item_read p variables e (part.Elementary k) (access_value path t) spot f r q = to_elementary r
+item_read p variables e (part.Elementary k) null_value spot f r q = to_elementary r
+item_read p variables e (part.Elementary k) unknown spot f r q = absurd f
+item_read p variables e (part.Elementary (kind.Access t)) m spot f r q = absurd q.0
+item_read p variables e (part.Elementary k) m spot f r q = absurd q
 
 -- the component that an item is for
 component_there : (items : ItemsTree) (label : Option Ident) (e : ExpressionTree) (rest : ItemsTree) (cs : List PartForm) (at : ℕ) (found : ℕ × KnownComponent) → component_for cs label at ≡ Some found → (d : PartForm) × (slice_get cs found.0 ≡ Some d) × IsItemFor (an_item label e rest) at found.0 d.name e × (d.kind ≡ found.1.kind)
@@ -404,15 +415,14 @@ component_there items None e rest cs at found is = at_number (slice_get cs at) r
         let here : IsItemFor (an_item None e rest) at at d.name e = at_place in
         (d, rw (sym place) there, subst (λ (n : ℕ). IsItemFor (an_item None e rest) at n d.name e) place here, ap (λ (f : ℕ × KnownComponent). f.1.kind) same)
 
--- an item is what is written for its component, which is elementary
-abbrev IsFilled : Context → List PartForm → ItemsTree → ℕ → ItemForm → Type 0
-IsFilled p cs items c form =
-    (d : PartForm) × (kind : ComponentKind) × (e : ExpressionTree) × (slice_get cs c ≡ Some d) × (d.kind ≡ part.Elementary kind) ×
-    IsItemFor items 0 c d.name e × IsItemRead p e form
+-- items are what is written for their component
+abbrev IsFilled : Context → List PartForm → ItemsTree → ℕ → List ItemForm → Type 0
+IsFilled p cs items c forms =
+    (d : PartForm) × (e : ExpressionTree) × (slice_get cs c ≡ Some d) × IsItemFor items 0 c d.name e × IsGiven p d.kind e forms
 
--- so is each item so far
-abbrev SlotsRead : Context → List PartForm → ItemsTree → List (Option ItemForm) → Type 0
-SlotsRead p cs items slots = (c : ℕ) (form : ItemForm) → slice_get slots c ≡ Some (Some form) → IsFilled p cs items c form
+-- so are all items so far
+abbrev SlotsRead : Context → List PartForm → ItemsTree → List (Option (List ItemForm)) → Type 0
+SlotsRead p cs items slots = (c : ℕ) (form : List ItemForm) → slice_get slots c ≡ Some (Some form) → IsFilled p cs items c form
 
 -- these items end those
 abbrev Ends : ItemsTree → ItemsTree → ℕ → Type 0
@@ -426,13 +436,13 @@ none_read p cs items n c form e = absurd (no_item n c e)
     no_item (suc n) zero e = cc e
     no_item (suc n) (suc c) e = no_item n c e
 
-one_read : (p : Context) (cs : List PartForm) (items : ItemsTree) (slots : List (Option ItemForm)) (n : ℕ) (form : ItemForm) → SlotsRead p cs items slots → IsFilled p cs items n form → SlotsRead p cs items (slice_set slots n (Some form))
+one_read : (p : Context) (cs : List PartForm) (items : ItemsTree) (slots : List (Option (List ItemForm))) (n : ℕ) (form : List ItemForm) → SlotsRead p cs items slots → IsFilled p cs items n form → SlotsRead p cs items (slice_set slots n (Some form))
 one_read p cs items slots n form old own c other is = by_number (eqb n c) refl
   where
     off_on : (b : Bool) → b ≡ false → b ≡ true → ⊥
     off_on b e f = cc (e, f)
 
-    set_there : (slots : List (Option ItemForm)) (n : ℕ) → slice_get (slice_set slots n (Some form)) n ≡ Some (Some other) → form ≡ other
+    set_there : (slots : List (Option (List ItemForm))) (n : ℕ) → slice_get (slice_set slots n (Some form)) n ≡ Some (Some other) → form ≡ other
     set_there [] n e = absurd (cc e)
     set_there (s ∷ slots) zero e = cc e
     set_there (s ∷ slots) (suc n) e = set_there slots n e
@@ -441,100 +451,175 @@ one_read p cs items slots n form old own c other is = by_number (eqb n c) refl
     by_number true same =
         let place : n ≡ c = eqb-true n c same in
         let form_is : form ≡ other = set_there slots n (subst (λ (m : ℕ). slice_get (slice_set slots n (Some form)) m ≡ Some (Some other)) (sym place) is) in
-        subst (λ (f : ItemForm). IsFilled p cs items c f) form_is (subst (λ (m : ℕ). IsFilled p cs items m form) place own)
+        subst (λ (f : List ItemForm). IsFilled p cs items c f) form_is (subst (λ (m : ℕ). IsFilled p cs items m form) place own)
     by_number false apart = old c other (sym (get_other slots n c (Some form) (λ place. off_on (eqb n c) apart (eq-eqb n c place))) ∙ is)
 
 filled_read : (p : Context) (variables : List VariableForm) (cs : List PartForm) (items : ItemsTree) (label : Option Ident) (e : ExpressionTree) (rest : ItemsTree) (m : Meant) (filling : Filling) (alike : Bool) (o : Option (ℕ × KnownComponent)) → component_for cs label filling.count ≡ o → Ends items (an_item label e rest) filling.count → SlotsRead p cs items filling.slots → IsMeant m → MeantRead p e m → Quiet (for_remark variables o filling label e m) → SlotsRead p cs items (filled_for o filling alike (item_meant m)).slots × ((filled_for o filling alike (item_meant m)).count ≡ filling.count + 1)
 filled_read p variables cs items label e rest m filling alike None is ends old f r q = (old, refl)
 filled_read p variables cs items label e rest m filling alike (Some found) is ends old f r q =
     let there = component_there items label e rest cs filling.count found is in
-    let elementary = item_elementary variables found.1.kind m (expression_spot e) f q.1 in
-    let own : IsFilled p cs items found.0 (item_meant m) = (
-      there.0,
-      elementary.0,
-      e,
-      there.1,
-      there.3 ∙ elementary.1,
-      ends found.0 there.0.name e there.2,
-      item_read p variables e found.1.kind m (expression_spot e) f r q.1,
-    ) in
+    let given : IsGiven p there.0.kind e (item_meant m) = subst (λ (k : PartKind). IsGiven p k e (item_meant m)) (sym there.3) (item_read p variables e found.1.kind m (expression_spot e) f r q.1) in
+    let own : IsFilled p cs items found.0 (item_meant m) = (there.0, e, there.1, ends found.0 there.0.name e there.2, given) in
     (one_read p cs items filling.slots found.0 (item_meant m) old own, refl)
 
-items_read : (k : Known) (p : Context) (cs : List PartForm) (is_named : Bool) (items : ItemsTree) (filling : Filling) (rest : ItemsTree) → Readable k p → Ends items rest filling.count → SlotsRead p cs items filling.slots → Quiet (items_remark k (Some cs) is_named filling rest) → SlotsRead p cs items (after_items k (Some cs) is_named filling rest).slots
-unfolding item_remark after_item
-items_read k p cs is_named items filling no_more_items w ends old q = old
-items_read k p cs is_named items filling (an_item label e rest) w ends old q =
-    let next = after_item k (Some cs) is_named filling label e in
-    let done = filled_read p k.variables cs items label e rest (expression_meant k e) filling (is_alike is_named label) (component_for cs label filling.count) refl ends old
-    (expression_known k e w.fits q.0.1.0) (expression_read k p e w q.0.1.0) q.0.1.1 in
-    items_read k p cs is_named items next rest w (λ c name f h. ends c name f (further (subst (λ (n : ℕ). IsItemFor rest n c name f) done.1 h))) done.0 q.1
+-- where the record type is known
+abbrev ReadFor : Context → Option (List PartForm) → ItemsTree → List (Option (List ItemForm)) → Type 0
+ReadFor p None items slots = Unit {0}
+ReadFor p (Some cs) items slots = SlotsRead p cs items slots
 
--- where each slot has its item, the items are those
-whole_read : (p : Context) (cs : List PartForm) (items : ItemsTree) (slots : List (Option ItemForm)) → list_all is_some slots ≡ true → SlotsRead p cs items slots → (c : ℕ) (form : ItemForm) → slice_get (map item_or_null slots) c ≡ Some form → IsFilled p cs items c form
-whole_read p cs items slots all old c form is = old c form (slot_is slots all c is)
-  where
-    slot_is : (slots : List (Option ItemForm)) → list_all is_some slots ≡ true → (c : ℕ) → slice_get (map item_or_null slots) c ≡ Some form → slice_get slots c ≡ Some (Some form)
-    slot_is [] all c e = absurd (cc e)
-    slot_is (None ∷ slots) all c e = absurd (cc all)
-    slot_is (Some i ∷ slots) all zero e = let same : i ≡ form = cc e in ap (λ (f : ItemForm). Some (Some f)) same
-    slot_is (Some i ∷ slots) all (suc c) e = slot_is slots all c e
+first_read : (p : Context) (o : Option (List PartForm)) (items : ItemsTree) → ReadFor p o items (first_filling o).slots
+first_read p None items = tt
+first_read p (Some cs) items = none_read p cs items (length cs)
 
-aggregate_items_read : (k : Known) (p : Context) (cs : List PartForm) (items : ItemsTree) (spot : Spot) → Readable k p → Quiet (items_remark k (Some cs) (names_component items) (first_filling (Some cs)) items) → Quiet (count_remark (names_component items) (filling_of k (Some cs) items) spot) → AreItemsRead p cs items (map item_or_null (filling_of k (Some cs) items).slots)
-unfolding filling_of
-aggregate_items_read k p cs items spot w q c =
-    let all = items_there k cs items spot w.fits q c in
-    let count = items_all k cs items q all in (
+next_read : (p : Context) (variables : List VariableForm) (o : Option (List PartForm)) (is_named : Bool) (items : ItemsTree) (filling : Filling) (label : Option Ident) (e : ExpressionTree) (rest : ItemsTree) (m : Meant) → Ends items (an_item label e rest) filling.count → ReadFor p o items filling.slots → IsMeant m → MeantRead p e m → Quiet (component_item_remark variables o filling label e m) → ReadFor p o items (after_item o is_named filling label m).slots × ((after_item o is_named filling label m).count ≡ filling.count + 1)
+unfolding after_item
+next_read p variables None is_named items filling label e rest m ends old f r q = (tt, refl)
+next_read p variables (Some cs) is_named items filling label e rest m ends old f r q =
+    filled_read p variables cs items label e rest m filling (is_alike is_named label) (component_for cs label filling.count) refl ends old f r q
+
+-- where each component has its items, they are those that are written
+given_from : (p : Context) (items : ItemsTree) (c : ℕ) (cs : List PartForm) (slots : List (Option (List ItemForm))) → list_all is_some slots ≡ true → length slots ≡ length cs → ((j : ℕ) (forms : List ItemForm) → slice_get slots j ≡ Some (Some forms) → (d : PartForm) × (e : ExpressionTree) × (slice_get cs j ≡ Some d) × IsItemFor items 0 (c + j) d.name e × IsGiven p d.kind e forms) → AreGiven p items c cs (flattened slots)
+given_from p items c [] [] all long w = none_given
+given_from p items c [] (s ∷ slots) all long w = let no : ⊥ = omega (arith, long) in absurd no
+given_from p items c (d ∷ cs) [] all long w = let no : ⊥ = omega (arith, long) in absurd no
+given_from p items c (d ∷ cs) (None ∷ slots) all long w = absurd (cc all)
+given_from p items c (d ∷ cs) (Some forms ∷ slots) all long w =
+    let own = w 0 forms refl in
+    let found : (slice_get (d ∷ cs) 0 ≡ Some own.0) = own.2 in
+    let same : own.0 ≡ d = cc found in
+    let place : c + 0 ≡ c = omega arith in
+    let named_so : IsItemFor items 0 c d.name own.1 = subst (λ (x : PartForm). IsItemFor items 0 c x.name own.1) same (subst (λ (n : ℕ). IsItemFor items 0 n own.0.name own.1) place own.3) in
+    one_given own.1 forms (flattened slots) named_so (subst (λ (x : PartForm). IsGiven p x.kind own.1 forms) same own.4)
+    (given_from p items (c + 1) cs slots all (omega (arith, long))
+    (λ j more is. let r = w (suc j) more is in let next : c + suc j ≡ (c + 1) + j = omega arith in (r.0, r.1, r.2, subst (λ (n : ℕ). IsItemFor items 0 n r.0.name r.1) next r.3, r.4)))
+
+whole_read : (p : Context) (cs : List PartForm) (items : ItemsTree) (slots : List (Option (List ItemForm))) → list_all is_some slots ≡ true → length slots ≡ length cs → SlotsRead p cs items slots → AreGiven p items 0 cs (flattened slots)
+whole_read p cs items slots all long old =
+    given_from p items 0 cs slots all long
+    (λ j forms is. let r = old j forms is in let place : j ≡ 0 + j = omega arith in (r.0, r.1, r.2, subst (λ (n : ℕ). IsItemFor items 0 n r.0.name r.1) place r.3, r.4))
+
+-- an aggregate
+aggregate_one : (k : Known) (p : Context) (name : Ident) (items : ItemsTree) (spot : Spot) (o : Option Entity) → Readable k p → ((e : Entity) → o ≡ Some e → EntityFits k.types k.variables name.text e) → ((e : Entity) → o ≡ Some e → EntityRead p name.text e) → Quiet (complete_type_wanted o name) → Quiet (items_remark k (filled_components k (complete_in o)) (names_component items) (first_filling (filled_components k (complete_in o))) items) → Quiet (count_remark (names_component items) (after_items k (filled_components k (complete_in o)) (names_component items) (first_filling (filled_components k (complete_in o))) items) spot) → ReadFor p (filled_components k (complete_in o)) items (after_items k (filled_components k (complete_in o)) (names_component items) (first_filling (filled_components k (complete_in o))) items).slots → MeantRead p (aggregate_expression name items) (aggregate_meant (complete_in o) (after_items k (filled_components k (complete_in o)) (names_component items) (first_filling (filled_components k (complete_in o))) items))
+aggregate_one k p name items spot (Some (entity.Record t size)) w v b q i c r =
+    let f = v (entity.Record t size) refl in
+    let cs = components_of k.types t.0 in
+    let after = after_items k (Some cs) (names_component items) (first_filling (Some cs)) items in
+    let all = items_there k cs (names_component items) (first_filling (Some cs)) items spot w.fits refl i c in
+    let count = items_all k cs items i all in
+    let whole : cs ≡ f.0 = components_are k.types t.0 name.text f.0 f.1 f.2 in
+    record {
+      type_name = name;
+      items = items;
+      parts = f.0;
+      components = f.1;
+      written = (refl, refl);
+      bound = b (entity.Record t size) refl;
+      there = w.ahead.types t.0 (record_of name.text f.0 f.1) f.2;
+      count = count.0 ∙ ap (λ (ps : List PartForm). length ps) whole;
+      given = subst (λ (ps : List PartForm). AreGiven p items 0 ps (flattened after.slots)) whole (whole_read p cs items after.slots all count.1 r);
+    }
+aggregate_one k p name items spot (Some e) w v b q i c r = absurd q
+aggregate_one k p name items spot None w v b q i c r = absurd q
+
+-- an expression, and the items of an aggregate
+mutual
+  unfolding expression_meant expression_remark complete_found complete_remark
+
+  expression_read : (k : Known) (p : Context) (e : ExpressionTree) → Readable k p → Quiet (expression_remark k e) → MeantRead p e (expression_meant k e)
+  expression_read k p (number_expression spot n) w q = refl
+  expression_read k p (null_expression spot) w q = tt
+  expression_read k p (path_expression tree) w q = path_read k p tree w q.1
+  expression_read k p (aggregate_expression type_name items) w q =
+      let components = filled_components k (complete_in (visible k type_name.text)) in
+      aggregate_one k p type_name items type_name.spot (visible k type_name.text) w (visible_fits k w.fits type_name.text) (visible_read k p w.agrees type_name.text)
+      q.1.0 q.1.1.0 q.1.1.1
+      (items_read k p components (names_component items) items (first_filling components) items w (λ n name e h. h) (first_read p components items) q.1.1.0)
+  expression_read k p (enclosed_expression spot inner) w q = enclosed_read p spot inner (expression_meant k inner) (expression_read k p inner w q)
+  expression_read k p (unary_expression o spot operand) w q =
+      unary_read p o spot operand (expression_meant k operand) (expression_spot operand) (expression_known k operand w.fits q.1.0) (expression_read k p operand w q.1.0) q.1.1
+  expression_read k p (binary_expression o left right) w q =
+      binary_read p o (signature_of o) left right (expression_meant k left) (expression_meant k right) (expression_spot left) (expression_spot right) refl
+      (expression_known k left w.fits q.1.0) (expression_known k right w.fits q.1.1.0) (expression_read k p left w q.1.0) (expression_read k p right w q.1.1.0) q.1.1.1
+
+  items_read : (k : Known) (p : Context) (o : Option (List PartForm)) (is_named : Bool) (items : ItemsTree) (filling : Filling) (rest : ItemsTree) → Readable k p → Ends items rest filling.count → ReadFor p o items filling.slots → Quiet (items_remark k o is_named filling rest) → ReadFor p o items (after_items k o is_named filling rest).slots
+  items_read k p o is_named items filling no_more_items w ends old q = old
+  items_read k p o is_named items filling (an_item label e rest) w ends old q =
+      let next = after_item o is_named filling label (expression_meant k e) in
+      let done = next_read p k.variables o is_named items filling label e rest (expression_meant k e) ends old
+      (expression_known k e w.fits q.0.1.0) (expression_read k p e w q.0.1.0) q.0.1.1 in
+      items_read k p o is_named items next rest w (λ c name f h. ends c name f (further (subst (λ (n : ℕ). IsItemFor rest n c name f) done.1 h))) done.0 q.1
+
+aggregate_items_read : (k : Known) (p : Context) (cs : List PartForm) (items : ItemsTree) (spot : Spot) → Readable k p → Quiet (all_items_remark k (Some cs) items spot) → AreItemsRead p cs items (flattened (filling_of k (Some cs) items).slots)
+unfolding filling_of all_items_remark
+aggregate_items_read k p cs items spot w q =
+    let all = items_there k cs (names_component items) (first_filling (Some cs)) items spot w.fits refl q.0 q.1 in
+    let count = items_all k cs items q.0 all in (
       count.0,
-      count.1,
-      whole_read p cs items (filling_of k (Some cs) items).slots all
-          (items_read k p cs (names_component items) items (first_filling (Some cs)) items w (λ n name e h. h) (none_read p cs items (length cs)) q),
+      whole_read p cs items (after_items k (Some cs) (names_component items) (first_filling (Some cs)) items).slots all count.1
+          (items_read k p (Some cs) (names_component items) items (first_filling (Some cs)) items w (λ n name e h. h) (none_read p cs items (length cs)) q.0),
     )
 
--- what is assigned
-abbrev pub FoundRight : Context → RightTree → Option RightForm → Type 0
-FoundRight p right None = ⊥
-FoundRight p right (Some form) = IsRightRead p right form
+-- what is assigned to what holds this, or to a record
+abbrev pub FoundRight : Context → Held → RightTree → Option Assigned → Type 0
+FoundRight p (held.Record t) right (Some (a_whole forms)) = IsWholeRead p right t.0 forms
+FoundRight p held.Integer right (Some (a_value form)) = IsRightRead p right form
+FoundRight p held.Boolean right (Some (a_value form)) = IsRightRead p right form
+FoundRight p (held.Access t) right (Some (a_value form)) = IsRightRead p right form
+FoundRight p kind right o = ⊥
 
-assigned_read : (p : Context) (e : ExpressionTree) (of : VariableKind) (m : Meant) (spot : Spot) → IsMeant m → MeantRead p e m → Quiet (assigned_wanted (Some of) m spot) → FoundRight p (expression_right e) (assigned m)
-assigned_read p e of null_value spot f r q = r
-assigned_read p e of (access_value path t) spot f r q = r
-assigned_read p e of (integer_value form) spot f r q = r
-assigned_read p e of (boolean_value form) spot f r q = r
+assigned_whole : (p : Context) (e : ExpressionTree) (t : TypeNo) (m : Meant) (spot : Spot) → IsMeant m → MeantRead p e m → Quiet (record_value_wanted t m spot) → FoundRight p (held.Record t) (expression_right e) (assigned m)
+assigned_whole p e t (record_value path) spot f r q = record_given p e (record { 0 = t.0 }) (record_value path) spot f r q
+assigned_whole p e t (aggregate_value found forms) spot f r q = record_given p e (record { 0 = t.0 }) (aggregate_value found forms) spot f r q
+assigned_whole p e t unknown spot f r q = absurd f
+assigned_whole p e t m spot f r q = absurd q
+
+assigned_read : (p : Context) (e : ExpressionTree) (of : Held) (m : Meant) (spot : Spot) → IsMeant m → MeantRead p e m → Quiet (assigned_wanted (Some of) m spot) → FoundRight p of (expression_right e) (assigned m)
+assigned_read p e held.Integer (integer_value form) spot f r q = r
+assigned_read p e held.Boolean (boolean_value form) spot f r q = r
+assigned_read p e (held.Access access) null_value spot f r q = r
+assigned_read p e (held.Access access) (access_value path t) spot f r q = r
+assigned_read p e (held.Record t) m spot f r q = assigned_whole p e t m spot f r q
 assigned_read p e of unknown spot f r q = absurd f
+assigned_read p e of m spot f r q = absurd q
 
 -- an allocator with items
 abbrev FoundAllocation : Context → Ident → ItemsTree → Option RightForm → Type 0
 FoundAllocation p name items (Some (allocates access forms)) = IsAllocationRead p name items access forms
 FoundAllocation p name items other = ⊥
 
-allocation_one : (k : Known) (p : Context) (e : Entity) (access : TypeNo) (spot end_spot : Spot) (name : Ident) (items : ItemsTree) → Readable k p → EntityFits k.types k.variables name.text e → EntityRead p name.text e → Quiet (allocated_wanted (Some e) k.types (Some access) spot name) → Quiet (items_remark k (filled_components k (complete_in (Some e))) (names_component items) (first_filling (filled_components k (complete_in (Some e)))) items) → Quiet (count_remark (names_component items) (filling_of k (filled_components k (complete_in (Some e))) items) end_spot) → FoundAllocation p name items (allocation k (Some access) (complete_in (Some e)) items)
-allocation_one k p (entity.Record t size) access spot end_spot name items w f r q i c = record {
+-- a new object
+abbrev FoundNew : Context → RightTree → Option RightForm → Type 0
+FoundNew p right None = ⊥
+FoundNew p right (Some form) = IsRightRead p right form
+
+allocation_one : (k : Known) (p : Context) (e : Entity) (access : TypeNo) (spot end_spot : Spot) (name : Ident) (items : ItemsTree) → Readable k p → EntityFits k.types k.variables name.text e → EntityRead p name.text e → Quiet (allocated_wanted (Some e) k.types (Some access) spot name) → Quiet (all_items_remark k (filled_components k (complete_in (Some e))) items end_spot) → FoundAllocation p name items (allocation k (Some access) (complete_in (Some e)) items)
+allocation_one k p (entity.Record t size) access spot end_spot name items w f r q i = record {
   t = t.0;
   parts = f.0;
   components = f.1;
   designates = type_designated k p access.0 t.0 w.ahead (access_designates k.types access.0 t.0 (quiet_unless (designates k.types access.0 t.0) spot WrongType q));
   bound = r;
   named = w.ahead.types t.0 (record_of name.text f.0 f.1) f.2;
-  filled = subst (λ (cs : List PartForm). AreItemsRead p cs items (map item_or_null (filling_of k (Some (components_of k.types t.0)) items).slots))
-      (components_are k.types t.0 name.text f.0 f.1 f.2) (aggregate_items_read k p (components_of k.types t.0) items end_spot w i c);
+  filled = subst (λ (cs : List PartForm). AreItemsRead p cs items (flattened (filling_of k (Some (components_of k.types t.0)) items).slots))
+      (components_are k.types t.0 name.text f.0 f.1 f.2) (aggregate_items_read k p (components_of k.types t.0) items end_spot w i);
 }
-allocation_one k p e access spot end_spot name items w f r q i c = absurd q
+allocation_one k p e access spot end_spot name items w f r q i = absurd q
 
-allocation_named : (k : Known) (p : Context) (o : Option Entity) (access : TypeNo) (spot end_spot : Spot) (name : Ident) (items : ItemsTree) → Readable k p → ((e : Entity) → o ≡ Some e → EntityFits k.types k.variables name.text e) → ((e : Entity) → o ≡ Some e → EntityRead p name.text e) → Quiet (allocated_wanted o k.types (Some access) spot name) → Quiet (items_remark k (filled_components k (complete_in o)) (names_component items) (first_filling (filled_components k (complete_in o))) items) → Quiet (count_remark (names_component items) (filling_of k (filled_components k (complete_in o)) items) end_spot) → FoundAllocation p name items (allocation k (Some access) (complete_in o) items)
-allocation_named k p (Some e) access spot end_spot name items w v r q i c = allocation_one k p e access spot end_spot name items w (v e refl) (r e refl) q i c
-allocation_named k p None access spot end_spot name items w v r q i c = absurd q
+allocation_named : (k : Known) (p : Context) (o : Option Entity) (access : TypeNo) (spot end_spot : Spot) (name : Ident) (items : ItemsTree) → Readable k p → ((e : Entity) → o ≡ Some e → EntityFits k.types k.variables name.text e) → ((e : Entity) → o ≡ Some e → EntityRead p name.text e) → Quiet (allocated_wanted o k.types (Some access) spot name) → Quiet (all_items_remark k (filled_components k (complete_in o)) items end_spot) → FoundAllocation p name items (allocation k (Some access) (complete_in o) items)
+allocation_named k p (Some e) access spot end_spot name items w v r q i = allocation_one k p e access spot end_spot name items w (v e refl) (r e refl) q i
+allocation_named k p None access spot end_spot name items w v r q i = absurd q
 
 aggregate_read : (k : Known) (p : Context) (access : TypeNo) (at : Spot) (name : Ident) (items : ItemsTree) → Readable k p → Quiet (aggregate_remark k (Some access) at name items) → FoundAllocation p name items (aggregate_found k (Some access) name items)
-unfolding aggregate_remark aggregate_found allocated_remark allocated_found
+unfolding aggregate_remark aggregate_found allocated_remark complete_found
 aggregate_read k p access at name items w q =
-    allocation_named k p (visible k name.text) access at name.spot name items w (visible_fits k w.fits name.text) (visible_read k p w.agrees name.text) q.0 q.1.0 q.1.1
+    allocation_named k p (visible k name.text) access at name.spot name items w (visible_fits k w.fits name.text) (visible_read k p w.agrees name.text) q.0 q.1
 
-allocation_right : (p : Context) (at : Spot) (name : Ident) (label : Option Ident) (e : ExpressionTree) (rest : ItemsTree) (o : Option RightForm) → FoundAllocation p name (an_item label e rest) o → FoundRight p (allocator_right at None name (an_item label e rest)) o
+allocation_right : (p : Context) (at : Spot) (name : Ident) (label : Option Ident) (e : ExpressionTree) (rest : ItemsTree) (o : Option RightForm) → FoundAllocation p name (an_item label e rest) o → FoundNew p (allocator_right at None name (an_item label e rest)) o
 allocation_right p at name label e rest (Some (allocates access forms)) r = r
 allocation_right p at name label e rest other r = absurd r
 
 -- an allocator without items
-default_one : (k : Known) (p : Context) (e : Entity) (access : TypeNo) (at spot : Spot) (name : Ident) → Readable k p → EntityFits k.types k.variables name.text e → EntityRead p name.text e → Quiet (allocated_wanted (Some e) k.types (Some access) spot name) → FoundRight p (allocator_right at None name no_more_items) (default_allocation (Some access) (complete_in (Some e)))
+default_one : (k : Known) (p : Context) (e : Entity) (access : TypeNo) (at spot : Spot) (name : Ident) → Readable k p → EntityFits k.types k.variables name.text e → EntityRead p name.text e → Quiet (allocated_wanted (Some e) k.types (Some access) spot name) → FoundNew p (allocator_right at None name no_more_items) (default_allocation (Some access) (complete_in (Some e)))
 default_one k p (entity.Record t size) access at spot name w f r q = (
   t.0,
   type_designated k p access.0 t.0 w.ahead (access_designates k.types access.0 t.0 (quiet_unless (designates k.types access.0 t.0) spot WrongType q)),
@@ -542,29 +627,34 @@ default_one k p (entity.Record t size) access at spot name w f r q = (
 )
 default_one k p e access at spot name w f r q = absurd q
 
-default_named : (k : Known) (p : Context) (o : Option Entity) (access : TypeNo) (at spot : Spot) (name : Ident) → Readable k p → ((e : Entity) → o ≡ Some e → EntityFits k.types k.variables name.text e) → ((e : Entity) → o ≡ Some e → EntityRead p name.text e) → Quiet (allocated_wanted o k.types (Some access) spot name) → FoundRight p (allocator_right at None name no_more_items) (default_allocation (Some access) (complete_in o))
+default_named : (k : Known) (p : Context) (o : Option Entity) (access : TypeNo) (at spot : Spot) (name : Ident) → Readable k p → ((e : Entity) → o ≡ Some e → EntityFits k.types k.variables name.text e) → ((e : Entity) → o ≡ Some e → EntityRead p name.text e) → Quiet (allocated_wanted o k.types (Some access) spot name) → FoundNew p (allocator_right at None name no_more_items) (default_allocation (Some access) (complete_in o))
 default_named k p (Some e) access at spot name w v r q = default_one k p e access at spot name w (v e refl) (r e refl) q
 default_named k p None access at spot name w v r q = absurd q
 
-default_read : (k : Known) (p : Context) (access : TypeNo) (at : Spot) (name : Ident) → Readable k p → Quiet (allocated_remark k (Some access) at name) → FoundRight p (allocator_right at None name no_more_items) (default_found k (Some access) name)
-unfolding default_found allocated_remark allocated_found
+default_read : (k : Known) (p : Context) (access : TypeNo) (at : Spot) (name : Ident) → Readable k p → Quiet (allocated_remark k (Some access) at name) → FoundNew p (allocator_right at None name no_more_items) (default_found k (Some access) name)
+unfolding default_found allocated_remark complete_found
 default_read k p access at name w q =
     default_named k p (visible k name.text) access at at name w (visible_fits k w.fits name.text) (visible_read k p w.agrees name.text) q
 
-allocator_read : (k : Known) (p : Context) (access : TypeNo) (at : Spot) (handle : Option Ident) (name : Ident) (items : ItemsTree) → Readable k p → Quiet (allocator_remark k (Some access) at handle name items) → FoundRight p (allocator_right at handle name items) (allocator_found k (Some access) handle name items)
+allocator_read : (k : Known) (p : Context) (access : TypeNo) (at : Spot) (handle : Option Ident) (name : Ident) (items : ItemsTree) → Readable k p → Quiet (allocator_remark k (Some access) at handle name items) → FoundNew p (allocator_right at handle name items) (allocator_found k (Some access) handle name items)
 unfolding allocator_remark allocator_found
 allocator_read k p access at (Some handle) name items w q = absurd q
 allocator_read k p access at None name no_more_items w q = default_read k p access at name w q
 allocator_read k p access at None name (an_item label e rest) w q =
     allocation_right p at name label e rest (aggregate_found k (Some access) name (an_item label e rest)) (aggregate_read k p access at name (an_item label e rest) w q)
 
-pub right_read : (k : Known) (p : Context) (of : VariableKind) (borrows : Bool) (right : RightTree) → Readable k p → Quiet (right_remark k (Some of) borrows right) → FoundRight p right (right_found k (Some of) right)
+new_read : (p : Context) (access : TypeNo) (right : RightTree) (o : Option RightForm) → FoundNew p right o → FoundRight p (held.Access access) right (new_assigned o)
+new_read p access right None f = f
+new_read p access right (Some form) f = f
+
+pub right_read : (k : Known) (p : Context) (of : Held) (borrows : Bool) (right : RightTree) → Readable k p → Quiet (right_remark k (Some of) borrows right) → FoundRight p of right (right_found k (Some of) right)
 right_read k p of borrows (expression_right e) w q =
     assigned_read p e of (expression_meant k e) (expression_spot e) (expression_known k e w.fits q.0) (expression_read k p e w q.0) q.1.0
-right_read k p (variable.Access access) borrows (allocator_right at handle name items) w q = allocator_read k p access at handle name items w q.1.1
-right_read k p variable.Integer borrows (allocator_right at handle name items) w q = absurd q.0
-right_read k p variable.Boolean borrows (allocator_right at handle name items) w q = absurd q.0
-right_read k p (variable.Record object) borrows (allocator_right at handle name items) w q = absurd q.0
+right_read k p (held.Access access) borrows (allocator_right at handle name items) w q =
+    new_read p access (allocator_right at handle name items) (allocator_found k (Some access) handle name items) (allocator_read k p access at handle name items w q.1.1)
+right_read k p held.Integer borrows (allocator_right at handle name items) w q = absurd q.0
+right_read k p held.Boolean borrows (allocator_right at handle name items) w q = absurd q.0
+right_read k p (held.Record t) borrows (allocator_right at handle name items) w q = absurd q.0
 right_read k p of borrows (creation_right function argument) w q = absurd q
 
 -- a statement
@@ -575,84 +665,70 @@ FoundStatement p s (Some form) = IsSimpleRead p s form
 path_of_value : (p : Context) (tree : PathTree) (path : PathForm) → IsValueRead p tree (reads path) → IsPathRead p tree path
 path_of_value p tree path (read_path r) = r
 
--- what is assigned to
-abbrev FoundTarget : Context → PathTree → Option (PathForm × VariableKind) → Type 0
-FoundTarget p target None = ⊥
-FoundTarget p target (Some found) = IsTargetRead p target found.0
-
-variable_target_one : (k : Known) (p : Context) (e : Entity) (root : Ident) → Ahead k p → EntityFits k.types k.variables root.text e → EntityRead p root.text e → Quiet (variable_wanted (Some e) root) → FoundTarget p (record { root = root; selectors = [] }) (variable_target root.spot (Some e))
-variable_target_one k p (entity.Variable x variable.Integer) root w f t q = (variable_read p x root variable.Integer tt (inl t) (declared_kind k p x root.text variable.Integer w f.0), t)
-variable_target_one k p (entity.Variable x variable.Boolean) root w f t q = (variable_read p x root variable.Boolean tt (inl t) (declared_kind k p x root.text variable.Boolean w f.0), t)
-variable_target_one k p (entity.Variable x (variable.Access a)) root w f t q = (variable_read p x root (variable.Access a) tt (inl t) (declared_kind k p x root.text (variable.Access a) w f.0), t)
-variable_target_one k p e root w f t q = absurd q
-
-variable_target_read : (k : Known) (p : Context) (o : Option Entity) (root : Ident) → Ahead k p → ((e : Entity) → o ≡ Some e → EntityFits k.types k.variables root.text e) → ((e : Entity) → o ≡ Some e → EntityRead p root.text e) → Quiet (variable_wanted o root) → FoundTarget p (record { root = root; selectors = [] }) (variable_target root.spot o)
-variable_target_read k p None root w f t q = absurd q
-variable_target_read k p (Some e) root w f t q = variable_target_one k p e root w (f e refl) (t e refl) q
-
--- what has components is no loop parameter
-no_part_of_parameter : (k : Known) (o : Option Entity) (root : Ident) (s : SelectorTree) (ss : List SelectorTree) (n : VariableNo) → o ≡ Some (entity.Parameter n) → Quiet (value_wanted k o root (s ∷ ss)) → ⊥
-no_part_of_parameter k None root s ss n is q = cc is
-no_part_of_parameter k (Some (entity.Parameter x)) root (component c) ss n is q = q.0.0
-no_part_of_parameter k (Some (entity.Parameter x)) root (dereference all) ss n is q = q.0.0
-no_part_of_parameter k (Some e) root s ss n is q = cc is
-
-component_root : (k : Known) (p : Context) (root : Ident) (s : SelectorTree) (ss : List SelectorTree) (x : ℕ) → Readable k p → Quiet (path_remark k (record { root = root; selectors = s ∷ ss })) → IsMeant (path_meant k (record { root = root; selectors = s ∷ ss })) → IsObjectNamed p root.text x → IsVariableNamed p root.text x
-unfolding path_remark path_meant
-component_root k p root s ss x w q m (inl b) = b
-component_root k p root s ss x w q m (inr b) = let n = parameter_visible k p w.agrees root.text x b in absurd (by_library (is_library_root root.text) _ n.0 n.1 q m)
-  where
-    by_library : (library : Bool) (other : Remark) (n : VariableNo) → visible k root.text ≡ Some (entity.Parameter n) → Quiet (cond library other (named_remark k root (s ∷ ss))) → IsMeant (cond library unknown (named_meant k root (s ∷ ss))) → ⊥
-    by_library true other n is q m = m
-    by_library false other n is q m = no_part_of_parameter k (visible k root.text) root s ss n is q
-
-component_target_read : (p : Context) (tree : PathTree) (m : Meant) (spot : Spot) → IsMeant m → MeantRead p (path_expression tree) m → ((path : PathForm) → IsPathRead p tree path → IsTargetRead p tree path) → Quiet (target_wanted m spot) → FoundTarget p tree (component_target m)
-component_target_read p tree (integer_value (reads path)) spot f r target q = target path (path_of_value p tree path r)
-component_target_read p tree (boolean_value (reads path)) spot f r target q = target path (path_of_value p tree path r)
-component_target_read p tree (access_value path t) spot f r target q = target path r
-component_target_read p tree unknown spot f r target q = absurd f
-component_target_read p tree m spot f r target q = absurd q
-
-found_target_read : (k : Known) (p : Context) (root : Ident) (ss : List SelectorTree) → Readable k p → Quiet (target_remark k (record { root = root; selectors = ss })) → FoundTarget p (record { root = root; selectors = ss }) (target_found k (record { root = root; selectors = ss }))
-unfolding target_remark target_found
-found_target_read k p root [] w q = variable_target_read k p (visible k root.text) root w.ahead (visible_fits k w.fits root.text) (visible_read k p w.agrees root.text) q
-found_target_read k p root (s ∷ ss) w q = longer_at (eqb (length (s ∷ ss)) 0) (ne_eqb (length (s ∷ ss)) 0 (omega arith)) q
-  where
-    tree : PathTree
-    tree = record { root = root; selectors = s ∷ ss }
-
-    longer_at : (b : Bool) → b ≡ false → Quiet (cond b (variable_wanted (visible k root.text) root) (path_remark k tree also target_wanted (path_meant k tree) root.spot)) → FoundTarget p tree (cond b (variable_target root.spot (visible k root.text)) (component_target (path_meant k tree)))
-    longer_at true e q = absurd (cc e)
-    longer_at false e q = component_target_read p tree (path_meant k tree) root.spot (path_known k tree w.fits q.0) (path_read k p tree w q.0) (λ path r. (r, component_root k p root s ss path.root w q.0 (path_known k tree w.fits q.0) r.root)) q.1
-
--- `X := ..;`
-value_read : (p : Context) (target : PathTree) (right : RightTree) (found : PathForm × VariableKind) (o : Option RightForm) → FoundTarget p target (Some found) → FoundRight p right o → FoundStatement p (assignment target right) (assignment_of (Some found) o)
-value_read p target right found None t f = absurd f
-value_read p target right found (Some form) t f = (t, f)
-
-assigned_there : (k : Known) (p : Context) (target : PathTree) (right : RightTree) (o : Option (PathForm × VariableKind)) → Readable k p → FoundTarget p target o → Quiet (right_remark k (kind_of_target o) (target_borrows k.variables o) right) → FoundStatement p (assignment target right) (assignment_of o (right_found k (kind_of_target o) right))
-assigned_there k p target right None w t q = absurd t
-assigned_there k p target right (Some found) w t q = value_read p target right found (right_found k (Some found.1) right) t (right_read k p found.1 (fits.names_borrower k.variables found.0) right w q)
-
-assignment_read : (k : Known) (p : Context) (root : Ident) (ss : List SelectorTree) (right : RightTree) → Readable k p → Quiet (assignment_remark k (record { root = root; selectors = ss }) right) → FoundStatement p (assignment (record { root = root; selectors = ss }) right) (assignment_found k (record { root = root; selectors = ss }) right)
-unfolding assignment_remark assignment_found
-assignment_read k p root ss right w q =
-    assigned_there k p (record { root = root; selectors = ss }) right (target_found k (record { root = root; selectors = ss })) w
-    (found_target_read k p root ss w q.1.0) q.1.1
-
 -- nothing is written to a loop parameter
 no_parameter : (o : Option Entity) (spot : Spot) (n : VariableNo) → o ≡ Some (entity.Parameter n) → Quiet (written_wanted o spot) → ⊥
 no_parameter None spot n is q = cc is
 no_parameter (Some (entity.Parameter x)) spot n is q = q
 no_parameter (Some e) spot n is q = cc is
 
+variable_named : (k : Known) (p : Context) (tree : PathTree) (x : ℕ) → Agrees k p.place → Quiet (written_wanted (visible k tree.root.text) tree.root.spot) → IsObjectNamed p tree.root.text x → IsVariableNamed p tree.root.text x
+variable_named k p tree x w q (inl b) = b
+variable_named k p tree x w q (inr b) =
+    let n = parameter_visible k p w tree.root.text x b in absurd (no_parameter (visible k tree.root.text) tree.root.spot n.0 n.1 q)
+
 target_read : (k : Known) (p : Context) (tree : PathTree) (path : PathForm) → Agrees k p.place → Quiet (written_wanted (visible k tree.root.text) tree.root.spot) → IsPathRead p tree path → IsTargetRead p tree path
-target_read k p tree path w q r = by_object r.root
-  where
-    by_object : IsObjectNamed p tree.root.text path.root → IsTargetRead p tree path
-    by_object (inl b) = (r, b)
-    by_object (inr b) =
-        let n = parameter_visible k p w tree.root.text path.root b in absurd (no_parameter (visible k tree.root.text) tree.root.spot n.0 n.1 q)
+target_read k p tree path w q r = (r, variable_named k p tree path.root w q r.leads.root)
+
+-- what is assigned to
+abbrev FoundTarget : Context → PathTree → Option Target → Type 0
+FoundTarget p target None = ⊥
+FoundTarget p target (Some (value_target path (held.Record t))) = ⊥
+FoundTarget p target (Some (value_target path kind)) = IsTargetRead p target path
+FoundTarget p target (Some (record_target path)) = IsRecordTargetRead p target path
+
+target_meant_read : (k : Known) (p : Context) (tree : PathTree) (m : Meant) (spot : Spot) → Agrees k p.place → Quiet (written_wanted (visible k tree.root.text) tree.root.spot) → IsMeant m → MeantRead p (path_expression tree) m → Quiet (target_wanted m spot) → FoundTarget p tree (target_meant m)
+target_meant_read k p tree (integer_value (reads path)) spot w v f r q = target_read k p tree path w v (path_of_value p tree path r)
+target_meant_read k p tree (boolean_value (reads path)) spot w v f r q = target_read k p tree path w v (path_of_value p tree path r)
+target_meant_read k p tree (access_value path t) spot w v f r q = target_read k p tree path w v r
+target_meant_read k p tree (record_value path) spot w v f r q = (r, variable_named k p tree path.object.root w v r.root)
+target_meant_read k p tree unknown spot w v f r q = absurd f
+target_meant_read k p tree m spot w v f r q = absurd q
+
+found_target_read : (k : Known) (p : Context) (tree : PathTree) → Readable k p → Quiet (target_remark k tree) → FoundTarget p tree (target_found k tree)
+unfolding target_remark target_found
+found_target_read k p tree w q = target_meant_read k p tree (path_meant k tree) tree.root.spot w.agrees q.1.1 (path_known k tree w.fits q.0) (path_read k p tree w q.0) q.1.0
+
+-- `X := ..;`
+value_read : (p : Context) (target : PathTree) (right : RightTree) (path : PathForm) (kind : Held) (o : Option Assigned) → FoundTarget p target (Some (value_target path kind)) → FoundRight p kind right o → FoundStatement p (assignment target right) (assignment_of (Some (value_target path kind)) o)
+value_read p target right path (held.Record u) o t f = absurd t
+value_read p target right path held.Integer (Some (a_value form)) t f = (t, f)
+value_read p target right path held.Boolean (Some (a_value form)) t f = (t, f)
+value_read p target right path (held.Access u) (Some (a_value form)) t f = (t, f)
+value_read p target right path held.Integer (Some (a_whole forms)) t f = absurd f
+value_read p target right path held.Boolean (Some (a_whole forms)) t f = absurd f
+value_read p target right path (held.Access u) (Some (a_whole forms)) t f = absurd f
+value_read p target right path held.Integer None t f = absurd f
+value_read p target right path held.Boolean None t f = absurd f
+value_read p target right path (held.Access u) None t f = absurd f
+
+-- `R := ..;`
+record_whole_read : (p : Context) (target : PathTree) (right : RightTree) (path : RecordPathForm) (o : Option Assigned) → IsRecordTargetRead p target path → FoundRight p (held.Record (record { 0 = path.record_type })) right o → FoundStatement p (assignment target right) (assignment_of (Some (record_target path)) o)
+record_whole_read p target right path (Some (a_whole forms)) t f = (t, f)
+record_whole_read p target right path (Some (a_value form)) t f = absurd f
+record_whole_read p target right path None t f = absurd f
+
+assigned_there : (k : Known) (p : Context) (target : PathTree) (right : RightTree) (o : Option Target) → Readable k p → FoundTarget p target o → Quiet (right_remark k (held_by_target o) (target_borrows k.variables o) right) → FoundStatement p (assignment target right) (assignment_of o (right_found k (held_by_target o) right))
+assigned_there k p target right None w t q = absurd t
+assigned_there k p target right (Some (value_target path kind)) w t q =
+    value_read p target right path kind (right_found k (Some kind) right) t (right_read k p kind (fits.names_borrower k.variables path) right w q)
+assigned_there k p target right (Some (record_target path)) w t q =
+    let kind = held.Record (record { 0 = path.record_type }) in
+    record_whole_read p target right path (right_found k (Some kind) right) t (right_read k p kind false right w q)
+
+assignment_read : (k : Known) (p : Context) (target : PathTree) (right : RightTree) → Readable k p → Quiet (assignment_remark k target right) → FoundStatement p (assignment target right) (assignment_found k target right)
+unfolding assignment_remark assignment_found
+assignment_read k p target right w q =
+    assigned_there k p target right (target_found k target) w (found_target_read k p target w q.1.0) q.1.1
 
 -- `Free (X);`
 freed_read : (p : Context) (variables : List VariableForm) (procedure tree : PathTree) (access : TypeNo) (m : Meant) (spot : Spot) → procedure.selectors ≡ [] → IsInstanceNamed p procedure.root.text access.0 → IsMeant m → MeantRead p (path_expression tree) m → ((path : PathForm) → IsPathRead p tree path → IsTargetRead p tree path) → Quiet (freed_wanted variables access m spot) → FoundStatement p (call procedure (expression_argument (path_expression tree) ∷ [])) (freeing access m)
@@ -839,7 +915,7 @@ bound_read k p e w q =
 -- where nothing is wrong with a statement, something is found, and it is what the tree says
 statement_read : (k : Known) (p : Context) (inside : Bool) (s : StatementTree) → Readable k p → IsNextText p (length k.texts) (simple_texts s) → Quiet (statement_remark k inside s) → FoundStatement p s (statement_found k s)
 statement_read k p inside (null_statement spot) w here q = tt
-statement_read k p inside (assignment target right) w here q = assignment_read k p target.root target.selectors right w q
+statement_read k p inside (assignment target right) w here q = assignment_read k p target right w q
 statement_read k p inside (call procedure arguments) w here q = call_read k p (length k.texts) procedure arguments w here q
 statement_read k p inside (exit_statement spot condition) w here q = (optional_read k p condition w q.1.1, refl)
 statement_read k p inside (return_statement spot) w here q = refl

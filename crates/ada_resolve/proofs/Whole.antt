@@ -10,7 +10,7 @@ use Rattle.ada_tree.specs.Expressions.{ExpressionTree, path_expression, Argument
 use Rattle.ada_tree.specs.Statements.{DeclarationsTree, no_declarations, endless, while_scheme, for_scheme, StatementTree, null_statement, assignment, call, exit_statement, return_statement, raise_statement, if_statement, loop_statement, block, declare_block, StatementsTree, no_statements, a_statement, BranchesTree, no_branches, a_branch, HandlersTree, no_handlers, a_handler, SequenceTree, a_sequence, begin_of, UnitTree}
 use Rattle.ada_program.specs.declared.program.Choice.{Choice}
 use Rattle.ada_program.specs.declared.program.VariableKind.TheVariants as variable
-use Rattle.ada_program.specs.Form.{DeclarationForm, ExpressionForm, StmtForm, skips, assigns, frees, gets, writes, writes_text, exits, returns, raises, chooses, repeats, counts, encloses, StmtsForm, no_stmts, a_stmt, BranchesForm, otherwise, HandlersForm}
+use Rattle.ada_program.specs.Form.{DeclarationForm, ExpressionForm, StmtForm, skips, assigns, assigns_record, frees, gets, writes, writes_text, exits, returns, raises, chooses, repeats, counts, encloses, StmtsForm, no_stmts, a_stmt, BranchesForm, otherwise, HandlersForm}
 use Rattle.ada_program.specs.Form as form
 use Rattle.ada_program.specs.ProgramForm.{VariableForm, ProgramForm}
 use Rattle.ada_program.specs.WellFormed as well
@@ -114,6 +114,7 @@ agrees_called k p procedure arguments form w r = absurd r
 agrees_simple : (k : Known) (p : Context) (s : StatementTree) (form : StmtForm) → Agrees k p.place → IsSimpleRead p s form → Agrees (with_texts (simple_texts s) k) (behind_simple form p.place)
 agrees_simple k p (null_statement spot) skips w r = no_texts k p.place w
 agrees_simple k p (assignment target value) (assigns path right) w r = no_texts k p.place w
+agrees_simple k p (assignment target value) (assigns_record path items) w r = no_texts k p.place w
 agrees_simple k p (call procedure arguments) form w r = agrees_called k p procedure arguments form w r
 agrees_simple k p (exit_statement spot written) (exits condition at) w r = no_texts k p.place w
 agrees_simple k p (return_statement spot) (returns at) w r = no_texts k p.place w
@@ -283,7 +284,7 @@ range_read p inside_loop spot name low high ss last at done w ahead stays d read
     begun_ahead = ahead_on d.head.1.0 d.own.1.0 p (statements_stay true ss d.head.1 d.own begun.sound begun.complete d.told).grows own_ahead
 
     v : VariableForm
-    v = record { name = name.text; kind = variable.Integer; borrows = false }
+    v = record { name = name.text; spot = name.spot; kind = variable.Integer; borrows = false }
 
     there : slice_get p.variables x ≡ Some v
     there = begun_ahead.variables x v (ap (λ (u : Known). slice_get u.variables x) is.2 ∙ get_last k.variables v)

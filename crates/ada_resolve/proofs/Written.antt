@@ -11,13 +11,14 @@ use Rattle.ada_program.specs.declared.program.ComponentKind.{ComponentKind}
 use Rattle.ada_program.specs.declared.program.TypeNo.{TypeNo}
 use Rattle.ada_program.specs.declared.program.VariableKind.{VariableKind}
 use Rattle.ada_program.specs.declared.program.VariableKind.TheVariants as variable
-use Rattle.ada_program.specs.Form.{RightForm}
 use Rattle.ada_program.specs.ProgramForm.{PartForm, TypeForm, record_of, access_to, object_of}
 use Rattle.ada_program.specs.WellFormed as well
 use Rattle.ada_resolve.specs.declared.fault.NameRule.TheVariants.{UnknownName, DeclaredTwice, WrongType}
 use Rattle.ada_resolve.specs.declared.library.LibraryName.{LibraryName}
 use Rattle.ada_resolve.specs.declared.library.LibraryName.TheVariants.{TextIo, PutLine, UncheckedDeallocation, RunInput, Get, EndError, OtherUnit, Unknown}
 use Rattle.ada_resolve.specs.declared.library.Withs.{Withs}
+use Rattle.ada_resolve.specs.declared.rights.Held.{Held}
+use Rattle.ada_resolve.specs.declared.rights.Held.TheVariants as held
 use Rattle.ada_resolve.specs.declared.scope.Entity.{Entity}
 use Rattle.ada_resolve.specs.declared.scope.Entity.TheVariants as entity
 use Rattle.ada_resolve.specs.Known.{Known, visible, is_empty, is_with, if_with, library_wrong, library_remark, parts}
@@ -28,9 +29,10 @@ use Rattle.ada_resolve.specs.Statics.{static_value, static_remark, number_in, nu
 use Rattle.ada_resolve.specs.Records.{integer_remark, boolean_remark, no_value_remark, kind_wanted, kind_in, Composition, is_component, component_remark, component_meant, no_components, composed, composed_with, composition_of, components_remark, all_components_remark}
 use Rattle.ada_resolve.specs.Instances.{deallocation_wanted, no_generic, generic_remark, access_if, access_in, access_wanted, freed_found, freed_remark}
 use Rattle.ada_resolve.specs.Paths.{library_is_no_value}
-use Rattle.ada_resolve.specs.Objects.{initial_remark, initial_found, initial_wanted, type_in, type_wanted, object_type_found, object_type_remark, kind_of, initial_source}
+use Rattle.ada_resolve.specs.Objects.{initial_remark, initial_found, initial_wanted, type_in, type_wanted, object_type_found, object_type_remark, held_of, initial_items_in, initial_source, initial_value_in}
 use Rattle.ada_resolve.specs.Naming.{Context, IsNumberNamed, IsStaticRead, IsKindRead, AreComponentsRead, AreNamedApart, AreLaidOut, IsFullTypeNamed, IsTypeNamed, IsRecordNamed, IsFullRecordNamed, IsKindNamed, truth_name}
-use Rattle.ada_resolve.specs.Reading.{IsInitialRead}
+use Rattle.ada_resolve.specs.Reading.{AreInitialItems, IsInitialRead}
+use Rattle.ada_resolve.specs.Rights.{Assigned, a_value, a_whole}
 use Rattle.ada_resolve.specs.Paths.{name_of_type, elementary_of}
 use Rattle.ada_resolve.proofs.WellFormed.Remarks.{Quiet, quiet_if, quiet_unless}
 use Rattle.ada_resolve.proofs.WellFormed.Names.{EntityFits, PartsFit, same_text, visible_fits}
@@ -259,53 +261,73 @@ generic_read k generic q = by_root (is_library_root generic.first.text) q
     by_root false q = absurd (by_entity (visible k generic.first.text) q)
 
 -- what an object holds, and its initial value
-pub record ObjectRead (k : Known) (p : Context) (type_name : NameTree) (initial : Option RightTree) (of : VariableKind) : Type 0 where
+pub record ObjectRead (k : Known) (p : Context) (type_name : NameTree) (initial : Option RightTree) (kind : Held) (of : VariableKind) : Type 0 where
   pub kind_named : IsKindNamed p type_name of
-  pub starts : IsInitialRead p of initial (initial_source (initial_found k (Some of) initial))
+  pub starts : IsInitialRead p of initial (initial_source (initial_value_in (initial_found k (Some kind) initial)))
 
--- the record type of a record object, which has no initial value
-pub record RecordRead (p : Context) (type_name : NameTree) (initial : Option RightTree) (t : ℕ) : Type 0 where
+-- the record type of a record object, and its initial value
+pub record RecordRead (k : Known) (p : Context) (type_name : NameTree) (initial : Option RightTree) (t : TypeNo) : Type 0 where
   pub alone : type_name.rest ≡ []
-  pub record_named : IsFullRecordNamed p type_name.first.text t
-  pub starts : initial ≡ None
+  pub record_named : IsFullRecordNamed p type_name.first.text t.0
+  pub starts : AreInitialItems p initial t.0 (initial_items_in (initial_found k (Some (held.Record t)) initial))
 
 -- the type of an object
 abbrev pub TypeRead : Known → Context → NameTree → Option RightTree → Option Entity → Type 0
-TypeRead k p type_name initial (Some entity.Integer) = ObjectRead k p type_name initial variable.Integer
-TypeRead k p type_name initial (Some entity.Boolean) = ObjectRead k p type_name initial variable.Boolean
-TypeRead k p type_name initial (Some (entity.Access t)) = ObjectRead k p type_name initial (variable.Access t)
-TypeRead k p type_name initial (Some (entity.Record t size)) = RecordRead p type_name initial t.0
+TypeRead k p type_name initial (Some entity.Integer) = ObjectRead k p type_name initial held.Integer variable.Integer
+TypeRead k p type_name initial (Some entity.Boolean) = ObjectRead k p type_name initial held.Boolean variable.Boolean
+TypeRead k p type_name initial (Some (entity.Access t)) = ObjectRead k p type_name initial (held.Access t) (variable.Access t)
+TypeRead k p type_name initial (Some (entity.Record t size)) = RecordRead k p type_name initial t
 TypeRead k p type_name initial other = ⊥
 
-starts_read : (k : Known) (p : Context) (of : VariableKind) (right : RightTree) (o : Option RightForm) → FoundRight p right o → IsInitialRead p of (Some right) (initial_source o)
-starts_read k p of right None f = absurd f
-starts_read k p of right (Some form) f = f
+integer_starts : (p : Context) (right : RightTree) (o : Option Assigned) → FoundRight p held.Integer right o → IsInitialRead p variable.Integer (Some right) (initial_source (initial_value_in o))
+integer_starts p right None f = absurd f
+integer_starts p right (Some (a_value form)) f = f
+integer_starts p right (Some (a_whole forms)) f = absurd f
 
-object_at : (k : Known) (p : Context) (name : Ident) (type_name : NameTree) (initial : Option RightTree) (e : Entity) → Readable k p → type_name.rest ≡ [] → EntityFits k.types k.variables type_name.first.text e → EntityRead p type_name.first.text e → Quiet (initial_remark k (kind_of (Some e)) initial) → Quiet (initial_wanted (Some e) name initial) → TypeRead k p type_name initial (Some e)
+boolean_starts : (p : Context) (right : RightTree) (o : Option Assigned) → FoundRight p held.Boolean right o → IsInitialRead p variable.Boolean (Some right) (initial_source (initial_value_in o))
+boolean_starts p right None f = absurd f
+boolean_starts p right (Some (a_value form)) f = f
+boolean_starts p right (Some (a_whole forms)) f = absurd f
+
+access_starts : (p : Context) (t : TypeNo) (right : RightTree) (o : Option Assigned) → FoundRight p (held.Access t) right o → IsInitialRead p (variable.Access t) (Some right) (initial_source (initial_value_in o))
+access_starts p t right None f = absurd f
+access_starts p t right (Some (a_value form)) f = f
+access_starts p t right (Some (a_whole forms)) f = absurd f
+
+record_starts : (p : Context) (t : TypeNo) (right : RightTree) (o : Option Assigned) → FoundRight p (held.Record t) right o → AreInitialItems p (Some right) t.0 (initial_items_in o)
+record_starts p t right None f = absurd f
+record_starts p t right (Some (a_value form)) f = absurd f
+record_starts p t right (Some (a_whole forms)) f = f
+
+object_at : (k : Known) (p : Context) (name : Ident) (type_name : NameTree) (initial : Option RightTree) (e : Entity) → Readable k p → type_name.rest ≡ [] → EntityFits k.types k.variables type_name.first.text e → EntityRead p type_name.first.text e → Quiet (initial_remark k (held_of (Some e)) initial) → Quiet (initial_wanted (Some e) name initial) → TypeRead k p type_name initial (Some e)
 object_at k p name type_name None entity.Integer w alone f t q g = absurd g
 object_at k p name type_name None entity.Boolean w alone f t q g = absurd g
 object_at k p name type_name (Some right) entity.Integer w alone f t q g = record {
   kind_named = (alone, t);
-  starts = starts_read k p variable.Integer right (initial_found k (Some variable.Integer) (Some right)) (right_read k p variable.Integer false right w q);
+  starts = integer_starts p right (initial_found k (Some held.Integer) (Some right)) (right_read k p held.Integer false right w q);
 }
 object_at k p name type_name (Some right) entity.Boolean w alone f t q g = record {
   kind_named = (alone, t);
-  starts = starts_read k p variable.Boolean right (initial_found k (Some variable.Boolean) (Some right)) (right_read k p variable.Boolean false right w q);
+  starts = boolean_starts p right (initial_found k (Some held.Boolean) (Some right)) (right_read k p held.Boolean false right w q);
 }
 object_at k p name type_name None (entity.Access a) w alone f t q g = record { kind_named = (alone, (t, f.0, w.ahead.types a.0 (access_to type_name.first.text f.0) f.1)); starts = tt }
 object_at k p name type_name (Some right) (entity.Access a) w alone f t q g = record {
   kind_named = (alone, (t, f.0, w.ahead.types a.0 (access_to type_name.first.text f.0) f.1));
-  starts = starts_read k p (variable.Access a) right (initial_found k (Some (variable.Access a)) (Some right)) (right_read k p (variable.Access a) false right w q);
+  starts = access_starts p a right (initial_found k (Some (held.Access a)) (Some right)) (right_read k p (held.Access a) false right w q);
 }
 object_at k p name type_name None (entity.Record u size) w alone f t q g = record {
   alone = alone;
   record_named = (t, f.0, f.1, w.ahead.types u.0 (record_of type_name.first.text f.0 f.1) f.2);
-  starts = refl;
+  starts = tt;
 }
-object_at k p name type_name (Some right) (entity.Record u size) w alone f t q g = absurd g
+object_at k p name type_name (Some right) (entity.Record u size) w alone f t q g = record {
+  alone = alone;
+  record_named = (t, f.0, f.1, w.ahead.types u.0 (record_of type_name.first.text f.0 f.1) f.2);
+  starts = record_starts p u right (initial_found k (Some (held.Record u)) (Some right)) (right_read k p (held.Record u) false right w q);
+}
 object_at k p name type_name initial e w alone f t q g = absurd g
 
-object_typed : (k : Known) (p : Context) (name : Ident) (type_name : NameTree) (initial : Option RightTree) (o : Option Entity) → Readable k p → type_name.rest ≡ [] → ((e : Entity) → o ≡ Some e → EntityFits k.types k.variables type_name.first.text e) → ((e : Entity) → o ≡ Some e → EntityRead p type_name.first.text e) → Quiet (type_wanted o true type_name.first) → Quiet (initial_remark k (kind_of (type_in o)) initial) → Quiet (initial_wanted (type_in o) name initial) → TypeRead k p type_name initial (type_in o)
+object_typed : (k : Known) (p : Context) (name : Ident) (type_name : NameTree) (initial : Option RightTree) (o : Option Entity) → Readable k p → type_name.rest ≡ [] → ((e : Entity) → o ≡ Some e → EntityFits k.types k.variables type_name.first.text e) → ((e : Entity) → o ≡ Some e → EntityRead p type_name.first.text e) → Quiet (type_wanted o true type_name.first) → Quiet (initial_remark k (held_of (type_in o)) initial) → Quiet (initial_wanted (type_in o) name initial) → TypeRead k p type_name initial (type_in o)
 object_typed k p name type_name initial None w alone f t r q g = absurd r
 object_typed k p name type_name initial (Some entity.Integer) w alone f t r q g = object_at k p name type_name initial entity.Integer w alone (f entity.Integer refl) (t entity.Integer refl) q g
 object_typed k p name type_name initial (Some entity.Boolean) w alone f t r q g = object_at k p name type_name initial entity.Boolean w alone (f entity.Boolean refl) (t entity.Boolean refl) q g
@@ -322,15 +344,15 @@ not_alone : (o : Option Entity) (name : Ident) → Quiet (type_wanted o false na
 not_alone (Some e) name q = q.0
 not_alone None name q = q
 
-pub object_read : (k : Known) (p : Context) (name : Ident) (type_name : NameTree) (initial : Option RightTree) → Readable k p → Quiet (object_type_remark k type_name) → Quiet (initial_remark k (kind_of (object_type_found k type_name)) initial) → Quiet (initial_wanted (object_type_found k type_name) name initial) → TypeRead k p type_name initial (object_type_found k type_name)
+pub object_read : (k : Known) (p : Context) (name : Ident) (type_name : NameTree) (initial : Option RightTree) → Readable k p → Quiet (object_type_remark k type_name) → Quiet (initial_remark k (held_of (object_type_found k type_name)) initial) → Quiet (initial_wanted (object_type_found k type_name) name initial) → TypeRead k p type_name initial (object_type_found k type_name)
 unfolding object_type_found object_type_remark
 object_read k p name type_name initial w r q g = by_root (is_library_root type_name.first.text) r q g
   where
-    by_rest : (b : Bool) → is_empty type_name.rest ≡ b → Quiet (type_wanted (visible k type_name.first.text) b type_name.first) → Quiet (initial_remark k (kind_of (cond b (type_in (visible k type_name.first.text)) None)) initial) → Quiet (initial_wanted (cond b (type_in (visible k type_name.first.text)) None) name initial) → TypeRead k p type_name initial (cond b (type_in (visible k type_name.first.text)) None)
+    by_rest : (b : Bool) → is_empty type_name.rest ≡ b → Quiet (type_wanted (visible k type_name.first.text) b type_name.first) → Quiet (initial_remark k (held_of (cond b (type_in (visible k type_name.first.text)) None)) initial) → Quiet (initial_wanted (cond b (type_in (visible k type_name.first.text)) None) name initial) → TypeRead k p type_name initial (cond b (type_in (visible k type_name.first.text)) None)
     by_rest true is r q g = object_typed k p name type_name initial (visible k type_name.first.text) w (empty_is type_name.rest is) (visible_fits k w.fits type_name.first.text) (visible_read k p w.agrees type_name.first.text) r q g
     by_rest false is r q g = absurd (not_alone (visible k type_name.first.text) type_name.first r)
 
-    by_root : (b : Bool) → Quiet (cond b (library_remark k type_name.first type_name.rest also library_is_no_value (if_with (is_with k.withs (library_name type_name.first.text type_name.rest)) (library_name type_name.first.text type_name.rest)) type_name.first.spot) (type_wanted (visible k type_name.first.text) (is_empty type_name.rest) type_name.first)) → Quiet (initial_remark k (kind_of (cond b None (cond (is_empty type_name.rest) (type_in (visible k type_name.first.text)) None))) initial) → Quiet (initial_wanted (cond b None (cond (is_empty type_name.rest) (type_in (visible k type_name.first.text)) None)) name initial) → TypeRead k p type_name initial (cond b None (cond (is_empty type_name.rest) (type_in (visible k type_name.first.text)) None))
+    by_root : (b : Bool) → Quiet (cond b (library_remark k type_name.first type_name.rest also library_is_no_value (if_with (is_with k.withs (library_name type_name.first.text type_name.rest)) (library_name type_name.first.text type_name.rest)) type_name.first.spot) (type_wanted (visible k type_name.first.text) (is_empty type_name.rest) type_name.first)) → Quiet (initial_remark k (held_of (cond b None (cond (is_empty type_name.rest) (type_in (visible k type_name.first.text)) None))) initial) → Quiet (initial_wanted (cond b None (cond (is_empty type_name.rest) (type_in (visible k type_name.first.text)) None)) name initial) → TypeRead k p type_name initial (cond b None (cond (is_empty type_name.rest) (type_in (visible k type_name.first.text)) None))
     by_root true r q g = absurd (no_library k.withs (library_name type_name.first.text type_name.rest) type_name.first.spot (if_with (is_with k.withs (library_name type_name.first.text type_name.rest)) (library_name type_name.first.text type_name.rest)) refl r.0 r.1)
     by_root false r q g = by_rest (is_empty type_name.rest) refl r q g
 

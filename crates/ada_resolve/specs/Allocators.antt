@@ -1,29 +1,32 @@
 -- Allocators: what is wrong with each, and what it allocates.
 
-use Rattle.std.specs.Prelude.{ℕ, Bool, true, not, if◌then◌else◌, List, map, Option, Some, None, is_none}
+use Rattle.std.specs.Prelude.{ℕ, Bool, true, not, if◌then◌else◌, List, Option, Some, None, is_none}
 use Rattle.ada_text.specs.declared.spot.Spot.{Spot}
 use Rattle.ada_program.specs.Form.{RightForm, allocates, allocates_default}
 use Rattle.ada_tree.specs.Names.{Ident}
 use Rattle.ada_tree.specs.Expressions.{ItemsTree, no_more_items, an_item}
-use Rattle.ada_program.specs.ProgramForm.{PartForm, TypeForm}
+use Rattle.ada_program.specs.ProgramForm.{TypeForm}
 use Rattle.ada_program.specs.declared.program.TypeNo.{TypeNo}
 use Rattle.ada_resolve.specs.declared.fault.NameRule.TheVariants.{WrongType, NotInProfile}
 use Rattle.ada_resolve.specs.declared.scope.Entity.{Entity}
 use Rattle.ada_resolve.specs.declared.scope.Entity.TheVariants as entity
 use Rattle.ada_resolve.specs.Known.{Known, visible, missing}
 use Rattle.ada_resolve.specs.Remark.{Remark, wrong, ◌also◌, wrong_if}
-use Rattle.ada_resolve.specs.Items.{all_items_remark, count_remark, filling_of, item_or_null, names_component}
+use Rattle.ada_resolve.specs.Expressions.{all_items_remark, filling_of}
+use Rattle.ada_resolve.specs.Items.{filled_components, flattened}
 use Rattle.ada_resolve.specs.Paths.{components_of}
-use Rattle.ada_resolve.specs.Types.{designates}
+use Rattle.ada_resolve.specs.Types.{complete_found, designates}
 
 -- An allocator names a complete record type, which the access type that is wanted designates, where that is known (4.8).
 abbrev pub designated_if_known : List TypeForm → Option TypeNo → TypeNo → Bool
 designated_if_known types (Some access) record_type = designates types access.0 record_type.0
 designated_if_known types None record_type = true
 
--- A complete record type is wanted, and the one that is designated: another thing of that name is of the wrong kind (8.6).
+-- A complete record type is wanted, and the one that is designated: another thing of that name is of the wrong kind (8.6), and a library unit is so
+-- where it is named.
 abbrev pub allocated_wanted : Option Entity → List TypeForm → Option TypeNo → Spot → Ident → Remark
 allocated_wanted (Some (entity.Record t size)) types access spot name = wrong_if (not (designated_if_known types access t)) spot WrongType
+allocated_wanted (Some entity.LibraryUnit) types access spot name = wrong name.spot WrongType
 allocated_wanted (Some other) types access spot name = wrong spot WrongType
 allocated_wanted None types access spot name = missing None name
 
@@ -31,27 +34,11 @@ allocated_wanted None types access spot name = missing None name
 unfoldable pub allocated_remark : Known → Option TypeNo → Spot → Ident → Remark
 allocated_remark known access spot name = allocated_wanted (visible known name.text) known.types access spot name
 
--- The complete record type that a name stands for, if it stands for one.
-abbrev pub complete_in : Option Entity → Option TypeNo
-complete_in (Some (entity.Record t size)) = Some t
-complete_in (Some other) = None
-complete_in None = None
-
--- The record type that an allocator names, or `None` where its type is wrong.
-unfoldable pub allocated_found : Known → Ident → Option TypeNo
-allocated_found known name = complete_in (visible known name.text)
-
--- The components of the record type that an allocator names, as they are declared, where that is known.
-abbrev pub filled_components : Known → Option TypeNo → Option (List PartForm)
-filled_components known (Some t) = Some (components_of known.types t.0)
-filled_components known None = None
-
 -- What is wrong with `new T'(..)`: its type, an item, or how many items there are.
 unfoldable pub aggregate_remark : Known → Option TypeNo → Spot → Ident → ItemsTree → Remark
 aggregate_remark known access spot type_name items =
     allocated_remark known access spot type_name also
-    all_items_remark known (filled_components known (allocated_found known type_name)) items also
-    count_remark (names_component items) (filling_of known (filled_components known (allocated_found known type_name)) items) type_name.spot
+    all_items_remark known (filled_components known (complete_found known type_name)) items type_name.spot
 
 -- The type whose objects a new object joins: the access type that is wanted, where that is known.
 abbrev pub wanted_or : Option TypeNo → TypeNo → ℕ
@@ -61,12 +48,12 @@ wanted_or None t = t.0
 -- The allocation of these items, in the order of the components, or `None` where the record type is not known.
 abbrev pub allocation : Known → Option TypeNo → Option TypeNo → ItemsTree → Option RightForm
 allocation known access (Some t) items =
-    Some (allocates (wanted_or access t) (map item_or_null (filling_of known (Some (components_of known.types t.0)) items).slots))
+    Some (allocates (wanted_or access t) (flattened (filling_of known (Some (components_of known.types t.0)) items).slots))
 allocation known access None items = None
 
 -- The allocation that `new T'(..)` makes, or `None` where its type is wrong.
 unfoldable pub aggregate_found : Known → Option TypeNo → Ident → ItemsTree → Option RightForm
-aggregate_found known access type_name items = allocation known access (allocated_found known type_name) items
+aggregate_found known access type_name items = allocation known access (complete_found known type_name) items
 
 -- The allocation of an object whose components hold what they hold at first, or `None` where the record type is not known.
 abbrev pub default_allocation : Option TypeNo → Option TypeNo → Option RightForm
@@ -75,7 +62,7 @@ default_allocation access None = None
 
 -- The allocation that `new T` makes, or `None` where its type is wrong.
 unfoldable pub default_found : Known → Option TypeNo → Ident → Option RightForm
-default_found known access type_name = default_allocation access (allocated_found known type_name)
+default_found known access type_name = default_allocation access (complete_found known type_name)
 
 -- Whether an allocator is in the profile: it has no handle (13.11.4).
 abbrev pub is_in_use : Option Ident → Bool

@@ -13,9 +13,10 @@ use Rattle.ada_resolve.specs.Spots.{expression_spot, argument_spot}
 use Rattle.ada_resolve.specs.Expressions.{expression_meant, expression_remark}
 use Rattle.ada_resolve.specs.Operators.{integer_wanted}
 
--- The attribute is Integer'Image (3.5); every other is not in the profile.
+-- The attribute is Integer'Image (3.5); every other is not in the profile, and a library unit has none.
 abbrev pub image_wanted : Option Entity → List ℕ → Spot → Remark
 image_wanted (Some entity.Integer) attribute spot = wrong_if (not (bytes_eq attribute (codes "IMAGE"))) spot NotInProfile
+image_wanted (Some entity.LibraryUnit) attribute spot = wrong spot WrongType
 image_wanted (Some other) attribute spot = wrong spot NotInProfile
 image_wanted None attribute spot = wrong spot NotInProfile
 

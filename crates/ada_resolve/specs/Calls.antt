@@ -22,7 +22,7 @@ use Rattle.ada_resolve.specs.Arguments.{argument_remark, arguments_remark, none_
 use Rattle.ada_resolve.specs.Expressions.{expression_remark}
 use Rattle.ada_resolve.specs.Lines.{put_line_found, put_line_remark}
 use Rattle.ada_resolve.specs.Operators.{owner_wanted}
-use Rattle.ada_resolve.specs.Paths.{Meant, access_value, integer_value, path_meant, unknown}
+use Rattle.ada_resolve.specs.Paths.{Meant, access_value, integer_value, path_meant, unknown, written_wanted}
 
 -- `Free (X);` (13.11.2): the actual is a variable or a component of the instance's access type, and no borrower as a whole.
 abbrev pub freed_wanted : List VariableForm → TypeNo → Meant → Spot → Remark
@@ -41,12 +41,6 @@ got_wanted other spot = wrong spot WrongType
 abbrev pub actual_wanted : List VariableForm → Callee → Meant → Spot → Remark
 actual_wanted variables (callee.Free access) meant spot = freed_wanted variables access meant spot
 actual_wanted variables callee.Get meant spot = got_wanted meant spot
-
--- A loop parameter is a constant (3.3, 5.5): nothing is written to it.
-abbrev pub written_wanted : Option Entity → Spot → Remark
-written_wanted (Some (entity.Parameter x)) spot = wrong spot WrongType
-written_wanted (Some other) spot = fine
-written_wanted None spot = fine
 
 -- An actual that is no path is of the wrong kind, and what is wrong with it as an expression is told too.
 abbrev pub no_path_remark : Known → ExpressionTree → Remark

@@ -75,7 +75,7 @@ abbrev pub is_collected : ℕ → List DeclarationForm → Bool
 is_collected access [] = false
 is_collected access (collects t ∷ es) = t == access || is_collected access es
 is_collected access (declares place value ∷ es) = is_collected access es
-is_collected access (declares_record place object ∷ es) = is_collected access es
+is_collected access (declares_record place object initial ∷ es) = is_collected access es
 
 -- The access type that a name stands for, whatever it designates.
 abbrev pub access_type_in : Option Entity → Option TypeNo

@@ -1,11 +1,12 @@
 -- The items of aggregates: what is wrong with each, and which component it is for.
 
-use Rattle.std.specs.Prelude.{ℕ, ◌+◌, Bool, true, false, ◌==◌, ◌&&◌, not, nat_lt, if◌then◌else◌, List, [], length, Option, Some, None, is_some, is_none}
+use Rattle.std.specs.Prelude.{ℕ, ◌+◌, Bool, true, false, ◌==◌, ◌&&◌, not, nat_lt, if◌then◌else◌, List, [], ◌∷◌, ◌++◌, length, Option, Some, None, is_some, is_none}
 use Rattle.std.specs.List.{slice_get, slice_set, slice_index_or, list_all}
 use Rattle.std.proofs.Math.ListN.{replicate}
 use Rattle.ada_text.specs.declared.spot.Spot.{Spot}
-use Rattle.ada_program.specs.Form.{ItemForm, null_item, item_of_path, item_of_value}
+use Rattle.ada_program.specs.Form.{ItemForm, null_item, item_of_path, item_of_value, item_of_record}
 use Rattle.ada_tree.specs.Names.{Ident}
+use Rattle.ada_program.specs.declared.program.TypeNo.{TypeNo}
 use Rattle.ada_tree.specs.Expressions.{ExpressionTree, ItemsTree, no_more_items, an_item}
 use Rattle.ada_program.specs.ProgramForm.{PartForm, VariableForm}
 use Rattle.ada_program.specs.declared.program.ComponentKind.TheVariants as kind
@@ -17,15 +18,14 @@ use Rattle.ada_resolve.specs.Known.{Known}
 use Rattle.ada_resolve.specs.Library.{no_component_rule}
 use Rattle.ada_resolve.specs.Remark.{Remark, fine, wrong, ◌also◌, wrong_if}
 use Rattle.ada_resolve.specs.Spots.{expression_spot}
-use Rattle.ada_resolve.specs.Expressions.{expression_meant, expression_remark}
-use Rattle.ada_resolve.specs.Operators.{access_wanted, boolean_wanted, integer_wanted, owner_wanted}
-use Rattle.ada_resolve.specs.Paths.{Meant, access_value, boolean_value, component_at, component_named, integer_value, unknown}
+use Rattle.ada_resolve.specs.Operators.{access_wanted, boolean_wanted, integer_wanted, owner_wanted, record_value_wanted}
+use Rattle.ada_resolve.specs.Paths.{Meant, access_value, aggregate_value, boolean_value, component_at, component_named, components_of, integer_value, null_value, record_value, unknown}
 
--- What is known before an item: how many items come before it, which components have their items, and whether each item so far names a
--- component of its own.
+-- What is known before an item: how many items come before it, which components have their items (a record component has those of its
+-- elementary components, or one that is a record), and whether each item so far names a component of its own.
 pub record Filling : Type 0 where
   pub count : ℕ
-  pub slots : List (Option ItemForm)
+  pub slots : List (Option (List ItemForm))
   pub whole : Bool
 
 -- The component that an item is for: that of its name, or the one at its place.
@@ -38,25 +38,24 @@ abbrev pub item_spot : Option Ident → ExpressionTree → Spot
 item_spot (Some label) value = label.spot
 item_spot None value = expression_spot value
 
--- What an item gives its component.
-abbrev pub item_meant : Meant → ItemForm
-item_meant (integer_value e) = item_of_value e
-item_meant (boolean_value e) = item_of_value e
-item_meant (access_value path t) = item_of_path path
-item_meant other = null_item
+-- What an item gives its component: one item, or, where it is an aggregate, those of that.
+abbrev pub item_meant : Meant → List ItemForm
+item_meant unknown = []
+item_meant null_value = null_item ∷ []
+item_meant (access_value path t) = item_of_path path ∷ []
+item_meant (integer_value e) = item_of_value e ∷ []
+item_meant (boolean_value e) = item_of_value e ∷ []
+item_meant (record_value path) = item_of_record path ∷ []
+item_meant (aggregate_value t items) = items
 
--- No value but a whole record is one of a record component, and none is in the profile yet.
-abbrev pub record_item_wanted : Meant → Spot → Remark
-record_item_wanted unknown spot = fine
-record_item_wanted other spot = wrong spot WrongType
-
--- A value is of its component's type: an access component is given null, or what a path of that very type names, which is no borrower as a whole.
+-- A value is of its component's type: an access component is given null, or what a path of that very type names, which is no borrower as a whole,
+-- and a record component a record of that very type.
 abbrev pub fits_remark : List VariableForm → PartKind → Meant → Spot → Remark
 fits_remark variables (part.Elementary (kind.Integer initial)) value spot = integer_wanted value spot
 fits_remark variables (part.Elementary (kind.Boolean initial)) value spot = boolean_wanted value spot
 fits_remark variables (part.Elementary (kind.Access t)) value spot =
     access_wanted t value spot also owner_wanted variables value spot
-fits_remark variables (part.Record t) value spot = record_item_wanted value spot
+fits_remark variables (part.Record t) value spot = record_value_wanted t value spot
 
 -- No component has that name (4.1.3), or there are too many items.
 abbrev pub no_component : Option Ident → ExpressionTree → Remark
@@ -64,7 +63,7 @@ no_component (Some label) value = wrong label.spot (no_component_rule label.text
 no_component None value = wrong (expression_spot value) WrongType
 
 -- Whether the component of this number has its item.
-abbrev pub is_filled : ℕ → List (Option ItemForm) → Bool
+abbrev pub is_filled : ℕ → List (Option (List ItemForm)) → Bool
 is_filled c slots = is_some (slice_index_or slots c None)
 
 -- What is wrong with the component of an item, and with its value for it: a component has one item.
@@ -85,51 +84,35 @@ abbrev pub is_alike : Bool → Option Ident → Bool
 is_alike true label = is_some label
 is_alike false label = is_none label
 
--- What is wrong with an item: the first item tells whether all name their components, and its component and value are as they should be.
-unfoldable pub item_remark : Known → Option (List PartForm) → Bool → Filling → Option Ident → ExpressionTree → Remark
-item_remark known components is_named filling label value =
-    wrong_if (not (is_alike is_named label)) (item_spot label value) WrongType also
-    expression_remark known value also
-    component_item_remark known.variables components filling label value (expression_meant known value)
+-- The first item tells whether all name their components: an item that does otherwise is wrong.
+abbrev pub label_remark : Bool → Option Ident → ExpressionTree → Remark
+label_remark is_named label value = wrong_if (not (is_alike is_named label)) (item_spot label value) WrongType
 
--- What is known once the component of this number has this item.
-abbrev pub with_item : ℕ → ItemForm → Filling → Filling
-with_item c item filling = record filling { slots = slice_set filling.slots c (Some item) }
+-- What is known once the component of this number has these items.
+abbrev pub with_item : ℕ → List ItemForm → Filling → Filling
+with_item c items filling = record filling { slots = slice_set filling.slots c (Some items) }
 
--- What is known after an item for this component.
-abbrev pub filled_for : Option (ℕ × KnownComponent) → Filling → Bool → ItemForm → Filling
-filled_for (Some found) filling alike item = record {
+-- What is known after an item for this component, which gives it these.
+abbrev pub filled_for : Option (ℕ × KnownComponent) → Filling → Bool → List ItemForm → Filling
+filled_for (Some found) filling alike items = record {
   count = filling.count + 1;
-  slots = slice_set filling.slots found.0 (Some item);
+  slots = slice_set filling.slots found.0 (Some items);
   whole = filling.whole && (alike && not (is_filled found.0 filling.slots));
 }
-filled_for None filling alike item = record { count = filling.count + 1; slots = filling.slots; whole = false }
+filled_for None filling alike items = record { count = filling.count + 1; slots = filling.slots; whole = false }
 
 -- What is known after an item. Where the record type is not known, the item is only counted.
-abbrev pub filled_by : Option (List PartForm) → Filling → Option Ident → Bool → ItemForm → Filling
-filled_by (Some components) filling label alike item = filled_for (component_for components label filling.count) filling alike item
-filled_by None filling label alike item = record { count = filling.count + 1; slots = filling.slots; whole = false }
+abbrev pub filled_by : Option (List PartForm) → Filling → Option Ident → Bool → List ItemForm → Filling
+filled_by (Some components) filling label alike items = filled_for (component_for components label filling.count) filling alike items
+filled_by None filling label alike items = record { count = filling.count + 1; slots = filling.slots; whole = false }
 
 -- What is known after an item, by what its value means.
-unfoldable pub after_item : Known → Option (List PartForm) → Bool → Filling → Option Ident → ExpressionTree → Filling
-after_item known components is_named filling label value =
-    filled_by components filling label (is_alike is_named label) (item_meant (expression_meant known value))
-
--- What is wrong with items.
-abbrev pub items_remark : Known → Option (List PartForm) → Bool → Filling → ItemsTree → Remark
-items_remark known components is_named filling no_more_items = fine
-items_remark known components is_named filling (an_item label value rest) =
-    item_remark known components is_named filling label value also
-    items_remark known components is_named (after_item known components is_named filling label value) rest
-
--- What is known after items.
-abbrev pub after_items : Known → Option (List PartForm) → Bool → Filling → ItemsTree → Filling
-after_items known components is_named filling no_more_items = filling
-after_items known components is_named filling (an_item label value rest) =
-    after_items known components is_named (after_item known components is_named filling label value) rest
+unfoldable pub after_item : Option (List PartForm) → Bool → Filling → Option Ident → Meant → Filling
+after_item components is_named filling label meant =
+    filled_by components filling label (is_alike is_named label) (item_meant meant)
 
 -- No component has its item yet.
-abbrev pub empty_slots : Option (List PartForm) → List (Option ItemForm)
+abbrev pub empty_slots : Option (List PartForm) → List (Option (List ItemForm))
 empty_slots (Some components) = replicate (length components) None
 empty_slots None = []
 
@@ -142,9 +125,10 @@ abbrev pub names_component : ItemsTree → Bool
 names_component no_more_items = false
 names_component (an_item label value rest) = is_some label
 
--- What is wrong with all items of `new T'(..)`.
-abbrev pub all_items_remark : Known → Option (List PartForm) → ItemsTree → Remark
-all_items_remark known components items = items_remark known components (names_component items) (first_filling components) items
+-- The components of the record type of an aggregate, as they are declared, where that is known.
+abbrev pub filled_components : Known → Option TypeNo → Option (List PartForm)
+filled_components known (Some t) = Some (components_of known.types t.0)
+filled_components known None = None
 
 -- What is wrong with how many items there are: an aggregate of one item names its component (4.3.1), and one is missing where there are more
 -- components; and where each item has a component of its own, each component has its item.
@@ -154,11 +138,13 @@ count_remark is_named filling spot =
     then wrong spot NotInProfile also wrong_if (nat_lt 1 (length filling.slots)) spot WrongType
     else wrong_if (filling.whole && not (list_all is_some filling.slots)) spot WrongType
 
--- The item of a component; null where there is none.
-abbrev pub item_or_null : Option ItemForm → ItemForm
-item_or_null (Some item) = item
-item_or_null None = null_item
+-- The items of all components, in the order of the components; a component that has none gives none.
+abbrev pub flattened : List (Option (List ItemForm)) → List ItemForm
+flattened [] = []
+flattened (Some items ∷ slots) = items ++ flattened slots
+flattened (None ∷ slots) = flattened slots
 
--- The items of `new T'(..)`, looked at in order.
-unfoldable pub filling_of : Known → Option (List PartForm) → ItemsTree → Filling
-filling_of known components items = after_items known components (names_component items) (first_filling components) items
+-- What an aggregate means, whose items are known: one of its record type, where that is known.
+abbrev pub aggregate_meant : Option TypeNo → Filling → Meant
+aggregate_meant (Some t) filling = aggregate_value t (flattened filling.slots)
+aggregate_meant None filling = unknown

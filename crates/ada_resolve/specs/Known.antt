@@ -1,6 +1,6 @@
 -- What is known at a place in the main procedure, and what the names stand for there.
 
-use Rattle.std.specs.Prelude.{ℕ, Bool, true, false, ◌==◌, not, nat_lt, if◌then◌else◌, List, [], ◌∷◌, length, Option, Some, None, is_some, bytes_eq}
+use Rattle.std.specs.Prelude.{ℕ, Bool, true, false, ◌==◌, not, nat_lt, ◌&&◌, if◌then◌else◌, List, [], ◌∷◌, length, Option, Some, None, is_some, codes, bytes_eq}
 use Rattle.ada_text.specs.declared.spot.Spot.{Spot}
 use Rattle.ada_tree.specs.Names.{Ident, SelectorTree, component, dereference, PathTree, is_name}
 use Rattle.ada_program.specs.Form.{DeclarationForm}
@@ -10,7 +10,7 @@ use Rattle.ada_resolve.specs.declared.library.LibraryName.{LibraryName}
 use Rattle.ada_resolve.specs.declared.library.LibraryName.TheVariants.{TextIo, PutLine, UncheckedDeallocation, RunInput, Get, EndError, OtherUnit, Unknown}
 use Rattle.ada_resolve.specs.declared.library.Withs.{Withs}
 use Rattle.ada_resolve.specs.declared.scope.Entity.{Entity}
-use Rattle.ada_resolve.specs.declared.scope.Entity.TheVariants.{Procedure}
+use Rattle.ada_resolve.specs.declared.scope.Entity.TheVariants.{LibraryUnit, Procedure}
 use Rattle.ada_resolve.specs.Library.{predefined, is_primitive, is_taken, missing_rule, library_name}
 use Rattle.ada_resolve.specs.Remark.{Remark, fine, wrong, node, ◌also◌, wrong_if}
 
@@ -84,15 +84,23 @@ abbrev pub named_in : List ℕ → List Part → Option Entity
 named_in text [] = None
 named_in text (part ∷ outer) = first_named (named text part.names) (named_in text outer)
 
--- What a name stands for (8.3): what the parts declare hides the procedure's own name, and this what is predefined.
+-- What a name stands for (8.3): what the parts declare hides the procedure's own name, and this what is visible everywhere.
 abbrev pub inner_first : Option Entity → Bool → Option Entity → Option Entity
 inner_first (Some entity) own standard = Some entity
 inner_first None true standard = Some Procedure
 inner_first None false standard = standard
 
+-- A library unit of one name is visible where a with clause names it (10.1.2, 10.1.6): Run_Input is the one of the profile.
+abbrev pub unit_named : Withs → List ℕ → Option Entity
+unit_named withs text = if bytes_eq text (codes "RUN_INPUT") && withs.run_input then Some LibraryUnit else None
+
+-- What a name stands for that no part declares: what is predefined, or a library unit.
+abbrev pub outermost : Withs → List ℕ → Option Entity
+outermost withs text = first_named (predefined text) (unit_named withs text)
+
 -- What a name stands for at a place (8.3), if anything.
 unfoldable pub visible : Known → List ℕ → Option Entity
-visible known text = inner_first (named_in text (parts known)) (bytes_eq text known.procedure) (predefined text)
+visible known text = inner_first (named_in text (parts known)) (bytes_eq text known.procedure) (outermost known.withs text)
 
 -- A name of which nothing is visible is wrong (8.3).
 abbrev pub missing : Option Entity → Ident → Remark

@@ -20,12 +20,12 @@ pub mod Instances
 pub mod Paths
 -- operators (4.5)
 pub mod Operators
--- expressions (4.4)
+-- the items of aggregates (4.3.1)
+pub mod Items
+-- expressions (4.4), aggregates among them (4.7)
 pub mod Expressions
 -- chains of operators, one operator after another (4.5)
 pub mod Chains
--- the items of aggregates (4.3.1)
-pub mod Items
 -- allocators (4.8)
 pub mod Allocators
 -- what is assigned (5.2)

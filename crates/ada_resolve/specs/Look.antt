@@ -6,7 +6,7 @@ use denote.Triple.Both.{Both}
 use Rattle.ada_text.specs.declared.spot.Spot.{Spot}
 use Rattle.ada_values.specs.declared.operator.UnaryOperator.{UnaryOperator}
 use Rattle.ada_tree.specs.ExpressionView.{argument_of, expression_of, items_of, optional_right_of, right_of}
-use Rattle.ada_tree.specs.Expressions.{expression_argument, expression_right, unary_expression}
+use Rattle.ada_tree.specs.Expressions.{aggregate_expression, expression_argument, expression_right, unary_expression}
 use Rattle.ada_tree.specs.Names.{ident_of, path_of, selector_of}
 use Rattle.ada_tree.specs.Records.{component_of, record_of}
 use Rattle.ada_tree.specs.Declarations.{choice_of}
@@ -33,16 +33,17 @@ use Rattle.ada_resolve.specs.declared.fault.NameFault.{NameFault}
 use Rattle.ada_resolve.specs.declared.fault.NameFault.TheVariants.{NoMemory}
 use Rattle.ada_resolve.specs.declared.library.LibraryName.{LibraryName}
 use Rattle.ada_resolve.specs.declared.notes.Notes.{Notes}
+use Rattle.ada_resolve.specs.declared.rights.Held.{Held}
 use Rattle.ada_resolve.specs.declared.selectors.Reached.{Reached}
-use Rattle.ada_resolve.specs.Allocators.{aggregate_found, aggregate_remark, allocated_remark, default_found, filled_components, new_found, new_remark}
+use Rattle.ada_resolve.specs.Allocators.{aggregate_found, aggregate_remark, allocated_remark, default_found, new_found, new_remark}
 use Rattle.ada_resolve.specs.Arguments.{image_value_remark}
-use Rattle.ada_resolve.specs.Assignments.{assignment_found, assignment_remark, target_found, target_remark}
+use Rattle.ada_resolve.specs.Assignments.{Target, assignment_found, assignment_remark, target_found, target_remark}
 use Rattle.ada_resolve.specs.Borrowers.{lender_found, lender_remark}
 use Rattle.ada_resolve.specs.Calls.{actual_found, actual_remark, call_found, call_remark, library_call_found, library_call_remark, named_call_found, named_call_remark, taker_found, taker_remark}
 use Rattle.ada_resolve.specs.Chains.{links_meant, links_remark}
 use Rattle.ada_resolve.specs.Exceptions.{choices_meant, choices_remark}
-use Rattle.ada_resolve.specs.Expressions.{expression_meant, expression_remark}
-use Rattle.ada_resolve.specs.Items.{Filling, all_items_remark, filling_of}
+use Rattle.ada_resolve.specs.Expressions.{expression_meant, expression_remark, filling_of, items_remark}
+use Rattle.ada_resolve.specs.Items.{Filling, filled_components, first_filling, names_component}
 use Rattle.ada_resolve.specs.Known.{library_path_found, library_path_remark}
 use Rattle.ada_resolve.specs.Lines.{line_found, line_remark, put_line_found, put_line_remark}
 use Rattle.ada_resolve.specs.Kept.{kept_meant}
@@ -52,7 +53,7 @@ use Rattle.ada_resolve.specs.Operators.{integer_in}
 use Rattle.ada_resolve.specs.Paths.{Meant, named_meant, named_remark, path_meant, path_remark, selector_reached, selector_remark, selectors_reached, selectors_remark, variable_meant, variable_path_remark}
 use Rattle.ada_resolve.specs.Records.{Composition, all_components_remark, components_written}
 use Rattle.ada_resolve.specs.Remark.{Remark}
-use Rattle.ada_resolve.specs.Rights.{right_found, right_remark}
+use Rattle.ada_resolve.specs.Rights.{Assigned, right_found, right_remark}
 use Rattle.ada_resolve.specs.Statements.{condition_meant, condition_remark, exit_found, exit_remark, bound_meant, bound_remark, statement_found, statement_remark}
 
 -- What is wrong with a part, and what it means.
@@ -132,11 +133,20 @@ image_look seen prefix attribute value = record {
   meaning = integer_in (expression_meant (known seen) (expression_of value));
 }
 
--- The items of `new T'(..)` for a record type, where that is known (4.3.1).
+-- The items of an aggregate of a record type, where that is known, one by one (4.3.1).
 abbrev pub items_look : Seen → Option TypeNo → List Item → Look Filling
 items_look seen found items = record {
-  remark = all_items_remark (known seen) (filled_components (known seen) found) (items_of items);
+  remark =
+      items_remark (known seen) (filled_components (known seen) found) (names_component (items_of items))
+      (first_filling (filled_components (known seen) found)) (items_of items);
   meaning = filling_of (known seen) (filled_components (known seen) found) (items_of items);
+}
+
+-- `T'(..)` (4.7).
+abbrev pub qualified_look : Seen → Identifier → List Item → Look Meant
+qualified_look seen type_name items = record {
+  remark = expression_remark (known seen) (aggregate_expression (ident_of type_name) (items_of items));
+  meaning = expression_meant (known seen) (aggregate_expression (ident_of type_name) (items_of items));
 }
 
 -- `new T'(..)` (4.8).
@@ -161,14 +171,14 @@ new_look seen access spot type_name items = record {
 }
 
 -- What is assigned (5.2).
-abbrev pub right_look : Seen → Option VariableKind → (borrows : Bool) → Right → Look (Option RightForm)
+abbrev pub right_look : Seen → Option Held → (borrows : Bool) → Right → Look (Option Assigned)
 right_look seen kind borrows right = record {
   remark = right_remark (known seen) kind borrows (right_of right);
   meaning = right_found (known seen) kind (right_of right);
 }
 
 -- The initial value of an object (3.3.1).
-abbrev pub initial_look : Seen → Option VariableKind → Option Right → Look (Option RightForm)
+abbrev pub initial_look : Seen → Option Held → Option Right → Look (Option Assigned)
 initial_look seen kind initial = record {
   remark = initial_remark (known seen) kind (optional_right_of initial);
   meaning = initial_found (known seen) kind (optional_right_of initial);
@@ -287,7 +297,7 @@ assignment_look seen target value = record {
 }
 
 -- A target, with what it holds.
-abbrev pub target_look : Seen → Path → Look (Option (PathForm × VariableKind))
+abbrev pub target_look : Seen → Path → Look (Option Target)
 target_look seen target = record {
   remark = target_remark (known seen) (path_of target);
   meaning = target_found (known seen) (path_of target);

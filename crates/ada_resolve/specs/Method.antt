@@ -32,6 +32,7 @@ use Rattle.ada_program.specs.declared.program.Branch.{Branch as BranchOf}
 use Rattle.ada_program.specs.declared.program.ComponentKind.{ComponentKind}
 use Rattle.ada_program.specs.declared.program.ComponentNo.{ComponentNo}
 use Rattle.ada_program.specs.declared.program.Declaration.{Declaration}
+use Rattle.ada_program.specs.declared.program.Item.{Item}
 use Rattle.ada_program.specs.declared.program.Right.{Right as RightOf}
 use Rattle.ada_program.specs.declared.program.Stmt.{Stmt}
 use Rattle.ada_program.specs.declared.program.TypeNo.{TypeNo}
@@ -50,10 +51,10 @@ use Rattle.ada_resolve.specs.declared.part.Part.{Part as PartOf}
 use Rattle.ada_resolve.specs.declared.program.Body.{Body}
 use Rattle.ada_resolve.specs.declared.resolver.Resolver.{Resolver}
 use Rattle.ada_resolve.specs.declared.scope.Entity.{Entity}
-use Rattle.ada_resolve.specs.Allocators.{filled_components}
 use Rattle.ada_resolve.specs.Arguments.{argument_remark, arguments_remark, image_remark}
 use Rattle.ada_resolve.specs.Instances.{with_elaborated}
-use Rattle.ada_resolve.specs.Items.{Filling, after_item, first_filling, for_remark, item_remark}
+use Rattle.ada_resolve.specs.Expressions.{expression_meant, item_remark}
+use Rattle.ada_resolve.specs.Items.{Filling, after_item, filled_components, first_filling, for_remark}
 use Rattle.ada_resolve.specs.Kept.{composition_in, kept_with, known_type_form}
 use Rattle.ada_resolve.specs.Known.{Known, entered, new_name_remark, visible}
 use Rattle.ada_resolve.specs.Objects.{initial_source, record_created, variable_created}
@@ -61,7 +62,7 @@ use Rattle.ada_resolve.specs.Records.{Composition, further_component_remark}
 use Rattle.ada_resolve.specs.Remark.{Remark, noted}
 use Rattle.ada_resolve.specs.Resolution.{At, Others, Told, branches_told, end_told, procedure_from, program_of, told_of, with_parameter}
 use Rattle.ada_resolve.specs.Types.{completion_remark, new_unless, with_definition}
-use Rattle.ada_resolve.specs.View.{filling_in, handlers_in, known_of, meant_of, part_of, right_in, statements_in, AnswersBranches, AnswersWith, Tells}
+use Rattle.ada_resolve.specs.View.{filling_in, handlers_in, known_of, meant_of, optional_items, part_of, right_in, statements_in, AnswersBranches, AnswersWith, Tells}
 
 -- The resolver of a method that only looks at a part of the tree.
 abbrev pub Seen : Type 0
@@ -185,7 +186,7 @@ written_item_remark seen found is_named filling item =
 -- What is known after it.
 abbrev pub item_filling : Seen → Option TypeNo → Bool → WrittenItem → Filling → Filling
 item_filling seen found is_named item filling =
-    after_item (known seen) (filled_components (known seen) found) is_named filling (label_of item) (written_value item)
+    after_item (filled_components (known seen) found) is_named filling (label_of item) (expression_meant (known seen) (written_value item))
 
 -- What is wrong with an item for this component, where its value means this.
 abbrev pub written_for_remark : List Variable → Option (ℕ × KnownComponent) → FillingOf → WrittenItem → MeantOf → Remark
@@ -228,21 +229,21 @@ with_type completes definition = with_definition completes (known_type_form defi
 abbrev pub with_object : Identifier → (borrows : Bool) → VariableKind → Option RightOf → Known → Known
 with_object name borrows kind value known = variable_created known (ident_of name) borrows kind (initial_source (right_in value))
 
--- What is known once a record object of a type is declared (3.3.1): it is named, is a variable, and is created.
-abbrev pub with_record_of : Identifier → TypeNo → Known → Known
-with_record_of name t known = record_created known (ident_of name) t
+-- What is known once a record object of a type is declared (3.3.1): it is named, is a variable, and is created, perhaps with these items.
+abbrev pub with_record_of : Identifier → TypeNo → Option (Vec Item) → Known → Known
+with_record_of name t initial known = record_created known (ident_of name) t (optional_items initial)
 
 -- A variable of this name.
 abbrev pub new_variable : Identifier → (borrows : Bool) → VariableKind → VariableForm
-new_variable name borrows kind = record { name = name.text.now; kind = kind; borrows = borrows }
+new_variable name borrows kind = record { name = name.text.now; spot = name.spot; kind = kind; borrows = borrows }
 
 -- What is known once a variable is created with its initial value.
 abbrev pub with_created : VariableNo → Option RightOf → Known → Known
 with_created variable value = with_elaborated (declares variable.0 (initial_source (right_in value)) ∷ [])
 
--- What is known once a record object is created, which is known by this type.
-abbrev pub with_object_created : VariableNo → TypeNo → Known → Known
-with_object_created variable object = with_elaborated (declares_record variable.0 object.0 ∷ [])
+-- What is known once a record object is created, which is known by this type, perhaps with these items.
+abbrev pub with_object_created : VariableNo → TypeNo → Option (Vec Item) → Known → Known
+with_object_created variable object initial = with_elaborated (declares_record variable.0 object.0 (optional_items initial) ∷ [])
 
 -- What is known once these declarations are elaborated too.
 abbrev pub with_declarations : Vec Declaration → Known → Known

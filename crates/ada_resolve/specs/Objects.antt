@@ -1,7 +1,7 @@
 -- Object declarations: what is wrong with each, and what is known after it.
 
 use Rattle.std.specs.Prelude.{ℕ, ◌+◌, Bool, true, false, ◌&&◌, not, if◌then◌else◌, List, [], ◌∷◌, ◌++◌, length, drop, Option, Some, None, is_none, is_some}
-use Rattle.ada_program.specs.Form.{RightForm, nothing, DeclarationForm, collects, declares, declares_record}
+use Rattle.ada_program.specs.Form.{ItemForm, RightForm, nothing, DeclarationForm, collects, declares, declares_record}
 use Rattle.ada_tree.specs.Names.{Ident, NameTree}
 use Rattle.ada_tree.specs.Expressions.{RightTree}
 use Rattle.ada_program.specs.ProgramForm.{TypeForm, VariableForm, record_of, access_to, object_of}
@@ -10,6 +10,8 @@ use Rattle.ada_program.specs.declared.program.VariableKind.{VariableKind}
 use Rattle.ada_program.specs.declared.program.VariableNo.{VariableNo}
 use Rattle.ada_program.specs.declared.program.VariableKind.TheVariants as variable
 use Rattle.ada_resolve.specs.declared.fault.NameRule.TheVariants.{WrongType, NotInProfile, NoInitialValue}
+use Rattle.ada_resolve.specs.declared.rights.Held.{Held}
+use Rattle.ada_resolve.specs.declared.rights.Held.TheVariants as held
 use Rattle.ada_resolve.specs.declared.scope.Entity.{Entity}
 use Rattle.ada_resolve.specs.declared.scope.Entity.TheVariants as entity
 use Rattle.ada_resolve.specs.Known.{Known, declared, visible, missing, new_name_remark, library_remark, library_found, is_empty, no_variable_yet}
@@ -17,16 +19,16 @@ use Rattle.ada_resolve.specs.Library.{is_library_root}
 use Rattle.ada_resolve.specs.Remark.{Remark, fine, wrong, node, ◌also◌, wrong_if}
 use Rattle.ada_resolve.specs.Instances.{is_collected, with_elaborated}
 use Rattle.ada_resolve.specs.Paths.{designated_of, library_is_no_value}
-use Rattle.ada_resolve.specs.Rights.{right_found, right_remark}
+use Rattle.ada_resolve.specs.Rights.{Assigned, a_value, a_whole, right_found, right_remark}
 use Rattle.ada_resolve.specs.Types.{with_definition}
 
 -- What is wrong with an initial value, where one is written.
-abbrev pub initial_remark : Known → Option VariableKind → Option RightTree → Remark
+abbrev pub initial_remark : Known → Option Held → Option RightTree → Remark
 initial_remark known kind (Some right) = right_remark known kind false right
 initial_remark known kind None = fine
 
 -- The initial value, or `None` where no value is written or something is wrong.
-abbrev pub initial_found : Known → Option VariableKind → Option RightTree → Option RightForm
+abbrev pub initial_found : Known → Option Held → Option RightTree → Option Assigned
 initial_found known kind (Some right) = right_found known kind right
 initial_found known kind None = None
 
@@ -59,7 +61,16 @@ object_type_remark known type_name =
     library_is_no_value (library_found known type_name.first type_name.rest) type_name.first.spot
     else type_wanted (visible known type_name.first.text) (is_empty type_name.rest) type_name.first
 
--- What an object of a type holds to which a value can be given: a record object gets none as a whole.
+-- What an object of a type holds, where its initial value is looked at.
+abbrev pub held_of : Option Entity → Option Held
+held_of (Some entity.Integer) = Some held.Integer
+held_of (Some entity.Boolean) = Some held.Boolean
+held_of (Some (entity.Access t)) = Some (held.Access t)
+held_of (Some (entity.Record t size)) = Some (held.Record t)
+held_of (Some other) = None
+held_of None = None
+
+-- What a variable of a type holds, which is no record object.
 abbrev pub kind_of : Option Entity → Option VariableKind
 kind_of (Some entity.Integer) = Some variable.Integer
 kind_of (Some entity.Boolean) = Some variable.Boolean
@@ -67,14 +78,14 @@ kind_of (Some (entity.Access t)) = Some (variable.Access t)
 kind_of (Some other) = None
 kind_of None = None
 
--- An Integer or a Boolean has an initial value (the profile's); a record object has none in the profile yet: its components hold theirs (3.3.1).
+-- An Integer or a Boolean has an initial value (the profile's); where a record object has none, its components hold theirs (3.3.1).
 abbrev pub initial_wanted : Option Entity → Ident → Option RightTree → Remark
 initial_wanted (Some entity.Integer) name None = wrong name.spot NoInitialValue
 initial_wanted (Some entity.Boolean) name None = wrong name.spot NoInitialValue
 initial_wanted (Some entity.Integer) name (Some right) = fine
 initial_wanted (Some entity.Boolean) name (Some right) = fine
 initial_wanted (Some (entity.Access t)) name initial = fine
-initial_wanted (Some (entity.Record t size)) name None = fine
+initial_wanted (Some (entity.Record t size)) name initial = fine
 initial_wanted (Some other) name initial = wrong name.spot NotInProfile
 initial_wanted None name initial = fine
 
@@ -84,7 +95,7 @@ object_remark known name type_name initial =
     node name.spot also
     new_name_remark known name name.spot also
     object_type_remark known type_name also
-    initial_remark known (kind_of (object_type_found known type_name)) initial also
+    initial_remark known (held_of (object_type_found known type_name)) initial also
     initial_wanted (object_type_found known type_name) name initial
 
 -- The collections of the access types that have none, in the order of the types, the first of which has this number.
@@ -121,6 +132,18 @@ abbrev pub initial_source : Option RightForm → RightForm
 initial_source (Some source) = source
 initial_source None = nothing
 
+-- The value that is assigned first, where it is one.
+abbrev pub initial_value_in : Option Assigned → Option RightForm
+initial_value_in (Some (a_value value)) = Some value
+initial_value_in (Some (a_whole items)) = None
+initial_value_in None = None
+
+-- The items of the record that is assigned first, where it is one.
+abbrev pub initial_items_in : Option Assigned → Option (List ItemForm)
+initial_items_in (Some (a_whole items)) = Some items
+initial_items_in (Some (a_value value)) = None
+initial_items_in None = None
+
 -- The number of the next variable.
 abbrev pub next_variable : Known → VariableNo
 next_variable known = record { 0 = length known.variables }
@@ -134,7 +157,7 @@ abbrev pub variable_created : Known → Ident → (borrows : Bool) → VariableK
 variable_created known name borrows kind value =
     declared
     (with_elaborated (declares (length known.variables) value ∷ [])
-    (with_variable (record { name = name.text; kind = kind; borrows = borrows }) known))
+    (with_variable (record { name = name.text; spot = name.spot; kind = kind; borrows = borrows }) known))
     name.text (entity.Variable (next_variable known) kind)
 
 -- After it the object is known, and is created with its initial value.
@@ -151,23 +174,25 @@ abbrev pub next_record : Known → VariableKind
 next_record known = variable.Record (next_type known)
 
 -- What is known once the part elaborates a record object, which is known by a type of its own.
-abbrev pub with_record_object : Known → Ident → (record_type : TypeNo) → Known
-with_record_object known name record_type =
-    with_elaborated (declares_record (length known.variables) (length known.types) ∷ [])
-    (with_variable (record { name = name.text; kind = next_record known; borrows = false }) (with_definition None (object_of record_type.0) known))
+abbrev pub with_record_object : Known → Ident → (record_type : TypeNo) → Option (List ItemForm) → Known
+with_record_object known name record_type initial =
+    with_elaborated (declares_record (length known.variables) (length known.types) initial ∷ [])
+    (with_variable (record { name = name.text; spot = name.spot; kind = next_record known; borrows = false })
+    (with_definition None (object_of record_type.0) known))
 
--- What is known once a record object is declared, and is created: its components hold what their declarations say (3.3.1).
-abbrev pub record_created : Known → Ident → (record_type : TypeNo) → Known
-record_created known name record_type =
-    declared (with_record_object known name record_type) name.text (entity.Variable (next_variable known) (next_record known))
+-- What is known once a record object is declared, and is created with the items of its initial value; where it has none, its components hold what
+-- their declarations say (3.3.1).
+abbrev pub record_created : Known → Ident → (record_type : TypeNo) → Option (List ItemForm) → Known
+record_created known name record_type initial =
+    declared (with_record_object known name record_type initial) name.text (entity.Variable (next_variable known) (next_record known))
 
 -- After the declaration of an object of this type, it is known and created.
-abbrev pub created_of : Known → Ident → Option Entity → Option RightForm → Known
-created_of known name (Some (entity.Record t size)) value = record_created known name t
-created_of known name found value = object_created known name (kind_of found) value
+abbrev pub created_of : Known → Ident → Option Entity → Option Assigned → Known
+created_of known name (Some (entity.Record t size)) value = record_created known name t (initial_items_in value)
+created_of known name found value = object_created known name (kind_of found) (initial_value_in value)
 
 -- What is known after the declaration of an object.
 abbrev pub object_known : Known → Ident → NameTree → Option RightTree → Known
 object_known known name type_name initial =
     created_of known name (object_type_found known type_name)
-    (initial_found known (kind_of (object_type_found known type_name)) initial)
+    (initial_found known (held_of (object_type_found known type_name)) initial)

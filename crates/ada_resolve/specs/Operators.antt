@@ -12,7 +12,7 @@ use Rattle.ada_program.specs.WellFormed.{names_borrower}
 use Rattle.ada_program.specs.declared.program.TypeNo.{TypeNo}
 use Rattle.ada_resolve.specs.declared.fault.NameRule.TheVariants.{WrongType}
 use Rattle.ada_resolve.specs.Remark.{Remark, fine, wrong, ◌also◌, wrong_if}
-use Rattle.ada_resolve.specs.Paths.{Meant, access_value, boolean_value, integer_value, null_value, unknown}
+use Rattle.ada_resolve.specs.Paths.{Meant, access_value, aggregate_value, boolean_value, integer_value, null_value, record_value, unknown}
 
 -- The Integer of a meaning; 0 where it is none.
 abbrev pub integer_in : Meant → ExpressionForm
@@ -118,18 +118,27 @@ access_wanted access null_value spot = fine
 access_wanted access (access_value path t) spot = wrong_if (not (access.0 == t.0)) spot WrongType
 access_wanted access other spot = wrong spot WrongType
 
+-- A record of this very type is wanted (4.3.1, 5.2): what a path leads to, or an aggregate, where the meaning is known.
+abbrev pub record_value_wanted : TypeNo → Meant → Spot → Remark
+record_value_wanted t unknown spot = fine
+record_value_wanted t (record_value path) spot = wrong_if (not (t.0 == path.record_type)) spot WrongType
+record_value_wanted t (aggregate_value found items) spot = wrong_if (not (t.0 == found.0)) spot WrongType
+record_value_wanted t other spot = wrong spot WrongType
+
 -- What a borrower holds goes to borrowers alone, and is freed by its owner (3.10.2, 13.11.2): elsewhere no borrower is wanted.
 abbrev pub owner_wanted : List VariableForm → Meant → Spot → Remark
 owner_wanted variables (access_value path t) spot = wrong_if (names_borrower variables path) spot WrongType
 owner_wanted variables other spot = fine
 
--- What can be compared for equality (4.5.2): an Integer, a Boolean, a value of an access type, or null, which is of all access types.
+-- What can be compared for equality (4.5.2): an Integer, a Boolean, a value of an access type, or null, which is of all access types; and a record,
+-- which the profile compares with nothing.
 pub data Comparable : Type 0 where
   any_value : Comparable
   an_integer : Comparable
   a_boolean : Comparable
   an_access : Comparable
   the_null : Comparable
+  a_record : Comparable
 
 -- What a value can be compared with (4.5.2).
 abbrev pub comparable : Meant → Comparable
@@ -138,11 +147,14 @@ comparable null_value = the_null
 comparable (access_value path t) = an_access
 comparable (integer_value e) = an_integer
 comparable (boolean_value e) = a_boolean
+comparable (record_value path) = a_record
+comparable (aggregate_value t items) = a_record
 
 -- Operands of an equality are of one type, and one of access values is null: where the left one is null, the right one has to be a value of an
--- access type, and it is the left one that is wrong.
+-- access type, and it is the left one that is wrong; and so is a record on the left, whatever stands on the right.
 abbrev pub compared_with : Comparable → Spot → Comparable → Spot → Remark
 compared_with any_value left_spot right right_spot = fine
+compared_with a_record left_spot right right_spot = wrong left_spot WrongType
 compared_with left left_spot any_value right_spot = fine
 compared_with the_null left_spot an_access right_spot = fine
 compared_with the_null left_spot right right_spot = wrong left_spot WrongType

@@ -3,7 +3,7 @@
 use Rattle.std.specs.Prelude.{ℕ, ◌+◌, Bool, true, false, ◌||◌, ◌==◌, if◌then◌else◌, List, [], ◌∷◌, ◌++◌, slice_get, Option, Some, None, bytes_eq}
 use Rattle.ada_text.specs.declared.spot.Spot.{Spot}
 use Rattle.ada_tree.specs.Names.{Ident, SelectorTree, component, dereference, PathTree}
-use Rattle.ada_program.specs.Form.{PathForm, ExpressionForm, integer, boolean, reads}
+use Rattle.ada_program.specs.Form.{PathForm, RecordPathForm, ExpressionForm, integer, boolean, reads, ItemForm}
 use Rattle.ada_program.specs.ProgramForm.{PartForm, TypeForm, record_of, access_to, object_of}
 use Rattle.ada_program.specs.declared.program.ComponentKind.{ComponentKind}
 use Rattle.ada_program.specs.declared.program.PartKind.{PartKind}
@@ -24,14 +24,16 @@ use Rattle.ada_resolve.specs.Known.{Known, Part, named, parts, visible, missing,
 use Rattle.ada_resolve.specs.Library.{is_library_root, no_component_rule}
 use Rattle.ada_resolve.specs.Remark.{Remark, fine, wrong, ◌also◌, wrong_if}
 
--- What an expression means (4.4): null, the value of an access type that a path names, an Integer or a Boolean; unknown where something is
--- wrong.
+-- What an expression means (4.4): null, the value of an access type that a path names, an Integer or a Boolean, the record to which a path leads,
+-- or an aggregate of a record type, with its items in the order of the elementary components; unknown where something is wrong.
 pub data Meant : Type 0 where
   unknown : Meant
   null_value : Meant
   access_value : PathForm → TypeNo → Meant
   integer_value : ExpressionForm → Meant
   boolean_value : ExpressionForm → Meant
+  record_value : RecordPathForm → Meant
+  aggregate_value : TypeNo → List ItemForm → Meant
 
 -- The path of the components that are selected, one behind the other, from a variable, which is a record object or not and stands at the spot
 -- (4.1.3).
@@ -212,12 +214,18 @@ variable_reached known variable.Boolean = reached.Value variable.Boolean
 variable_reached known (variable.Access access) = reached.Value (variable.Access access)
 variable_reached known (variable.Record object) = whole_object (record_of_object known.types object.0) (variable.Record object)
 
--- What a path means, by what it reaches: no whole object is a value in the profile yet.
+-- A path to a record of a type, which begins with this elementary component of the object to which the other path leads (4.1).
+abbrev pub record_path : PathForm → TypeNo → (first : ℕ) → RecordPathForm
+record_path object t first = record { object = object; first = first; record_type = t.0 }
+
+-- What a path means, by what it reaches.
 abbrev pub reached_meant : PathForm → Reached → Meant
 reached_meant path (reached.Value variable.Integer) = integer_value (reads path)
 reached_meant path (reached.Value variable.Boolean) = boolean_value (reads path)
 reached_meant path (reached.Value (variable.Access t)) = access_value path t
-reached_meant path other = unknown
+reached_meant path (reached.Value (variable.Record object)) = unknown
+reached_meant path (reached.Object t first) = record_value (record_path path t first)
+reached_meant path reached.Nothing = unknown
 
 -- A variable, by what it holds and what is selected from it.
 abbrev pub variable_meant : Known → VariableNo → Spot → VariableKind → List SelectorTree → Meant
@@ -285,17 +293,16 @@ selectors_remark known spot at [] = fine
 selectors_remark known spot at (s ∷ ss) =
     selector_remark known spot at s also selectors_remark known spot (selector_reached known at s) ss
 
--- No whole object is in the profile yet where a value is wanted.
-abbrev pub no_object : Reached → Spot → Remark
-no_object (reached.Object t first) spot = wrong spot NotInProfile
-no_object (reached.Value (variable.Record object)) spot = wrong spot NotInProfile
-no_object other spot = fine
+-- The record type of a record object is known (3.3.1): of each one that is declared it is.
+abbrev pub record_type_wanted : Reached → Spot → Remark
+record_type_wanted (reached.Value (variable.Record object)) spot = wrong spot NotInProfile
+record_type_wanted other spot = fine
 
 -- What is wrong with what is selected from a variable.
 abbrev pub variable_path_remark : Known → Spot → VariableKind → List SelectorTree → Remark
 variable_path_remark known spot kind selectors =
     selectors_remark known spot (variable_reached known kind) selectors also
-    no_object (selectors_reached known (variable_reached known kind) selectors) spot
+    record_type_wanted (selectors_reached known (variable_reached known kind) selectors) spot
 
 -- A value is wanted: another thing of that name is of the wrong kind (8.6).
 abbrev pub value_wanted : Known → Option Entity → Ident → List SelectorTree → Remark
@@ -314,6 +321,12 @@ named_remark known name selectors = value_wanted known (visible known name.text)
 abbrev pub library_is_no_value : Option LibraryName → Spot → Remark
 library_is_no_value (Some name) spot = wrong spot WrongType
 library_is_no_value None spot = fine
+
+-- A loop parameter is a constant (3.3, 5.5): nothing is written to it.
+abbrev pub written_wanted : Option Entity → Spot → Remark
+written_wanted (Some (entity.Parameter x)) spot = wrong spot WrongType
+written_wanted (Some other) spot = fine
+written_wanted None spot = fine
 
 -- What is wrong with a path where a value is wanted.
 unfoldable pub path_remark : Known → PathTree → Remark

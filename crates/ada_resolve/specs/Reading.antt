@@ -18,7 +18,7 @@ use Rattle.ada_program.specs.declared.program.PartKind.TheVariants as part
 use Rattle.ada_program.specs.declared.program.TypeNo.{TypeNo}
 use Rattle.ada_program.specs.declared.program.VariableKind.{VariableKind}
 use Rattle.ada_program.specs.declared.program.VariableKind.TheVariants as variable
-use Rattle.ada_program.specs.Form.{DeclarationForm, collects, declares, declares_record, PathForm, ExpressionForm, integer, boolean, reads, is_null, applied_to, ItemForm, null_item, item_of_path, item_of_value, RightForm, nothing, value_of, allocates, allocates_default, computes, StmtForm, skips, assigns, frees, gets, writes, writes_text, chooses, repeats, counts, exits, returns, raises, encloses, StmtsForm, no_stmts, a_stmt, BranchesForm, otherwise, HandlersForm}
+use Rattle.ada_program.specs.Form.{DeclarationForm, collects, declares, declares_record, PathForm, RecordPathForm, ExpressionForm, integer, boolean, reads, is_null, applied_to, ItemForm, null_item, item_of_path, item_of_value, item_of_record, RightForm, nothing, value_of, allocates, allocates_default, computes, StmtForm, skips, assigns, assigns_record, frees, gets, writes, writes_text, chooses, repeats, counts, exits, returns, raises, encloses, StmtsForm, no_stmts, a_stmt, BranchesForm, otherwise, HandlersForm}
 use Rattle.ada_program.specs.Form as form
 use Rattle.ada_program.specs.ProgramForm.{PartForm, TypeForm, record_of, object_of, ProgramForm}
 use Rattle.ada_program.specs.WellFormed as fits
@@ -48,26 +48,26 @@ IsComponentNamed p t text kind first =
     (slice_get p.types t ≡ Some (record_of name parts components)) ×
     (slice_get parts c ≡ Some (record { name = text; kind = kind; first = first }))
 
--- Selectors lead on to a value by the elementary components of these numbers (4.1): `all`, which is written or not, leads to the object that an
--- access value gives access to; a name leads from an object to its component of that name.
-pub data AreSelectorsRead (p : Context) : Way → List SelectorTree → List ℕ → Type 0 where
-  at_end : {kind : Option VariableKind} → AreSelectorsRead p (at_value kind) [] []
+-- Selectors lead on by the elementary components of these numbers (4.1), to a value or to an object: `all`, which is written or not, leads to the
+-- object that an access value gives access to; a name leads from an object to its component of that name.
+pub data AreSelectorsRead (p : Context) : Way → List SelectorTree → List ℕ → (end : Way) → Type 0 where
+  at_end : {way : Way} → AreSelectorsRead p way [] [] way
   by_all :
-      {kind : Option VariableKind} {t : ℕ} {spot : Spot} {selectors : List SelectorTree} {cs : List ℕ} →
-      type_behind p.types kind ≡ Some t → AreSelectorsRead p (at_object t 0) selectors cs →
-      AreSelectorsRead p (at_value kind) (dereference spot ∷ selectors) cs
+      {kind : Option VariableKind} {t : ℕ} {spot : Spot} {selectors : List SelectorTree} {cs : List ℕ} {end : Way} →
+      type_behind p.types kind ≡ Some t → AreSelectorsRead p (at_object t 0) selectors cs end →
+      AreSelectorsRead p (at_value kind) (dereference spot ∷ selectors) cs end
   by_value :
-      {kind : Option VariableKind} {t : ℕ} {i : Ident} {selectors : List SelectorTree} {cs : List ℕ} →
-      type_behind p.types kind ≡ Some t → AreSelectorsRead p (at_object t 0) (component i ∷ selectors) cs →
-      AreSelectorsRead p (at_value kind) (component i ∷ selectors) cs
+      {kind : Option VariableKind} {t : ℕ} {i : Ident} {selectors : List SelectorTree} {cs : List ℕ} {end : Way} →
+      type_behind p.types kind ≡ Some t → AreSelectorsRead p (at_object t 0) (component i ∷ selectors) cs end →
+      AreSelectorsRead p (at_value kind) (component i ∷ selectors) cs end
   to_value :
-      {t before first : ℕ} {kind : ComponentKind} {i : Ident} {selectors : List SelectorTree} {cs : List ℕ} →
-      IsComponentNamed p t i.text (part.Elementary kind) first → AreSelectorsRead p (at_value (Some (fits.held_kind kind))) selectors cs →
-      AreSelectorsRead p (at_object t before) (component i ∷ selectors) ((before + first) ∷ cs)
+      {t before first : ℕ} {kind : ComponentKind} {i : Ident} {selectors : List SelectorTree} {cs : List ℕ} {end : Way} →
+      IsComponentNamed p t i.text (part.Elementary kind) first → AreSelectorsRead p (at_value (Some (fits.held_kind kind))) selectors cs end →
+      AreSelectorsRead p (at_object t before) (component i ∷ selectors) ((before + first) ∷ cs) end
   to_record :
-      {t before first : ℕ} {inner : TypeNo} {i : Ident} {selectors : List SelectorTree} {cs : List ℕ} →
-      IsComponentNamed p t i.text (part.Record inner) first → AreSelectorsRead p (at_object inner.0 (before + first)) selectors cs →
-      AreSelectorsRead p (at_object t before) (component i ∷ selectors) cs
+      {t before first : ℕ} {inner : TypeNo} {i : Ident} {selectors : List SelectorTree} {cs : List ℕ} {end : Way} →
+      IsComponentNamed p t i.text (part.Record inner) first → AreSelectorsRead p (at_object inner.0 (before + first)) selectors cs end →
+      AreSelectorsRead p (at_object t before) (component i ∷ selectors) cs end
 
 -- Where a path begins (4.1), before its first selector: in a record object, if its variable is one, else at the value of its variable. The path
 -- says which.
@@ -76,13 +76,26 @@ IsBegun types (Some (variable.Record object)) of_record way =
     (of_record ≡ true) × (t : ℕ) × (slice_get types object.0 ≡ Some (object_of t)) × (way ≡ at_object t 0)
 IsBegun types kind of_record way = (of_record ≡ false) × (way ≡ at_value kind)
 
--- A path (4.1): its object has the name that is written, so have its components, and it stands where its first name does.
-pub record IsPathRead (p : Context) (tree : PathTree) (path : PathForm) : Type 0 where
+-- A path that leads somewhere (4.1): its object has the name that is written, so have its components, and it stands where its first name does.
+pub record IsWayRead (p : Context) (tree : PathTree) (path : PathForm) (end : Way) : Type 0 where
   pub root : IsObjectNamed p tree.root.text path.root
   pub way : Way
   pub begins : IsBegun p.types (fits.variable_kind p.variables path.root) path.of_record way
-  pub selectors : AreSelectorsRead p way tree.selectors path.selectors
+  pub selectors : AreSelectorsRead p way tree.selectors path.selectors end
   pub spot : path.spot ≡ tree.root.spot
+
+-- A path to a value (4.1).
+pub record IsPathRead (p : Context) (tree : PathTree) (path : PathForm) : Type 0 where
+  pub kind : Option VariableKind
+  pub leads : IsWayRead p tree path (at_value kind)
+
+-- A path to a record (4.1): it leads to such a record, in the object to which its own path leads.
+abbrev pub IsRecordPathRead : Context → PathTree → RecordPathForm → Type 0
+IsRecordPathRead p tree path = IsWayRead p tree path.object (at_object path.record_type path.first)
+
+-- A record that is assigned: its path begins at a variable, too.
+abbrev pub IsRecordTargetRead : Context → PathTree → RecordPathForm → Type 0
+IsRecordTargetRead p tree path = IsRecordPathRead p tree path × IsVariableNamed p tree.root.text path.object.root
 
 -- A path whose object is assigned, read from the input or freed: it begins at a variable, since a constant keeps its value (3.3, 5.2, 6.4.1).
 abbrev pub IsTargetRead : Context → PathTree → PathForm → Type 0
@@ -136,11 +149,24 @@ IsExpressionRead p (binary_expression operator left right) form =
     ((a : ExpressionForm) × (b : ExpressionForm) × (form ≡ joined a operator b) × IsExpressionRead p left a × IsExpressionRead p right b) ⊎
     IsNullTest p operator left right form
 
--- What an item gives a component (4.3.1): null, the access value that a path names, or another value.
+-- A record that a path names, perhaps in parentheses (4.1).
+abbrev pub IsCopyRead : Context → ExpressionTree → RecordPathForm → Type 0
+IsCopyRead p (path_expression tree) path = IsRecordPathRead p tree path
+IsCopyRead p (enclosed_expression spot inner) path = IsCopyRead p inner path
+IsCopyRead p other path = ⊥
+
+-- What an item gives an elementary component (4.3.1): null, the access value that a path names, or another value.
 abbrev pub IsItemRead : Context → ExpressionTree → ItemForm → Type 0
 IsItemRead p e null_item = IsNull e
 IsItemRead p e (item_of_path path) = IsMoveRead p e path
 IsItemRead p e (item_of_value form) = IsExpressionRead p e form
+IsItemRead p e (item_of_record path) = ⊥
+
+-- An aggregate, perhaps in parentheses (4.7): the name of its type, and its items.
+abbrev pub IsAggregate : ExpressionTree → Ident → ItemsTree → Type 0
+IsAggregate (aggregate_expression type_name items) name written = (type_name ≡ name) × (items ≡ written)
+IsAggregate (enclosed_expression spot inner) name written = IsAggregate inner name written
+IsAggregate other name written = ⊥
 
 -- Among items of which the first stands at a place, one is for the component of a number and a name (4.3.1): it has that name before `=>`, or
 -- it has none and stands at that number.
@@ -154,13 +180,32 @@ abbrev pub how_many : ItemsTree → ℕ
 how_many no_more_items = 0
 how_many (an_item label e rest) = how_many rest + 1
 
--- Each component of a new object is elementary and has one item, which is what is written for it, and no item is left out (4.3.1).
+mutual
+  -- What is written for a component gives it these items (4.3.1): an elementary component has one; a record is copied, or is an aggregate of its own
+  -- type, whose items stand in its place.
+  pub data IsGiven (p : Context) : PartKind → ExpressionTree → List ItemForm → Type 0 where
+    to_elementary : {kind : ComponentKind} {e : ExpressionTree} {form : ItemForm} → IsItemRead p e form → IsGiven p (part.Elementary kind) e (form ∷ [])
+    by_copy :
+        {t : TypeNo} {e : ExpressionTree} {path : RecordPathForm} → path.record_type ≡ t.0 → IsCopyRead p e path →
+        IsGiven p (part.Record t) e (item_of_record path ∷ [])
+    by_aggregate :
+        {t : TypeNo} {e : ExpressionTree} {forms : List ItemForm} →
+        (type_name : Ident) (items : ItemsTree) (parts : List PartForm) (components : List ComponentKind) →
+        IsAggregate e type_name items → IsFullTypeNamed p type_name.text t.0 →
+        slice_get p.types t.0 ≡ Some (record_of type_name.text parts components) →
+        how_many items ≡ length parts → AreGiven p items 0 parts forms → IsGiven p (part.Record t) e forms
+
+  -- Each of these components, the first of which has this number, is given what is written for it among the items, in their order (4.3.1).
+  pub data AreGiven (p : Context) : ItemsTree → ℕ → List PartForm → List ItemForm → Type 0 where
+    none_given : {items : ItemsTree} {c : ℕ} → AreGiven p items c [] []
+    one_given :
+        {items : ItemsTree} {c : ℕ} {d : PartForm} {parts : List PartForm} (e : ExpressionTree) (forms more : List ItemForm) →
+        IsItemFor items 0 c d.name e → IsGiven p d.kind e forms → AreGiven p items (c + 1) parts more →
+        AreGiven p items c (d ∷ parts) (forms ++ more)
+
+-- Each component of a new object has one item, which is what is written for it, and no item is left out (4.3.1).
 abbrev pub AreItemsRead : Context → List PartForm → ItemsTree → List ItemForm → Type 0
-AreItemsRead p parts items forms =
-    (how_many items ≡ length parts) × (length forms ≡ length parts) ×
-    ((c : ℕ) (form : ItemForm) → slice_get forms c ≡ Some form →
-    (d : PartForm) × (kind : ComponentKind) × (e : ExpressionTree) × (slice_get parts c ≡ Some d) × (d.kind ≡ part.Elementary kind) ×
-    IsItemFor items 0 c d.name e × IsItemRead p e form)
+AreItemsRead p parts items forms = (how_many items ≡ length parts) × AreGiven p items 0 parts forms
 
 -- A new object (4.8) is of the record type that the name stands for there, which the access type designates, and holds its items.
 pub record IsAllocationRead (p : Context) (type_name : Ident) (items : ItemsTree) (access : ℕ) (forms : List ItemForm) : Type 0 where
@@ -188,6 +233,12 @@ IsRightRead p (allocator_right spot None type_name (an_item label e rest)) (allo
     IsAllocationRead p type_name (an_item label e rest) access forms
 IsRightRead p (allocator_right spot handle type_name items) other = ⊥
 IsRightRead p (creation_right function argument) form = ⊥
+
+-- What is assigned to a record of a type (5.2): a record of that type, which is copied, or an aggregate of it.
+abbrev pub IsWholeRead : Context → RightTree → (record_type : ℕ) → List ItemForm → Type 0
+IsWholeRead p (expression_right e) t forms = IsGiven p (part.Record (record { 0 = t })) e forms
+IsWholeRead p (allocator_right spot handle type_name items) t forms = ⊥
+IsWholeRead p (creation_right function argument) t forms = ⊥
 
 -- The path is one of Put_Line (A.10.7).
 abbrev pub IsPutLine : PathTree → Type 0
@@ -294,19 +345,27 @@ IsInitialRead p kind None form = ⊥
 -- A variable of a number, by its declaration (3.3.1): its name, its type, and its initial value.
 pub record IsObjectRead (p : Context) (name : Ident) (type_name : NameTree) (initial : Option RightTree) (x : ℕ) (form : RightForm) : Type 0 where
   pub kind : VariableKind
-  pub there : slice_get p.variables x ≡ Some (record { name = name.text; kind = kind; borrows = false })
+  pub there : slice_get p.variables x ≡ Some (record { name = name.text; spot = name.spot; kind = kind; borrows = false })
   pub kind_named : IsKindNamed p type_name kind
   pub starts : IsInitialRead p kind initial form
 
--- A record object of a number, by its declaration (3.3.1): its name, no initial value, and the type by which it is known, whose record type has the
--- name that is written and is complete there.
-pub record IsRecordObjectRead (p : Context) (name : Ident) (type_name : NameTree) (initial : Option RightTree) (x object_type : ℕ) : Type 0 where
-  pub there : slice_get p.variables x ≡ Some (record { name = name.text; kind = variable.Record (record { 0 = object_type }); borrows = false })
+-- The items of a record object's initial value (3.3.1): what is written, or none where nothing is.
+abbrev pub AreInitialItems : Context → Option RightTree → (record_type : ℕ) → Option (List ItemForm) → Type 0
+AreInitialItems p (Some right) t (Some forms) = IsWholeRead p right t forms
+AreInitialItems p None t None = Unit {0}
+AreInitialItems p initial t items = ⊥
+
+-- A record object of a number, by its declaration (3.3.1): its name, its initial value, and the type by which it is known, whose record type has
+-- the name that is written and is complete there.
+pub record IsRecordObjectRead (p : Context) (name : Ident) (type_name : NameTree) (initial : Option RightTree) (x object_type : ℕ) (items : Option (List ItemForm)) : Type 0 where
+  pub there :
+      slice_get p.variables x ≡
+      Some (record { name = name.text; spot = name.spot; kind = variable.Record (record { 0 = object_type }); borrows = false })
   pub t : ℕ
   pub known_by : slice_get p.types object_type ≡ Some (object_of t)
   pub alone : type_name.rest ≡ []
   pub record_named : IsFullRecordNamed p type_name.first.text t
-  pub starts : initial ≡ None
+  pub starts : AreInitialItems p initial t items
 
 -- A borrower of a number, by its declaration (3.10): its name, the path that is written as its initial value, and its type, which is that of the
 -- path and designates the record type of the other name.
@@ -315,7 +374,7 @@ pub record IsBorrowerRead (p : Context) (name designated : Ident) (initial : Opt
   pub t : ℕ
   pub tree : PathTree
   pub path : PathForm
-  pub there : slice_get p.variables x ≡ Some (record { name = name.text; kind = variable.Access access; borrows = true })
+  pub there : slice_get p.variables x ≡ Some (record { name = name.text; spot = name.spot; kind = variable.Access access; borrows = true })
   pub written : initial ≡ Some (expression_right (path_expression tree))
   pub starts : form ≡ value_of path
   pub lent : IsPathRead p tree path
@@ -330,8 +389,8 @@ AreObjectsRead p no_declarations [] end = end ≡ p.place
 AreObjectsRead p (a_declaration (object_declaration name type_name initial) ds) (declares x form ∷ forms) end =
     (x ≡ p.place.variables) × IsNew p.place name × IsObjectRead p name type_name initial x form ×
     AreObjectsRead (read_at (with_new_variable name p.place) p) ds forms end
-AreObjectsRead p (a_declaration (object_declaration name type_name initial) ds) (declares_record x t ∷ forms) end =
-    (x ≡ p.place.variables) × (t ≡ p.place.types) × IsNew p.place name × IsRecordObjectRead p name type_name initial x t ×
+AreObjectsRead p (a_declaration (object_declaration name type_name initial) ds) (declares_record x t items ∷ forms) end =
+    (x ≡ p.place.variables) × (t ≡ p.place.types) × IsNew p.place name × IsRecordObjectRead p name type_name initial x t items ×
     AreObjectsRead (read_at (with_new_record name p.place) p) ds forms end
 AreObjectsRead p (a_declaration (borrower_declaration name designated initial) ds) (declares x form ∷ forms) end =
     (x ≡ p.place.variables) × IsNew p.place name × IsBorrowerRead p name designated initial x form ×
@@ -410,6 +469,8 @@ pub data IsPartRead : Context → List ℕ → DeclarationsTree → List Declara
 abbrev pub IsSimpleRead : Context → StatementTree → StmtForm → Type 0
 IsSimpleRead p (null_statement spot) skips = Unit {0}
 IsSimpleRead p (assignment target value) (assigns path right) = IsTargetRead p target path × IsRightRead p value right
+IsSimpleRead p (assignment target value) (assigns_record path forms) =
+    IsRecordTargetRead p target path × IsWholeRead p value path.record_type forms
 IsSimpleRead p (call procedure arguments) form = IsCallRead p procedure arguments form
 IsSimpleRead p (exit_statement spot written) (exits condition at) = IsConditionRead p written condition × (at ≡ spot)
 IsSimpleRead p (return_statement spot) (returns at) = at ≡ spot
@@ -425,7 +486,7 @@ behind_simple other place = place
 abbrev pub IsRangeRead : Context → Ident → (low high : ExpressionTree) → (x : ℕ) → (from to : ExpressionForm) → Type 0
 IsRangeRead p name low high x from to =
     (x ≡ p.place.variables) × IsNew (inside p.place) name ×
-    (slice_get p.variables x ≡ Some (record { name = name.text; kind = variable.Integer; borrows = false })) ×
+    (slice_get p.variables x ≡ Some (record { name = name.text; spot = name.spot; kind = variable.Integer; borrows = false })) ×
     IsExpressionRead p low from × IsExpressionRead p high to
 
 -- The declarative part of a block (5.6), up to its end: an inner part.

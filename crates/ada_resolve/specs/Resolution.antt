@@ -207,7 +207,7 @@ range_remark known spot name low high =
 -- What is known where the statements of such a loop begin: the parameter, an Integer, is declared in a part of its own (5.5, 8.1).
 abbrev pub with_parameter : Ident → Known → Known
 with_parameter name known =
-    declared (with_variable (record { name = name.text; kind = variable.Integer; borrows = false }) (with_part known)) name.text (entity.Parameter (next_variable known))
+    declared (with_variable (record { name = name.text; spot = name.spot; kind = variable.Integer; borrows = false }) (with_part known)) name.text (entity.Parameter (next_variable known))
 
 -- What comes of the head of a loop, which begins at the spot: the rules that it breaks are told with those noted before.
 abbrev pub head_told : Spot → SchemeTree → At → Told (LoopHead × At)

@@ -44,6 +44,26 @@ record_wanted None name = missing None name
 unfoldable pub record_remark : Known → Ident → Remark
 record_remark known name = record_wanted (visible known name.text) name
 
+-- The complete record type that a name stands for, if it stands for one.
+abbrev pub complete_in : Option Entity → Option TypeNo
+complete_in (Some (entity.Record t size)) = Some t
+complete_in (Some other) = None
+complete_in None = None
+
+-- The complete record type of a name, or `None` where something is wrong.
+unfoldable pub complete_found : Known → Ident → Option TypeNo
+complete_found known name = complete_in (visible known name.text)
+
+-- A complete record type is wanted: another thing of that name is of the wrong kind (8.6).
+abbrev pub complete_type_wanted : Option Entity → Ident → Remark
+complete_type_wanted (Some (entity.Record t size)) name = fine
+complete_type_wanted (Some other) name = wrong name.spot WrongType
+complete_type_wanted None name = missing None name
+
+-- What is wrong with a name where a complete record type is wanted (4.7).
+unfoldable pub complete_remark : Known → Ident → Remark
+complete_remark known name = complete_type_wanted (visible known name.text) name
+
 -- Whether an access type designates the record type (3.10).
 abbrev pub is_access_to : Option TypeForm → ℕ → Bool
 is_access_to (Some (access_to name designated)) wanted = designated == wanted

@@ -2,7 +2,7 @@
 
 use Rattle.std.specs.Prelude.{◌≡◌, ℕ, List, map, reverse, Option, Some, None, option_map, Result, Ok, Err}
 use Rattle.ada_tree.specs.Statements.{UnitTree}
-use Rattle.ada_program.specs.Form.{PathForm, RightForm, StmtForm, StmtsForm, ItemForm, LinksForm, a_link, no_more_links, path_form, expression_form, right_form, item_form, stmt_form, stmts_form, branches_form, condition_form, BranchesForm, ExpressionForm, declaration_form, HandlersForm, handlers_form}
+use Rattle.ada_program.specs.Form.{PathForm, RightForm, StmtForm, StmtsForm, ItemForm, LinksForm, a_link, no_more_links, path_form, record_path_form, expression_form, right_form, item_form, stmt_form, stmts_form, branches_form, condition_form, BranchesForm, ExpressionForm, declaration_form, HandlersForm, handlers_form}
 use Rattle.ada_program.specs.ProgramForm.{variable_form}
 use Rattle.ada_program.specs.declared.program.Item.{Item}
 use Rattle.ada_program.specs.declared.program.Link.{Link}
@@ -13,7 +13,6 @@ use Rattle.ada_program.specs.declared.program.Choice.{Choice}
 use Rattle.ada_program.specs.declared.program.Handler.{Handler}
 use Rattle.ada_program.specs.declared.program.Stmt.{Stmt}
 use Rattle.ada_program.specs.declared.program.TypeNo.{TypeNo}
-use Rattle.ada_program.specs.declared.program.VariableKind.{VariableKind}
 use Rattle.ada_text.specs.declared.spot.Spot.{Spot}
 use Rattle.ada_resolve.specs.declared.fault.NameFault.{NameFault}
 use Rattle.ada_resolve.specs.declared.fault.NameFault.TheVariants.{Broken, NoMemory}
@@ -24,7 +23,13 @@ use Rattle.ada_resolve.specs.declared.meant.Meant.{Meant as MeantOf}
 use Rattle.ada_resolve.specs.declared.meant.Meant.TheVariants as meant
 use Rattle.ada_resolve.specs.declared.meant.Comparable.{Comparable as ComparableOf}
 use Rattle.ada_resolve.specs.declared.meant.Comparable.TheVariants as comparable
-use Rattle.ada_resolve.specs.Operators.{Comparable, any_value, an_integer, a_boolean, an_access, the_null}
+use Rattle.ada_resolve.specs.Operators.{Comparable, any_value, an_integer, a_boolean, an_access, the_null, a_record}
+use Rattle.ada_resolve.specs.declared.assignments.Target.{Target as TargetOf}
+use Rattle.ada_resolve.specs.declared.assignments.Target.TheVariants as target
+use Rattle.ada_resolve.specs.declared.rights.Assigned.{Assigned as AssignedOf}
+use Rattle.ada_resolve.specs.declared.rights.Assigned.TheVariants as assigned
+use Rattle.ada_resolve.specs.Assignments.{Target, value_target, record_target}
+use Rattle.ada_resolve.specs.Rights.{Assigned, a_value, a_whole}
 use Rattle.ada_resolve.specs.declared.items.Filling.{Filling as FillingOf}
 use Rattle.ada_resolve.specs.declared.part.Part.{Part as PartOf}
 use Rattle.ada_resolve.specs.Kept.{known_type_form}
@@ -34,7 +39,7 @@ use Rattle.ada_resolve.specs.declared.library.Withs.{Withs}
 use Rattle.std.specs.Global.{Vec}
 use Rattle.std.specs.String.{string_bytes}
 use denote.Ref.{Bor}
-use Rattle.ada_resolve.specs.Paths.{Meant, access_value, boolean_value, integer_value, null_value, unknown}
+use Rattle.ada_resolve.specs.Paths.{Meant, access_value, aggregate_value, boolean_value, integer_value, null_value, record_value, unknown}
 use Rattle.ada_resolve.specs.Resolution.{At, IsFirstNameFault, LoopHead, on_condition, over_range, Others, Told, broken, gives, made_into}
 use Rattle.ada_resolve.specs.declared.loops.Head.{Head}
 use Rattle.ada_resolve.specs.declared.loops.Head.TheVariants as head
@@ -65,6 +70,10 @@ known_of r = record {
   texts = map string_bytes r.texts.items;
 }
 
+-- The items of a record.
+abbrev pub items_in : Vec Item → List ItemForm
+items_in items = map item_form items.items
+
 -- What an expression means, as the code keeps it.
 abbrev pub meant_of : MeantOf → Meant
 meant_of meant.Unknown = unknown
@@ -72,6 +81,8 @@ meant_of meant.Null = null_value
 meant_of (meant.Access path access) = access_value (path_form path) access
 meant_of (meant.Integer e) = integer_value (expression_form e)
 meant_of (meant.Boolean e) = boolean_value (expression_form e)
+meant_of (meant.Record path) = record_value (record_path_form path)
+meant_of (meant.Aggregate t items) = aggregate_value t (items_in items)
 
 -- What can be compared, as the code tells it.
 abbrev pub comparable_of : ComparableOf → Comparable
@@ -80,24 +91,32 @@ comparable_of comparable.Integer = an_integer
 comparable_of comparable.Boolean = a_boolean
 comparable_of comparable.Access = an_access
 comparable_of comparable.Null = the_null
+comparable_of comparable.Record = a_record
 
--- The item of a component, where it has one.
-abbrev pub item_in : Option Item → Option ItemForm
-item_in (Some item) = Some (item_form item)
-item_in None = None
+-- The items of a component, or of a record object's initial value, where there are any.
+abbrev pub optional_items : Option (Vec Item) → Option (List ItemForm)
+optional_items (Some items) = Some (items_in items)
+optional_items None = None
 
 -- What is known before an item, as the code keeps it.
 abbrev pub filling_in : FillingOf → Filling
-filling_in f = record { count = f.count; slots = map item_in f.slots.items; whole = f.whole }
+filling_in f = record { count = f.count; slots = map optional_items f.slots.items; whole = f.whole }
 
--- What is assigned, where that is known.
+-- The value of a right side, where that is known.
 abbrev pub right_in : Option Right → Option RightForm
 right_in (Some value) = Some (right_form value)
 right_in None = None
 
--- What is assigned to, and what that holds, where they are known.
-abbrev pub target_in : Option (Path × VariableKind) → Option (PathForm × VariableKind)
-target_in (Some found) = Some (path_form found.0, found.1)
+-- What is assigned, where that is known.
+abbrev pub assigned_in : Option AssignedOf → Option Assigned
+assigned_in (Some (assigned.Value value)) = Some (a_value (right_form value))
+assigned_in (Some (assigned.Record items)) = Some (a_whole (items_in items))
+assigned_in None = None
+
+-- What is assigned to, where that is known.
+abbrev pub target_in : Option TargetOf → Option Target
+target_in (Some (target.Value path kind)) = Some (value_target (path_form path) kind)
+target_in (Some (target.Record path)) = Some (record_target (record_path_form path))
 target_in None = None
 
 -- What a borrower borrows at first, where that is known.

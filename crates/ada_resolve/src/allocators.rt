@@ -2,9 +2,10 @@
 
 ghost use Rattle.std.specs.Prelude.{◌≡◌};
 ghost use Rattle.ada_tree.specs.Names.{ident_of, optional_ident_of};
-ghost use Rattle.ada_resolve.specs.Allocators.{allocated_found, allocated_remark, default_found, designated_if_known, is_in_use};
+ghost use Rattle.ada_resolve.specs.Allocators.{allocated_remark, default_found, designated_if_known, is_in_use};
 ghost use Rattle.ada_resolve.specs.Look.{Looks, aggregate_look, new_look};
 ghost use Rattle.ada_resolve.specs.Method.{known, IsNoted};
+ghost use Rattle.ada_resolve.specs.Types.{complete_found};
 ghost use Rattle.ada_resolve.specs.View.{right_in};
 
 use crate::fault::{NameFault, NameRule};
@@ -55,7 +56,7 @@ impl<'t> Resolver<'t> {
     }
 
     /// `new T'(..)` (4.8): a new object of the access type that is wanted, where that is known.
-    #[tactic(auto, unfolding(crate::specs::Allocators::aggregate_remark, crate::specs::Allocators::aggregate_found))]
+    #[tactic(auto, unfolding(crate::specs::Allocators::aggregate_remark, crate::specs::Allocators::aggregate_found, crate::specs::Expressions::all_items_remark))]
     fn aggregate(
         &self,
         spot: Spot,
@@ -80,7 +81,7 @@ impl<'t> Resolver<'t> {
     }
 
     /// The complete record type that an allocator names and the access type designates.
-    #[tactic(auto, unfolding(crate::specs::Allocators::allocated_found, crate::specs::Allocators::allocated_remark))]
+    #[tactic(auto, unfolding(crate::specs::Types::complete_found, crate::specs::Allocators::allocated_remark))]
     fn allocated_type(
         &self,
         spot: Spot,
@@ -88,7 +89,7 @@ impl<'t> Resolver<'t> {
         access: Option<TypeNo>,
         notes: &mut Notes,
     ) -> Option<TypeNo>
-        ensures found { result ≡ allocated_found (known self) (ident_of name.entry) }
+        ensures found { result ≡ complete_found (known self) (ident_of name.entry) }
         ensures remark { IsNoted notes
             (allocated_remark (known self) access spot (ident_of name.entry)) }
     {
@@ -100,6 +101,10 @@ impl<'t> Resolver<'t> {
                     NameRule::WrongType,
                 );
                 Some(number)
+            }
+            Some(Entity::LibraryUnit) => {
+                notes.note(name.spot, NameRule::WrongType);
+                None
             }
             Some(_) => {
                 notes.note(spot, NameRule::WrongType);

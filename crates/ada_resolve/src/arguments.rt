@@ -97,6 +97,7 @@ impl<'t> Resolver<'t> {
                 prefix.spot,
                 NameRule::NotInProfile,
             ),
+            Some(Entity::LibraryUnit) => notes.note(prefix.spot, NameRule::WrongType),
             _ => notes.note(prefix.spot, NameRule::NotInProfile),
         }
     }

@@ -56,7 +56,7 @@ impl<'t> Resolver<'t> {
         match initial {
             Some(Right::Expression(value)) => self.lender_value(name, wanted, value, notes),
             Some(right) => {
-                let _value = self.right(right, None, false, notes)?;
+                self.look_at_right(right, notes)?;
                 notes.note(name.spot, NameRule::NoInitialValue);
                 Ok(None)
             }
@@ -120,7 +120,7 @@ impl<'t> Resolver<'t> {
                 notes.note_if(!designates, spot, NameRule::WrongType);
                 Some((path, access))
             }
-            Meant::Null | Meant::Integer(_) | Meant::Boolean(_) => {
+            _ => {
                 notes.note(spot, NameRule::WrongType);
                 None
             }

@@ -4,9 +4,9 @@ ghost use Rattle.std.specs.Prelude.{◌≡◌, IfErr};
 ghost use Rattle.ada_tree.specs.ExpressionView.{expression_of};
 ghost use Rattle.ada_program.specs.Form.{expression_form};
 ghost use Rattle.ada_program.specs.Kept.{variables_in};
-ghost use Rattle.ada_resolve.specs.Calls.{actual_wanted, freed_wanted, freeing, getting, got_wanted, no_path_remark, taking, written_wanted};
+ghost use Rattle.ada_resolve.specs.Calls.{actual_wanted, freed_wanted, freeing, getting, got_wanted, no_path_remark, taking};
 ghost use Rattle.ada_resolve.specs.Look.{Looks, actual_look, call_look, library_call_look, named_call_look, actual_value_look, taker_look};
-ghost use Rattle.ada_resolve.specs.Method.{known, entity_of, IsNoted, Remarks};
+ghost use Rattle.ada_resolve.specs.Method.{known, IsNoted, Remarks};
 ghost use Rattle.ada_resolve.specs.Paths.{integer_value};
 ghost use Rattle.ada_resolve.specs.View.{stmt_in, meant_of};
 
@@ -176,15 +176,6 @@ impl<'t> Resolver<'t> {
         }
     }
 
-    /// What is written to is no constant.
-    fn written(&self, name: Identifier<'t>, notes: &mut Notes)
-        ensures { IsNoted notes (written_wanted (entity_of self name.entry) name.entry.spot) }
-    {
-        if let Some(Entity::Parameter(_)) = self.visible(name.text) {
-            notes.note(name.spot, NameRule::WrongType);
-        }
-    }
-
     /// An expression that is no path is of the wrong kind.
     fn no_path(&self, value: &Expression<'t>, notes: &mut Notes) -> Result<(), NameFault>
         ensures remark { Remarks result notes
@@ -221,7 +212,7 @@ fn getting(meant: Meant, spot: Spot, notes: &mut Notes) -> Option<Stmt>
     match meant {
         Meant::Unknown => None,
         Meant::Integer(value) => getting_integer(value, spot, notes),
-        Meant::Null | Meant::Access(_, _) | Meant::Boolean(_) => {
+        _ => {
             notes.note(spot, NameRule::WrongType);
             None
         }
@@ -267,7 +258,7 @@ fn freeing(
             notes.note_if(names_borrower(variables, &path), spot, NameRule::WrongType);
             Some(Stmt::Free { access, path })
         }
-        Meant::Null | Meant::Integer(_) | Meant::Boolean(_) => {
+        _ => {
             notes.note(spot, NameRule::WrongType);
             None
         }

@@ -1,11 +1,12 @@
 //! Expressions (4.4).
 
 ghost use Rattle.ada_resolve.specs.Chains.{nodes_remark};
-ghost use Rattle.ada_resolve.specs.Look.{Looks, expression_look, links_look, unary_look};
+ghost use Rattle.ada_resolve.specs.Look.{Looks, expression_look, links_look, qualified_look, unary_look};
 ghost use Rattle.ada_resolve.specs.Method.{IsNoted};
 ghost use Rattle.ada_resolve.specs.View.{meant_of};
 
-use crate::fault::{NameFault, NameRule};
+use crate::fault::NameFault;
+use crate::items::names_component;
 use crate::meant::Meant;
 use crate::notes::Notes;
 use crate::operators::{binary_meant, operand_wanted, operands_wanted, unary_meant};
@@ -13,7 +14,8 @@ use crate::resolver::Resolver;
 use crate::spots::expression_spot;
 use crate::statics::integer;
 use ada_program::{Spot, program};
-use ada_tree::expressions::{Expression, Link};
+use ada_tree::expressions::{Expression, Item, Link};
+use ada_tree::names::Identifier;
 use ada_values::operator::UnaryOperator;
 
 impl<'t> Resolver<'t> {
@@ -40,10 +42,7 @@ impl<'t> Resolver<'t> {
                 notes.node(path.root.spot);
                 self.path(path, notes)
             }
-            Expression::Aggregate { type_name, .. } => {
-                notes.note(type_name.spot, NameRule::NotInProfile);
-                Ok(Meant::Unknown)
-            }
+            Expression::Aggregate { type_name, items } => self.qualified(*type_name, items, notes),
             Expression::Enclosed { inner, .. } => self.expression(inner, notes),
             Expression::Unary {
                 operator,
@@ -56,6 +55,27 @@ impl<'t> Resolver<'t> {
                 let left = self.expression(first, notes)?;
                 self.chain(left, spot, links, notes)
             }
+        }
+    }
+
+    /// `T'(..)` (4.7): an aggregate of a complete record type.
+    #[cycle(expression)]
+    #[tactic(auto, unfolding(crate::specs::Expressions::expression_meant, crate::specs::Expressions::expression_remark, crate::specs::Expressions::filling_of))]
+    fn qualified(
+        &self,
+        type_name: Identifier<'t>,
+        items: &[Item<'t>],
+        notes: &mut Notes,
+    ) -> Result<Meant, NameFault>
+        ensures { Looks meant_of result notes (qualified_look self type_name.entry items.now) }
+    {
+        notes.node(type_name.spot);
+        let found = self.complete_name(type_name, notes);
+        let filling = self.items(items, found, notes)?;
+        filling.all_given(names_component(items), type_name.spot, notes);
+        match found {
+            Some(number) => Ok(Meant::Aggregate(number, filling.into_items(self.alloc)?)),
+            None => Ok(Meant::Unknown),
         }
     }
 

@@ -1,18 +1,18 @@
 //! Resolution of the items of aggregates (4.3.1).
 
-ghost use Rattle.std.specs.Prelude.{◌≡◌, ◌+◌, ◌<◌, map, length, is_some, option_copied, OnOk, IfErr};
+ghost use Rattle.std.specs.Prelude.{◌≡◌, ◌+◌, ◌<◌, ◌∷◌, ◌++◌, [], map, length, is_some, option_copied, OnOk, IfErr};
 ghost use Rattle.std.specs.List.{list_all};
 ghost use Rattle.std.proofs.Math.ListN.{replicate};
 ghost use Rattle.ada_tree.specs.ExpressionView.{items_of};
 ghost use Rattle.ada_tree.specs.Names.{optional_ident_of};
 ghost use Rattle.ada_program.specs.Form.{item_form};
 ghost use Rattle.ada_program.specs.Kept.{variables_in};
-ghost use Rattle.ada_resolve.specs.Items.{component_for, count_remark, filled_for, fits_remark, is_filled, item_meant, item_or_null, item_spot, names_component, no_component, record_item_wanted, with_item};
+ghost use Rattle.ada_resolve.specs.Items.{component_for, count_remark, filled_for, fits_remark, flattened, is_filled, item_meant, item_spot, names_component, no_component, with_item};
 ghost use Rattle.ada_resolve.specs.Kept.{forms_in};
 ghost use Rattle.ada_resolve.specs.Look.{Looks, items_look};
 ghost use Rattle.ada_resolve.specs.Method.{known, Finds, IsNoted, Remarks, Fills, written_item_remark, written_for_remark, each, label_of, written_value, empty_filling, item_filling};
 ghost use Rattle.ada_resolve.specs.Paths.{components_of};
-ghost use Rattle.ada_resolve.specs.View.{filling_in, item_in, meant_of};
+ghost use Rattle.ada_resolve.specs.View.{filling_in, items_in, meant_of, optional_items};
 
 use crate::components::{Components, KnownComponent};
 use crate::fault::{NameFault, NameRule};
@@ -32,15 +32,16 @@ use std::alloc::Global;
 pub(crate) struct Filling {
     /// How many items come before it.
     count: usize,
-    /// Which components have their items.
-    slots: Vec<Option<program::Item>>,
+    /// Which components have their items: those of their elementary components, or one that is a record.
+    slots: Vec<Option<Vec<program::Item>>>,
     /// Whether each item so far names a component of its own.
     whole: bool,
 }
 
 impl<'t> Resolver<'t> {
-    /// The items of `new T'(..)`, in order, for the components of this record type, where that is known.
-    #[tactic(auto, unfolding(crate::specs::Items::filling_of))]
+    /// The items of an aggregate, in order, for the components of this record type, where that is known.
+    #[cycle(expression)]
+    #[tactic(auto, unfolding(crate::specs::Expressions::filling_of), using(std::proofs::lemmas::Grind::common_steps, crate::proofs::ItemLists::items_rules))]
     pub(crate) fn items(
         &self,
         written: &[Item<'t>],
@@ -84,7 +85,8 @@ impl<'t> Resolver<'t> {
     }
 
     /// One item.
-    #[tactic(auto, unfolding(crate::specs::View::known_of, crate::specs::Items::item_remark, crate::specs::Items::after_item))]
+    #[cycle(expression)]
+    #[tactic(auto, unfolding(crate::specs::View::known_of, crate::specs::Expressions::item_remark, crate::specs::Items::after_item))]
     fn item(
         &self,
         item: &Item<'t>,
@@ -115,7 +117,7 @@ impl<'t> Resolver<'t> {
             }
             None => None,
         };
-        filling.fill(component, alike, item_meant(value));
+        filling.fill(component, alike, item_meant(self.alloc, value)?);
         Ok(())
     }
 }
@@ -143,28 +145,33 @@ impl Filling {
     }
 
     /// What is known after an item for this component.
-    fn fill(&mut self, component: Option<(usize, KnownComponent)>, alike: bool, item: program::Item)
+    fn fill(
+        &mut self,
+        component: Option<(usize, KnownComponent)>,
+        alike: bool,
+        items: Vec<program::Item>,
+    )
         requires room { self.old.count < usize.MAX }
-        ensures filling { Fills self (λ f. filled_for component f alike (item_form item)) }
+        ensures filling { Fills self (λ f. filled_for component f alike (items_in items)) }
         ensures count { self.new.count ≡ self.old.count + 1 }
     {
         self.count += 1;
         match component {
             Some((at, _)) => {
                 self.whole = self.whole && alike && !self.is_filled(at);
-                self.set(at, item);
+                self.set(at, items);
             }
             None => self.whole = false,
         }
     }
 
-    /// The component of this number has this item now.
+    /// The component of this number has these items now.
     #[tactic(auto, using(crate::proofs::Names::map_set, crate::proofs::Names::set_beyond))]
-    fn set(&mut self, at: usize, item: program::Item)
-        ensures { Fills self (with_item at (item_form item)) }
+    fn set(&mut self, at: usize, items: Vec<program::Item>)
+        ensures { Fills self (with_item at (items_in items)) }
     {
         if let Some(slot) = self.slots.get_mut(at) {
-            *slot = Some(item);
+            *slot = Some(items);
         }
     }
 
@@ -194,22 +201,35 @@ impl Filling {
         self.slots.iter().all(|slot| slot.is_some())
     }
 
-    /// The items in the order of the components; null where one has none.
+    /// The items of all components, in the order of the components.
     pub(crate) fn into_items(self, alloc: Global) -> Result<Vec<program::Item>, NameFault>
-        ensures items { Finds (each item_form) result (map item_or_null (filling_in self).slots) }
+        ensures items { Finds items_in result (flattened (filling_in self).slots) }
         ensures memory { IfErr result (λ e. e ≡ NameFault.NoMemory) }
     {
         let mut items = Vec::new(alloc);
         for slot in self.slots {
-            items.push(slot.unwrap_or(program::Item::Null))?;
+            if let Some(given) = slot {
+                add_items(&mut items, given)?;
+            }
         }
         Ok(items)
     }
 }
 
+/// These items stand behind the others.
+#[tactic(auto, using(crate::proofs::Names::map_append))]
+fn add_items(items: &mut Vec<program::Item>, given: Vec<program::Item>) -> Result<(), NameFault>
+    ensures added { OnOk result (items_in items.new ≡ items_in items.old ++ items_in given) }
+    ensures memory { IfErr result (λ e. e ≡ NameFault.NoMemory) }
+{
+    let mut given = given;
+    items.append(&mut given)?;
+    Ok(())
+}
+
 /// As many components, of which none has its item yet.
-fn empty_slots(alloc: Global, count: usize) -> Result<Vec<Option<program::Item>>, NameFault>
-    ensures slots { Finds (each item_in) result (replicate count None) }
+fn empty_slots(alloc: Global, count: usize) -> Result<Vec<Option<Vec<program::Item>>>, NameFault>
+    ensures slots { Finds (each optional_items) result (replicate count None) }
     ensures memory { IfErr result (λ e. e ≡ NameFault.NoMemory) }
 {
     let mut slots = Vec::new(alloc);
@@ -276,27 +296,34 @@ fn fits(variables: &[Variable], kind: PartKind, value: &Meant, spot: Spot, notes
             value.access_wanted(access, spot, notes);
             value.owner_wanted(variables, spot, notes);
         }
-        PartKind::Record(_) => record_item_wanted(value, spot, notes),
+        PartKind::Record(number) => value.record_wanted(number, spot, notes),
     }
 }
 
-/// No value but a whole record is one of a record component.
-fn record_item_wanted(value: &Meant, spot: Spot, notes: &mut Notes)
-    ensures { IsNoted notes (record_item_wanted (meant_of value.now) spot) }
+/// What an item gives its component: one item, or, where it is an aggregate, those of that.
+fn item_meant(alloc: Global, value: Meant) -> Result<Vec<program::Item>, NameFault>
+    ensures items { Finds items_in result (item_meant (meant_of value)) }
+    ensures memory { IfErr result (λ e. e ≡ NameFault.NoMemory) }
 {
     match value {
-        Meant::Unknown => {}
-        _ => notes.note(spot, NameRule::WrongType),
+        Meant::Unknown => Ok(Vec::new(alloc)),
+        Meant::Null => single_item(alloc, program::Item::Null),
+        Meant::Access(path, _) => single_item(alloc, program::Item::Path(path)),
+        Meant::Integer(expression) | Meant::Boolean(expression) => {
+            single_item(alloc, program::Item::Value(expression))
+        }
+        Meant::Record(path) => single_item(alloc, program::Item::Record(path)),
+        Meant::Aggregate(_, items) => Ok(items),
     }
 }
 
-/// What an item gives its component; null where its value is null, or is unknown.
-fn item_meant(value: Meant) -> program::Item
-    ensures { item_form result ≡ item_meant (meant_of value) }
+/// One item.
+pub(crate) fn single_item(
+    alloc: Global,
+    item: program::Item,
+) -> Result<Vec<program::Item>, NameFault>
+    ensures items { Finds items_in result (item_form item ∷ []) }
+    ensures memory { IfErr result (λ e. e ≡ NameFault.NoMemory) }
 {
-    match value {
-        Meant::Integer(expression) | Meant::Boolean(expression) => program::Item::Value(expression),
-        Meant::Access(path, _) => program::Item::Path(path),
-        _ => program::Item::Null,
-    }
+    Ok(vec![in alloc; item]?)
 }

@@ -10,7 +10,7 @@ ghost use Rattle.ada_resolve.specs.View.{comparable_of, meant_of};
 use crate::fault::NameRule;
 use crate::notes::Notes;
 use ada_program::borrowers::names_borrower;
-use ada_program::program::{Expression, Variable};
+use ada_program::program::{Expression, Item, RecordPath, Variable};
 use ada_program::{Path, Spot, TypeNo};
 
 /// What an expression means (4.4).
@@ -26,6 +26,10 @@ pub(crate) enum Meant {
     Integer(Expression),
     /// A value of type Boolean.
     Boolean(Expression),
+    /// The record to which a path leads.
+    Record(RecordPath),
+    /// An aggregate of this record type: its items in the order of the elementary components.
+    Aggregate(TypeNo, Vec<Item>),
 }
 
 /// What can be compared for equality (4.5.2).
@@ -39,6 +43,8 @@ pub(crate) enum Comparable {
     Access,
     /// `null`, which is of all access types.
     Null,
+    /// A record, which is compared with nothing.
+    Record,
 }
 
 impl Meant {
@@ -71,7 +77,27 @@ impl Meant {
             Meant::Access(_, found) => {
                 notes.note_if(access.0 != found.0, spot, NameRule::WrongType);
             }
-            Meant::Integer(_) | Meant::Boolean(_) => notes.note(spot, NameRule::WrongType),
+            Meant::Integer(_) | Meant::Boolean(_) | Meant::Record(_) | Meant::Aggregate(_, _) => {
+                notes.note(spot, NameRule::WrongType);
+            }
+        }
+    }
+
+    /// A record of this very type is wanted, where the meaning is known.
+    pub(crate) fn record_wanted(&self, number: TypeNo, spot: Spot, notes: &mut Notes)
+        ensures { IsNoted notes (rules.record_value_wanted number (meant_of self.now) spot) }
+    {
+        match self {
+            Meant::Unknown => {}
+            Meant::Record(path) => {
+                notes.note_if(number.0 != path.record.0, spot, NameRule::WrongType);
+            }
+            Meant::Aggregate(found, _) => {
+                notes.note_if(number.0 != found.0, spot, NameRule::WrongType);
+            }
+            Meant::Null | Meant::Access(_, _) | Meant::Integer(_) | Meant::Boolean(_) => {
+                notes.note(spot, NameRule::WrongType);
+            }
         }
     }
 
@@ -95,6 +121,7 @@ impl Meant {
             Meant::Access(_, _) => Comparable::Access,
             Meant::Integer(_) => Comparable::Integer,
             Meant::Boolean(_) => Comparable::Boolean,
+            Meant::Record(_) | Meant::Aggregate(_, _) => Comparable::Record,
         }
     }
 

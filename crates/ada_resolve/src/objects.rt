@@ -6,15 +6,16 @@ ghost use Rattle.ada_tree.specs.Names.{ident_of, name_of};
 ghost use Rattle.ada_program.specs.Form.{declaration_form};
 ghost use Rattle.ada_resolve.specs.Look.{Looks, initial_look};
 ghost use Rattle.ada_resolve.specs.Method.{known, Finds, IsNoted, Changes, object_tree, Declares, each, new_variable, with_created, with_declarations, with_object, with_object_created, with_record_of};
-ghost use Rattle.ada_resolve.specs.Objects.{type_in, object_type_found, object_type_remark, kind_of, initial_wanted, after_types, with_variable, missing_collections, lacks_collection, next_variable};
+ghost use Rattle.ada_resolve.specs.Objects.{type_in, object_type_found, object_type_remark, held_of, initial_items_in, initial_value_in, kind_of, initial_wanted, after_types, with_variable, missing_collections, lacks_collection, next_variable};
 ghost use Rattle.ada_resolve.specs.Paths.{designated_of};
-ghost use Rattle.ada_resolve.specs.View.{known_of, right_in};
+ghost use Rattle.ada_resolve.specs.View.{assigned_in, known_of, optional_items, right_in};
 
 use crate::components::KnownType;
 use crate::fault::{NameFault, NameRule};
 use crate::library::is_library_root;
 use crate::notes::Notes;
 use crate::resolver::Resolver;
+use crate::rights::{Assigned, Held};
 use crate::scope::Entity;
 use ada_program::program::{self, Declaration, Variable, VariableKind};
 use ada_program::{TypeNo, VariableNo};
@@ -35,26 +36,33 @@ impl<'t> Resolver<'t> {
         notes.node(name.spot);
         self.new_name(name, name.spot, notes);
         let found = self.object_type(type_name, notes);
-        let kind = kind_of(found);
-        let value = self.initial(initial, kind, notes)?;
+        let value = self.initial(initial, held_of(found), notes)?;
         initial_wanted(found, name, initial, notes);
         notes.settle()?;
-        match (found, kind) {
-            (Some(Entity::Record { number, size: _ }), _) => self.create_record(name, number),
-            (_, Some(kind)) => self.create(name, false, kind, value),
+        match (found, kind_of(found)) {
+            (Some(Entity::Record { number, size: _ }), _) => {
+                self.create_record(name, number, initial_items(value))
+            }
+            (_, Some(kind)) => self.create(name, false, kind, initial_value(value)),
             (_, None) => Ok(()),
         }
     }
 
-    /// A record object is known, by a type of its own, and is created: its components hold what their declarations say.
-    fn create_record(&mut self, name: Identifier<'t>, number: TypeNo) -> Result<(), NameFault>
-        ensures known { OnOk result (Changes self (with_record_of name.entry number)) }
+    /// A record object is known, by a type of its own, and is created: with these items, where there are any, else its components hold what their
+    /// declarations say.
+    fn create_record(
+        &mut self,
+        name: Identifier<'t>,
+        number: TypeNo,
+        items: Option<Vec<program::Item>>,
+    ) -> Result<(), NameFault>
+        ensures known { OnOk result (Changes self (with_record_of name.entry number items)) }
         ensures memory { IfErr result (λ e. e ≡ NameFault.NoMemory) }
     {
         let object = self.add_type(KnownType::Object { record: number })?;
         let kind = VariableKind::Record(object);
         let variable = self.add_variable(name, false, kind)?;
-        self.add_record(variable, object)?;
+        self.add_record(variable, object, items)?;
         self.declare(name.text, Entity::Variable { variable, kind })
     }
 
@@ -90,6 +98,7 @@ impl<'t> Resolver<'t> {
         let text = String::from_str(self.alloc, name.text)?;
         self.variables.push(Variable {
             name: text,
+            spot: name.spot,
             kind,
             borrows,
         })?;
@@ -109,26 +118,31 @@ impl<'t> Resolver<'t> {
         self.here.add_object(variable, initial)
     }
 
-    /// A record object is created, known by this type.
+    /// A record object is created, known by this type, perhaps with these items.
     #[tactic(auto, unfolding(crate::specs::View::known_of))]
-    fn add_record(&mut self, variable: VariableNo, object: TypeNo) -> Result<(), NameFault>
-        ensures known { OnOk result (Changes self (with_object_created variable object)) }
+    fn add_record(
+        &mut self,
+        variable: VariableNo,
+        object: TypeNo,
+        items: Option<Vec<program::Item>>,
+    ) -> Result<(), NameFault>
+        ensures known { OnOk result (Changes self (with_object_created variable object items)) }
         ensures memory { IfErr result (λ e. e ≡ NameFault.NoMemory) }
     {
-        self.here.add_record(variable, object)
+        self.here.add_record(variable, object, items)
     }
 
     /// The initial value, where one is written.
     fn initial(
         &self,
         initial: &Option<expressions::Right<'t>>,
-        kind: Option<VariableKind>,
+        held: Option<Held>,
         notes: &mut Notes,
-    ) -> Result<Option<program::Right>, NameFault>
-        ensures { Looks right_in result notes (initial_look self kind initial.now) }
+    ) -> Result<Option<Assigned>, NameFault>
+        ensures { Looks assigned_in result notes (initial_look self held initial.now) }
     {
         match initial {
-            Some(right) => self.right(right, kind, false, notes),
+            Some(right) => self.right(right, held, false, notes),
             None => Ok(None),
         }
     }
@@ -227,7 +241,40 @@ fn type_in(found: Entity) -> Option<Entity>
     }
 }
 
-/// What an object of a type holds to which a value can be given: a record object gets none as a whole.
+/// What an object of a type holds, where its initial value is looked at.
+fn held_of(found: Option<Entity>) -> Option<Held>
+    ensures { result ≡ held_of found }
+{
+    match found? {
+        Entity::Integer => Some(Held::Integer),
+        Entity::Boolean => Some(Held::Boolean),
+        Entity::Access(access) => Some(Held::Access(access)),
+        Entity::Record { number, size: _ } => Some(Held::Record(number)),
+        _ => None,
+    }
+}
+
+/// The value that is assigned first, where it is one.
+fn initial_value(value: Option<Assigned>) -> Option<program::Right>
+    ensures { right_in result ≡ initial_value_in (assigned_in value) }
+{
+    match value {
+        Some(Assigned::Value(value)) => Some(value),
+        Some(Assigned::Record(_)) | None => None,
+    }
+}
+
+/// The items of the record that is assigned first, where it is one.
+fn initial_items(value: Option<Assigned>) -> Option<Vec<program::Item>>
+    ensures { optional_items result ≡ initial_items_in (assigned_in value) }
+{
+    match value {
+        Some(Assigned::Record(items)) => Some(items),
+        Some(Assigned::Value(_)) | None => None,
+    }
+}
+
+/// What a variable of a type holds, which is no record object.
 fn kind_of(found: Option<Entity>) -> Option<VariableKind>
     ensures { result ≡ kind_of found }
 {
@@ -239,7 +286,7 @@ fn kind_of(found: Option<Entity>) -> Option<VariableKind>
     }
 }
 
-/// An Integer or a Boolean has an initial value; no record object has one yet.
+/// An Integer or a Boolean has an initial value.
 fn initial_wanted(
     found: Option<Entity>,
     name: Identifier<'_>,
@@ -255,12 +302,7 @@ fn initial_wanted(
             name.spot,
             NameRule::NoInitialValue,
         ),
-        Some(Entity::Record { .. }) => notes.note_if(
-            initial.is_some(),
-            name.spot,
-            NameRule::NotInProfile,
-        ),
-        Some(Entity::Access(_)) | None => {}
+        Some(Entity::Access(_) | Entity::Record { .. }) | None => {}
         Some(_) => notes.note(name.spot, NameRule::NotInProfile),
     }
 }

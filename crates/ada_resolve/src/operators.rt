@@ -211,6 +211,7 @@ fn equal_wanted(left: &Meant, left_spot: Spot, right: &Meant, right_spot: Spot, 
         (equal_wanted (meant_of left.now) left_spot (meant_of right.now) right_spot) }
 {
     match (left.comparable(), right.comparable()) {
+        (Comparable::Record, _) => notes.note(left_spot, NameRule::WrongType),
         (Comparable::AnyValue, _)
         | (_, Comparable::AnyValue)
         | (Comparable::Null, Comparable::Access)

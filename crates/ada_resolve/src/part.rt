@@ -8,7 +8,7 @@ ghost use Rattle.ada_resolve.specs.Method.{each, Elaborates, Enters};
 ghost use Rattle.ada_resolve.specs.Paths.{is_incomplete_entity, is_incomplete_in};
 ghost use Rattle.ada_resolve.specs.Resolution.{some_incomplete, entity_in};
 ghost use Rattle.ada_resolve.specs.Objects.{initial_source};
-ghost use Rattle.ada_resolve.specs.View.{part_of, right_in};
+ghost use Rattle.ada_resolve.specs.View.{optional_items, part_of, right_in};
 
 use crate::fault::NameFault;
 use crate::scope::Entity;
@@ -130,19 +130,23 @@ impl<'t> Part<'t> {
         Ok(())
     }
 
-    /// A record object is created, known by this type.
+    /// A record object is created, known by this type, perhaps with these items.
     #[tactic(auto, unfolding(crate::specs::View::part_of), using(crate::proofs::Names::map_snoc))]
     pub(crate) fn add_record(
         &mut self,
         variable: VariableNo,
         object: TypeNo,
+        initial: Option<Vec<program::Item>>,
     ) -> Result<(), NameFault>
         ensures known { OnOk result
-            (Elaborates self (declares_record variable.0 object.0 ∷ [])) }
+            (Elaborates self (declares_record variable.0 object.0 (optional_items initial) ∷ [])) }
         ensures memory { IfErr result (λ e. e ≡ NameFault.NoMemory) }
     {
-        self.declarations
-            .push(Declaration::Record { variable, object })?;
+        self.declarations.push(Declaration::Record {
+            variable,
+            object,
+            initial,
+        })?;
         Ok(())
     }
 

@@ -6,8 +6,8 @@ ghost use Rattle.ada_program.specs.Form.{path_form};
 ghost use Rattle.ada_resolve.specs.Kept.{forms_in, kinds_in};
 ghost use Rattle.ada_resolve.specs.Known.{parts_of};
 ghost use Rattle.ada_resolve.specs.Look.{Looks, library_path_look, named_look, path_look, variable_look};
-ghost use Rattle.ada_resolve.specs.Method.{known, Finds, each};
-ghost use Rattle.ada_resolve.specs.Paths.{component_named, components_of, designated_of, elementary_of, is_incomplete_type, is_record_kind, name_of_type, reached_meant, record_of_object, variable_reached};
+ghost use Rattle.ada_resolve.specs.Method.{known, Finds, IsNoted, each, entity_of};
+ghost use Rattle.ada_resolve.specs.Paths.{component_named, components_of, designated_of, elementary_of, is_incomplete_type, is_record_kind, name_of_type, reached_meant, record_of_object, variable_reached, written_wanted};
 ghost use Rattle.ada_resolve.specs.View.{meant_of, optional_number, itself};
 
 use crate::components::{Components, KnownComponent, KnownType};
@@ -19,7 +19,7 @@ use crate::part::{is_incomplete_in, is_this_incomplete};
 use crate::resolver::Resolver;
 use crate::scope::Entity;
 use crate::selectors::Reached;
-use ada_program::program::{self, Expression, VariableKind};
+use ada_program::program::{self, ComponentNo, Expression, RecordPath, VariableKind};
 use ada_program::{Spot, TypeNo, VariableNo};
 use ada_tree::names::{Identifier, Path, Selector};
 
@@ -73,6 +73,15 @@ impl<'t> Resolver<'t> {
         }
     }
 
+    /// What is written to is no constant.
+    pub(crate) fn written(&self, name: Identifier<'t>, notes: &mut Notes)
+        ensures { IsNoted notes (written_wanted (entity_of self name.entry) name.entry.spot) }
+    {
+        if let Some(Entity::Parameter(_)) = self.visible(name.text) {
+            notes.note(name.spot, NameRule::WrongType);
+        }
+    }
+
     /// What a variable means, with what is selected from it.
     fn variable_value(
         &self,
@@ -92,7 +101,7 @@ impl<'t> Resolver<'t> {
             &mut components,
             notes,
         )?;
-        reached.no_object(spot, notes);
+        reached.record_type_wanted(spot, notes);
         Ok(reached_meant(
             reached,
             program::Path {
@@ -239,9 +248,12 @@ fn reached_meant(reached: Reached, path: program::Path) -> Meant
         Reached::Value(VariableKind::Integer) => Meant::Integer(Expression::Path(path)),
         Reached::Value(VariableKind::Boolean) => Meant::Boolean(Expression::Path(path)),
         Reached::Value(VariableKind::Access(access)) => Meant::Access(path, access),
-        Reached::Value(VariableKind::Record(_)) | Reached::Object { .. } | Reached::Nothing => {
-            Meant::Unknown
-        }
+        Reached::Object { number, first } => Meant::Record(RecordPath {
+            object: path,
+            first: ComponentNo(first),
+            record: number,
+        }),
+        Reached::Value(VariableKind::Record(_)) | Reached::Nothing => Meant::Unknown,
     }
 }
 

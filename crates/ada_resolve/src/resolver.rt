@@ -3,7 +3,7 @@
 ghost use Rattle.std.specs.Prelude.{◌≡◌, map, length, IfOk, OnOk, IfErr, bytes_eq};
 ghost use Rattle.ada_tree.specs.Names.{ident_of};
 ghost use Rattle.ada_program.specs.Form.{declaration_form};
-ghost use Rattle.ada_resolve.specs.Known.{named, named_in, parts, declared, visible, name_remark, new_name_remark, library_remark, library_found, is_with, no_variable_yet, type_begins, with_part, without_part};
+ghost use Rattle.ada_resolve.specs.Known.{named, named_in, parts, declared, visible, name_remark, new_name_remark, library_remark, library_found, is_with, no_variable_yet, outermost, type_begins, with_part, without_part};
 ghost use Rattle.ada_resolve.specs.Method.{known, each, IsNoted, Changes, with_type};
 ghost use Rattle.ada_resolve.specs.Resolution.{known_first};
 ghost use Rattle.ada_resolve.specs.View.{known_of};
@@ -130,7 +130,19 @@ impl<'t> Resolver<'t> {
         match self.in_parts(text) {
             Some(entity) => Some(entity),
             None if self.is_own(text) => Some(Entity::Procedure),
-            None => predefined(text),
+            None => self.outermost(text),
+        }
+    }
+
+    /// What a name stands for that no part declares: what is predefined, or a library unit that a `with` clause names.
+    #[tactic(auto, unfolding(crate::specs::View::known_of))]
+    fn outermost(&self, text: &str) -> Option<Entity>
+        ensures { result ≡ outermost (known self).withs text.now }
+    {
+        match predefined(text) {
+            Some(entity) => Some(entity),
+            None if text == "RUN_INPUT" && self.withs.run_input => Some(Entity::LibraryUnit),
+            None => None,
         }
     }
 

@@ -1,33 +1,55 @@
 //! Resolution of what is assigned: a value, or a new object (5.2).
 
-ghost use Rattle.std.specs.Prelude.{◌≡◌};
+ghost use Rattle.std.specs.Prelude.{◌≡◌, None, false, IfErr};
 ghost use Rattle.ada_program.specs.Kept.{variables_in};
 ghost use Rattle.ada_resolve.specs.Look.{Looks, right_look};
-ghost use Rattle.ada_resolve.specs.Method.{IsNoted};
+ghost use Rattle.ada_resolve.specs.Method.{Finds, IsNoted, Remarks};
 ghost use Rattle.ada_resolve.specs.Rights as rules;
-ghost use Rattle.ada_resolve.specs.View.{meant_of, right_in};
+ghost use Rattle.ada_resolve.specs.View.{assigned_in, meant_of, right_in};
 
 use crate::allocators::is_in_use;
 use crate::fault::{NameFault, NameRule};
+use crate::items::single_item;
 use crate::meant::Meant;
 use crate::notes::Notes;
 use crate::resolver::Resolver;
 use crate::spots::expression_spot;
-use ada_program::program::{self, Variable, VariableKind};
+use ada_program::program::{self, Variable};
 use ada_program::{Spot, TypeNo};
 use ada_tree::expressions;
+use std::alloc::Global;
+
+/// What is held where something is assigned (5.2).
+#[derive(Clone, Copy)]
+pub(crate) enum Held {
+    Integer,
+    Boolean,
+    /// A value of an access type.
+    Access(TypeNo),
+    /// A record of this record type.
+    Record(TypeNo),
+}
+
+/// What is assigned (5.2).
+#[derive(Drop)]
+pub(crate) enum Assigned {
+    /// A value.
+    Value(program::Right),
+    /// A record, by its items.
+    Record(Vec<program::Item>),
+}
 
 impl<'t> Resolver<'t> {
-    /// What is assigned to an object, where what that holds is known, or to a borrower.
+    /// What is assigned, where it is known to what, or to a borrower.
     #[tactic(auto, unfolding(crate::specs::View::known_of, crate::specs::Allocators::allocator_remark, crate::specs::Allocators::allocator_found))]
     pub(crate) fn right(
         &self,
         right: &expressions::Right<'t>,
-        kind: Option<VariableKind>,
+        kind: Option<Held>,
         borrows: bool,
         notes: &mut Notes,
-    ) -> Result<Option<program::Right>, NameFault>
-        ensures { Looks right_in result notes (right_look self kind borrows right.now) }
+    ) -> Result<Option<Assigned>, NameFault>
+        ensures { Looks assigned_in result notes (right_look self kind borrows right.now) }
     {
         match right {
             expressions::Right::Expression(expression) => {
@@ -35,7 +57,7 @@ impl<'t> Resolver<'t> {
                 let spot = expression_spot(expression);
                 assigned_wanted(kind, &value, spot, notes);
                 lent_wanted(&self.variables, kind, borrows, &value, spot, notes);
-                Ok(assigned(value))
+                assigned_by(self.alloc, value)
             }
             expressions::Right::Allocator {
                 spot,
@@ -46,7 +68,9 @@ impl<'t> Resolver<'t> {
                 access_object_wanted(kind, *spot, notes);
                 notes.note_if(borrows, *spot, NameRule::WrongType);
                 if is_in_use(handle) {
-                    self.new_object(*spot, *type_name, items, access_kind(kind), notes)
+                    let access = access_kind(kind);
+                    let value = self.new_object(*spot, *type_name, items, access, notes)?;
+                    Ok(new_assigned(value))
                 } else {
                     notes.note(*spot, NameRule::NotInProfile);
                     Ok(None)
@@ -58,27 +82,40 @@ impl<'t> Resolver<'t> {
             }
         }
     }
+
+    /// What is wrong with what is assigned, where it is not known to what.
+    pub(crate) fn look_at_right(
+        &self,
+        right: &expressions::Right<'t>,
+        notes: &mut Notes,
+    ) -> Result<(), NameFault>
+        ensures remark { Remarks result notes (right_look self None false right.now).remark }
+        ensures memory { IfErr result (λ e. e ≡ NameFault.NoMemory) }
+    {
+        let _value = self.right(right, None, false, notes)?;
+        Ok(())
+    }
 }
 
 /// The access type of an object of this kind.
-fn access_kind(kind: Option<VariableKind>) -> Option<TypeNo>
+fn access_kind(kind: Option<Held>) -> Option<TypeNo>
     ensures { result ≡ rules.access_kind kind }
 {
     match kind {
-        Some(VariableKind::Access(access)) => Some(access),
+        Some(Held::Access(access)) => Some(access),
         _ => None,
     }
 }
 
 /// What is assigned is of the object's type, where that is known.
-fn assigned_wanted(kind: Option<VariableKind>, value: &Meant, spot: Spot, notes: &mut Notes)
+fn assigned_wanted(kind: Option<Held>, value: &Meant, spot: Spot, notes: &mut Notes)
     ensures { IsNoted notes (rules.assigned_wanted kind (meant_of value.now) spot) }
 {
     match kind {
-        Some(VariableKind::Integer) => value.integer_wanted(spot, notes),
-        Some(VariableKind::Boolean) => value.boolean_wanted(spot, notes),
-        Some(VariableKind::Access(access)) => value.access_wanted(access, spot, notes),
-        Some(VariableKind::Record(_)) => notes.note(spot, NameRule::NotInProfile),
+        Some(Held::Integer) => value.integer_wanted(spot, notes),
+        Some(Held::Boolean) => value.boolean_wanted(spot, notes),
+        Some(Held::Access(access)) => value.access_wanted(access, spot, notes),
+        Some(Held::Record(record)) => value.record_wanted(record, spot, notes),
         None => {}
     }
 }
@@ -86,7 +123,7 @@ fn assigned_wanted(kind: Option<VariableKind>, value: &Meant, spot: Spot, notes:
 /// What a borrower holds goes to borrowers only.
 fn lent_wanted(
     variables: &[Variable],
-    kind: Option<VariableKind>,
+    kind: Option<Held>,
     borrows: bool,
     value: &Meant,
     spot: Spot,
@@ -101,24 +138,40 @@ fn lent_wanted(
 }
 
 /// No allocator is an Integer, a Boolean or a record.
-fn access_object_wanted(kind: Option<VariableKind>, spot: Spot, notes: &mut Notes)
+fn access_object_wanted(kind: Option<Held>, spot: Spot, notes: &mut Notes)
     ensures { IsNoted notes (rules.access_object_wanted kind spot) }
 {
-    if let Some(VariableKind::Integer | VariableKind::Boolean | VariableKind::Record(_)) = kind {
+    if let Some(Held::Integer | Held::Boolean | Held::Record(_)) = kind {
         notes.note(spot, NameRule::WrongType);
     }
 }
 
-/// What a value assigns, or `None` where something is wrong with it.
-fn assigned(value: Meant) -> Option<program::Right>
-    ensures { right_in result ≡ rules.assigned (meant_of value) }
+/// What an expression assigns, or `None` where something is wrong with it.
+fn assigned_by(alloc: Global, value: Meant) -> Result<Option<Assigned>, NameFault>
+    ensures found { Finds assigned_in result (rules.assigned (meant_of value)) }
+    ensures memory { IfErr result (λ e. e ≡ NameFault.NoMemory) }
 {
     match value {
-        Meant::Null => Some(program::Right::Null),
-        Meant::Access(path, _) => Some(program::Right::Path(path)),
+        Meant::Null => Ok(Some(Assigned::Value(program::Right::Null))),
+        Meant::Access(path, _) => Ok(Some(Assigned::Value(program::Right::Path(path)))),
         Meant::Integer(expression) | Meant::Boolean(expression) => {
-            Some(program::Right::Value(expression))
+            Ok(Some(Assigned::Value(program::Right::Value(expression))))
         }
-        Meant::Unknown => None,
+        Meant::Record(path) => {
+            let items = single_item(alloc, program::Item::Record(path))?;
+            Ok(Some(Assigned::Record(items)))
+        }
+        Meant::Aggregate(_, items) => Ok(Some(Assigned::Record(items))),
+        Meant::Unknown => Ok(None),
+    }
+}
+
+/// A new object is assigned, where it is known.
+fn new_assigned(value: Option<program::Right>) -> Option<Assigned>
+    ensures { assigned_in result ≡ rules.new_assigned (right_in value) }
+{
+    match value {
+        Some(value) => Some(Assigned::Value(value)),
+        None => None,
     }
 }

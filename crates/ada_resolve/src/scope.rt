@@ -22,6 +22,8 @@ pub(crate) enum Entity {
     Exception(Exception),
     /// The main procedure.
     Procedure,
+    /// A library unit that a `with` clause names (10.1.2).
+    LibraryUnit,
     /// A record type that is not completed yet (3.10.1).
     Incomplete(TypeNo),
     /// A record type (3.8), and how many components it has at any depth.

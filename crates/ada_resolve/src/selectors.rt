@@ -5,7 +5,7 @@ ghost use Rattle.ada_tree.specs.Names.{ident_of, selector_of};
 ghost use Rattle.ada_program.specs.WellFormed as fits;
 ghost use Rattle.ada_resolve.specs.Look.{Looks, selector_look, selectors_look};
 ghost use Rattle.ada_resolve.specs.Method.{known, IsNoted, Selects};
-ghost use Rattle.ada_resolve.specs.Paths.{all_remark, complete_behind, component_behind, component_behind_remark, component_in, component_selected, component_within_remark, components_selected, first_behind, no_object, object_behind, object_in};
+ghost use Rattle.ada_resolve.specs.Paths.{all_remark, complete_behind, component_behind, component_behind_remark, component_in, component_selected, component_within_remark, components_selected, first_behind, object_behind, object_in, record_type_wanted};
 ghost use Rattle.ada_resolve.specs.View.{itself, optional_number};
 
 use crate::components::KnownComponent;
@@ -193,11 +193,11 @@ impl Reached {
         }
     }
 
-    /// No whole object is in use where a value is wanted.
-    pub(crate) fn no_object(self, spot: Spot, notes: &mut Notes)
-        ensures { IsNoted notes (no_object self spot) }
+    /// The record type of a record object is known: of each one that is declared it is.
+    pub(crate) fn record_type_wanted(self, spot: Spot, notes: &mut Notes)
+        ensures { IsNoted notes (record_type_wanted self spot) }
     {
-        if let Reached::Object { .. } | Reached::Value(VariableKind::Record(_)) = self {
+        if let Reached::Value(VariableKind::Record(_)) = self {
             notes.note(spot, NameRule::NotInProfile);
         }
     }

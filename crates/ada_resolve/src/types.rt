@@ -5,7 +5,7 @@ ghost use Rattle.ada_tree.specs.Declarations.{optional_aspect_of};
 ghost use Rattle.ada_tree.specs.Names.{ident_of};
 ghost use Rattle.ada_tree.specs.Statements.{incomplete_type};
 ghost use Rattle.ada_resolve.specs.Method.{known, IsNoted, Changes, access_tree, Declares, completing_remark, type_name_remark, with_type};
-ghost use Rattle.ada_resolve.specs.Types.{completed_type, number_of, is_designated, record_found, record_remark, aspect_remark};
+ghost use Rattle.ada_resolve.specs.Types.{completed_type, number_of, is_designated, complete_found, complete_remark, record_found, record_remark, aspect_remark};
 ghost use Rattle.ada_resolve.specs.View.{known_of};
 
 use crate::components::{Components, KnownType};
@@ -163,6 +163,22 @@ impl<'t> Resolver<'t> {
     {
         match self.lookup(name, notes) {
             Some(Entity::Incomplete(number) | Entity::Record { number, size: _ }) => Some(number),
+            Some(_) => {
+                notes.note(name.spot, NameRule::WrongType);
+                None
+            }
+            None => None,
+        }
+    }
+
+    /// The complete record type of a name.
+    #[tactic(auto, unfolding(crate::specs::Types::complete_found, crate::specs::Types::complete_remark))]
+    pub(crate) fn complete_name(&self, name: Identifier<'t>, notes: &mut Notes) -> Option<TypeNo>
+        ensures found { result ≡ complete_found (known self) (ident_of name.entry) }
+        ensures remark { IsNoted notes (complete_remark (known self) (ident_of name.entry)) }
+    {
+        match self.lookup(name, notes) {
+            Some(Entity::Record { number, size: _ }) => Some(number),
             Some(_) => {
                 notes.note(name.spot, NameRule::WrongType);
                 None

@@ -33,9 +33,13 @@ abbrev pub HasOne : Scopes → Type 0
 HasOne [] = ⊥
 HasOne (us ∷ ss) = Unit {0}
 
+-- What the components of a record object name lies in collections that are open; and its type is no access type.
+abbrev pub RecordHere : List TypeForm → List ℕ → ℕ → Type 0
+RecordHere types us t = Where us (λ around. (is_access types t ≡ false) × (are_open around (reached_components types t) ≡ true))
+
 -- What a frame holds was written where these are open. Frames without statements nest everywhere; a part that is under way has created all
--- its collections, has a master, and what the record objects need that it has left to create is open; and no master but the innermost one is being
--- left.
+-- its collections, has a master, and what the record objects need that it has left to create is open, be it one whose initial value is evaluated; and
+-- no master but the innermost one is being left.
 abbrev pub FrameNests : List TypeForm → Scopes → Frame Value → Type 0
 FrameNests types ss (frame.Elaborates ds fs hs) =
     (list_all is_object ds ≡ true) × Where (all_of ss) (λ around. StatementsNest types around fs × HandlersNest types around hs × RecordsNest types around ds) × HasOne ss
@@ -46,6 +50,7 @@ FrameNests types ss (frame.Turns condition fs) = Where (all_of ss) (λ around. S
 FrameNests types ss (frame.Ranges x fs) = Where (all_of ss) (λ around. StatementsNest types around fs)
 FrameNests types ss (frame.Counts x value last fs) = Where (all_of ss) (λ around. StatementsNest types around fs)
 FrameNests types ss (frame.Handles hs) = Where (all_of ss) (λ around. HandlersNest types around hs)
+FrameNests types ss (frame.DeclaresRecord x t) = RecordHere types (all_of ss) t × HasOne ss
 FrameNests types ss (frame.Leaves mode) = ⊥
 FrameNests types ss f = Unit {0}
 

@@ -67,7 +67,7 @@ abbrev access_to : ℕ → TypeDefinition
 access_to designated = definition.Access no_name (record { 0 = designated })
 
 abbrev of_type : ℕ → Variable
-of_type access = record { name = no_name; kind = variable.Access (record { 0 = access }); borrows = false }
+of_type access = record { name = no_name; spot = record { line = 1; column = 1 }; kind = variable.Access (record { 0 = access }); borrows = false }
 
 -- A variable with a new object, all of whose components are null.
 abbrev with_nulls : (x access : ℕ) (items : List AllocatorItem) → length items ≤ 8 → Declaration

@@ -6,10 +6,10 @@ use Rattle.std.proofs.lemmas.Bool.{eq-eqb}
 use Rattle.std.specs.List.{slice_get, slice_index_or, list_all}
 use Rattle.ada_program.specs.declared.program.TypeDefinition.{TypeDefinition}
 use Rattle.ada_program.specs.declared.program.Exception.{Exception}
-use Rattle.ada_program.specs.Form.{ExpressionForm, integer, boolean, reads, is_null, applied_to, chained, LinksForm, no_more_links, a_link, ItemForm, null_item, item_of_path, item_of_value, RightForm, nothing, value_of, allocates, allocates_default, computes, StmtForm, skips, assigns, frees, gets, writes, writes_text, chooses, repeats, counts, exits, returns, raises, encloses, StmtsForm, no_stmts, a_stmt, BranchesForm, otherwise, a_branch, HandlersForm, no_handlers, a_handler, DeclarationForm, collects, declares, declares_record}
+use Rattle.ada_program.specs.Form.{ExpressionForm, integer, boolean, reads, is_null, applied_to, chained, LinksForm, no_more_links, a_link, ItemForm, null_item, item_of_path, item_of_value, item_of_record, RightForm, nothing, value_of, allocates, allocates_default, computes, StmtForm, skips, assigns, assigns_record, frees, gets, writes, writes_text, chooses, repeats, counts, exits, returns, raises, encloses, StmtsForm, no_stmts, a_stmt, BranchesForm, otherwise, a_branch, HandlersForm, no_handlers, a_handler, DeclarationForm, collects, declares, declares_record}
 use Rattle.ada_program.specs.Handling.{some_takes, handler_of}
 use Rattle.ada_program.specs.ProgramForm.{TypeForm}
-use Rattle.ada_program.specs.Typed.{words_of}
+use Rattle.ada_program.specs.Typed.{reached_of, words_of, width_of}
 use Rattle.ada_program.specs.WellFormed.{is_access, reached_components, is_object}
 use Rattle.ada_program.specs.Nested.{collected, are_open}
 use Rattle.ada_values.specs.declared.operator.BinaryOperator.{BinaryOperator}
@@ -28,14 +28,14 @@ use Rattle.ada_meaning.specs.Frame.{Frame, is_master, is_loop, Landing, passes_o
 use Rattle.ada_meaning.specs.Frame as frame
 use Rattle.ada_meaning.specs.State.{Owned, declared, collection, record_object, Item, Master, height, home_of, pool_of}
 use Rattle.ada_meaning.specs.Heap.{Cell, Found, on_null, on_gone, on_other, finds}
-use Rattle.ada_meaning.specs.Step.{halts, moves, tells, asks, picks, at, older, owning, shorter, popped, held, newest, reading, component_next, follow_next, path_next, expression_next, null_test_next, is_decided, link_next, links_next, outcome_next, item_next, items_next, new_cell, answered, new_next, right_next, free_next, end_next, same_pool, told_back, record_cell, given_back, back_next, before_last, last_of, assign_next, target_next, stored_next, store_next, freeing, frees_next, freed_next, free_component_next, free_in_next, branches_next, decided_next, turn_next, repeats_next, turned_next, count_turn_next, ranges_next, gets_next, received_next, receive_next, exit_next, exited_next, stmt_next, stmts_next, line_next, declarations_next, members_next, item_leave_next, master_leave_next, leave_next, frame_next, landed, pass_next, running_next, jump_next, mode_next}
+use Rattle.ada_meaning.specs.Step.{halts, moves, tells, asks, picks, at, older, owning, shorter, popped, held, newest, reading, component_next, follow_next, path_next, expression_next, null_test_next, is_decided, link_next, links_next, outcome_next, item_next, items_next, copied_next, copies_next, newest_ones, without_newest, record_in, record_target_next, stored_from, record_stored_next, store_record_next, initial_values, new_cell, answered, new_next, right_next, free_next, end_next, same_pool, told_back, record_cell, made, record_next, given_back, back_next, before_last, last_of, assign_next, target_next, stored_next, store_next, freeing, frees_next, freed_next, free_component_next, free_in_next, branches_next, decided_next, turn_next, repeats_next, turned_next, count_turn_next, ranges_next, gets_next, received_next, receive_next, exit_next, exited_next, stmt_next, stmts_next, line_next, declarations_next, members_next, item_leave_next, master_leave_next, leave_next, frame_next, landed, pass_next, running_next, jump_next, mode_next}
 use Rattle.ada_meaning.specs.Named.{Object, State, Next, next, named, look, lent, an_integer, parted, finished, filled, returned, on_object, reads_boolean, reads_null, reads_integer, unary_given, binary_given, members}
 use Rattle.ada_meaning.specs.Run.{Event}
 use Rattle.ada_meaning.specs.Law.{items_of}
 use Rattle.ada_scopes.proofs.Counts.{one, times, opened, Scopes, scopes, all_of, older_shorter, scopes_older}
 use Rattle.ada_scopes.proofs.Texts.{StatementNests, StatementsNest, BranchesNest, HandlersNest}
 use Rattle.ada_scopes.proofs.Homes.{KeepsHome, IsEmpty, home_has, housed_on, housed_new, housed_shorter}
-use Rattle.ada_scopes.proofs.Control.{Alike, Where, HasOne, FrameNests, behind, Nests, Goes, Whole, Parting, Growing, Begins, Nested, standing, beginning, parting, lone_shorter, whole_declared, nests_declared, whole_recorded, nests_recorded, whole_heap, parting_heap, whole_parts, grows, grown}
+use Rattle.ada_scopes.proofs.Control.{Alike, Where, HasOne, RecordHere, FrameNests, behind, Nests, Goes, Whole, Parting, Growing, Begins, Nested, standing, beginning, parting, lone_shorter, whole_declared, nests_declared, whole_recorded, nests_recorded, whole_heap, parting_heap, whole_parts, grows, grown}
 
 -- What comes next nests, whatever is answered.
 abbrev pub Good : List TypeForm → Next → Type 0
@@ -125,10 +125,42 @@ module _ (types : List TypeForm) where
   item_good null_item s h = standing h.0 h.1
   item_good (item_of_path path) s h = path_good path.selectors (held named s path.root) s h
   item_good (item_of_value e) s h = standing h.0 (tt, h.1)
+  item_good (item_of_record p) s h = path_good p.object.selectors (held named s p.object.root) (at (frame.Copies p.first p.record_type ∷ s.control) s) (h.0, (tt, h.1))
 
   items_good : (items : List ItemForm) (s : State) → Stands types s → Good types (items_next named items s)
   items_good [] s h = standing h.0 h.1
   items_good (i ∷ is) s h = item_good i (at (frame.Fills is ∷ s.control) s) (h.0, (tt, h.1))
+
+  -- Records as wholes.
+  copied_good : (o : Value) (found : Option (List Value)) (s : State) → Stands types s → Good types (copied_next named o found s)
+  copied_good o None s h = tt
+  copied_good o (Some vs) s h = standing h.0 h.1
+
+  copies_good : (o : Value) (first count : ℕ) (found : Found (Cell Value)) (s : State) → Stands types s → Good types (copies_next named o first count found s)
+  copies_good o first count on_null s h = standing h.0 h.1
+  copies_good o first count on_gone s h = tt
+  copies_good o first count on_other s h = tt
+  copies_good o first count (finds cell) s h = copied_good o (record_in cell.values first count) s h
+
+  record_target_good : (o : Value) (first count : ℕ) (items : List ItemForm) (found : Found (Cell Value)) (s : State) → Stands types s → Good types (record_target_next named o first count items found s)
+  record_target_good o first count items on_null s h = standing h.0 h.1
+  record_target_good o first count items on_gone s h = tt
+  record_target_good o first count items on_other s h = tt
+  record_target_good o first count items (finds cell) s h = standing h.0 (tt, (tt, h.1))
+
+  whole_stored : (vs : List Value) (o : Value) (c : ℕ) (s : State) → Whole types s.masters s.heap → Whole types s.masters (stored_from named s.heap o c vs)
+  whole_stored [] o c s w = w
+  whole_stored (v ∷ vs) o c s w = whole_stored vs o (c + 1) (record s { heap = on_object (filled c v) s.heap o }) (whole_on (filled c v) o s (keeps_filled c v) w)
+
+  record_stored_good : (o : Value) (first : ℕ) (vs : List Value) (found : Option (List Value)) (s : State) → Stands types s → Good types (record_stored_next named o first vs found s)
+  record_stored_good o first vs None s h = tt
+  record_stored_good o first vs (Some before) s h = standing (whole_stored vs o first s h.0) h.1
+
+  store_record_good : (o : Value) (first count : ℕ) (found : Found (Cell Value)) (s : State) → Stands types s → Good types (store_record_next named o first count found s)
+  store_record_good o first count on_null s h = tt
+  store_record_good o first count on_gone s h = tt
+  store_record_good o first count on_other s h = tt
+  store_record_good o first count (finds cell) s h = record_stored_good o first (newest_ones named count s) (record_in cell.values first count) (without_newest named count s) h
 
   answered_good : (access count item words : ℕ) (s : State) (granted : Bool) → home_of access s.masters ≡ Some item → Stands types s → Nested types (answered named access count item words s granted)
   answered_good access count item words s true home h =
@@ -284,6 +316,8 @@ module _ (types : List TypeForm) where
   stmt_good : (f : StmtForm) (s : State) (around : List ℕ) → s.mode ≡ Running → Alike around (all_of (scopes s.masters)) → StatementNests types around f → Stands types s → Good types (stmt_next named f s)
   stmt_good skips s around runs alike nest h = standing h.0 h.1
   stmt_good (assigns target right) s around runs alike nest h = assign_good target.selectors target.root right s h
+  stmt_good (assigns_record target items) s around runs alike nest h =
+      path_good target.object.selectors (held named s target.object.root) (at (frame.TargetsRecord target.first target.record_type items ∷ s.control) s) (h.0, (tt, h.1))
   stmt_good (frees access path) s around runs alike nest h = frees_good path.selectors access path.root s h
   stmt_good (gets target) s around runs alike nest h = gets_good target.selectors target.root s.input s h
   stmt_good (writes e) s around runs alike nest h = standing h.0 (tt, (tt, h.1))
@@ -319,16 +353,26 @@ module _ (types : List TypeForm) where
   line_good None s h = tt
   line_good (Some i) s h = standing h.0 h.1
 
+  -- A record object is made, with whatever values: what it needs is open.
+  made_good : (definitions : List TypeDefinition) (x t : ℕ) (values : List Value) (s : State) → RecordHere types (all_of (scopes s.masters)) t → HasOne (scopes s.masters) → Stands types s → Nested types (made named definitions x t values s)
+  made_good definitions x t values s opens some h =
+      standing
+      (whole_recorded types (height s.masters) t s.masters s.heap (record_cell named t (height s.masters) values) opens.0 some refl refl opens.1 opens.2.0 opens.2.1 h.0)
+      (nests_recorded types (height s.masters) t s.masters s.control h.1)
+
+  record_good : (definitions : List TypeDefinition) (x t : ℕ) (initial : Option (List ItemForm)) (s : State) → RecordHere types (all_of (scopes s.masters)) t → HasOne (scopes s.masters) → Stands types s → Good types (record_next named definitions x t initial s)
+  record_good definitions x t None s opens some h = made_good definitions x t (initial_values named (reached_of definitions t)) s opens some h
+  record_good definitions x t (Some items) s opens some h = standing h.0 (tt, ((opens, some), h.1))
+
   -- Declarations of a part whose collections have all been created.
   elaborated_good : (definitions : List TypeDefinition) (ds : List DeclarationForm) (fs : StmtsForm) (hs : HandlersForm) (s : State) → Whole types s.masters s.heap → FrameNests types (scopes s.masters) (frame.Elaborates ds fs hs) → Nests types (older (scopes s.masters)) s.control → Good types (declarations_next named definitions ds fs hs s)
   elaborated_good definitions [] fs hs s w nest n = standing w ((nest.1.0, nest.1.1, nest.1.2.0), ((nest.1.0, nest.1.1, nest.1.2.1), (tt, n)))
   elaborated_good definitions (collects access ∷ ds) fs hs s w nest n = absurd (cc (nest.0))
   elaborated_good definitions (declares x right ∷ ds) fs hs s w nest n = standing w (tt, (tt, ((nest.0, nest.1, nest.2), n)))
-  elaborated_good definitions (declares_record x t ∷ ds) fs hs s w nest n =
+  elaborated_good definitions (declares_record x t initial ∷ ds) fs hs s w nest n =
       let open_there = nest.1.2.2 in
-      standing
-      (whole_recorded types (height s.masters) t s.masters s.heap (record_cell named definitions t (height s.masters)) nest.1.0 nest.2 refl refl nest.1.1 open_there.0 open_there.1 w)
-      (nests_recorded types (height s.masters) t s.masters (frame.Elaborates ds fs hs ∷ s.control) ((nest.0, (nest.1.0, nest.1.1, (nest.1.2.0, nest.1.2.1, open_there.2)), nest.2), n))
+      record_good definitions x t initial (at (frame.Elaborates ds fs hs ∷ s.control) s) (nest.1.0, nest.1.1, (open_there.0, open_there.1)) nest.2
+      (w, ((nest.0, (nest.1.0, nest.1.1, (nest.1.2.0, nest.1.2.1, open_there.2)), nest.2), n))
 
   -- Each frame that is taken off.
   frame_good : (definitions : List TypeDefinition) (f : Frame Value) (s : State) → s.mode ≡ Running → Whole types s.masters s.heap → FrameNests types (scopes s.masters) f → Nests types (behind (is_master f) (scopes s.masters)) s.control → Good types (frame_next named definitions f s)
@@ -351,6 +395,7 @@ module _ (types : List TypeForm) where
   frame_good definitions (frame.Applies operator) s runs w nest n = outcome_good (binary_given operator (newest named (popped s)) (newest named s)) (popped (popped s)) (w, n)
   frame_good definitions (frame.AppliesAlone operator) s runs w nest n = outcome_good (unary_given operator (newest named s)) (popped s) (w, n)
   frame_good definitions (frame.Fills items) s runs w nest n = items_good items s (w, n)
+  frame_good definitions (frame.Copies first t) s runs w nest n = copies_good (newest named s) first (width_of definitions t) (look s.heap (newest named s)) (popped s) (w, n)
   frame_good definitions (frame.Creates access count) s runs w nest n = new_good access count (words_of definitions access) (home_of access s.masters) s refl (w, n)
   frame_good definitions (frame.Stores x) s runs w nest n = standing w n
   frame_good definitions (frame.Declares x) s runs w nest n =
@@ -361,6 +406,11 @@ module _ (types : List TypeForm) where
   frame_good definitions (frame.Clears x) s runs w nest n = standing w n
   frame_good definitions (frame.Targets c right) s runs w nest n = target_good (newest named s) c right (look s.heap (newest named s)) (popped s) (w, n)
   frame_good definitions (frame.StoresIn o c) s runs w nest n = store_good o c (newest named s) (look s.heap o) (popped s) (w, n)
+  frame_good definitions (frame.TargetsRecord first t items) s runs w nest n =
+      record_target_good (newest named s) first (width_of definitions t) items (look s.heap (newest named s)) (popped s) (w, n)
+  frame_good definitions (frame.StoresRecord o first count) s runs w nest n = store_record_good o first count (look s.heap o) s (w, n)
+  frame_good definitions (frame.DeclaresRecord x t) s runs w nest n =
+      made_good definitions x t (newest_ones named (words_of definitions t) s) (without_newest named (words_of definitions t) s) nest.0 nest.1 (w, n)
   frame_good definitions (frame.Receives c) s runs w nest n = receive_good (newest named s) c (look s.heap (newest named s)) (popped s) (w, n)
   frame_good definitions (frame.FreesIn access c) s runs w nest n = free_in_good access (newest named s) c (look s.heap (newest named s)) (popped s) (w, n)
   frame_good definitions (frame.ClearsIn o c) s runs w nest n = store_good o c Null (look s.heap o) s (w, n)
@@ -492,7 +542,7 @@ module _ (types : List TypeForm) where
   all_objects [] is = refl
   all_objects (collects access ∷ ds) is = absurd (cc)
   all_objects (declares x right ∷ ds) is = all_objects ds is
-  all_objects (declares_record x t ∷ ds) is = all_objects ds is
+  all_objects (declares_record x t initial ∷ ds) is = all_objects ds is
 
   created_good : (definitions : List TypeDefinition) (ds : List DeclarationForm) (fs : StmtsForm) (hs : HandlersForm) (m : Master) (rest : List Master) (there : List ℕ) (s : State) → s.masters ≡ m ∷ rest → list_all is_object ds ≡ true → Growing types m rest s.heap ds there → StatementsNest types there fs → HandlersNest types there hs → Nests types (scopes rest) s.control → Good types (declarations_next named definitions ds fs hs s)
   created_good definitions ds fs hs m rest there s is objects g nest handled n =
@@ -527,8 +577,8 @@ module _ (types : List TypeForm) where
   begins_good : (definitions : List TypeDefinition) (ds : List DeclarationForm) (fs : StmtsForm) (hs : HandlersForm) (m : Master) (rest : List Master) (there : List ℕ) (s : State) → s.masters ≡ m ∷ rest → s.mode ≡ Running → Growing types m rest s.heap ds there → StatementsNest types there fs → HandlersNest types there hs → Nests types (scopes rest) s.control → Good types (declarations_next named definitions ds fs hs s)
   begins_good definitions [] fs hs m rest there s is runs g nest handled n = created_good definitions [] fs hs m rest there s is refl g nest handled n
   begins_good definitions (declares x right ∷ ds) fs hs m rest there s is runs g nest handled n = created_good definitions (declares x right ∷ ds) fs hs m rest there s is g.first g nest handled n
-  begins_good definitions (declares_record x t ∷ ds) fs hs m rest there s is runs g nest handled n =
-      created_good definitions (declares_record x t ∷ ds) fs hs m rest there s is g.first g nest handled n
+  begins_good definitions (declares_record x t initial ∷ ds) fs hs m rest there s is runs g nest handled n =
+      created_good definitions (declares_record x t initial ∷ ds) fs hs m rest there s is g.first g nest handled n
   begins_good definitions (collects access ∷ ds) fs hs m rest there s is runs g nest handled n = beginning (record {
     m = record m { items = record { number = height s.masters; owned = collection access } ∷ m.items };
     rest = rest;

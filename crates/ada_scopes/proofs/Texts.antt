@@ -6,9 +6,9 @@ use Rattle.std.proofs.lemmas.Bool.{eqb-true}
 use Rattle.std.proofs.lemmas.List.Sums.{sum_by-cons}
 use Rattle.std.specs.List.{slice_get, list_all}
 use Rattle.ada_program.specs.declared.program.ScalarType.TheVariants.{Integer, Boolean}
-use Rattle.ada_program.specs.Form.{DeclarationForm, collects, declares, declares_record, StmtForm, skips, assigns, frees, gets, writes, writes_text, chooses, repeats, counts, exits, returns, raises, encloses, StmtsForm, no_stmts, a_stmt, BranchesForm, otherwise, a_branch, HandlersForm, no_handlers, a_handler}
+use Rattle.ada_program.specs.Form.{DeclarationForm, collects, declares, declares_record, StmtForm, skips, assigns, assigns_record, frees, gets, writes, writes_text, chooses, repeats, counts, exits, returns, raises, encloses, StmtsForm, no_stmts, a_stmt, BranchesForm, otherwise, a_branch, HandlersForm, no_handlers, a_handler}
 use Rattle.ada_program.specs.ProgramForm.{TypeForm, record_of, access_to, object_of, VariableForm, ProgramForm}
-use Rattle.ada_program.specs.WellFormed.{IsWellFormed, Creation, of_collection, of_variable, creation, created_by, created_by_all, created_by_branches, created_by_handlers, creations, is_access, designated_in, collections_first, collection_fits, is_collection, has_collections, has_type, variable_fits, initial_fits, declarations_fit, is_type, scalar_of, variable_kind, condition_fits, has_statement, choice_fits, statement_fits, stmts_fit, branches_fit, handlers_fit, reached_components}
+use Rattle.ada_program.specs.WellFormed.{IsWellFormed, Creation, of_collection, of_variable, creation, created_by, created_by_all, created_by_branches, created_by_handlers, creations, is_access, designated_in, collections_first, collection_fits, is_collection, has_collections, has_type, variable_fits, is_record_object, record_initial_fits, initial_fits, declarations_fit, is_type, scalar_of, variable_kind, condition_fits, has_statement, choice_fits, statement_fits, stmts_fit, branches_fit, handlers_fit, reached_components}
 use Rattle.ada_program.specs.Nested.{collected, record_objects, is_one_of, are_open, collection_nests, record_nests, part_nests, statement_nests, statements_nest, branches_nest, handlers_nest, CollectionsNest}
 use Rattle.ada_typed.proofs.Objects.{record_no_access}
 use Rattle.ada_scopes.proofs.Counts.{and_left, and_right, one, times, times_of, times_none, all_times}
@@ -18,7 +18,7 @@ abbrev pub RecordsNest : List TypeForm → (there : List ℕ) → List Declarati
 RecordsNest types there [] = Unit {0}
 RecordsNest types there (collects access ∷ ds) = RecordsNest types there ds
 RecordsNest types there (declares x right ∷ ds) = RecordsNest types there ds
-RecordsNest types there (declares_record x t ∷ ds) = (is_access types t ≡ false) × (are_open there (reached_components types t) ≡ true) × RecordsNest types there ds
+RecordsNest types there (declares_record x t initial ∷ ds) = (is_access types t ≡ false) × (are_open there (reached_components types t) ≡ true) × RecordsNest types there ds
 
 -- A part where these are open around it: its collections come before its first variable, each once, none of them is open around it, and those
 -- that its objects' components need are open with them. They are collections of access types, and what its record objects need is open, too.
@@ -34,6 +34,7 @@ abbrev mutual
   pub StatementNests : List TypeForm → List ℕ → StmtForm → Type 0
   StatementNests types around skips = Unit {0}
   StatementNests types around (assigns target right) = Unit {0}
+  StatementNests types around (assigns_record target items) = Unit {0}
   StatementNests types around (frees access path) = Unit {0}
   StatementNests types around (gets target) = Unit {0}
   StatementNests types around (writes e) = Unit {0}
@@ -92,7 +93,7 @@ times_makes : (t : ℕ) (ds : List DeclarationForm) → makes t (map creation ds
 times_makes t [] = refl
 times_makes t (collects access ∷ ds) = let h = times_makes t ds in omega (arith, h)
 times_makes t (declares x right ∷ ds) = let h = times_makes t ds in omega (arith, h)
-times_makes t (declares_record x u ∷ ds) = let h = times_makes t ds in omega (arith, h)
+times_makes t (declares_record x u initial ∷ ds) = let h = times_makes t ds in omega (arith, h)
 
 -- No access type's collection is created twice.
 abbrev pub Once : List TypeForm → List Creation → Type 0
@@ -139,7 +140,7 @@ access_by types access t n false same is later le = later (omega (arith, le))
 collected_access : (types : List TypeForm) (ds : List DeclarationForm) (t : ℕ) → list_all (collection_fits types) ds ≡ true → 1 ≤ times t (collected ds) → is_access types t ≡ true
 collected_access types [] t fits le = absurd (omega (arith, le))
 collected_access types (declares x right ∷ ds) t fits le = collected_access types ds t fits le
-collected_access types (declares_record x u ∷ ds) t fits le = collected_access types ds t fits le
+collected_access types (declares_record x u initial ∷ ds) t fits le = collected_access types ds t fits le
 collected_access types (collects access ∷ ds) t fits le =
     access_by types access t (times t (collected ds)) (access == t) refl (and_left (is_access types access) (list_all (collection_fits types) ds) fits)
     (collected_access types ds t (and_right (is_access types access) (list_all (collection_fits types) ds) fits)) le
@@ -162,11 +163,13 @@ records_hold types variables there (collects access ∷ ds) right initials nest 
     records_hold types variables there ds right (and_right (initial_fits types variables (collects access)) (list_all (initial_fits types variables) ds) initials) nest
 records_hold types variables there (declares x value ∷ ds) right initials nest =
     records_hold types variables there ds right (and_right (initial_fits types variables (declares x value)) (list_all (initial_fits types variables) ds) initials) nest
-records_hold types variables there (declares_record x t ∷ ds) right initials nest =
-    let own = initial_fits types variables (declares_record x t) in
+records_hold types variables there (declares_record x t initial ∷ ds) right initials nest =
+    let own = initial_fits types variables (declares_record x t initial) in
+    let known = is_record_object t (variable_kind variables x) in
+    let filled = record_initial_fits types variables x (reached_components types t) initial in
     let others = list_all (initial_fits types variables) ds in
     let later = list_all (record_nests types there) (record_objects ds) in (
-      record_no_access types variables x t right (and_left own others initials),
+      record_no_access types variables x t right (and_left known filled (and_left own others initials)),
       and_left (record_nests types there t) later nest,
       records_hold types variables there ds right (and_right own others initials) (and_right (record_nests types there t) later nest),
     )
@@ -191,6 +194,7 @@ module _ (types : List TypeForm) (variables : List VariableForm) (texts exceptio
     statement_holds : (f : StmtForm) (inside : Bool) (around : List ℕ) → statement_fits types variables texts exceptions inside f ≡ true → Once types (created_by f) → statement_nests types around f ≡ true → StatementNests types around f
     statement_holds skips inside around fits once nests = tt
     statement_holds (assigns target right) inside around fits once nests = tt
+    statement_holds (assigns_record target items) inside around fits once nests = tt
     statement_holds (frees access path) inside around fits once nests = tt
     statement_holds (gets target) inside around fits once nests = tt
     statement_holds (writes e) inside around fits once nests = tt

@@ -171,6 +171,7 @@ module _ (program : Program) (s : State) (holds : Holds) (types : typed.Typed (p
   agrees_by = record {
     each = λ x. each_is x (hold_at holds x) refl;
     one_owner = variables_apart;
+    records = λ x t is kept null. fit.objects x (rw is refl) kept null;
     components = component_holds;
     one_owner_each = owners_apart;
   }

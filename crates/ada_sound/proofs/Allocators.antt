@@ -1,22 +1,24 @@
 -- Allocators: their items are evaluated one by one, and then the new object comes to be.
 
-use Rattle.std.proofs.Common.{◌≡◌, ℕ, Bool, true, false, List, [], ◌∷◌, length, take, drop, reverse, refl, inl}
+use Rattle.std.proofs.Common.{◌≡◌, ℕ, Bool, true, false, ◌&&◌, List, [], ◌∷◌, length, take, drop, reverse, refl, sym, ◌∙◌, inl}
 use Rattle.std.specs.Prelude.{Option, Some, None}
 use Rattle.std.specs.List.{slice_set}
 use Rattle.ada_text.specs.declared.spot.Spot.{Spot}
 use Rattle.ada_program.specs.declared.program.Exception.TheVariants.{ConstraintError, StorageError}
+use Rattle.ada_program.specs.declared.program.ComponentKind.{ComponentKind}
+use Rattle.ada_program.specs.declared.program.ComponentKind.TheVariants as component_kinds
 use Rattle.ada_program.specs.declared.program.VariableKind.{VariableKind}
-use Rattle.ada_program.specs.Form.{PathForm, ItemForm, null_item, item_of_path, item_of_value}
-use Rattle.ada_program.specs.WellFormed.{access_of, kind_among, reached_components}
+use Rattle.ada_program.specs.Form.{PathForm, RecordPathForm, ItemForm, null_item, item_of_path, item_of_value, item_of_record}
+use Rattle.ada_program.specs.WellFormed.{access_of, kind_among, path_kind, value_access, is_this, reached_components, is_record_path, component_item_fits, items_fit}
 use Rattle.ada_effects.specs.Effects.{items_raise, item_raises}
 use Rattle.ada_flow.specs.declared.rule.Hold.{Hold}
 use Rattle.ada_flow.specs.declared.rule.Hold.TheVariants as hold
 use Rattle.ada_flow.specs.declared.rule.Region.TheVariants.{Whole}
-use Rattle.ada_flow.specs.Flow.{Holds, hold_at, variable_access, uses_in_item, is_target, lost_behind, moved_behind, without_values, moved_by_items}
+use Rattle.ada_flow.specs.Flow.{Holds, hold_at, variable_access, uses_in_item, copies_to, reaches_it, is_owning_record, is_target, lost_by, lost_behind, moved_behind, without_values, moved_by_items}
 use Rattle.ada_meaning.specs.declared.state.Value.{Value}
 use Rattle.ada_meaning.specs.declared.state.Value.TheVariants.{Null, Names, Scalar}
 use Rattle.ada_meaning.specs.declared.state.Mode.TheVariants.{Running, Raising}
-use Rattle.ada_meaning.specs.Frame.{Computes, Fills, Creates, Stores, Declares, StoresIn}
+use Rattle.ada_meaning.specs.Frame.{Computes, Fills, Copies, Creates, Stores, Declares, StoresIn, StoresRecord, DeclaresRecord}
 use Rattle.ada_meaning.specs.Event.{Quiet}
 use Rattle.ada_meaning.specs.Heap.{Cell}
 use Rattle.ada_meaning.specs.State.{Activation, home_of}
@@ -33,47 +35,42 @@ use Rattle.ada_sound.proofs.Objects.{get_more}
 use Rattle.ada_sound.proofs.Items.{home_has}
 use Rattle.ada_sound.proofs.Stored.{Stored, stored_new, stored_filled}
 use Rattle.ada_sound.proofs.Alters.{alters_new}
-use Rattle.ada_sound.proofs.Fits.{Fit, Hand, bare, none_spared, hold_in, place_at, component_access, as_reliance, root_follows, lose_all, put_owner, create_fit, insert_fit}
+use Rattle.ada_sound.proofs.Fits.{Fit, Hand, bare, none_spared, hold_in, place_at, component_access, is_object, no_object, as_reliance, root_follows, lose_all, put_owner, create_fit, insert_fit}
 use Rattle.ada_sound.proofs.Invariant.{Known, Control, Rooms, NoneBroken, MayRaise, back_onto, named_of, FilledBy, GoesInto, LeadsTo, Filling, FillsTo, Accepts, StoresTo, StoringIn, RunsOn, Working, ReadyIn, Stepped, Fine}
 use Rattle.ada_sound.proofs.Ready.{running, at_work, ready_on, jumps_less}
-use Rattle.ada_sound.proofs.Filled.{Lends, kept_by, filled_in_hand}
+use Rattle.ada_sound.proofs.Followings.{first_kept}
+use Rattle.ada_sound.proofs.Roots.{root_object, object_there, rest_raises, record_raises}
+use Rattle.ada_sound.proofs.Filled.{Lends, kept_by, filled_length, filled_in_hand}
+use Rattle.ada_sound.proofs.Copied.{give_next, fill_one, raise_back, copies_on, copied_plain, RecordThere, record_there}
 use Rattle.ada_sound.proofs.Lendings.{lends_none, lends_some}
-use Rattle.ada_sound.proofs.Walks.{fills_fine}
-use Rattle.ada_sound.proofs.Raising.{or_left, or_right}
-
--- What an item may raise, all items may.
-raise_back : (done todo : List ItemForm) → items_raise todo ≡ true → items_raise (back_onto done todo) ≡ true
-raise_back [] todo e = e
-raise_back (d ∷ done) todo e = raise_back done (d ∷ todo) (or_right (item_raises d) (items_raise todo) e)
+use Rattle.ada_sound.proofs.Walks.{finds_fine, fills_fine}
+use Rattle.ada_sound.proofs.Raising.{or_left}
 
 module _ (known : Known) (heap : List Object) (places : List Value) where
   -- An item has its value.
-  pub fill_one : (access count : ℕ) (i : ItemForm) (items : List ItemForm) (k : Control) (operands : List Value) (v : Value) (rooms : Rooms) (holds : Holds) → FilledBy heap places i v → Filling known heap places access count (i ∷ items) k operands rooms holds → Filling known heap places access count items k (v ∷ operands) rooms holds
-  fill_one access count i items k operands v rooms holds is f = record {
-    done = i ∷ f.done;
-    target = f.target;
-    into = f.into;
-    filled = (is, f.filled);
-    counted = f.counted;
-    before = (f.behind.0, f.before);
-    behind = f.behind.1;
-    leads = f.leads;
-  }
-
   fills_on : (i : ItemForm) (items : List ItemForm) (k : Control) (operands : List Value) (v : Value) (rooms : Rooms) (holds : Holds) → FilledBy heap places i v → FillsTo known heap places (i ∷ items) k operands rooms holds → FillsTo known heap places items k (v ∷ operands) rooms holds
   fills_on i items [] operands v rooms holds is f = f
-  fills_on i items (Creates access count ∷ k) operands v rooms holds is f = fill_one access count i items k operands v rooms holds is f
+  fills_on i items (Creates access count ∷ k) operands v rooms holds is f = fill_one known heap places access count i items k operands v rooms holds is f
+  fills_on i items (StoresRecord o first count ∷ k) operands v rooms holds is f = (give_next known heap places i items k rooms holds f.0, f.1)
+  fills_on i items (DeclaresRecord x t ∷ k) operands v rooms holds is f = (give_next known heap places i items k rooms holds f.0, f.1)
   fills_on i items (f ∷ k) operands v rooms holds is g = g
 
   -- What the next item uses breaks no rule, behind some items; and what it may raise is known.
-  next_keeps : (i : ItemForm) (items : List ItemForm) (k : Control) (operands : List Value) (rooms : Rooms) (holds : Holds) → FillsTo known heap places (i ∷ items) k operands rooms holds → (target : Option PathForm) × (earlier : List PathForm) × NoneBroken holds (uses_in_item target earlier i)
+  abbrev NextKeeps : Holds → ItemForm → Type 0
+  NextKeeps holds i = (spot : Spot) × (target : Option PathForm) × (earlier : List PathForm) × NoneBroken holds (uses_in_item known.program.types spot target earlier i)
+
+  next_keeps : (i : ItemForm) (items : List ItemForm) (k : Control) (operands : List Value) (rooms : Rooms) (holds : Holds) → FillsTo known heap places (i ∷ items) k operands rooms holds → NextKeeps holds i
   next_keeps i items [] operands rooms holds f = absurd f
-  next_keeps i items (Creates access count ∷ k) operands rooms holds f = (f.target, named_of f.done, f.behind.0)
+  next_keeps i items (Creates access count ∷ k) operands rooms holds f = (f.spot, f.target, named_of f.done, f.behind.0)
+  next_keeps i items (StoresRecord o first count ∷ k) operands rooms holds f = (f.0.spot, None, f.0.earlier, f.0.keeps.0)
+  next_keeps i items (DeclaresRecord x t ∷ k) operands rooms holds f = (f.0.spot, None, f.0.earlier, f.0.keeps.0)
   next_keeps i items (f ∷ k) operands rooms holds g = absurd g
 
   next_raises : (i : ItemForm) (items : List ItemForm) (k : Control) (operands : List Value) (rooms : Rooms) (holds : Holds) → FillsTo known heap places (i ∷ items) k operands rooms holds → MayRaise known (item_raises i) ConstraintError k rooms holds
   next_raises i items [] operands rooms holds f = absurd f
   next_raises i items (Creates access count ∷ k) operands rooms holds f = λ may. f.leads.fails (raise_back f.done (i ∷ items) (or_left (item_raises i) (items_raise items) may))
+  next_raises i items (StoresRecord o first count ∷ k) operands rooms holds f = λ may. f.0.raises (or_left (item_raises i) (items_raise items) may)
+  next_raises i items (DeclaresRecord x t ∷ k) operands rooms holds f = λ may. f.0.raises (or_left (item_raises i) (items_raise items) may)
   next_raises i items (f ∷ k) operands rooms holds g = absurd g
 
 -- A variable that gets a new object is no component.
@@ -101,28 +98,80 @@ module _ (known : Known) (k : Control) (a : Activation Value) (rest : List (Acti
       ready_on known (Fills items ∷ k) a rest s (v ∷ a.operands) (at_work w (fills_on known s.heap a.places i items k a.operands v w.rooms w.holds is w.rest))
 
   -- The value of a path is: of a variable, or of the target, which is followed.
-  path_item : (path : PathForm) (items : List ItemForm) (cs : List ℕ) → path.selectors ≡ cs → (w : Working known s.heap a.places s.masters (FillsTo known s.heap a.places (item_of_path path ∷ items) k a.operands)) → lost_behind cs (hold_at w.holds path.root) path.spot ≡ None → Fine known s.heap s.masters (path_next named cs (place_at a.places path.root) (running (Fills items ∷ k) a rest s))
-  path_item path items [] e w kept = item_there (item_of_path path) items (place_at a.places path.root) (rw e refl) w
-  path_item path items (c ∷ cs) e w kept =
+  path_item : (path : PathForm) (items : List ItemForm) (cs : List ℕ) → path.selectors ≡ cs → (w : Working known s.heap a.places s.masters (FillsTo known s.heap a.places (item_of_path path ∷ items) k a.operands)) → (path.of_record ≡ true → is_object known.program.variables path.root ≡ true) → lost_behind cs (hold_at w.holds path.root) path.spot ≡ None → Fine known s.heap s.masters (path_next named cs (place_at a.places path.root) (running (Fills items ∷ k) a rest s))
+  path_item path items [] e w whole kept = item_there (item_of_path path) items (place_at a.places path.root) (rw e refl) w
+  path_item path items (c ∷ cs) e w whole kept =
       fills_fine known a rest s a.operands items k c cs (place_at a.places path.root)
       (at_work w (λ v is. fills_on known s.heap a.places (item_of_path path) items k a.operands v w.rooms w.holds (rw e is) w.rest))
-      (root_follows path.root path.spot kept w.fit) (λ may. next_raises known s.heap a.places (item_of_path path) items k a.operands w.rooms w.holds w.rest (rw e refl))
+      (root_follows path.root path.spot kept w.fit)
+      (rest_raises known (place_at a.places path.root) (Fills items ∷ k) w.rooms w.holds path.of_record c cs (λ is. object_there path.root path.spot kept (whole is) w.fit)
+      (rw e at (next_raises known s.heap a.places (item_of_path path) items k a.operands w.rooms w.holds w.rest)))
 
-  -- The items of an allocator are evaluated, and then its object is asked for.
-  pub items_fine : (items : List ItemForm) → Working known s.heap a.places s.masters (FillsTo known s.heap a.places items k a.operands) → Fine known s.heap s.masters (items_next named items (running k a rest s))
-  items_fine [] w = asked k w
+  -- The object in which a record lies is found, and then its components are copied.
+  record_item : (p : RecordPathForm) (items : List ItemForm) → RecordThere known.program.types known.program.variables p → (w : Working known s.heap a.places s.masters (FillsTo known s.heap a.places (item_of_record p ∷ items) k a.operands)) → (is_owning_record known.program.types p.record_type ≡ false) × (lost_by (hold_at w.holds p.object.root) p.object.spot ≡ None) → Fine known s.heap s.masters (path_next named p.object.selectors (place_at a.places p.object.root) (running (Copies p.first p.record_type ∷ Fills items ∷ k) a rest s))
+  record_item p items there w kept =
+      let path = p.object in
+      let v = place_at a.places path.root in
+      finds_fine known a rest s a.operands (Copies p.first p.record_type ∷ Fills items ∷ k) path.selectors v
+      (at_work w (
+        record_raises known v (Fills items ∷ k) w.rooms w.holds path.of_record path.selectors
+            (λ is. object_there path.root path.spot kept.1 (root_object known.program.types known.program.variables path there.to there.leads is) w.fit)
+            (next_raises known s.heap a.places (item_of_record p) items k a.operands w.rooms w.holds w.rest),
+        (there.kinds, there.components, copies_on known s.heap a.places p there.kinds items k a.operands w.rooms w.holds there.components kept.0 w.rest),
+      )) (root_follows path.root path.spot kept.1 w.fit)
+
+  -- A record that is copied owns nothing, and its path is not lost.
+  record_kept : (holds : Holds) (p : RecordPathForm) → NextKeeps known s.heap a.places holds (item_of_record p) → (is_owning_record known.program.types p.record_type ≡ false) × (lost_by (hold_at holds p.object.root) p.object.spot ≡ None)
+  record_kept holds p (spot, target, earlier, keeps) =
+      let owning = is_owning_record known.program.types p.record_type in
+      let h = first_kept holds (copies_to owning spot) (reaches_it p.object ∷ []) keeps in
+      (copied_plain owning spot h.0, (first_kept holds (reaches_it p.object) [] h.1).0)
+
+  -- A path that typing knows of leads somewhere.
+  and_left : (x y : Bool) → (x && y) ≡ true → x ≡ true
+  and_left true y e = refl
+  and_left false y e = absurd (cc e)
+
+  this_leads : (found : Option VariableKind) (t : ℕ) → is_this t (value_access found) ≡ true → (to : VariableKind) × (found ≡ Some to)
+  this_leads None t e = absurd (cc e)
+  this_leads (Some to) t e = (to, refl)
+
+  path_leads : (c : ComponentKind) (path : PathForm) → component_item_fits known.program.types known.program.variables c (item_of_path path) ≡ true → (to : VariableKind) × (path_kind known.program.types known.program.variables path ≡ Some to)
+  path_leads (component_kinds.Integer initial) path e = absurd (cc e)
+  path_leads (component_kinds.Boolean initial) path e = absurd (cc e)
+  path_leads (component_kinds.Access access) path e = this_leads (path_kind known.program.types known.program.variables path) access.0 e
+
+  path_fits : (cs : List ComponentKind) (path : PathForm) (items : List ItemForm) → items_fit known.program.types known.program.variables cs (item_of_path path ∷ items) ≡ true → path.of_record ≡ true → is_object known.program.variables path.root ≡ true
+  path_fits [] path items e whole = absurd (cc e)
+  path_fits (c ∷ cs) path items e whole =
+      let here = and_left (component_item_fits known.program.types known.program.variables c (item_of_path path)) (items_fit known.program.types known.program.variables cs items) e in
+      let leads = path_leads c path here in
+      root_object known.program.types known.program.variables path leads.0 leads.1 whole
+
+  record_fits : (cs : List ComponentKind) (p : RecordPathForm) (items : List ItemForm) → items_fit known.program.types known.program.variables cs (item_of_record p ∷ items) ≡ true → RecordThere known.program.types known.program.variables p
+  record_fits cs p items e =
+      record_there known.program.types known.program.variables p (and_left (is_record_path known.program.types known.program.variables p) _ (and_left _ _ e))
+
+  -- The items of an aggregate are evaluated, and then its object is asked for, or its values are stored.
+  pub items_fine : (items : List ItemForm) (cs : List ComponentKind) → items_fit known.program.types known.program.variables cs items ≡ true → Working known s.heap a.places s.masters (FillsTo known s.heap a.places items k a.operands) → Fine known s.heap s.masters (items_next named items (running k a rest s))
+  items_fine [] cs fits w = asked k w
     where
       asked : (k' : Control) → Working known s.heap a.places s.masters (FillsTo known s.heap a.places [] k' a.operands) → Stepped known s.heap Quiet (running k' a rest s)
       asked [] w' = absurd w'.rest
       asked (Creates access count ∷ k') w' = ready_on known (Creates access count ∷ k') a rest s a.operands w'
+      asked (StoresRecord o first count ∷ k') w' = ready_on known (StoresRecord o first count ∷ k') a rest s a.operands (at_work w' w'.rest.1)
+      asked (DeclaresRecord x t ∷ k') w' = ready_on known (DeclaresRecord x t ∷ k') a rest s a.operands (at_work w' w'.rest.1)
       asked (f ∷ k') w' = absurd w'.rest
-  items_fine (null_item ∷ items) w = item_there null_item items Null refl w
-  items_fine (item_of_path path ∷ items) w =
+  items_fine (null_item ∷ items) cs fits w = item_there null_item items Null refl w
+  items_fine (item_of_path path ∷ items) cs fits w =
       let keeps = next_keeps known s.heap a.places (item_of_path path) items k a.operands w.rooms w.holds w.rest in
-      path_item path items path.selectors refl w (moved_kept (is_target keeps.0 path) path.selectors (hold_at w.holds path.root) path.spot (kept_by keeps.0 w.holds keeps.1 path keeps.2).1)
-  items_fine (item_of_value e ∷ items) w =
+      path_item path items path.selectors refl w (path_fits cs path items fits)
+      (moved_kept (is_target keeps.1 path) path.selectors (hold_at w.holds path.root) path.spot (kept_by keeps.1 w.holds keeps.2 path keeps.3).1)
+  items_fine (item_of_value e ∷ items) cs fits w =
       let keeps = next_keeps known s.heap a.places (item_of_value e) items k a.operands w.rooms w.holds w.rest in
-      ready_on known (Computes e ∷ Fills items ∷ k) a rest s a.operands (at_work w (keeps.2, next_raises known s.heap a.places (item_of_value e) items k a.operands w.rooms w.holds w.rest, λ v. fills_on known s.heap a.places (item_of_value e) items k a.operands v w.rooms w.holds tt w.rest))
+      ready_on known (Computes e ∷ Fills items ∷ k) a rest s a.operands (at_work w (keeps.3, next_raises known s.heap a.places (item_of_value e) items k a.operands w.rooms w.holds w.rest, λ v. fills_on known s.heap a.places (item_of_value e) items k a.operands v w.rooms w.holds tt w.rest))
+  items_fine (item_of_record p ∷ items) cs fits w =
+      record_item p items (record_fits cs p items fits) w (record_kept w.holds p (next_keeps known s.heap a.places (item_of_record p) items k a.operands w.rooms w.holds w.rest))
 
   -- A new object is granted, or refused.
   module _ (access count words item : ℕ) (home : home_of access s.masters ≡ Some item) (w : Working known s.heap a.places s.masters (Filling known s.heap a.places access count [] k a.operands)) (kinds : HaveKinds (cells_of s.heap) w.rest.leads.components (reverse (take count a.operands))) where
@@ -133,17 +182,20 @@ module _ (known : Known) (k : Control) (a : Activation Value) (rest : List (Acti
     lost : Holds
     lost = without_values (moved_by_items (back_onto w.rest.done [])) w.holds
 
+    counted : count ≡ length (back_onto w.rest.done [])
+    counted = w.rest.counted ∙ sym (filled_length known.program.types known.program.variables s.heap a.places w.rest.leads.components w.rest.done a.operands w.rest.filled w.rest.leads.fit)
+
     -- The values of the items are in hand, as far as nothing more is relied on than what they leave.
     in_hand_by : (after : Place → Hold) → Lends s.heap a.places w.holds w.rest.target (moved_by_items (back_onto w.rest.done [])) after → (n : ℕ) → n ≡ length (back_onto w.rest.done []) → HaveKinds (cells_of s.heap) w.rest.leads.components (reverse (take n a.operands)) → AreInHand s.heap (bare a.places) after (λ c. access_of (kind_among (reached_components known.program.types access) c)) 0 (reverse (take n a.operands))
     in_hand_by after lends n e h =
-        rw e (filled_in_hand known.program.types known.program.variables s.heap a.places w.holds w.rest.target (moved_by_items (back_onto w.rest.done [])) after w.fit lends access w.rest.leads.components w.rest.done a.operands (λ x is. is) w.rest.leads.reached w.rest.leads.fit w.rest.before w.rest.filled (rw e at h))
+        rw e (filled_in_hand known.program.types known.program.variables s.heap a.places w.holds w.rest.spot w.rest.target (moved_by_items (back_onto w.rest.done [])) after w.fit lends access w.rest.leads.components w.rest.done a.operands (λ x is. is) w.rest.leads.reached w.rest.leads.fit w.rest.before w.rest.filled (rw e at h))
 
     -- Where it goes to a variable, no component is an item.
     made : w.rest.target ≡ None → Fit known.program.types known.program.variables none_spared (create s.heap words cell) a.places lost × Hand known.program.types known.program.variables none_spared (create s.heap words cell) a.places lost (Some access) (created s.heap words)
     unfolding cell lost
     made none =
         let after = hold_in none_spared lost in
-        create_fit words cell (in_hand_by after (lends_none s.heap a.places w.holds w.rest.target (moved_by_items (back_onto w.rest.done [])) none) count w.rest.counted kinds)
+        create_fit words cell (in_hand_by after (lends_none s.heap a.places w.holds w.rest.target (moved_by_items (back_onto w.rest.done [])) none) count counted kinds)
         (lose_all (moved_by_items (back_onto w.rest.done [])) w.fit)
 
     stored : Stored None (create s.heap words cell) s.masters
@@ -151,13 +203,13 @@ module _ (known : Known) (k : Control) (a : Activation Value) (rest : List (Acti
     stored = stored_new cell (home_has access item s.masters home) w.stored
 
     -- A variable owns it then, or a component does.
-    owned_by : (x : ℕ) (k' : Control) → w.rest.target ≡ None → variable_access known.program.variables x ≡ Some access → RunsOn known k' w.rooms (slice_set lost x (hold.Own Whole)) → Working known (create s.heap words cell) (slice_set a.places x (created s.heap words)) s.masters (RunsOn known k')
-    owned_by x k' none is runs = record {
+    owned_by : (x : ℕ) (k' : Control) → w.rest.target ≡ None → variable_access known.program.variables x ≡ Some access → is_object known.program.variables x ≡ false → RunsOn known k' w.rooms (slice_set lost x (hold.Own Whole)) → Working known (create s.heap words cell) (slice_set a.places x (created s.heap words)) s.masters (RunsOn known k')
+    owned_by x k' none is other runs = record {
       rooms = w.rooms;
       holds = slice_set lost x (hold.Own Whole);
       stored = stored;
       roomed = w.roomed;
-      fit = put_owner x (created s.heap words) Whole (rw is (made none).1) (made none).0;
+      fit = put_owner x (created s.heap words) Whole (λ object. no_object known.program.variables x other object) (rw is (made none).1) (made none).0;
       rest = runs;
     }
 
@@ -166,7 +218,7 @@ module _ (known : Known) (k : Control) (a : Activation Value) (rest : List (Acti
     inserted o object c found listed same leads =
         let moved = moved_by_items (back_onto w.rest.done []) in
         let after = hold_of (with_lent o c (as_reliance lost)) in
-        insert_fit words cell o object c found listed same (in_hand_by after (lends_some s.heap a.places w.holds w.rest.target moved o object c found listed leads) count w.rest.counted kinds) (lose_all moved w.fit)
+        insert_fit words cell o object c found listed same (in_hand_by after (lends_some s.heap a.places w.holds w.rest.target moved o object c found listed leads) count counted kinds) (lose_all moved w.fit)
 
     stored_in : (o : Value) (c : ℕ) (k' : Control) → ((path : PathForm) → w.rest.target ≡ Some path → LeadsTo s.heap a.places o [] c path) → Accepts known s.heap o c (Some access) → RunsOn known k' w.rooms lost → StoringIn known o c (created s.heap words) k' (create s.heap words cell) a.places s.masters
     stored_in Null c k' leads into runs = absurd into
@@ -187,10 +239,10 @@ module _ (known : Known) (k : Control) (a : Activation Value) (rest : List (Acti
           }),
         )
 
-    granted_ready : (k' : Control) (operands : List Value) → GoesInto s.heap a.places w.rest.target k' → StoresTo k' (λ x k2. (variable_access known.program.variables x ≡ Some access) × RunsOn known k2 w.rooms (slice_set lost x (hold.Own Whole))) (λ o c k2. Accepts known s.heap o c (Some access) × RunsOn known k2 w.rooms lost) → ReadyIn known Running k' (create s.heap words cell) a.places (created s.heap words ∷ operands) s.masters
+    granted_ready : (k' : Control) (operands : List Value) → GoesInto s.heap a.places w.rest.target k' → StoresTo k' (λ x k2. ((variable_access known.program.variables x ≡ Some access) × (is_object known.program.variables x ≡ false)) × RunsOn known k2 w.rooms (slice_set lost x (hold.Own Whole))) (λ o c k2. Accepts known s.heap o c (Some access) × RunsOn known k2 w.rooms lost) → ReadyIn known Running k' (create s.heap words cell) a.places (created s.heap words ∷ operands) s.masters
     granted_ready [] operands into to = absurd to
-    granted_ready (Stores x ∷ k') operands into to = inl (owned_by x k' (stores_none s.heap a.places w.rest.target x k' into) to.0 to.1)
-    granted_ready (Declares x ∷ k') operands into to = owned_by x k' (declares_none s.heap a.places w.rest.target x k' into) to.0 to.1
+    granted_ready (Stores x ∷ k') operands into to = inl (owned_by x k' (stores_none s.heap a.places w.rest.target x k' into) to.0.0 to.0.1 to.1)
+    granted_ready (Declares x ∷ k') operands into to = owned_by x k' (declares_none s.heap a.places w.rest.target x k' into) to.0.0 to.0.1 to.1
     granted_ready (StoresIn o c ∷ k') operands into to = stored_in o c k' (λ path is. rw is at into) to.0 to.1
     granted_ready (f ∷ k') operands into to = absurd to
 

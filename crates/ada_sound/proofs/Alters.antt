@@ -1,6 +1,6 @@
 -- What a step does to objects: each stays the object that it was, and words that are back were back before or go back now.
 
-use Rattle.std.proofs.Common.{◌≡◌, ◌≢◌, true, false, List, [], ◌∷◌, ◌++◌, length, refl, ap, ◌⊎◌, inl, inr}
+use Rattle.std.proofs.Common.{◌≡◌, ◌≢◌, true, false, List, [], ◌∷◌, ◌++◌, length, refl, ap, ◌∙◌, ◌⊎◌, inl, inr}
 use Rattle.std.specs.Prelude.{Some}
 use Rattle.std.specs.List.{slice_get, slice_set}
 use Rattle.ada_meaning.specs.declared.state.Id.{Id}
@@ -49,3 +49,13 @@ module _ (heap : List Object) (e : Event) (o : Id) (x y : Object) (found : objec
 
   pub alters_set : Alters heap e (slice_set heap o.0 y)
   alters_set = record { kept = λ p z is. kept_at p z is (same_or_not p.0 o.0); told = λ p z is back. told_at p z back (set_get heap o.0 p.0 y z is) }
+
+-- One change after another.
+pub alters_then : (before mid after : List Object) (e : Event) → Alters before e mid → Alters mid e after → Alters before e after
+alters_then before mid after e first second = record {
+  kept = λ o x is.
+      let y = first.kept o x is in
+      let z = second.kept o y.0 y.1 in
+      (z.0, z.1, (z.2.0 ∙ y.2.0, z.2.1 ∙ y.2.1, z.2.2 ∙ y.2.2), λ out. z.3 (y.3 out));
+  told = λ o z is back. elim (second.told o z is back) [ inl mid_back ↦ first.told o mid_back.0 mid_back.1 mid_back.2 | inr told ↦ inr told ];
+}

@@ -105,7 +105,7 @@ last program input fs hs cs = last_of (first_with program input fs hs) (came pro
 -- What flow says of a program that does these statements with these handlers.
 abbrev pub flow_with : Program → StmtsForm → HandlersForm → Outcome
 flow_with program fs hs =
-    then_flow (declarations_flow (variables_of program) (declaration_forms program) (first_holds program))
+    then_flow (declarations_flow (types_of program) (variables_of program) (declaration_forms program) (first_holds program))
     (λ at. handled (passes fs hs) (handlers_flow (types_of program) (variables_of program) outermost hs) (stmts_flow (types_of program) (variables_of program) outermost fs at))
 
 -- The program as plain data, with these statements and these handlers.
@@ -188,7 +188,7 @@ module _ (program : Program) (fs : StmtsForm) (hs : HandlersForm) (is : stmt_for
 
   -- The same of its parts.
   pub fine_at_ends_by : (holds : Holds) (before within normal raising : Option Holds)
-      → declarations_flow (variables_of program) (declaration_forms program) (first_holds program) ≡ goes (Some holds) before
+      → declarations_flow (types_of program) (variables_of program) (declaration_forms program) (first_holds program) ≡ goes (Some holds) before
       → stmts_flow (types_of program) (variables_of program) outermost fs holds ≡ goes (Some holds) within
       → handlers_flow (types_of program) (variables_of program) outermost hs holds ≡ goes normal raising → IsFineAtEnds holds program
   fine_at_ends_by holds before within normal raising d e g = (before, within, normal, raising, d, rw is e, rw has g)

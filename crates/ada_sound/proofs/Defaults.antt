@@ -1,32 +1,30 @@
 -- Allocators without items (4.8): their objects hold at first what each component holds where no value is given, as if that were its item.
 
 use Rattle.std.proofs.lemmas.Bool.{eqb-true}
-use Rattle.std.proofs.Common.{◌≡◌, ℕ, zero, suc, Bool, true, false, ◌&&◌, ◌==◌, List, [], ◌∷◌, ◌++◌, length, map, refl, ap, sym, ◌∙◌}
+use Rattle.std.proofs.Common.{◌≡◌, ℕ, Bool, true, false, ◌&&◌, ◌==◌, List, [], ◌∷◌, map, refl, ap, sym, ◌∙◌}
 use Rattle.std.specs.Prelude.{Option, Some, None, is_some}
-use Rattle.std.specs.List.{slice_get, slice_set}
+use Rattle.std.specs.List.{slice_get}
 use Rattle.ada_program.specs.declared.program.ComponentKind.{ComponentKind}
 use Rattle.ada_program.specs.declared.program.ComponentKind.TheVariants as component
 use Rattle.ada_program.specs.declared.program.VariableKind.{VariableKind}
 use Rattle.ada_program.specs.declared.program.VariableKind.TheVariants as variable
-use Rattle.ada_program.specs.Form.{PathForm, integer, boolean, ItemForm, null_item, item_of_path, item_of_value, allocates_default}
+use Rattle.ada_program.specs.Form.{PathForm, allocates_default}
+use Rattle.ada_text.specs.declared.spot.Spot.{Spot}
+use Rattle.std.specs.Option.{option_map}
+use Rattle.std.proofs.lemmas.Option.{slice_get-map}
 use Rattle.ada_program.specs.declared.program.TypeDefinition.{TypeDefinition}
+use Rattle.ada_program.specs.declared.program.TypeDefinition.TheVariants as definition
 use Rattle.ada_program.specs.ProgramForm.{TypeForm, type_form, VariableForm}
-use Rattle.ada_program.specs.Typed.{reached_of}
-use Rattle.ada_program.specs.WellFormed.{access_of, reached_components, items_fit, kind_takes}
+use Rattle.ada_program.specs.Typed.{components_by, components_of, reached_of}
+use Rattle.ada_program.specs.WellFormed.{access_of, components_in, record_components, reached_components, items_fit, kind_takes}
 use Rattle.ada_effects.specs.Effects.{items_raise}
-use Rattle.ada_flow.specs.Flow.{Holds, moved_by_items, uses_in, uses_in_item, named_by_item}
+use Rattle.ada_flow.specs.Flow.{Holds, moved_by_items, uses_in}
 use Rattle.ada_meaning.specs.declared.state.Value.{Value}
 use Rattle.ada_meaning.specs.Step.{initial_value, in_front}
 use Rattle.ada_meaning.specs.Named.{Object, named}
 use Rattle.ada_typed.proofs.Shown.{same_components}
-use Rattle.ada_sound.proofs.Invariant.{Known, Control, Rooms, NoneBroken, ItemsKeep, FilledBy, Filling}
-use Rattle.ada_sound.proofs.Allocators.{fill_one}
-
--- What a component holds at first, as an item.
-abbrev pub default_item : ComponentKind → ItemForm
-default_item (component.Integer initial) = item_of_value (integer initial)
-default_item (component.Boolean initial) = item_of_value (boolean initial)
-default_item (component.Access access) = null_item
+use Rattle.ada_sound.proofs.Invariant.{Known, Control, Rooms, ItemsKeep, FilledBy, Filling}
+use Rattle.ada_sound.proofs.Copied.{default_item, fill_one}
 
 -- Such items are those of an object.
 pub defaults_fit : (types : List TypeForm) (variables : List VariableForm) (kinds : List ComponentKind) → items_fit types variables kinds (map default_item kinds) ≡ true
@@ -48,16 +46,12 @@ defaults_move (component.Integer initial ∷ kinds) = defaults_move kinds
 defaults_move (component.Boolean initial ∷ kinds) = defaults_move kinds
 defaults_move (component.Access access ∷ kinds) = defaults_move kinds
 
-pub defaults_keep : (target : Option PathForm) (holds : Holds) (earlier : List PathForm) (kinds : List ComponentKind) → ItemsKeep target holds earlier (map default_item kinds)
+pub defaults_keep : (types : List TypeForm) (spot : Spot) (target : Option PathForm) (holds : Holds) (earlier : List PathForm) (kinds : List ComponentKind) → ItemsKeep types spot target holds earlier (map default_item kinds)
 unfolding uses_in
-defaults_keep target holds earlier [] = tt
-defaults_keep target holds earlier (component.Integer initial ∷ kinds) = (refl, defaults_keep target holds earlier kinds)
-defaults_keep target holds earlier (component.Boolean initial ∷ kinds) = (refl, defaults_keep target holds earlier kinds)
-defaults_keep target holds earlier (component.Access access ∷ kinds) = (refl, defaults_keep target holds earlier kinds)
-
-pub defaults_count : (kinds : List ComponentKind) → length (map default_item kinds) ≡ length kinds
-defaults_count [] = refl
-defaults_count (kind ∷ kinds) = ap suc (defaults_count kinds)
+defaults_keep types spot target holds earlier [] = tt
+defaults_keep types spot target holds earlier (component.Integer initial ∷ kinds) = (refl, defaults_keep types spot target holds earlier kinds)
+defaults_keep types spot target holds earlier (component.Boolean initial ∷ kinds) = (refl, defaults_keep types spot target holds earlier kinds)
+defaults_keep types spot target holds earlier (component.Access access ∷ kinds) = (refl, defaults_keep types spot target holds earlier kinds)
 
 module _ (known : Known) (heap : List Object) (places : List Value) (access count : ℕ) (k : Control) (rooms : Rooms) (holds : Holds) where
   -- The value that is kept for a component is that of its item.
@@ -99,7 +93,18 @@ default_for types variables (variable.Access t) access takes =
 
 -- The types that a run has lead to the components that flow speaks of.
 abbrev pub Reaches : Known → List TypeDefinition → Type 0
-Reaches known types = (access : ℕ) → reached_of types access ≡ reached_components known.program.types access
+Reaches known types =
+    ((access : ℕ) → reached_of types access ≡ reached_components known.program.types access)
+    × ((t : ℕ) → components_of types t ≡ record_components known.program.types t)
 
-pub reached_same : (types : List TypeDefinition) (access : ℕ) → reached_of types access ≡ reached_components (map type_form types) access
-reached_same types access = sym (same_components types access)
+components_shown : (o : Option TypeDefinition) → components_in (option_map type_form o) ≡ components_by o
+components_shown None = refl
+components_shown (Some (definition.Record name parts components)) = refl
+components_shown (Some (definition.Access name designated)) = refl
+components_shown (Some (definition.Object record_type)) = refl
+
+record_same : (types : List TypeDefinition) (t : ℕ) → record_components (map type_form types) t ≡ components_of types t
+record_same types t = ap components_in (slice_get-map type_form types t) ∙ components_shown (slice_get types t)
+
+pub reached_same : (types : List TypeDefinition) → ((access : ℕ) → reached_of types access ≡ reached_components (map type_form types) access) × ((t : ℕ) → components_of types t ≡ record_components (map type_form types) t)
+reached_same types = ((λ access. sym (same_components types access)), (λ t. sym (record_same types t)))

@@ -232,7 +232,7 @@ module _ (known : Known) where
     -- An object in the newest collection is of a type that may go with the master, and of those no variable owns one.
     none_owned : (item : Item) (items : List Item) (access : ℕ) (pool : Option ℕ) (rooms : Rooms) (holds : Holds) → Houses item.owned access pool → Roomed (record { number = number; items = item ∷ items } ∷ ms) rooms → RunsOn known (Leaves mode ∷ k) rooms holds → (types : List ℕ) × NamesNone known.program.variables types holds × (is_among types (Some access) ≡ true)
     none_owned item items access pool [] holds owns roomed r = absurd r
-    none_owned item items access pool (types ∷ rooms) holds owns roomed r = (types, r.0, among_by item.owned access pool types owns roomed.0.0)
+    none_owned item items access pool (gone ∷ rooms) holds owns roomed r = (gone.types, r.0, among_by item.owned access pool gone.types owns roomed.0.0)
 
     -- A member is taken.
     taken_fine : (item : Item) (items : List Item) (pool : Option ℕ) (v : Value) → HousesFrom item.owned pool → Left_with (item ∷ items) → HeldIn s.heap (record { number = number; items = item ∷ items } ∷ ms) → IsTaken item.number s.heap v → Stepped known s.heap Quiet (record (running (Ends v ∷ GivesBack v (Leaving number item.number) pool ∷ Leaves mode ∷ k) a rest (left_with (item ∷ items))) { heap = named.part s.heap v })
@@ -275,7 +275,7 @@ module _ (known : Known) where
 
     roomed_shorter : (item : Item) (items : List Item) (rooms : Rooms) → Roomed (record { number = number; items = item ∷ items } ∷ ms) rooms → Roomed (record { number = number; items = items } ∷ ms) rooms
     roomed_shorter item items [] r = r
-    roomed_shorter item items (types ∷ rooms) r = (r.0.1, r.1)
+    roomed_shorter item items (gone ∷ rooms) r = (r.0.1, r.1)
 
     -- The newest item goes, of which no object is in its collection.
     shorter_fine : (item : Item) (items : List Item) → ((o : Id) (x : Object) → object_at s.heap o ≡ Some x → x.listed ≡ true → x.cell.home.item ≡ item.number → ⊥) → Left_with (item ∷ items) → Stepped known s.heap Quiet (left_with items)
@@ -316,7 +316,7 @@ module _ (known : Known) where
     -- The master is left.
     gone_ready : (rooms : Rooms) (holds : Holds) → Stored None s.heap (record { number = number; items = [] } ∷ ms) → Fit known.program.types known.program.variables none_spared s.heap a.places holds → Roomed (record { number = number; items = [] } ∷ ms) rooms → RunsOn known (Leaves mode ∷ k) rooms holds → ReadyIn known mode k s.heap a.places a.operands ms
     gone_ready [] holds stored fit roomed r = absurd r
-    gone_ready (types ∷ rooms) holds stored fit roomed r =
+    gone_ready (gone ∷ rooms) holds stored fit roomed r =
         goes_ready known mode k s.heap a.places a.operands ms
         (record { rooms = rooms; holds = r.1.0; stored = stored_older (record { number = number; items = [] }) ms stored; roomed = roomed.1; fit = weaker_fit r.1.0 r.1.1 fit; rest = r.1.2 })
 

@@ -1,6 +1,6 @@
 -- What is assigned is evaluated, moved and stored; new objects come to be; what is read is written.
 
-use Rattle.std.proofs.Common.{◌≡◌, ◌≢◌, ℕ, Bool, true, false, ◌==◌, List, [], ◌∷◌, ◌++◌, length, map, refl, sym, ap, ◌∙◌, subst, ◌⊎◌, inl, inr}
+use Rattle.std.proofs.Common.{◌≡◌, ◌≢◌, ℕ, Bool, true, false, ◌==◌, ◌||◌, List, [], ◌∷◌, ◌++◌, length, map, refl, sym, ap, ◌∙◌, subst, ◌⊎◌, inl, inr}
 use Rattle.std.proofs.lemmas.Bool.{and_parts, eqb-true}
 use Rattle.std.specs.Prelude.{ℤ, Option, Some, None}
 use Rattle.std.specs.List.{slice_get, slice_set}
@@ -11,13 +11,13 @@ use Rattle.ada_text.specs.declared.spot.Spot.{Spot}
 use Rattle.ada_program.specs.Handling.{is_same}
 use Rattle.ada_program.specs.declared.program.ComponentKind.{ComponentKind}
 use Rattle.ada_program.specs.declared.program.TypeDefinition.{TypeDefinition}
-use Rattle.ada_program.specs.Typed.{reached_of, words_of}
+use Rattle.ada_program.specs.Typed.{reached_of, count_of, words_of}
 use Rattle.ada_program.specs.WellFormed.{access_of, reached_components, selected_kind, selectors_kind, variable_kind, kind_takes, is_borrower}
-use Rattle.ada_effects.specs.Effects.{expression_raises, right_raises}
+use Rattle.ada_effects.specs.Effects.{expression_raises, items_raise, path_raises, right_raises}
 use Rattle.ada_flow.specs.declared.rule.Hold.{Hold}
 use Rattle.ada_flow.specs.declared.rule.Hold.TheVariants as hold
 use Rattle.ada_flow.specs.declared.rule.Region.TheVariants.{Whole}
-use Rattle.ada_flow.specs.Flow.{Holds, hold_at, variable_access, uses_in, uses_in_item, uses_in_items, named_by_item, reads_it, gives_component, lost_by, without_values, moved_by_items, value_hold, borrowed_hold, ends_with, gives, same_selectors, same_path, clears}
+use Rattle.ada_flow.specs.Flow.{Holds, hold_at, variable_access, uses_in, uses_in_items, uses_in_target, gives_component, lost_by, without_values, moved_by_items, value_hold, borrowed_hold, ends_with, gives, same_selectors, same_path, clears}
 use Rattle.ada_meaning.specs.declared.state.Id.{Id}
 use Rattle.ada_meaning.specs.declared.state.Value.{Value}
 use Rattle.ada_meaning.specs.declared.state.Value.TheVariants.{Null, Names, Scalar}
@@ -36,26 +36,33 @@ use Rattle.ada_owners.specs.Walks.{walk}
 use Rattle.ada_typed.specs.Holding.{cells_of}
 use Rattle.ada_typed.proofs.Values.{AreComputed}
 use Rattle.ada_typed.proofs.Control as typed
-use Rattle.ada_sound.proofs.Defaults.{default_item, defaults_fit, defaults_raise, defaults_move, defaults_keep, defaults_count, fill_defaults, DefaultFor, default_for, Reaches}
+use Rattle.ada_sound.proofs.Copied.{default_item, items_keep}
+use Rattle.ada_sound.proofs.Defaults.{defaults_fit, defaults_raise, defaults_move, defaults_keep, fill_defaults, DefaultFor, default_for, Reaches}
 use Rattle.ada_sound.proofs.Values.{read_other}
 use Rattle.ada_sound.proofs.Stored.{Stored, exists_out, stored_owning}
-use Rattle.ada_sound.proofs.Fits.{Fit, MayFollow, component_value, component_access, none_spared, bare, place_at, put_null, put_alias, component_is, root_follows, component_follows, take_variable, take_component}
-use Rattle.ada_sound.proofs.Invariant.{Known, Control, Rooms, Roomed, Accepts, LeadsTo, GoesInto, Allocating, ItemsKeep, Clearing, component_among, StoringIn, Pairs, IsAlone, IsOne, Half, HalfBy, IsCleared, front, final, WalksOn, Goes, Raised, RunsOn, NoneBroken, MayRaise, FillsIn, IsHolder, Takes, Computing, Working, Resumes, EvaluatesTo, Awaits, FindsFor, MovesOn, FillsOn, FollowsFor, HalfFollows, ReadyIn, Stepped, Fine, ways}
+use Rattle.ada_sound.proofs.Fits.{Fit, MayFollow, names_object, is_object, component_value, component_access, none_spared, bare, place_at, put_null, put_alias, component_is, root_follows, component_follows, take_variable, take_component}
+use Rattle.ada_sound.proofs.Invariant.{Known, Control, Rooms, Roomed, Accepts, LeadsTo, GoesInto, Allocating, Clearing, component_among, StoringIn, Pairs, IsAlone, IsOne, Half, HalfBy, IsCleared, front, final, WalksOn, Goes, Raised, RunsOn, NoneBroken, To, MayRaise, RaisesAt, FillsIn, IsHolder, Takes, Computing, Working, Resumes, EvaluatesTo, Awaits, FindsFor, MovesOn, FillsOn, FollowsFor, HalfFollows, ReadyIn, Stepped, Fine, ways}
 use Rattle.ada_sound.proofs.Ready.{running, at_work, stays, ready_on, runs_on, resumes_on, jumps_less}
 use Rattle.ada_sound.proofs.Walks.{finds_fine, fills_fine, half_fine}
 use Rattle.ada_sound.proofs.Rooms.{roomed_declares}
 use Rattle.ada_sound.proofs.Outcomes.{using_goes, ends_goes}
-use Rattle.ada_sound.proofs.Followings.{first_kept, kept_apart}
-use Rattle.ada_sound.proofs.Expressions.{reads_fine}
+use Rattle.ada_sound.proofs.Followings.{kept_apart}
+use Rattle.ada_sound.proofs.Roots.{selected_no_object, takes_none, takes_object, object_there, raises_null, raises_all, rest_raises}
+use Rattle.ada_sound.proofs.Raising.{or_right}
+use Rattle.ada_sound.proofs.Expressions.{MayRead, reads_fine}
 use Rattle.ada_sound.proofs.Assigned.{Allocated, value_starts, computed_goes, allocated_goes, kind_names, selected_of}
-use Rattle.ada_sound.proofs.Taken.{variable_goes, declared_goes, component_goes, at_path, value_gives, value_fills, cleared_is, stored_after, there_after, selectors_are, walk_on, kept_root, root_access, path_goes, null_place, move_by, borrow_by, borrow_gives, store_by}
+use Rattle.ada_sound.proofs.Taken.{variable_none, declared_none, variable_goes, declared_goes, component_goes, at_path, value_gives, value_fills, cleared_is, stored_after, there_after, selectors_are, walk_on, kept_root, root_access, path_goes, null_place, move_by, borrow_by, borrow_gives, store_by}
+
+-- Where a path stands.
+abbrev spot_of : PathForm → Spot
+spot_of path = path.spot
 
 -- An item's path is followed, or its value is there.
 filling : (known : Known) (a : Activation Value) (rest : List (Activation Value)) (s : State) (below : List Value) (k : Control) (cs : List ℕ) (v : Value) → MayFollow s.heap v → (w : Working known s.heap a.places s.masters (FillsOn known s.heap a.places v below cs k)) → MayRaise known true ConstraintError k w.rooms w.holds → Fine known s.heap s.masters (path_next named cs v (running k (record a { operands = below }) rest s))
 filling known a rest s below [] cs v follows w raise = absurd (w.rest)
 filling known a rest s below (Fills items ∷ k) [] v follows w raise =
     stays known Quiet (running (Fills items ∷ k) (record a { operands = v ∷ below }) rest s) (tt, at_work w (w.rest v refl)) tt
-filling known a rest s below (Fills items ∷ k) (c ∷ cs) v follows w raise = fills_fine known a rest s below items k c cs v w follows raise
+filling known a rest s below (Fills items ∷ k) (c ∷ cs) v follows w raise = fills_fine known a rest s below items k c cs v w follows (raises_all known v (Fills items ∷ k) w.rooms w.holds cs (raise refl))
 filling known a rest s below (f ∷ k) cs v follows w raise = absurd (w.rest)
 
 module _ (known : Known) (k : Control) (a : Activation Value) (rest : List (Activation Value)) (s : State) where
@@ -74,7 +81,7 @@ module _ (known : Known) (k : Control) (a : Activation Value) (rest : List (Acti
       into (Names o) c k' kind takes fits' w' =
           let there = w'.rest.0 in
           let g = w'.rest.1 in
-          let h = value_fills g.1 g.0 whole root [] spot w'.holds (RunsOn known k' w'.rooms) (Raised (component_among (value_of (at_path whole root [] spot))) (ways known k' w'.rooms)) g.2 in
+          let h = value_fills known.program.types g.1 g.0 whole root [] spot w'.holds (RunsOn known k' w'.rooms) (Raised (component_among (path_raises g.0) (value_of (at_path whole root [] spot))) (ways known k' w'.rooms)) g.2 in
           let same = component_goes known.program s.heap kind kinds o there.0 c k' there.1 fits' ∙ sym (own_access kind takes) in
           inl (
             there,
@@ -89,35 +96,35 @@ module _ (known : Known) (k : Control) (a : Activation Value) (rest : List (Acti
           )
       into (Scalar n) c k' kind takes fits' w' = absurd (w'.rest.0)
 
-      to : (cleared : Bool) (x : ℕ) (k' : Control) → variable_access known.program.variables x ≡ variable_access known.program.variables root → (rooms : Rooms) (holds : Holds) → Stored None s.heap s.masters → Roomed s.masters rooms → Fit known.program.types known.program.variables none_spared s.heap a.places holds → Goes (gives known.program.variables cleared x (value_of (at_path whole root [] spot)) holds) (RunsOn known k' rooms) (Raised (λ e. right_raises (is_same e) (value_of (at_path whole root [] spot))) (ways known k' rooms)) → Working known s.heap (slice_set a.places x (place_at a.places root)) s.masters (RunsOn known k')
-      to cleared x k' same rooms holds stored roomed fit g = by (is_borrower known.program.variables x) refl
+      to : (here : Spot) (cleared : Bool) (x : ℕ) (k' : Control) → is_object known.program.variables x ≡ false → variable_access known.program.variables x ≡ variable_access known.program.variables root → (rooms : Rooms) (holds : Holds) → Stored None s.heap s.masters → Roomed s.masters rooms → Fit known.program.types known.program.variables none_spared s.heap a.places holds → Goes (gives known.program.types known.program.variables here cleared x (value_of (at_path whole root [] spot)) holds) (RunsOn known k' rooms) (Raised (λ e. right_raises (is_same e) (value_of (at_path whole root [] spot))) (ways known k' rooms)) → Working known s.heap (slice_set a.places x (place_at a.places root)) s.masters (RunsOn known k')
+      to here cleared x k' none same rooms holds stored roomed fit g = by (is_borrower known.program.variables x) refl
         where
           by : (b : Bool) → is_borrower known.program.variables x ≡ b → Working known s.heap (slice_set a.places x (place_at a.places root)) s.masters (RunsOn known k')
           by true is =
-              let h = borrow_gives known.program.variables cleared x whole root [] spot holds (RunsOn known k' rooms) (Raised (λ e. right_raises (is_same e) (value_of (at_path whole root [] spot))) (ways known k' rooms)) is g in
+              let h = borrow_gives known.program.types known.program.variables here cleared x whole root [] spot holds (RunsOn known k' rooms) (Raised (λ e. right_raises (is_same e) (value_of (at_path whole root [] spot))) (ways known k' rooms)) is g in
               record {
                 rooms = rooms;
                 holds = slice_set holds x (borrowed_hold (hold_at holds root));
                 stored = stored;
                 roomed = roomed;
-                fit = borrow_by fit root spot x (hold_at holds root) refl same h.0;
+                fit = borrow_by fit root spot x (hold_at holds root) none refl same h.0;
                 rest = h.1;
               }
           by false is =
-              let h = value_gives known.program.variables cleared x whole root [] spot holds (RunsOn known k' rooms) (Raised (λ e. right_raises (is_same e) (value_of (at_path whole root [] spot))) (ways known k' rooms)) is g in
+              let h = value_gives known.program.types known.program.variables here cleared x whole root [] spot holds (RunsOn known k' rooms) (Raised (λ e. right_raises (is_same e) (value_of (at_path whole root [] spot))) (ways known k' rooms)) is g in
               record {
                 rooms = rooms;
                 holds = slice_set (without_values (root ∷ []) holds) x (hold_at holds root);
                 stored = stored;
                 roomed = roomed;
-                fit = move_by fit root spot x (hold_at holds root) refl same h.0;
+                fit = move_by fit root spot x (hold_at holds root) none refl same h.0;
                 rest = h.1;
               }
 
       go : (k' : Control) → typed.Fits known.program (cells_of s.heap) kinds (Evaluates (value_of (at_path whole root [] spot)) ∷ k') → Working known s.heap a.places s.masters (Takes known s.heap a.places (value_of (at_path whole root [] spot)) k') → ReadyIn known Running k' s.heap a.places (place_at a.places root ∷ a.operands) s.masters
       go [] fits' w' = absurd (w'.rest)
-      go (Stores x ∷ k') (kind, takes, fits') w' = inl (to w'.rest.0 x k' (variable_goes known.program s.heap kind kinds x k' fits' ∙ sym (own_access kind takes)) w'.rooms w'.holds w'.stored w'.roomed w'.fit w'.rest.1)
-      go (Declares x ∷ k') (kind, takes, fits') w' = to w'.rest.0 x k' (declared_goes known.program s.heap kind kinds x k' fits' ∙ sym (own_access kind takes)) w'.rooms w'.holds w'.stored w'.roomed w'.fit w'.rest.1
+      go (Stores x ∷ k') (kind, takes, fits') w' = inl (to w'.rest.1.0 w'.rest.0 x k' (variable_none known.program s.heap kind kinds x k' (takes_none known.program.types known.program.variables kind (value_of (at_path whole root [] spot)) takes) fits') (variable_goes known.program s.heap kind kinds x k' fits' ∙ sym (own_access kind takes)) w'.rooms w'.holds w'.stored w'.roomed w'.fit w'.rest.1.1)
+      go (Declares x ∷ k') (kind, takes, fits') w' = to w'.rest.1.0 w'.rest.0 x k' (declared_none known.program s.heap kind kinds x k' (takes_none known.program.types known.program.variables kind (value_of (at_path whole root [] spot)) takes) fits') (declared_goes known.program s.heap kind kinds x k' fits' ∙ sym (own_access kind takes)) w'.rooms w'.holds w'.stored w'.roomed w'.fit w'.rest.1.1
       go (StoresIn o c ∷ k') (kind, takes, fits') w' = into o c k' kind takes fits' w'
       go (f ∷ k') fits' w' = absurd (w'.rest)
 
@@ -165,71 +172,71 @@ module _ (known : Known) (k : Control) (a : Activation Value) (rest : List (Acti
     no_walk u e (g ∷ es) null walks' = let none = rw null at walks' in cc none
 
     -- The value of a component is lent to a borrower.
-    borrow_component_by : {holds : Holds} (x d : ℕ) (ds : List ℕ) (h : Hold) → hold_at holds root ≡ h → lost_by h spot ≡ None → (f : Fit known.program.types known.program.variables none_spared s.heap a.places holds) → WalksOn s.heap a.places (at_path whole root (d ∷ ds) spot) (Names o) (c ∷ []) → variable_access known.program.variables x ≡ component_access known.program.types object c → Fit known.program.types known.program.variables none_spared s.heap (slice_set a.places x v) (slice_set holds x (borrowed_hold h))
-    borrow_component_by x d ds hold.Null is kept f walks same = absurd (no_walk (place_at a.places root) d ds (null_place f root spot is) walks.0)
-    borrow_component_by x d ds (hold.Own r) is kept f walks same = put_alias x v r (rw same (λ p e. component_is o object c v p refl found listed at e f)) f
-    borrow_component_by x d ds (hold.Alias r) is kept f walks same = put_alias x v r (rw same (λ p e. component_is o object c v p refl found listed at e f)) f
-    borrow_component_by x d ds hold.Lost is kept f walks same = absurd (cc kept)
+    borrow_component_by : {holds : Holds} (x d : ℕ) (ds : List ℕ) (h : Hold) → is_object known.program.variables x ≡ false → hold_at holds root ≡ h → lost_by h spot ≡ None → (f : Fit known.program.types known.program.variables none_spared s.heap a.places holds) → WalksOn s.heap a.places (at_path whole root (d ∷ ds) spot) (Names o) (c ∷ []) → variable_access known.program.variables x ≡ component_access known.program.types object c → Fit known.program.types known.program.variables none_spared s.heap (slice_set a.places x v) (slice_set holds x (borrowed_hold h))
+    borrow_component_by x d ds hold.Null none is kept f walks same = absurd (no_walk (place_at a.places root) d ds (null_place f root spot is) walks.0)
+    borrow_component_by x d ds (hold.Own r) none is kept f walks same = put_alias x v r none (rw same (λ p e. component_is o object c v p refl found listed at e f)) f
+    borrow_component_by x d ds (hold.Alias r) none is kept f walks same = put_alias x v r none (rw same (λ p e. component_is o object c v p refl found listed at e f)) f
+    borrow_component_by x d ds hold.Lost none is kept f walks same = absurd (cc kept)
 
-    borrow_to : (cleared : Bool) (x d : ℕ) (ds : List ℕ) (k' : Control) (rooms : Rooms) (holds : Holds) → is_borrower known.program.variables x ≡ true → Stored None s.heap s.masters → Roomed s.masters rooms → Fit known.program.types known.program.variables none_spared s.heap a.places holds → WalksOn s.heap a.places (at_path whole root (d ∷ ds) spot) (Names o) (c ∷ []) → variable_access known.program.variables x ≡ component_access known.program.types object c → Goes (gives known.program.variables cleared x (value_of (at_path whole root (d ∷ ds) spot)) holds) (RunsOn known k' rooms) (Raised (λ e. right_raises (is_same e) (value_of (at_path whole root (d ∷ ds) spot))) (ways known k' rooms)) → Working known s.heap (slice_set a.places x v) s.masters (RunsOn known k')
-    borrow_to cleared x d ds k' rooms holds is stored roomed f walks same g =
-        let h = borrow_gives known.program.variables cleared x whole root (d ∷ ds) spot holds (RunsOn known k' rooms) (Raised (λ e. right_raises (is_same e) (value_of (at_path whole root (d ∷ ds) spot))) (ways known k' rooms)) is g in
-        record { rooms = rooms; holds = slice_set holds x (borrowed_hold (hold_at holds root)); stored = stored; roomed = roomed; fit = borrow_component_by x d ds (hold_at holds root) refl h.0 f walks same; rest = h.1 }
+    borrow_to : (here : Spot) (cleared : Bool) (x d : ℕ) (ds : List ℕ) (k' : Control) (rooms : Rooms) (holds : Holds) → is_object known.program.variables x ≡ false → is_borrower known.program.variables x ≡ true → Stored None s.heap s.masters → Roomed s.masters rooms → Fit known.program.types known.program.variables none_spared s.heap a.places holds → WalksOn s.heap a.places (at_path whole root (d ∷ ds) spot) (Names o) (c ∷ []) → variable_access known.program.variables x ≡ component_access known.program.types object c → Goes (gives known.program.types known.program.variables here cleared x (value_of (at_path whole root (d ∷ ds) spot)) holds) (RunsOn known k' rooms) (Raised (λ e. right_raises (is_same e) (value_of (at_path whole root (d ∷ ds) spot))) (ways known k' rooms)) → Working known s.heap (slice_set a.places x v) s.masters (RunsOn known k')
+    borrow_to here cleared x d ds k' rooms holds none is stored roomed f walks same g =
+        let h = borrow_gives known.program.types known.program.variables here cleared x whole root (d ∷ ds) spot holds (RunsOn known k' rooms) (Raised (λ e. right_raises (is_same e) (value_of (at_path whole root (d ∷ ds) spot))) (ways known k' rooms)) is g in
+        record { rooms = rooms; holds = slice_set holds x (borrowed_hold (hold_at holds root)); stored = stored; roomed = roomed; fit = borrow_component_by x d ds (hold_at holds root) none refl h.0 f walks same; rest = h.1 }
 
-    take_variable_by : (x d : ℕ) (ds : List ℕ) (k' : Control) (rooms : Rooms) (holds : Holds) (h : Hold) → hold_at holds root ≡ h → lost_by h spot ≡ None → Stored None s.heap s.masters → Roomed s.masters rooms → (f : Fit known.program.types known.program.variables none_spared s.heap a.places holds) → x ≢ root → IsCleared (at_path whole root (d ∷ ds) spot) k' → WalksOn s.heap a.places (at_path whole root (d ∷ ds) spot) (Names o) (c ∷ []) → variable_access known.program.variables x ≡ component_access known.program.types object c → RunsOn known k' rooms (slice_set holds x (value_hold (d ∷ ds) h)) → HalfBy known k' s.heap (slice_set a.places x v) s.masters
-    take_variable_by x d ds k' rooms holds hold.Null is kept stored roomed f ne cleared walks same more = absurd (no_walk (place_at a.places root) d ds (null_place f root spot is) walks.0)
-    take_variable_by x d ds k' rooms holds hold.Lost is kept stored roomed f ne cleared walks same more = absurd (cc kept)
-    take_variable_by x d ds k' rooms holds (hold.Own r) is kept stored roomed f ne cleared walks same more =
+    take_variable_by : (x d : ℕ) (ds : List ℕ) (k' : Control) (rooms : Rooms) (holds : Holds) (h : Hold) → is_object known.program.variables x ≡ false → hold_at holds root ≡ h → lost_by h spot ≡ None → Stored None s.heap s.masters → Roomed s.masters rooms → (f : Fit known.program.types known.program.variables none_spared s.heap a.places holds) → x ≢ root → IsCleared (at_path whole root (d ∷ ds) spot) k' → WalksOn s.heap a.places (at_path whole root (d ∷ ds) spot) (Names o) (c ∷ []) → variable_access known.program.variables x ≡ component_access known.program.types object c → RunsOn known k' rooms (slice_set holds x (value_hold (d ∷ ds) h)) → HalfBy known k' s.heap (slice_set a.places x v) s.masters
+    take_variable_by x d ds k' rooms holds hold.Null none is kept stored roomed f ne cleared walks same more = absurd (no_walk (place_at a.places root) d ds (null_place f root spot is) walks.0)
+    take_variable_by x d ds k' rooms holds hold.Lost none is kept stored roomed f ne cleared walks same more = absurd (cc kept)
+    take_variable_by x d ds k' rooms holds (hold.Own r) none is kept stored roomed f ne cleared walks same more =
         half_behind s.heap (slice_set a.places x v) whole root (d ∷ ds) spot k' o c cleared walks.1
         (ap (λ u. walk s.heap u (front (d ∷ ds))) (read_other a.places x root v Null (λ e. ne (sym e))) ∙ walks.0) (object, found, listed)
         (λ p e. named_there f p (sym (component_value s.heap [] o object c v found listed at) ∙ e))
-        (record { rooms = rooms; holds = slice_set holds x (hold.Own r); stored = stored_after s.heap o c Null stored; roomed = roomed; fit = take_variable x r o object c v found listed at same f; rest = more })
-    take_variable_by x d ds k' rooms holds (hold.Alias r) is kept stored roomed f ne cleared walks same more =
+        (record { rooms = rooms; holds = slice_set holds x (hold.Own r); stored = stored_after s.heap o c Null stored; roomed = roomed; fit = take_variable x r none o object c v found listed at same f; rest = more })
+    take_variable_by x d ds k' rooms holds (hold.Alias r) none is kept stored roomed f ne cleared walks same more =
         half_behind s.heap (slice_set a.places x v) whole root (d ∷ ds) spot k' o c cleared walks.1
         (ap (λ u. walk s.heap u (front (d ∷ ds))) (read_other a.places x root v Null (λ e. ne (sym e))) ∙ walks.0) (object, found, listed)
         (λ p e. named_there f p (sym (component_value s.heap [] o object c v found listed at) ∙ e))
-        (record { rooms = rooms; holds = slice_set holds x (hold.Own r); stored = stored_after s.heap o c Null stored; roomed = roomed; fit = take_variable x r o object c v found listed at same f; rest = more })
+        (record { rooms = rooms; holds = slice_set holds x (hold.Own r); stored = stored_after s.heap o c Null stored; roomed = roomed; fit = take_variable x r none o object c v found listed at same f; rest = more })
 
-    take_to : (cleared : Bool) (x d : ℕ) (ds : List ℕ) (k' : Control) (rooms : Rooms) (holds : Holds) → is_borrower known.program.variables x ≡ false → Stored None s.heap s.masters → Roomed s.masters rooms → Fit known.program.types known.program.variables none_spared s.heap a.places holds → WalksOn s.heap a.places (at_path whole root (d ∷ ds) spot) (Names o) (c ∷ []) → variable_access known.program.variables x ≡ component_access known.program.types object c → Goes (gives known.program.variables cleared x (value_of (at_path whole root (d ∷ ds) spot)) holds) (RunsOn known k' rooms) (Raised (λ e. right_raises (is_same e) (value_of (at_path whole root (d ∷ ds) spot))) (ways known k' rooms)) → Pairs cleared (value_of (at_path whole root (d ∷ ds) spot)) (λ path. x ≢ path.root) k' → HalfBy known k' s.heap (slice_set a.places x v) s.masters
-    take_to false x d ds k' rooms holds owned stored roomed f walks same g pairs =
-        let h = value_gives known.program.variables false x whole root (d ∷ ds) spot holds (RunsOn known k' rooms) (Raised (λ e. right_raises (is_same e) (value_of (at_path whole root (d ∷ ds) spot))) (ways known k' rooms)) owned g in
-        let none = cleared_is false (hold_at holds root) spot h.0 in
-        absurd (cc (none.0))
-    take_to true x d ds k' rooms holds owned stored roomed f walks same g pairs =
-        let h = value_gives known.program.variables true x whole root (d ∷ ds) spot holds (RunsOn known k' rooms) (Raised (λ e. right_raises (is_same e) (value_of (at_path whole root (d ∷ ds) spot))) (ways known k' rooms)) owned g in
-        take_variable_by x d ds k' rooms holds (hold_at holds root) refl h.0 stored roomed f pairs.0 pairs.1 walks same h.1
+    take_to : (here : Spot) (cleared : Bool) (x d : ℕ) (ds : List ℕ) (k' : Control) (rooms : Rooms) (holds : Holds) → is_object known.program.variables x ≡ false → is_borrower known.program.variables x ≡ false → Stored None s.heap s.masters → Roomed s.masters rooms → Fit known.program.types known.program.variables none_spared s.heap a.places holds → WalksOn s.heap a.places (at_path whole root (d ∷ ds) spot) (Names o) (c ∷ []) → variable_access known.program.variables x ≡ component_access known.program.types object c → Goes (gives known.program.types known.program.variables here cleared x (value_of (at_path whole root (d ∷ ds) spot)) holds) (RunsOn known k' rooms) (Raised (λ e. right_raises (is_same e) (value_of (at_path whole root (d ∷ ds) spot))) (ways known k' rooms)) → Pairs cleared (value_of (at_path whole root (d ∷ ds) spot)) (λ path. x ≢ path.root) k' → HalfBy known k' s.heap (slice_set a.places x v) s.masters
+    take_to here false x d ds k' rooms holds none owned stored roomed f walks same g pairs =
+        let h = value_gives known.program.types known.program.variables here false x whole root (d ∷ ds) spot holds (RunsOn known k' rooms) (Raised (λ e. right_raises (is_same e) (value_of (at_path whole root (d ∷ ds) spot))) (ways known k' rooms)) owned g in
+        let never = cleared_is false (hold_at holds root) spot h.0 in
+        absurd (cc (never.0))
+    take_to here true x d ds k' rooms holds none owned stored roomed f walks same g pairs =
+        let h = value_gives known.program.types known.program.variables here true x whole root (d ∷ ds) spot holds (RunsOn known k' rooms) (Raised (λ e. right_raises (is_same e) (value_of (at_path whole root (d ∷ ds) spot))) (ways known k' rooms)) owned g in
+        take_variable_by x d ds k' rooms holds (hold_at holds root) none refl h.0 stored roomed f pairs.0 pairs.1 walks same h.1
 
-    declares_none : (cleared : Bool) (x d : ℕ) (ds : List ℕ) (k' : Control) (rooms : Rooms) (holds : Holds) → is_borrower known.program.variables x ≡ false → Goes (gives known.program.variables cleared x (value_of (at_path whole root (d ∷ ds) spot)) holds) (RunsOn known k' rooms) (Raised (λ e. right_raises (is_same e) (value_of (at_path whole root (d ∷ ds) spot))) (ways known k' rooms)) → IsAlone cleared → ⊥
-    declares_none true x d ds k' rooms holds owned g alone = alone
-    declares_none false x d ds k' rooms holds owned g alone =
-        let h = value_gives known.program.variables false x whole root (d ∷ ds) spot holds (RunsOn known k' rooms) (Raised (λ e. right_raises (is_same e) (value_of (at_path whole root (d ∷ ds) spot))) (ways known k' rooms)) owned g in
+    declares_none : (here : Spot) (cleared : Bool) (x d : ℕ) (ds : List ℕ) (k' : Control) (rooms : Rooms) (holds : Holds) → is_borrower known.program.variables x ≡ false → Goes (gives known.program.types known.program.variables here cleared x (value_of (at_path whole root (d ∷ ds) spot)) holds) (RunsOn known k' rooms) (Raised (λ e. right_raises (is_same e) (value_of (at_path whole root (d ∷ ds) spot))) (ways known k' rooms)) → IsAlone cleared → ⊥
+    declares_none here true x d ds k' rooms holds owned g alone = alone
+    declares_none here false x d ds k' rooms holds owned g alone =
+        let h = value_gives known.program.types known.program.variables here false x whole root (d ∷ ds) spot holds (RunsOn known k' rooms) (Raised (λ e. right_raises (is_same e) (value_of (at_path whole root (d ∷ ds) spot))) (ways known k' rooms)) owned g in
         let none = cleared_is false (hold_at holds root) spot h.0 in
         cc (none.0)
 
     -- A variable gets the value: a borrower as it is, any other with the first half of a take pair; a declaration is none.
-    stores_to : (cleared : Bool) (x d : ℕ) (ds : List ℕ) (k' : Control) (rooms : Rooms) (holds : Holds) → Stored None s.heap s.masters → Roomed s.masters rooms → Fit known.program.types known.program.variables none_spared s.heap a.places holds → WalksOn s.heap a.places (at_path whole root (d ∷ ds) spot) (Names o) (c ∷ []) → variable_access known.program.variables x ≡ component_access known.program.types object c → Goes (gives known.program.variables cleared x (value_of (at_path whole root (d ∷ ds) spot)) holds) (RunsOn known k' rooms) (Raised (λ e. right_raises (is_same e) (value_of (at_path whole root (d ∷ ds) spot))) (ways known k' rooms)) → Pairs cleared (value_of (at_path whole root (d ∷ ds) spot)) (λ path. x ≢ path.root) k' → Resumes known s.heap (slice_set a.places x v) s.masters k'
-    stores_to cleared x d ds k' rooms holds stored roomed f walks same g pairs = by (is_borrower known.program.variables x) refl
+    stores_to : (here : Spot) (cleared : Bool) (x d : ℕ) (ds : List ℕ) (k' : Control) (rooms : Rooms) (holds : Holds) → is_object known.program.variables x ≡ false → Stored None s.heap s.masters → Roomed s.masters rooms → Fit known.program.types known.program.variables none_spared s.heap a.places holds → WalksOn s.heap a.places (at_path whole root (d ∷ ds) spot) (Names o) (c ∷ []) → variable_access known.program.variables x ≡ component_access known.program.types object c → Goes (gives known.program.types known.program.variables here cleared x (value_of (at_path whole root (d ∷ ds) spot)) holds) (RunsOn known k' rooms) (Raised (λ e. right_raises (is_same e) (value_of (at_path whole root (d ∷ ds) spot))) (ways known k' rooms)) → Pairs cleared (value_of (at_path whole root (d ∷ ds) spot)) (λ path. x ≢ path.root) k' → Resumes known s.heap (slice_set a.places x v) s.masters k'
+    stores_to here cleared x d ds k' rooms holds none stored roomed f walks same g pairs = by (is_borrower known.program.variables x) refl
       where
         by : (b : Bool) → is_borrower known.program.variables x ≡ b → Resumes known s.heap (slice_set a.places x v) s.masters k'
-        by true is = inl (borrow_to cleared x d ds k' rooms holds is stored roomed f walks same g)
-        by false is = inr (take_to cleared x d ds k' rooms holds is stored roomed f walks same g pairs)
+        by true is = inl (borrow_to here cleared x d ds k' rooms holds none is stored roomed f walks same g)
+        by false is = inr (take_to here cleared x d ds k' rooms holds none is stored roomed f walks same g pairs)
 
-    declares_to : (cleared : Bool) (x d : ℕ) (ds : List ℕ) (k' : Control) (rooms : Rooms) (holds : Holds) → Stored None s.heap s.masters → Roomed s.masters rooms → Fit known.program.types known.program.variables none_spared s.heap a.places holds → WalksOn s.heap a.places (at_path whole root (d ∷ ds) spot) (Names o) (c ∷ []) → variable_access known.program.variables x ≡ component_access known.program.types object c → Goes (gives known.program.variables cleared x (value_of (at_path whole root (d ∷ ds) spot)) holds) (RunsOn known k' rooms) (Raised (λ e. right_raises (is_same e) (value_of (at_path whole root (d ∷ ds) spot))) (ways known k' rooms)) → IsAlone cleared → Working known s.heap (slice_set a.places x v) s.masters (RunsOn known k')
-    declares_to cleared x d ds k' rooms holds stored roomed f walks same g alone = by (is_borrower known.program.variables x) refl
+    declares_to : (here : Spot) (cleared : Bool) (x d : ℕ) (ds : List ℕ) (k' : Control) (rooms : Rooms) (holds : Holds) → is_object known.program.variables x ≡ false → Stored None s.heap s.masters → Roomed s.masters rooms → Fit known.program.types known.program.variables none_spared s.heap a.places holds → WalksOn s.heap a.places (at_path whole root (d ∷ ds) spot) (Names o) (c ∷ []) → variable_access known.program.variables x ≡ component_access known.program.types object c → Goes (gives known.program.types known.program.variables here cleared x (value_of (at_path whole root (d ∷ ds) spot)) holds) (RunsOn known k' rooms) (Raised (λ e. right_raises (is_same e) (value_of (at_path whole root (d ∷ ds) spot))) (ways known k' rooms)) → IsAlone cleared → Working known s.heap (slice_set a.places x v) s.masters (RunsOn known k')
+    declares_to here cleared x d ds k' rooms holds none stored roomed f walks same g alone = by (is_borrower known.program.variables x) refl
       where
         by : (b : Bool) → is_borrower known.program.variables x ≡ b → Working known s.heap (slice_set a.places x v) s.masters (RunsOn known k')
-        by true is = borrow_to cleared x d ds k' rooms holds is stored roomed f walks same g
-        by false is = absurd (declares_none cleared x d ds k' rooms holds is g alone)
+        by true is = borrow_to here cleared x d ds k' rooms holds none is stored roomed f walks same g
+        by false is = absurd (declares_none here cleared x d ds k' rooms holds is g alone)
 
     -- The same into a component: then the path has one selector.
-    take_into : (cleared : Bool) (target : PathForm) (q : Id) (holder : Object) (e d : ℕ) (ds : List ℕ) (k' : Control) (rooms : Rooms) (holds : Holds) → object_at s.heap q ≡ Some holder → holder.listed ≡ true → Stored None s.heap s.masters → Roomed s.masters rooms → Fit known.program.types known.program.variables none_spared s.heap a.places holds → WalksOn s.heap a.places (at_path whole root (d ∷ ds) spot) (Names o) (c ∷ []) → component_access known.program.types holder e ≡ component_access known.program.types object c → Goes (gives_component cleared target (value_of (at_path whole root (d ∷ ds) spot)) holds) (RunsOn known k' rooms) (Raised (component_among (value_of (at_path whole root (d ∷ ds) spot))) (ways known k' rooms)) → Pairs cleared (value_of (at_path whole root (d ∷ ds) spot)) (λ taken. IsOne taken.selectors) k' → HalfBy known k' (store s.heap (Names q) e v) a.places s.masters
+    take_into : (cleared : Bool) (target : PathForm) (q : Id) (holder : Object) (e d : ℕ) (ds : List ℕ) (k' : Control) (rooms : Rooms) (holds : Holds) → object_at s.heap q ≡ Some holder → holder.listed ≡ true → Stored None s.heap s.masters → Roomed s.masters rooms → Fit known.program.types known.program.variables none_spared s.heap a.places holds → WalksOn s.heap a.places (at_path whole root (d ∷ ds) spot) (Names o) (c ∷ []) → component_access known.program.types holder e ≡ component_access known.program.types object c → Goes (gives_component known.program.types cleared target (value_of (at_path whole root (d ∷ ds) spot)) holds) (RunsOn known k' rooms) (Raised (component_among (path_raises target) (value_of (at_path whole root (d ∷ ds) spot))) (ways known k' rooms)) → Pairs cleared (value_of (at_path whole root (d ∷ ds) spot)) (λ taken. IsOne taken.selectors) k' → HalfBy known k' (store s.heap (Names q) e v) a.places s.masters
     take_into false target q holder e d ds k' rooms holds at_q listed_q stored roomed f walks same g pairs =
-        let h = value_fills false target whole root (d ∷ ds) spot holds (RunsOn known k' rooms) (Raised (component_among (value_of (at_path whole root (d ∷ ds) spot))) (ways known k' rooms)) g in
+        let h = value_fills known.program.types false target whole root (d ∷ ds) spot holds (RunsOn known k' rooms) (Raised (component_among (path_raises target) (value_of (at_path whole root (d ∷ ds) spot))) (ways known k' rooms)) g in
         let no = cleared_is false (hold_at holds root) spot h.0 in
         absurd (cc (no.0))
     take_into true target q holder e d (d' ∷ ds) k' rooms holds at_q listed_q stored roomed f walks same g pairs = absurd (pairs.0)
     take_into true target q holder e d [] k' rooms holds at_q listed_q stored roomed f walks same g pairs =
-        let h = value_fills true target whole root (d ∷ []) spot holds (RunsOn known k' rooms) (Raised (component_among (value_of (at_path whole root (d ∷ []) spot))) (ways known k' rooms)) g in
+        let h = value_fills known.program.types true target whole root (d ∷ []) spot holds (RunsOn known k' rooms) (Raised (component_among (path_raises target) (value_of (at_path whole root (d ∷ []) spot))) (ways known k' rooms)) g in
         half_behind (store s.heap (Names q) e v) a.places whole root (d ∷ []) spot k' o c pairs.1 walks.1 walks.0 (there_after s.heap q o e v (object, found, listed))
         (λ p is. there_after s.heap q p e v (named_there f p (stored_still p is)))
         (record { rooms = rooms; holds = holds; stored = stored_after (store s.heap (Names q) e v) o c Null (stored_after s.heap q e v stored); roomed = roomed; fit = take_component q holder e o object c v at_q listed_q found listed at same f; rest = h.1 })
@@ -241,8 +248,8 @@ module _ (known : Known) (k : Control) (a : Activation Value) (rest : List (Acti
             go (inl one) = store_value s.heap q holder at_q e v (bare a.places) p (ap (λ place. value_at (store s.heap (Names q) e v) (bare a.places) place) (sym one) ∙ is)
             go (inr ne) = sym (component_value s.heap [] o object c v found listed at) ∙ (sym (store_reads s.heap q holder at_q e v (bare a.places) (component o c) ne) ∙ is)
 
-    take_ready : (d : ℕ) (ds : List ℕ) (to : VariableKind) (kinds : List VariableKind) (below : List Value) → component_access known.program.types object c ≡ access_of (Some to) → WalksOn s.heap a.places (at_path whole root (d ∷ ds) spot) (Names o) (c ∷ []) → typed.Fits known.program (cells_of s.heap) (to ∷ kinds) k → Working known s.heap a.places s.masters (Takes known s.heap a.places (value_of (at_path whole root (d ∷ ds) spot)) k) → ReadyIn known Running k s.heap a.places (v ∷ below) s.masters
-    take_ready d ds to kinds below is walks fits w = go k fits w
+    take_ready : (d : ℕ) (ds : List ℕ) (to : VariableKind) (kinds : List VariableKind) (below : List Value) → names_object (Some to) ≡ false → component_access known.program.types object c ≡ access_of (Some to) → WalksOn s.heap a.places (at_path whole root (d ∷ ds) spot) (Names o) (c ∷ []) → typed.Fits known.program (cells_of s.heap) (to ∷ kinds) k → Working known s.heap a.places s.masters (Takes known s.heap a.places (value_of (at_path whole root (d ∷ ds) spot)) k) → ReadyIn known Running k s.heap a.places (v ∷ below) s.masters
+    take_ready d ds to kinds below none is walks fits w = go k fits w
       where
         into : (q : Value) (e : ℕ) (k' : Control) → typed.Fits known.program (cells_of s.heap) (to ∷ kinds) (StoresIn q e ∷ k') → (w' : Working known s.heap a.places s.masters (Takes known s.heap a.places (value_of (at_path whole root (d ∷ ds) spot)) (StoresIn q e ∷ k'))) → StoringIn known q e v k' s.heap a.places s.masters
         into Null e k' fits' w' = absurd (w'.rest.0)
@@ -254,8 +261,8 @@ module _ (known : Known) (k : Control) (a : Activation Value) (rest : List (Acti
 
         go : (k' : Control) → typed.Fits known.program (cells_of s.heap) (to ∷ kinds) k' → Working known s.heap a.places s.masters (Takes known s.heap a.places (value_of (at_path whole root (d ∷ ds) spot)) k') → ReadyIn known Running k' s.heap a.places (v ∷ below) s.masters
         go [] fits' w' = absurd (w'.rest)
-        go (Stores x ∷ k') fits' w' = stores_to w'.rest.0 x d ds k' w'.rooms w'.holds w'.stored w'.roomed w'.fit walks (variable_goes known.program s.heap to kinds x k' fits' ∙ sym is) w'.rest.1 w'.rest.2
-        go (Declares x ∷ k') fits' w' = declares_to w'.rest.0 x d ds k' w'.rooms w'.holds w'.stored w'.roomed w'.fit walks (declared_goes known.program s.heap to kinds x k' fits' ∙ sym is) w'.rest.1 w'.rest.2
+        go (Stores x ∷ k') fits' w' = stores_to w'.rest.1.0 w'.rest.0 x d ds k' w'.rooms w'.holds (variable_none known.program s.heap to kinds x k' none fits') w'.stored w'.roomed w'.fit walks (variable_goes known.program s.heap to kinds x k' fits' ∙ sym is) w'.rest.1.1 w'.rest.2
+        go (Declares x ∷ k') fits' w' = declares_to w'.rest.1.0 w'.rest.0 x d ds k' w'.rooms w'.holds (declared_none known.program s.heap to kinds x k' none fits') w'.stored w'.roomed w'.fit walks (declared_goes known.program s.heap to kinds x k' fits' ∙ sym is) w'.rest.1.1 w'.rest.2
         go (StoresIn q e ∷ k') fits' w' = into q e k' fits' w'
         go (f ∷ k') fits' w' = absurd (w'.rest)
 
@@ -266,28 +273,28 @@ module _ (known : Known) (k : Control) (a : Activation Value) (rest : List (Acti
       where
         go : (ds : List ℕ) → WalksOn s.heap a.places (at_path whole root ds spot) (Names o) (c ∷ []) → Working known s.heap a.places s.masters (Takes known s.heap a.places (value_of (at_path whole root ds spot)) k) → ReadyIn known Running k s.heap a.places (v ∷ below) s.masters
         go [] walks' w' = absurd (cc (walks'.1))
-        go (d ∷ ds) walks' w' = take_ready whole root spot o object c v found listed at d ds to kinds below (selected_of known.program.types from object c to own leads) walks' fits w'
+        go (d ∷ ds) walks' w' = take_ready whole root spot o object c v found listed at d ds to kinds below (selected_no_object known.program.types from c to leads) (selected_of known.program.types from object c to own leads) walks' fits w'
 
-    moved_on : (o : Id) (object : Object) (c : ℕ) (ds : List ℕ) (v : Value) (from : Option VariableKind) (to : VariableKind) (kinds : List VariableKind) → object_at s.heap o ≡ Some object → object.listed ≡ true → slice_get object.cell.values c ≡ Some v → access_of from ≡ Some object.cell.access → selectors_kind known.program.types from (c ∷ ds) ≡ Some to → typed.Fits known.program (cells_of s.heap) (to ∷ kinds) k → WalksOn s.heap a.places (at_path whole root cs spot) (Names o) (c ∷ ds) → (w : Working known s.heap a.places s.masters (Takes known s.heap a.places (value_of (at_path whole root cs spot)) k)) → MayRaise known true ConstraintError k w.rooms w.holds → Stepped known s.heap (Followed (Names o)) (reading named ds v (running k (record a { operands = below }) rest s))
-    moved_on o object c [] v from to kinds found listed at own leads fits walks w raise =
+    moved_on : (u : Value) (o : Id) (object : Object) (c : ℕ) (ds : List ℕ) (v : Value) (from : Option VariableKind) (to : VariableKind) (kinds : List VariableKind) → object_at s.heap o ≡ Some object → object.listed ≡ true → slice_get object.cell.values c ≡ Some v → access_of from ≡ Some object.cell.access → selectors_kind known.program.types from (c ∷ ds) ≡ Some to → typed.Fits known.program (cells_of s.heap) (to ∷ kinds) k → WalksOn s.heap a.places (at_path whole root cs spot) (Names o) (c ∷ ds) → (w : Working known s.heap a.places s.masters (Takes known s.heap a.places (value_of (at_path whole root cs spot)) k)) → RaisesAt known u ds k w.rooms w.holds → Stepped known s.heap (Followed (Names o)) (reading named ds v (running k (record a { operands = below }) rest s))
+    moved_on u o object c [] v from to kinds found listed at own leads fits walks w raise =
         stays known (Followed (Names o)) (running k (record a { operands = v ∷ below }) rest s)
         (tt, at_last o object c v from to kinds found listed at own leads fits walks w)
         (record { id = o; object = object; is = refl; found = found; out = exists_out o object found ((w.stored.sane o object found).listed_exists listed) w.stored })
-    moved_on o object c (d ∷ ds) v from to kinds found listed at own leads fits walks w raise =
+    moved_on u o object c (d ∷ ds) v from to kinds found listed at own leads fits walks w raise =
         let seen : walk s.heap (Names o) (c ∷ front (d ∷ ds)) ≡ walk s.heap v (front (d ∷ ds)) = walk_on s.heap o object c (front (d ∷ ds)) v found ((w.stored.sane o object found).listed_exists listed) at in
         stays known (Followed (Names o)) (running (Follows (d ∷ ds) ∷ k) (record a { operands = v ∷ below }) rest s)
-        (tt, inl (at_work w (component_follows o object c v refl found listed at w.fit, inr (raise, inr (inl (at_path whole root cs spot, (walks.0 ∙ seen, walks.1), w.rest))))))
+        (tt, inl (at_work w (component_follows o object c v refl found listed at w.fit, inr ((λ may. raise), inr (inl (at_path whole root cs spot, (walks.0 ∙ seen, walks.1), w.rest))))))
         (record { id = o; object = object; is = refl; found = found; out = exists_out o object found ((w.stored.sane o object found).listed_exists listed) w.stored })
 
-    moved_component : (o : Id) (object : Object) (c : ℕ) (ds : List ℕ) (found_value : Option Value) (from : Option VariableKind) (to : VariableKind) (kinds : List VariableKind) → slice_get object.cell.values c ≡ found_value → object_at s.heap o ≡ Some object → object.listed ≡ true → access_of from ≡ Some object.cell.access → selectors_kind known.program.types from (c ∷ ds) ≡ Some to → typed.Fits known.program (cells_of s.heap) (to ∷ kinds) k → WalksOn s.heap a.places (at_path whole root cs spot) (Names o) (c ∷ ds) → (w : Working known s.heap a.places s.masters (Takes known s.heap a.places (value_of (at_path whole root cs spot)) k)) → MayRaise known true ConstraintError k w.rooms w.holds → Fine known s.heap s.masters (component_next named (Names o) ds found_value (running k (record a { operands = below }) rest s))
-    moved_component o object c ds None from to kinds at found listed own leads fits walks w raise = tt
-    moved_component o object c ds (Some v) from to kinds at found listed own leads fits walks w raise = moved_on o object c ds v from to kinds found listed at own leads fits walks w raise
+    moved_component : (u : Value) (o : Id) (object : Object) (c : ℕ) (ds : List ℕ) (found_value : Option Value) (from : Option VariableKind) (to : VariableKind) (kinds : List VariableKind) → slice_get object.cell.values c ≡ found_value → object_at s.heap o ≡ Some object → object.listed ≡ true → access_of from ≡ Some object.cell.access → selectors_kind known.program.types from (c ∷ ds) ≡ Some to → typed.Fits known.program (cells_of s.heap) (to ∷ kinds) k → WalksOn s.heap a.places (at_path whole root cs spot) (Names o) (c ∷ ds) → (w : Working known s.heap a.places s.masters (Takes known s.heap a.places (value_of (at_path whole root cs spot)) k)) → RaisesAt known u ds k w.rooms w.holds → Fine known s.heap s.masters (component_next named (Names o) ds found_value (running k (record a { operands = below }) rest s))
+    moved_component u o object c ds None from to kinds at found listed own leads fits walks w raise = tt
+    moved_component u o object c ds (Some v) from to kinds at found listed own leads fits walks w raise = moved_on u o object c ds v from to kinds found listed at own leads fits walks w raise
 
-    moves_fine : (c : ℕ) (ds : List ℕ) (u : Value) (from : Option VariableKind) (to : VariableKind) (kinds : List VariableKind) → MayFollow s.heap u → ((o : Id) (object : Object) → u ≡ Names o → object_at s.heap o ≡ Some object → access_of from ≡ Some object.cell.access) → selectors_kind known.program.types from (c ∷ ds) ≡ Some to → typed.Fits known.program (cells_of s.heap) (to ∷ kinds) k → WalksOn s.heap a.places (at_path whole root cs spot) u (c ∷ ds) → (w : Working known s.heap a.places s.masters (Takes known s.heap a.places (value_of (at_path whole root cs spot)) k)) → MayRaise known true ConstraintError k w.rooms w.holds → Fine known s.heap s.masters (follow_next named u c ds (look s.heap u) (running k (record a { operands = below }) rest s))
-    moves_fine c ds Null from to kinds follows own leads fits walks w raise = jumps_less known k (record a { operands = below }) rest s (Raising ConstraintError) (at_work w (raise refl))
+    moves_fine : (c : ℕ) (ds : List ℕ) (u : Value) (from : Option VariableKind) (to : VariableKind) (kinds : List VariableKind) → MayFollow s.heap u → ((o : Id) (object : Object) → u ≡ Names o → object_at s.heap o ≡ Some object → access_of from ≡ Some object.cell.access) → selectors_kind known.program.types from (c ∷ ds) ≡ Some to → typed.Fits known.program (cells_of s.heap) (to ∷ kinds) k → WalksOn s.heap a.places (at_path whole root cs spot) u (c ∷ ds) → (w : Working known s.heap a.places s.masters (Takes known s.heap a.places (value_of (at_path whole root cs spot)) k)) → RaisesAt known u ds k w.rooms w.holds → Fine known s.heap s.masters (follow_next named u c ds (look s.heap u) (running k (record a { operands = below }) rest s))
+    moves_fine c ds Null from to kinds follows own leads fits walks w raise = jumps_less known k (record a { operands = below }) rest s (Raising ConstraintError) (at_work w (raises_null known Null k w.rooms w.holds ds raise refl))
     moves_fine c ds (Names o) from to kinds follows own leads fits walks w raise =
         rw (follows.1, (w.stored.sane o follows.0 follows.1).listed_exists follows.2)
-        (moved_component o follows.0 c ds (slice_get follows.0.cell.values c) from to kinds refl follows.1 follows.2 (own o follows.0 refl follows.1) leads fits walks w raise)
+        (moved_component (Names o) o follows.0 c ds (slice_get follows.0.cell.values c) from to kinds refl follows.1 follows.2 (own o follows.0 refl follows.1) leads fits walks w raise)
     moves_fine c ds (Scalar n) from to kinds follows own leads fits walks w raise = tt
 
   -- What is moved is a variable's value, or a component's.
@@ -298,12 +305,13 @@ module _ (known : Known) (k : Control) (a : Activation Value) (rest : List (Acti
       moves_fine whole root (c ∷ cs) spot a.operands c cs (place_at a.places root) (variable_kind known.program.variables root) kind kinds
       (root_follows root spot kept.0 w.fit)
       (λ o object is found. root_access w.fit root spot o object kept.0 is found)
-      (path_goes known.program kind whole root (c ∷ cs) spot takes) fits (refl, refl) w (λ may. kept.1)
+      (path_goes known.program kind whole root (c ∷ cs) spot takes) fits (refl, refl) w
+      (rest_raises known (place_at a.places root) k w.rooms w.holds whole c cs (λ is. object_there root spot kept.0 (takes_object known.program.types known.program.variables kind (at_path whole root (c ∷ cs) spot) takes is) w.fit) kept.1)
 
   -- The component that the object goes to, if it goes to one; that no item breaks a rule; and what an allocator leads to.
   abbrev Allocated_to : ℕ → List ItemForm → Control → Rooms → Holds → Type 0
   Allocated_to access items k' rooms holds =
-      (target : Option PathForm) × GoesInto s.heap a.places target k' × NoneBroken holds (uses_in_items target [] items) × Allocating known s.heap access items k' rooms holds
+      (here : Spot) × (target : Option PathForm) × GoesInto s.heap a.places target k' × NoneBroken holds (uses_in_items known.program.types here target [] items) × Allocating known s.heap access items k' rooms holds
 
   -- What an allocator leads to.
   allocating : (access : ℕ) (items : List ItemForm) (kind : VariableKind) (kinds : List VariableKind) → kind_takes known.program.types known.program.variables kind (allocates access items) ≡ true → typed.Fits known.program (cells_of s.heap) (kind ∷ kinds) k → (rooms : Rooms) (holds : Holds) → Takes known s.heap a.places (allocates access items) k rooms holds → Allocated_to access items k rooms holds
@@ -312,29 +320,37 @@ module _ (known : Known) (k : Control) (a : Activation Value) (rest : List (Acti
       al : Allocated known.program.types known.program.variables kind access items
       al = allocated_goes known.program.types known.program.variables kind access items takes
 
-      to : (x : ℕ) (k' : Control) → variable_access known.program.variables x ≡ access_of (Some kind) → (cleared : Bool) → Goes (gives known.program.variables cleared x (allocates access items) holds) (RunsOn known k' rooms) (Raised (λ e. right_raises (is_same e) (allocates access items)) (ways known k' rooms)) → NoneBroken holds (uses_in_items None [] items) × (((variable_access known.program.variables x ≡ Some access) × RunsOn known k' rooms (slice_set (without_values (moved_by_items items) holds) x (hold.Own Whole))) × Raised (λ e. right_raises (is_same e) (allocates access items)) (ways known k' rooms) holds)
-      to x k' is cleared g =
-          let u = using_goes (uses_in_items None [] items) holds (ends_with true holds (slice_set (without_values (moved_by_items items) holds) x (hold.Own Whole))) (RunsOn known k' rooms) (Raised (λ e. right_raises (is_same e) (allocates access items)) (ways known k' rooms)) g in
+      to : (x : ℕ) (k' : Control) → variable_access known.program.variables x ≡ access_of (Some kind) → (here : Spot) (cleared : Bool) → Goes (gives known.program.types known.program.variables here cleared x (allocates access items) holds) (RunsOn known k' rooms) (Raised (λ e. right_raises (is_same e) (allocates access items)) (ways known k' rooms)) → NoneBroken holds (uses_in_items known.program.types here None [] items) × (((variable_access known.program.variables x ≡ Some access) × RunsOn known k' rooms (slice_set (without_values (moved_by_items items) holds) x (hold.Own Whole))) × Raised (λ e. right_raises (is_same e) (allocates access items)) (ways known k' rooms) holds)
+      to x k' is here cleared g =
+          let u = using_goes (uses_in_items known.program.types here None [] items) holds (ends_with true holds (slice_set (without_values (moved_by_items items) holds) x (hold.Own Whole))) (RunsOn known k' rooms) (Raised (λ e. right_raises (is_same e) (allocates access items)) (ways known k' rooms)) g in
           (u.0, ((is ∙ al.goes, u.1.0), u.1.1))
 
-      into : (o : Value) (c : ℕ) (k' : Control) → typed.Fits known.program (cells_of s.heap) (kind ∷ kinds) (StoresIn o c ∷ k') → IsHolder s.heap o → (g : FillsIn known (allocates access items) (LeadsTo s.heap a.places o [] c) rooms holds k') → NoneBroken holds (uses_in_items (Some g.0) [] items) × ((Accepts known s.heap o c (Some access) × RunsOn known k' rooms (without_values (moved_by_items items) holds)) × Raised (component_among (allocates access items)) (ways known k' rooms) holds)
+      into : (o : Value) (c : ℕ) (k' : Control) → typed.Fits known.program (cells_of s.heap) (kind ∷ kinds) (StoresIn o c ∷ k') → IsHolder s.heap o → (g : FillsIn known (allocates access items) (LeadsTo s.heap a.places o [] c) rooms holds k') → NoneBroken holds (uses_in_items known.program.types (spot_of g.0) (Some g.0) [] items) × ((Accepts known s.heap o c (Some access) × RunsOn known k' rooms (without_values (moved_by_items items) holds)) × Raised (component_among (path_raises g.0) (allocates access items)) (ways known k' rooms) holds)
       into Null c k' fits' there g = absurd there
       into (Names o) c k' fits' there g =
-          let u = using_goes (reads_it g.0 ∷ uses_in_items (Some g.0) [] items) holds (ends_with true holds (without_values (moved_by_items items) holds)) (RunsOn known k' rooms) (Raised (component_among (allocates access items)) (ways known k' rooms)) g.2 in
-          ((first_kept holds (reads_it g.0) (uses_in_items (Some g.0) [] items) u.0).1, (((there.0, there.1, there.2, component_goes known.program s.heap kind kinds o there.0 c k' there.1 fits' ∙ al.goes), u.1.0), u.1.1))
+          let items_use = uses_in_items known.program.types (spot_of g.0) (Some g.0) [] items in
+          let may = path_raises g.0 || true in
+          let after = without_values (moved_by_items items) holds in
+          let raised' = Raised (component_among (path_raises g.0) (allocates access items)) (ways known k' rooms) in
+          let u = using_goes (uses_in_target g.0 ++ items_use) holds (ends_with may holds after) (RunsOn known k' rooms) raised' g.2 in
+          let n = ends_goes may holds after (RunsOn known k' rooms) raised' u.1 in
+          ((kept_apart holds (uses_in_target g.0) items_use u.0).1, (((there.0, there.1, there.2, component_goes known.program s.heap kind kinds o there.0 c k' there.1 fits' ∙ al.goes), n.0), n.1 (or_right (path_raises g.0) true refl)))
       into (Scalar n) c k' fits' there g = absurd there
+
+      none : names_object (Some kind) ≡ false
+      none = takes_none known.program.types known.program.variables kind (allocates access items) takes
 
       go : (k' : Control) → typed.Fits known.program (cells_of s.heap) (kind ∷ kinds) k' → Takes known s.heap a.places (allocates access items) k' rooms holds → Allocated_to access items k' rooms holds
       go [] fits' g = absurd g
       go (Stores x ∷ k') fits' g =
-          let h = to x k' (variable_goes known.program s.heap kind kinds x k' fits') g.0 g.1 in
-          (None, tt, h.0, record { components = al.components; reached = al.reached; fit = al.fit; fails = λ may. h.1.1 ConstraintError (rw may refl); refused = λ may. h.1.1 StorageError refl; to = h.1.0 })
+          let h = to x k' (variable_goes known.program s.heap kind kinds x k' fits') g.1.0 g.0 g.1.1 in
+          (g.1.0, None, tt, h.0, record { components = al.components; reached = al.reached; fit = al.fit; fails = λ may. h.1.1 ConstraintError (rw may refl); refused = λ may. h.1.1 StorageError refl; to = ((h.1.0.0, variable_none known.program s.heap kind kinds x k' none fits'), h.1.0.1) })
       go (Declares x ∷ k') fits' g =
-          let h = to x k' (declared_goes known.program s.heap kind kinds x k' fits') g.0 g.1 in
-          (None, tt, h.0, record { components = al.components; reached = al.reached; fit = al.fit; fails = λ may. h.1.1 ConstraintError (rw may refl); refused = λ may. h.1.1 StorageError refl; to = h.1.0 })
+          let h = to x k' (declared_goes known.program s.heap kind kinds x k' fits') g.1.0 g.0 g.1.1 in
+          (g.1.0, None, tt, h.0, record { components = al.components; reached = al.reached; fit = al.fit; fails = λ may. h.1.1 ConstraintError (rw may refl); refused = λ may. h.1.1 StorageError refl; to = ((h.1.0.0, declared_none known.program s.heap kind kinds x k' none fits'), h.1.0.1) })
       go (StoresIn o c ∷ k') fits' g =
           let h = into o c k' fits' g.0 g.1 in
-          (Some g.1.0, g.1.4, h.0, record { components = al.components; reached = al.reached; fit = al.fit; fails = λ may. h.1.1 ConstraintError refl; refused = λ may. h.1.1 StorageError refl; to = h.1.0 })
+          (spot_of g.1.0, Some g.1.0, g.1.4, h.0, record { components = al.components; reached = al.reached; fit = al.fit; fails = λ may. h.1.1 ConstraintError (or_right (path_raises g.1.0) (items_raise items) may); refused = λ may. h.1.1 StorageError refl; to = h.1.0 })
       go (f ∷ k') fits' g = absurd g
 
   -- The component that the object of an allocator without items goes to, if it goes to one; and what the allocator leads to.
@@ -342,82 +358,82 @@ module _ (known : Known) (k : Control) (a : Activation Value) (rest : List (Acti
   Defaulted_to access components k' rooms holds =
       (target : Option PathForm) × GoesInto s.heap a.places target k' × Allocating known s.heap access (map default_item components) k' rooms holds
 
-  defaulting : (access : ℕ) (kind : VariableKind) (kinds : List VariableKind) (d : DefaultFor known.program.types kind access) → typed.Fits known.program (cells_of s.heap) (kind ∷ kinds) k → (rooms : Rooms) (holds : Holds) → Takes known s.heap a.places (allocates_default access) k rooms holds → Defaulted_to access d.components k rooms holds
-  defaulting access kind kinds d fits rooms holds = go k fits
+  defaulting : (access : ℕ) (kind : VariableKind) (kinds : List VariableKind) (d : DefaultFor known.program.types kind access) → names_object (Some kind) ≡ false → typed.Fits known.program (cells_of s.heap) (kind ∷ kinds) k → (rooms : Rooms) (holds : Holds) → Takes known s.heap a.places (allocates_default access) k rooms holds → Defaulted_to access d.components k rooms holds
+  defaulting access kind kinds d none fits rooms holds = go k fits
     where
-      to : (x : ℕ) (k' : Control) (cleared : Bool) → Goes (gives known.program.variables cleared x (allocates_default access) holds) (RunsOn known k' rooms) (Raised (λ e. right_raises (is_same e) (allocates_default access)) (ways known k' rooms)) → RunsOn known k' rooms (slice_set holds x (hold.Own Whole)) × Raised (λ e. right_raises (is_same e) (allocates_default access)) (ways known k' rooms) holds
-      to x k' cleared g =
+      to : (x : ℕ) (k' : Control) (here : Spot) (cleared : Bool) → Goes (gives known.program.types known.program.variables here cleared x (allocates_default access) holds) (RunsOn known k' rooms) (Raised (λ e. right_raises (is_same e) (allocates_default access)) (ways known k' rooms)) → RunsOn known k' rooms (slice_set holds x (hold.Own Whole)) × Raised (λ e. right_raises (is_same e) (allocates_default access)) (ways known k' rooms) holds
+      to x k' here cleared g =
           (using_goes [] holds (ends_with true holds (slice_set holds x (hold.Own Whole))) (RunsOn known k' rooms) (Raised (λ e. right_raises (is_same e) (allocates_default access)) (ways known k' rooms)) g).1
 
-      into : (o : Value) (c : ℕ) (k' : Control) → typed.Fits known.program (cells_of s.heap) (kind ∷ kinds) (StoresIn o c ∷ k') → IsHolder s.heap o → FillsIn known (allocates_default access) (LeadsTo s.heap a.places o [] c) rooms holds k' → (Accepts known s.heap o c (Some access) × RunsOn known k' rooms holds) × Raised (component_among (allocates_default access)) (ways known k' rooms) holds
+      into : (o : Value) (c : ℕ) (k' : Control) → typed.Fits known.program (cells_of s.heap) (kind ∷ kinds) (StoresIn o c ∷ k') → IsHolder s.heap o → (g : FillsIn known (allocates_default access) (LeadsTo s.heap a.places o [] c) rooms holds k') → (Accepts known s.heap o c (Some access) × RunsOn known k' rooms holds) × Raised (component_among (path_raises g.0) (allocates_default access)) (ways known k' rooms) holds
       into Null c k' fits' there g = absurd there
       into (Names o) c k' fits' there g =
-          let u = using_goes (reads_it g.0 ∷ []) holds (ends_with true holds holds) (RunsOn known k' rooms) (Raised (component_among (allocates_default access)) (ways known k' rooms)) g.2 in
-          (((there.0, there.1, there.2, component_goes known.program s.heap kind kinds o there.0 c k' there.1 fits' ∙ d.goes), u.1.0), u.1.1)
+          let may = path_raises g.0 || true in
+          let raised' = Raised (component_among (path_raises g.0) (allocates_default access)) (ways known k' rooms) in
+          let u = using_goes (uses_in_target g.0 ++ []) holds (ends_with may holds holds) (RunsOn known k' rooms) raised' g.2 in
+          let n = ends_goes may holds holds (RunsOn known k' rooms) raised' u.1 in
+          (((there.0, there.1, there.2, component_goes known.program s.heap kind kinds o there.0 c k' there.1 fits' ∙ d.goes), n.0), n.1 (or_right (path_raises g.0) true refl))
       into (Scalar n) c k' fits' there g = absurd there
 
       go : (k' : Control) → typed.Fits known.program (cells_of s.heap) (kind ∷ kinds) k' → Takes known s.heap a.places (allocates_default access) k' rooms holds → Defaulted_to access d.components k' rooms holds
       go [] fits' g = absurd g
       go (Stores x ∷ k') fits' g =
-          let h = to x k' g.0 g.1 in
-          (None, tt, record { components = d.components; reached = d.reached; fit = defaults_fit known.program.types known.program.variables d.components; fails = λ may. absurd (cc (may, defaults_raise d.components)); refused = λ may. h.1 StorageError refl; to = (variable_goes known.program s.heap kind kinds x k' fits' ∙ d.goes, rw (defaults_move d.components) h.0) })
+          let h = to x k' g.1.0 g.0 g.1.1 in
+          (None, tt, record { components = d.components; reached = d.reached; fit = defaults_fit known.program.types known.program.variables d.components; fails = λ may. absurd (cc (may, defaults_raise d.components)); refused = λ may. h.1 StorageError refl; to = ((variable_goes known.program s.heap kind kinds x k' fits' ∙ d.goes, variable_none known.program s.heap kind kinds x k' none fits'), rw (defaults_move d.components) h.0) })
       go (Declares x ∷ k') fits' g =
-          let h = to x k' g.0 g.1 in
-          (None, tt, record { components = d.components; reached = d.reached; fit = defaults_fit known.program.types known.program.variables d.components; fails = λ may. absurd (cc (may, defaults_raise d.components)); refused = λ may. h.1 StorageError refl; to = (declared_goes known.program s.heap kind kinds x k' fits' ∙ d.goes, rw (defaults_move d.components) h.0) })
+          let h = to x k' g.1.0 g.0 g.1.1 in
+          (None, tt, record { components = d.components; reached = d.reached; fit = defaults_fit known.program.types known.program.variables d.components; fails = λ may. absurd (cc (may, defaults_raise d.components)); refused = λ may. h.1 StorageError refl; to = ((declared_goes known.program s.heap kind kinds x k' fits' ∙ d.goes, declared_none known.program s.heap kind kinds x k' none fits'), rw (defaults_move d.components) h.0) })
       go (StoresIn o c ∷ k') fits' g =
           let h = into o c k' fits' g.0 g.1 in
           (Some g.1.0, g.1.4, record { components = d.components; reached = d.reached; fit = defaults_fit known.program.types known.program.variables d.components; fails = λ may. absurd (cc (may, defaults_raise d.components)); refused = λ may. h.1 StorageError refl; to = (h.0.0, rw (defaults_move d.components) h.0.1) })
       go (f ∷ k') fits' g = absurd g
 
-  items_keep : (target : Option PathForm) (holds : Holds) (earlier : List PathForm) (items : List ItemForm) → NoneBroken holds (uses_in_items target earlier items) → ItemsKeep target holds earlier items
-  items_keep target holds earlier [] kept = tt
-  items_keep target holds earlier (i ∷ is) kept =
-      let h = kept_apart holds (uses_in_item target earlier i) (uses_in_items target (named_by_item i ++ earlier) is) kept in
-      (h.0, items_keep target holds (named_by_item i ++ earlier) is h.1)
-
   -- An expression goes to a variable on which nothing relies, or into a component without access values.
   computing : (e : ExpressionForm) (kind : VariableKind) (kinds : List VariableKind) → kind_takes known.program.types known.program.variables kind (computes e) ≡ true → typed.Fits known.program (cells_of s.heap) (kind ∷ kinds) k → (rooms : Rooms) (holds : Holds) → Takes known s.heap a.places (computes e) k rooms holds → Computing known s.heap a.places a.operands e k rooms holds
   computing e kind kinds takes fits rooms holds = go k fits
     where
-      to : (x : ℕ) (k' : Control) (cleared : Bool) → Goes (gives known.program.variables cleared x (computes e) holds) (RunsOn known k' rooms) (Raised (λ y. right_raises (is_same y) (computes e)) (ways known k' rooms)) → NoneBroken holds (uses_in e) × (RunsOn known k' rooms (slice_set holds x hold.Lost) × (expression_raises e ≡ true → Raised (λ y. right_raises (is_same y) (computes e)) (ways known k' rooms) holds))
-      to x k' cleared g =
+      to : (x : ℕ) (k' : Control) (here : Spot) (cleared : Bool) → Goes (gives known.program.types known.program.variables here cleared x (computes e) holds) (RunsOn known k' rooms) (Raised (λ y. right_raises (is_same y) (computes e)) (ways known k' rooms)) → NoneBroken holds (uses_in e) × (RunsOn known k' rooms (slice_set holds x hold.Lost) × (expression_raises e ≡ true → Raised (λ y. right_raises (is_same y) (computes e)) (ways known k' rooms) holds))
+      to x k' here cleared g =
           let raised' = Raised (λ y. right_raises (is_same y) (computes e)) (ways known k' rooms) in
           let u = using_goes (uses_in e) holds (ends_with (expression_raises e) holds (slice_set holds x hold.Lost)) (RunsOn known k' rooms) raised' g in
           let n = ends_goes (expression_raises e) holds (slice_set holds x hold.Lost) (RunsOn known k' rooms) raised' u.1 in
           (u.0, (n.0, n.1))
 
-      into : (o : Value) (c : ℕ) (k' : Control) → typed.Fits known.program (cells_of s.heap) (kind ∷ kinds) (StoresIn o c ∷ k') → IsHolder s.heap o → FillsIn known (computes e) (LeadsTo s.heap a.places o [] c) rooms holds k' → NoneBroken holds (uses_in e) × ((Accepts known s.heap o c None × RunsOn known k' rooms holds) × Raised (component_among (computes e)) (ways known k' rooms) holds)
+      into : (o : Value) (c : ℕ) (k' : Control) → typed.Fits known.program (cells_of s.heap) (kind ∷ kinds) (StoresIn o c ∷ k') → IsHolder s.heap o → (g : FillsIn known (computes e) (LeadsTo s.heap a.places o [] c) rooms holds k') → NoneBroken holds (uses_in e) × ((Accepts known s.heap o c None × RunsOn known k' rooms holds) × (expression_raises e ≡ true → To ((ways known k' rooms).raised ConstraintError) holds))
       into Null c k' fits' there g = absurd there
       into (Names o) c k' fits' there g =
-          let u = using_goes (reads_it g.0 ∷ uses_in e) holds (ends_with true holds holds) (RunsOn known k' rooms) (Raised (component_among (computes e)) (ways known k' rooms)) g.2 in
-          ((first_kept holds (reads_it g.0) (uses_in e) u.0).1, (((there.0, there.1, there.2, component_goes known.program s.heap kind kinds o there.0 c k' there.1 fits' ∙ computed_goes known.program.types known.program.variables kind e takes), u.1.0), u.1.1))
+          let may = path_raises g.0 || expression_raises e in
+          let raised' = Raised (component_among (path_raises g.0) (computes e)) (ways known k' rooms) in
+          let u = using_goes (uses_in_target g.0 ++ uses_in e) holds (ends_with may holds holds) (RunsOn known k' rooms) raised' g.2 in
+          let n = ends_goes may holds holds (RunsOn known k' rooms) raised' u.1 in
+          ((kept_apart holds (uses_in_target g.0) (uses_in e) u.0).1, (((there.0, there.1, there.2, component_goes known.program s.heap kind kinds o there.0 c k' there.1 fits' ∙ computed_goes known.program.types known.program.variables kind e takes), n.0), λ raises. n.1 (or_right (path_raises g.0) (expression_raises e) raises) ConstraintError (or_right (path_raises g.0) (expression_raises e) raises)))
       into (Scalar n) c k' fits' there g = absurd there
 
       go : (k' : Control) → typed.Fits known.program (cells_of s.heap) (kind ∷ kinds) k' → Takes known s.heap a.places (computes e) k' rooms holds → Computing known s.heap a.places a.operands e k' rooms holds
       go [] fits' g = absurd g
-      go (Stores x ∷ k') fits' g = let h = to x k' g.0 g.1 in (h.0, (λ may. h.1.1 may ConstraintError may), h.1.0)
-      go (Declares x ∷ k') fits' g = let h = to x k' g.0 g.1 in (h.0, (λ may. h.1.1 may ConstraintError may), h.1.0)
-      go (StoresIn o c ∷ k') fits' g = let h = into o c k' fits' g.0 g.1 in (h.0, (λ may. h.1.1 ConstraintError refl), h.1.0)
+      go (Stores x ∷ k') fits' g = let h = to x k' g.1.0 g.0 g.1.1 in (h.0, (λ may. h.1.1 may ConstraintError may), h.1.0)
+      go (Declares x ∷ k') fits' g = let h = to x k' g.1.0 g.0 g.1.1 in (h.0, (λ may. h.1.1 may ConstraintError may), h.1.0)
+      go (StoresIn o c ∷ k') fits' g = let h = into o c k' fits' g.0 g.1 in (h.0, h.1.1, h.1.0)
       go (f ∷ k') fits' g = absurd g
 
   -- Null goes to a variable, or into a component, where it counts as stored already.
-  nothing_ready : EvaluatesTo known nothing k s.heap a.places s.masters → ReadyIn known Running k s.heap a.places (Null ∷ a.operands) s.masters
-  nothing_ready e = go k e
+  nothing_ready : (kind : VariableKind) (kinds : List VariableKind) → names_object (Some kind) ≡ false → typed.Fits known.program (cells_of s.heap) (kind ∷ kinds) k → EvaluatesTo known nothing k s.heap a.places s.masters → ReadyIn known Running k s.heap a.places (Null ∷ a.operands) s.masters
+  nothing_ready kind kinds none fits e = go k fits e
     where
-      to : (cleared : Bool) (x : ℕ) (k' : Control) (rooms : Rooms) (holds : Holds) → Stored None s.heap s.masters → Roomed s.masters rooms → Fit known.program.types known.program.variables none_spared s.heap a.places holds → Goes (gives known.program.variables cleared x nothing holds) (RunsOn known k' rooms) (Raised (λ y. right_raises (is_same y) nothing) (ways known k' rooms)) → Working known s.heap (slice_set a.places x Null) s.masters (RunsOn known k')
-      to cleared x k' rooms holds stored roomed fit g = record { rooms = rooms; holds = slice_set holds x hold.Null; stored = stored; roomed = roomed; fit = put_null x fit; rest = g.0 }
+      to : (here : Spot) (cleared : Bool) (x : ℕ) (k' : Control) (rooms : Rooms) (holds : Holds) → is_object known.program.variables x ≡ false → Stored None s.heap s.masters → Roomed s.masters rooms → Fit known.program.types known.program.variables none_spared s.heap a.places holds → Goes (gives known.program.types known.program.variables here cleared x nothing holds) (RunsOn known k' rooms) (Raised (λ y. right_raises (is_same y) nothing) (ways known k' rooms)) → Working known s.heap (slice_set a.places x Null) s.masters (RunsOn known k')
+      to here cleared x k' rooms holds other stored roomed fit g = record { rooms = rooms; holds = slice_set holds x hold.Null; stored = stored; roomed = roomed; fit = put_null x other fit; rest = g.0 }
 
       clears_in : (o : Value) (c : ℕ) (k' : Control) → Clearing known o c k' s.heap a.places s.masters → StoringIn known o c Null k' s.heap a.places s.masters
       clears_in Null c k' h = absurd h
       clears_in (Names o) c k' h = inl (h.0, inl h.1)
       clears_in (Scalar n) c k' h = absurd h
 
-      go : (k' : Control) → EvaluatesTo known nothing k' s.heap a.places s.masters → ReadyIn known Running k' s.heap a.places (Null ∷ a.operands) s.masters
-      go [] w = absurd (w.rest)
-      go (Stores x ∷ k') w = inl (to w.rest.0 x k' w.rooms w.holds w.stored w.roomed w.fit w.rest.1)
-      go (Declares x ∷ k') w = to w.rest.0 x k' w.rooms w.holds w.stored w.roomed w.fit w.rest.1
-      go (StoresIn o c ∷ k') h = clears_in o c k' h
-      go (f ∷ k') w = absurd (w.rest)
+      go : (k' : Control) → typed.Fits known.program (cells_of s.heap) (kind ∷ kinds) k' → EvaluatesTo known nothing k' s.heap a.places s.masters → ReadyIn known Running k' s.heap a.places (Null ∷ a.operands) s.masters
+      go [] fits' w = absurd (w.rest)
+      go (Stores x ∷ k') fits' w = inl (to w.rest.1.0 w.rest.0 x k' w.rooms w.holds (variable_none known.program s.heap kind kinds x k' none fits') w.stored w.roomed w.fit w.rest.1.1)
+      go (Declares x ∷ k') fits' w = to w.rest.1.0 w.rest.0 x k' w.rooms w.holds (declared_none known.program s.heap kind kinds x k' none fits') w.stored w.roomed w.fit w.rest.1.1
+      go (StoresIn o c ∷ k') fits' h = clears_in o c k' h
+      go (f ∷ k') fits' w = absurd (w.rest)
 
   -- An allocator without items: what the components hold at first is kept, and then its object is asked for.
   default_ready : (types : List TypeDefinition) (access : ℕ) (kind : VariableKind) (d : DefaultFor known.program.types kind access) (w : Working known s.heap a.places s.masters (Takes known s.heap a.places (allocates_default access) k)) → reached_of types access ≡ reached_components known.program.types access → Defaulted_to access d.components k w.rooms w.holds → Stepped known s.heap Quiet (running (Creates access (words_of types access) ∷ k) (record a { operands = in_front (initial_values named (reached_of types access)) a.operands }) rest s)
@@ -426,20 +442,20 @@ module _ (known : Known) (k : Control) (a : Activation Value) (rest : List (Acti
       let found : reached_of types access ≡ Some kinds = same ∙ d.reached in
       rw found (ready_on known (Creates access (length kinds) ∷ k) a rest s (in_front (map (initial_value named) kinds) a.operands)
       (at_work w (fill_defaults known s.heap a.places access (length kinds) k w.rooms w.holds kinds a.operands
-      (record { done = []; target = h.0; into = h.1; filled = tt; counted = sym (defaults_count kinds); before = tt; behind = defaults_keep h.0 w.holds [] kinds; leads = h.2 }))))
+      (record { done = []; spot = record { line = 0; column = 0 }; target = h.0; into = h.1; filled = tt; before = tt; behind = defaults_keep known.program.types (record { line = 0; column = 0 }) h.0 w.holds [] kinds; leads = h.2; counted = (let one : kinds ≡ h.2.components = let mine = d.reached in let its = h.2.reached in cc (mine, its) in ap length one) }))))
 
   -- What is assigned is evaluated.
   pub right_fine : (types : List TypeDefinition) → Reaches known types → (right : RightForm) (kinds : List VariableKind) → typed.Fits known.program (cells_of s.heap) kinds (Evaluates right ∷ k) → EvaluatesTo known right k s.heap a.places s.masters → Fine known s.heap s.masters (right_next named types right (running k a rest s))
-  right_fine types reaches nothing kinds fits e = ready_on known k a rest s (Null ∷ a.operands) (nothing_ready e)
+  right_fine types reaches nothing kinds (kind, takes, fits) e = ready_on known k a rest s (Null ∷ a.operands) (nothing_ready kind kinds (takes_none known.program.types known.program.variables kind nothing takes) fits e)
   right_fine types reaches (value_of path) kinds fits w = value_fine path.of_record path.root path.selectors path.spot kinds fits w
   right_fine types reaches (allocates access items) kinds (kind, takes, fits) w =
       let h = allocating access items kind kinds takes fits w.rooms w.holds w.rest in
-      ready_on known (Fills items ∷ Creates access (length items) ∷ k) a rest s a.operands
-      (at_work w (record { done = []; target = h.0; into = h.1; filled = tt; counted = refl; before = tt; behind = items_keep h.0 w.holds [] items h.2; leads = h.3 }))
+      ready_on known (Fills items ∷ Creates access (words_of types access) ∷ k) a rest s a.operands
+      (at_work w (record { done = []; spot = h.0; target = h.1; into = h.2; filled = tt; before = tt; behind = items_keep known.program.types h.0 h.1 w.holds [] items h.3; leads = h.4; counted = ap count_of (reaches.0 access ∙ h.4.reached) }))
   right_fine types reaches (allocates_default access) kinds (kind, takes, fits) w =
       let d = default_for known.program.types known.program.variables kind access takes in
-      let h = defaulting access kind kinds d fits w.rooms w.holds w.rest in
-      default_ready types access kind d w (reaches access) h
+      let h = defaulting access kind kinds d (takes_none known.program.types known.program.variables kind (allocates_default access) takes) fits w.rooms w.holds w.rest in
+      default_ready types access kind d w (reaches.0 access) h
   right_fine types reaches (computes e) kinds (kind, takes, fits) w =
       ready_on known (Computes e ∷ k) a rest s a.operands (at_work w (computing e kind kinds takes fits w.rooms w.holds w.rest))
 
@@ -455,16 +471,20 @@ module _ (known : Known) (k : Control) (a : Activation Value) (rest : List (Acti
   moving (c ∷ ds) v below kinds fits computed follows w raise =
       let t = followed_kind kinds (c ∷ ds) v below fits computed in
       let m = w.rest in
-      moves_fine m.0.of_record m.0.root m.0.selectors m.0.spot below c ds v (Some t.0) t.1 t.2 follows t.3 t.4 t.5 m.1 (at_work w m.2) raise
+      moves_fine m.0.of_record m.0.root m.0.selectors m.0.spot below c ds v (Some t.0) t.1 t.2 follows t.3 t.4 t.5 m.1 (at_work w m.2) (raises_all known v k w.rooms w.holds ds (raise refl))
 
   -- A path is followed.
   pub follows_fine : (cs : List ℕ) (v : Value) (below : List Value) (kinds : List VariableKind) → typed.Fits known.program (cells_of s.heap) kinds (Follows cs ∷ k) → AreComputed (cells_of s.heap) kinds (v ∷ below) → (Working known s.heap a.places s.masters (FollowsFor known s.heap a.places v below cs k) ⊎ HalfFollows known v cs k s.heap a.places s.masters) → Fine known s.heap s.masters (path_next named cs v (running k (record a { operands = below }) rest s))
   follows_fine cs v below kinds fits computed (inr h) = half_fine known a rest s below k cs v h
   follows_fine cs v below kinds fits computed (inl w) = go w.rest.1
     where
-      go : (FindsFor known s.heap a.places v cs k w.rooms w.holds ⊎ (MayRaise known true ConstraintError k w.rooms w.holds × (Awaits known s.heap a.places below k w.rooms w.holds ⊎ (MovesOn known s.heap a.places v cs k w.rooms w.holds ⊎ FillsOn known s.heap a.places v below cs k w.rooms w.holds)))) → Fine known s.heap s.masters (path_next named cs v (running k (record a { operands = below }) rest s))
+      may_read : (ds : List ℕ) → To ((ways known k w.rooms).raised ConstraintError) w.holds → MayRead known k a rest s below v ds w.rooms w.holds
+      may_read [] raise = tt
+      may_read (d ∷ ds) raise = (w.rest.0, raises_all known v k w.rooms w.holds ds raise)
+
+      go : (FindsFor known s.heap a.places v below cs k w.rooms w.holds ⊎ (MayRaise known true ConstraintError k w.rooms w.holds × (Awaits known s.heap a.places below k w.rooms w.holds ⊎ (MovesOn known s.heap a.places v cs k w.rooms w.holds ⊎ FillsOn known s.heap a.places v below cs k w.rooms w.holds)))) → Fine known s.heap s.masters (path_next named cs v (running k (record a { operands = below }) rest s))
       go (inl for) = finds_fine known a rest s below k cs v (at_work w for) w.rest.0
-      go (inr (raise, inl awaits)) = reads_fine known k a rest s below cs v (λ may. w.rest.0) (at_work w awaits) (λ may. raise refl)
+      go (inr (raise, inl awaits)) = reads_fine known k a rest s below cs v (at_work w awaits) (may_read cs (raise refl))
       go (inr (raise, inr (inl moves))) = moving cs v below kinds fits computed w.rest.0 (at_work w moves) raise
       go (inr (raise, inr (inr fills))) = filling known a rest s below k cs v w.rest.0 (at_work w fills) raise
 

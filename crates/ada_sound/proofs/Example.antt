@@ -61,7 +61,7 @@ types = definition.Record no_name (vec [] (omega arith)) (vec (component.Integer
 
 -- X, Y : Link;
 abbrev pub link : Variable
-link = record { name = no_name; kind = variable.Access (record { 0 = 1 }); borrows = false }
+link = record { name = no_name; spot = spot; kind = variable.Access (record { 0 = 1 }); borrows = false }
 
 abbrev pub declarations : List Declaration
 declarations = declaration.Collection (record { 0 = 1 }) ∷ declaration.Variable (record { 0 = 0 }) None ∷ declaration.Variable (record { 0 = 1 }) None ∷ []
@@ -221,7 +221,7 @@ n_declared = declaration.Variable (record { 0 = 2 }) (Some (right.Value (Integer
 abbrev counting_program_of : (statements : List Stmt) → length statements ≤ 8 → Program
 counting_program_of statements le = record {
   types = vec types (omega arith);
-  variables = vec (link ∷ link ∷ record { name = no_name; kind = variable.Integer; borrows = false } ∷ []) (omega arith);
+  variables = vec (link ∷ link ∷ record { name = no_name; spot = spot; kind = variable.Integer; borrows = false } ∷ []) (omega arith);
   texts = vec [] (omega arith);
   exceptions = vec [] (omega arith);
   declarations = vec (declarations ++ n_declared ∷ []) (omega arith);

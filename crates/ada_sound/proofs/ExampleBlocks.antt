@@ -85,7 +85,7 @@ two_access_types = types ++ definition.Access no_name (record { 0 = 0 }) ∷ []
 
 -- X : Link; Y : Inner;
 abbrev inner_link : Variable
-inner_link = record { name = no_name; kind = variable.Access (record { 0 = 2 }); borrows = false }
+inner_link = record { name = no_name; spot = spot; kind = variable.Access (record { 0 = 2 }); borrows = false }
 
 abbrev unwinding_program_of : (declarations : List Declaration) → length declarations ≤ 8 → (statements : List Stmt) → length statements ≤ 8 → (handlers : List Handler) → length handlers ≤ 8 → Program
 unwinding_program_of declarations few statements le handlers fewer = record {
@@ -177,7 +177,7 @@ abbrev i : Path
 i = record { root = record { 0 = 3 }; of_record = false; selectors = vec [] (omega arith); spot = spot }
 
 abbrev an_integer : Variable
-an_integer = record { name = no_name; kind = variable.Integer; borrows = false }
+an_integer = record { name = no_name; spot = spot; kind = variable.Integer; borrows = false }
 
 -- X, Y : Link; N : Integer := 0; and parameters of loops
 abbrev reading_program_of : (parameters : List Variable) → length parameters ≤ 5 → (statements : List Stmt) → length statements ≤ 8 → (handlers : List Handler) → length handlers ≤ 8 → Program

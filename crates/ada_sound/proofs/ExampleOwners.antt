@@ -170,7 +170,7 @@ abbrev outlasting_types : List TypeDefinition
 outlasting_types = record_of (an_integer ∷ []) (omega arith) ∷ record_of (an_access 3 ∷ []) (omega arith) ∷ access_to 1 ∷ access_to 0 ∷ []
 
 abbrev pub of_access : ℕ → Variable
-of_access access = record { name = no_name; kind = variable.Access (record { 0 = access }); borrows = false }
+of_access access = record { name = no_name; spot = spot; kind = variable.Access (record { 0 = access }); borrows = false }
 
 abbrev created : (access x : ℕ) → List Declaration
 created access x = declaration.Collection (record { 0 = access }) ∷ declaration.Variable (record { 0 = x }) None ∷ []
@@ -246,11 +246,11 @@ abbrev record_types : List TypeDefinition
 record_types = five_types ++ definition.Object (record { 0 = 0 }) ∷ []
 
 abbrev record_variables : List Variable
-record_variables = record { name = no_name; kind = variable.Record (record { 0 = 2 }); borrows = false } ∷ link ∷ []
+record_variables = record { name = no_name; spot = spot; kind = variable.Record (record { 0 = 2 }); borrows = false } ∷ link ∷ []
 
 abbrev record_declarations : List Declaration
 record_declarations =
-    declaration.Collection (record { 0 = 1 }) ∷ declaration.Record (record { 0 = 0 }) (record { 0 = 2 }) ∷ declaration.Variable (record { 0 = 1 }) None ∷ []
+    declaration.Collection (record { 0 = 1 }) ∷ declaration.Record (record { 0 = 0 }) (record { 0 = 2 }) None ∷ declaration.Variable (record { 0 = 1 }) None ∷ []
 
 -- R.Next := new Node; X := R.Next; R.Next := null; Put_Line (Integer'Image (R.Value)); Free (X);
 abbrev record_all : List Stmt

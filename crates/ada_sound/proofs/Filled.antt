@@ -9,9 +9,9 @@ use Rattle.ada_text.specs.declared.spot.Spot.{Spot}
 use Rattle.ada_program.specs.declared.program.ComponentKind.{ComponentKind}
 use Rattle.ada_program.specs.declared.program.ComponentKind.TheVariants as component_kinds
 use Rattle.ada_program.specs.declared.program.VariableKind.{VariableKind}
-use Rattle.ada_program.specs.Form.{PathForm, ItemForm, null_item, item_of_path, item_of_value}
+use Rattle.ada_program.specs.Form.{PathForm, ItemForm, null_item, item_of_path, item_of_value, item_of_record}
 use Rattle.ada_program.specs.ProgramForm.{TypeForm, VariableForm}
-use Rattle.ada_program.specs.WellFormed.{access_of, held_kind, component_kind, kind_among, reached_components, item_fits, items_fit}
+use Rattle.ada_program.specs.WellFormed.{access_of, held_kind, component_kind, kind_among, reached_components, component_item_fits, items_fit}
 use Rattle.ada_flow.specs.declared.rule.Hold.{Hold}
 use Rattle.ada_flow.specs.declared.rule.Hold.TheVariants as hold
 use Rattle.ada_program.specs.Nested.{is_one_of}
@@ -93,9 +93,9 @@ back_length [] todo = omega arith
 back_length (d ∷ done) todo = let h = back_length done (d ∷ todo) in omega (arith, h)
 
 -- Items that break no rule, newest first, break none in order.
-keep_in_order : (target : Option PathForm) (holds : Holds) (done todo : List ItemForm) → DoneKeep target holds done → ItemsKeep target holds (named_of done) todo → ItemsKeep target holds [] (back_onto done todo)
-keep_in_order target holds [] todo d i = i
-keep_in_order target holds (d ∷ done) todo before behind = keep_in_order target holds done (d ∷ todo) before.1 (before.0, behind)
+keep_in_order : (types : List TypeForm) (spot : Spot) (target : Option PathForm) (holds : Holds) (done todo : List ItemForm) → DoneKeep types spot target holds done → ItemsKeep types spot target holds (named_of done) todo → ItemsKeep types spot target holds [] (back_onto done todo)
+keep_in_order types spot target holds [] todo d i = i
+keep_in_order types spot target holds (d ∷ done) todo before behind = keep_in_order types spot target holds done (d ∷ todo) before.1 (before.0, behind)
 
 -- What an item moves.
 
@@ -181,6 +181,32 @@ one_path target h d p q place (inr e) (inr f) =
     let y = paths_are b.0 q b.2 in
     paths_same p q (sym x.0 ∙ (ap (λ (path : PathForm). path.root) t ∙ y.0)) (sym x.1 ∙ (ap (λ (path : PathForm). path.selectors) t ∙ y.1))
 
+-- An item with one value fills one component.
+one_fits : (types : List TypeForm) (variables : List VariableForm) (heap : List Object) (places : List Value) (c : ComponentKind) (cs : List ComponentKind) (item : ItemForm) (items : List ItemForm) (v : Value) → FilledBy heap places item v → items_fit types variables (c ∷ cs) (item ∷ items) ≡ true → (component_item_fits types variables c item ≡ true) × (items_fit types variables cs items ≡ true)
+one_fits types variables heap places c cs null_item items v filled fits = (and_left (component_item_fits types variables c null_item) (items_fit types variables cs items) fits, and_right (component_item_fits types variables c null_item) (items_fit types variables cs items) fits)
+one_fits types variables heap places c cs (item_of_path path) items v filled fits = (and_left (component_item_fits types variables c (item_of_path path)) (items_fit types variables cs items) fits, and_right (component_item_fits types variables c (item_of_path path)) (items_fit types variables cs items) fits)
+one_fits types variables heap places c cs (item_of_value e) items v filled fits = (and_left (component_item_fits types variables c (item_of_value e)) (items_fit types variables cs items) fits, and_right (component_item_fits types variables c (item_of_value e)) (items_fit types variables cs items) fits)
+one_fits types variables heap places c cs (item_of_record p) items v filled fits = absurd filled
+
+none_fits : (types : List TypeForm) (variables : List VariableForm) (heap : List Object) (places : List Value) (item : ItemForm) (items : List ItemForm) (v : Value) → FilledBy heap places item v → items_fit types variables [] (item ∷ items) ≡ true → ⊥
+none_fits types variables heap places null_item items v filled fits = cc fits
+none_fits types variables heap places (item_of_path path) items v filled fits = cc fits
+none_fits types variables heap places (item_of_value e) items v filled fits = cc fits
+none_fits types variables heap places (item_of_record p) items v filled fits = filled
+
+-- So there are as many as components.
+as_many : (types : List TypeForm) (variables : List VariableForm) (heap : List Object) (places : List Value) (cs : List ComponentKind) (items : List ItemForm) (vs : List Value) → FilledInOrder heap places items vs → items_fit types variables cs items ≡ true → length items ≡ length cs
+as_many types variables heap places [] [] vs filled fits = refl
+as_many types variables heap places (c ∷ cs) [] vs filled fits = absurd (cc fits)
+as_many types variables heap places cs (item ∷ items) [] filled fits = absurd filled
+as_many types variables heap places [] (item ∷ items) (v ∷ vs) filled fits = absurd (none_fits types variables heap places item items v filled.0 fits)
+as_many types variables heap places (c ∷ cs) (item ∷ items) (v ∷ vs) filled fits =
+    ap suc (as_many types variables heap places cs items vs filled.1 (one_fits types variables heap places c cs item items v filled.0 fits).1)
+
+pub filled_length : (types : List TypeForm) (variables : List VariableForm) (heap : List Object) (places : List Value) (components : List ComponentKind) (done : List ItemForm) (operands : List Value) → Filled heap places done operands → items_fit types variables components (back_onto done []) ≡ true → length (back_onto done []) ≡ length components
+filled_length types variables heap places components done operands filled fits =
+    as_many types variables heap places components (back_onto done []) (reverse (take (length done) operands) ++ []) (in_order heap places done [] operands [] filled tt) fits
+
 -- What is relied on while a new object is made, once its items are moved: no more than before; nothing of the variables that are moved; and where an
 -- item is the target, the component that it leads to is the one that the object goes to, on which nothing relies.
 pub record Lends (heap : List Object) (places : List Value) (holds : Holds) (target : Option PathForm) (xs : List ℕ) (after : Place → Hold) : Type 0 where
@@ -221,7 +247,7 @@ named_parts (p ∷ ps) qs path e =
 named_twice : (named : List PathForm) (p q : PathForm) → named ≡ p ∷ [] → same_path p q ≡ true → is_named named q ≡ false → ⊥
 named_twice named p q is same once = let one : is_named (p ∷ []) q ≡ true = rw same refl in cc (is, one, once)
 
-module _ (types : List TypeForm) (variables : List VariableForm) (heap : List Object) (places : List Value) (holds : Holds) (target : Option PathForm) (xs : List ℕ) (after : Place → Hold) (fit : Fit types variables none_spared heap places holds) (lends : Lends heap places holds target xs after) where
+module _ (types : List TypeForm) (variables : List VariableForm) (heap : List Object) (places : List Value) (holds : Holds) (spot : Spot) (target : Option PathForm) (xs : List ℕ) (after : Place → Hold) (fit : Fit types variables none_spared heap places holds) (lends : Lends heap places holds target xs after) where
   path_moves : (earlier : List PathForm) (path : PathForm) (cs : List ℕ) (v : Value) (o : Id) → path.selectors ≡ cs → is_named earlier path ≡ false → moved_behind (is_target target path) cs (hold_at holds path.root) path.spot ≡ None → walk heap (place_at places path.root) cs ≡ finds v → v ≡ Names o → Moves heap places holds target lends.h lends.d earlier (path ∷ []) (variable_of cs path.root) o
   path_moves earlier path [] v o whole once kept is names =
       let same : place_at places path.root ≡ v = cc is in
@@ -249,7 +275,7 @@ module _ (types : List TypeForm) (variables : List VariableForm) (heap : List Ob
         of_moved = λ x e. absurd (cc e);
       }
 
-  item_moves : (earlier : List PathForm) (kind : ComponentKind) (item : ItemForm) (v : Value) (o : Id) → item_fits types variables kind item ≡ true → NoneBroken holds (uses_in_item target earlier item) → FilledBy heap places item v → HasKind (cells_of heap) (held_kind kind) v → v ≡ Names o → Moves heap places holds target lends.h lends.d earlier (named_by_item item) (moved_by_item item) o
+  item_moves : (earlier : List PathForm) (kind : ComponentKind) (item : ItemForm) (v : Value) (o : Id) → component_item_fits types variables kind item ≡ true → NoneBroken holds (uses_in_item types spot target earlier item) → FilledBy heap places item v → HasKind (cells_of heap) (held_kind kind) v → v ≡ Names o → Moves heap places holds target lends.h lends.d earlier (named_by_item item) (moved_by_item item) o
   item_moves earlier kind null_item v o fits keep is has names = absurd (cc (is, names))
   item_moves earlier (component_kinds.Integer initial) (item_of_value e) v o fits keep is has names = absurd (rw names at has)
   item_moves earlier (component_kinds.Boolean initial) (item_of_value e) v o fits keep is has names = absurd (rw names at has)
@@ -259,6 +285,7 @@ module _ (types : List TypeForm) (variables : List VariableForm) (heap : List Ob
   item_moves earlier (component_kinds.Access access) (item_of_path path) v o fits keep is has names =
       let kept = kept_by target holds earlier path keep in
       path_moves earlier path path.selectors v o refl kept.0 kept.1 is names
+  item_moves earlier kind (item_of_record p) v o fits keep is has names = absurd is
 
   -- A later value that names an object is that of a place which no earlier item names.
   pub record IsMoved (earlier : List PathForm) (o : Id) : Type 0 where
@@ -272,14 +299,14 @@ module _ (types : List TypeForm) (variables : List VariableForm) (heap : List Ob
   one_moved : {earlier named : List PathForm} {moved : List ℕ} {o : Id} → Moves heap places holds target lends.h lends.d earlier named moved o → IsMoved earlier o
   one_moved m = record { path = m.path; place = m.place; once = m.once; is_place = m.is_place; own = m.own; names = m.names }
 
-  later_moved : (cs : List ComponentKind) (items : List ItemForm) (vs : List Value) (earlier : List PathForm) → items_fit types variables cs items ≡ true → ItemsKeep target holds earlier items → FilledInOrder heap places items vs → HaveKinds (cells_of heap) cs vs → (i : ℕ) (o : Id) → slice_index_or vs i Null ≡ Names o → IsMoved earlier o
+  later_moved : (cs : List ComponentKind) (items : List ItemForm) (vs : List Value) (earlier : List PathForm) → items_fit types variables cs items ≡ true → ItemsKeep types spot target holds earlier items → FilledInOrder heap places items vs → HaveKinds (cells_of heap) cs vs → (i : ℕ) (o : Id) → slice_index_or vs i Null ≡ Names o → IsMoved earlier o
   later_moved cs items [] earlier fits keep filled kinds i o e = absurd (cc e)
   later_moved [] items (v ∷ vs) earlier fits keep filled kinds i o e = absurd kinds
   later_moved (c ∷ cs) [] (v ∷ vs) earlier fits keep filled kinds i o e = absurd (cc fits)
   later_moved (c ∷ cs) (item ∷ items) (v ∷ vs) earlier fits keep filled kinds zero o e =
-      one_moved (item_moves earlier c item v o (and_left (item_fits types variables c item) _ fits) keep.0 filled.0 kinds.0 e)
+      one_moved (item_moves earlier c item v o (one_fits types variables heap places c cs item items v filled.0 fits).0 keep.0 filled.0 kinds.0 e)
   later_moved (c ∷ cs) (item ∷ items) (v ∷ vs) earlier fits keep filled kinds (suc i) o e =
-      let m = later_moved cs items vs (named_by_item item ++ earlier) (and_right (item_fits types variables c item) _ fits) keep.1 filled.1 kinds.1 i o e in
+      let m = later_moved cs items vs (named_by_item item ++ earlier) (one_fits types variables heap places c cs item items v filled.0 fits).1 keep.1 filled.1 kinds.1 i o e in
       record { path = m.path; place = m.place; once = (named_parts (named_by_item item) earlier m.path m.once).1; is_place = m.is_place; own = m.own; names = m.names }
 
   -- Once the places are lost, the value of an item is in hand.
@@ -307,29 +334,30 @@ module _ (types : List TypeForm) (variables : List VariableForm) (heap : List Ob
       rw (same, there.found, there.listed) refl
 
   -- All values of items are, from one component on.
-  items_in_hand : (kind : ℕ → Option ℕ) (c : ℕ) (cs : List ComponentKind) (items : List ItemForm) (vs : List Value) (earlier : List PathForm) → ((n : ℕ) → kind (n + c) ≡ access_of (component_kind (slice_get cs n))) → ((x : ℕ) → is_one_of (moved_by_items items) x ≡ true → is_one_of xs x ≡ true) → items_fit types variables cs items ≡ true → ItemsKeep target holds earlier items → FilledInOrder heap places items vs → HaveKinds (cells_of heap) cs vs → AreInHand heap (bare places) after kind c vs
+  items_in_hand : (kind : ℕ → Option ℕ) (c : ℕ) (cs : List ComponentKind) (items : List ItemForm) (vs : List Value) (earlier : List PathForm) → ((n : ℕ) → kind (n + c) ≡ access_of (component_kind (slice_get cs n))) → ((x : ℕ) → is_one_of (moved_by_items items) x ≡ true → is_one_of xs x ≡ true) → items_fit types variables cs items ≡ true → ItemsKeep types spot target holds earlier items → FilledInOrder heap places items vs → HaveKinds (cells_of heap) cs vs → AreInHand heap (bare places) after kind c vs
   items_in_hand kind c cs items [] earlier kinds_are among fits keep filled kinds = tt
   items_in_hand kind c [] items (v ∷ vs) earlier kinds_are among fits keep filled kinds = absurd kinds
   items_in_hand kind c (f ∷ cs) [] (v ∷ vs) earlier kinds_are among fits keep filled kinds = absurd (cc fits)
   items_in_hand kind c (f ∷ cs) (item ∷ items) (v ∷ vs) earlier kinds_are among fits keep filled kinds =
-      let here = and_left (item_fits types variables f item) (items_fit types variables cs items) fits in
-      let behind = and_right (item_fits types variables f item) (items_fit types variables cs items) fits in
+      let one = one_fits types variables heap places f cs item items v filled.0 fits in
+      let here = one.0 in
+      let behind = one.1 in
       (moved_in_hand (kind c) v (λ o e. right here o e) (λ o e. moved here o e), not_again here behind, items_in_hand kind (suc c) cs items vs (named_by_item item ++ earlier) (λ n. shifted n) (λ x e. among x (later_one (moved_by_item item) (moved_by_items items) x e)) behind keep.1 filled.1 kinds.1)
     where
       at_c : kind c ≡ access_of (Some (held_kind f))
       at_c = let first : c ≡ 0 + c = omega arith in ap kind first ∙ kinds_are 0
 
-      right : item_fits types variables f item ≡ true → (o : Id) → v ≡ Names o → IsOf (access_at heap) (kind c) o
+      right : component_item_fits types variables f item ≡ true → (o : Id) → v ≡ Names o → IsOf (access_at heap) (kind c) o
       right here o e =
           let m = item_moves earlier f item v o here keep.0 filled.0 kinds.0 e in
           rw at_c (right_kind (kind_of (kinds_of types variables) (access_at heap) m.place) (held_kind f) o (kernel.owned_at fit.owners.fit m.place m.own o m.names) (rw e at kinds.0))
 
-      moved : item_fits types variables f item ≡ true → (o : Id) → v ≡ Names o → (place : Place) × Owns (hold_in none_spared holds place) × (value_at heap (bare places) place ≡ Names o) × (Owns (after place) → ⊥)
+      moved : component_item_fits types variables f item ≡ true → (o : Id) → v ≡ Names o → (place : Place) × Owns (hold_in none_spared holds place) × (value_at heap (bare places) place ≡ Names o) × (Owns (after place) → ⊥)
       moved here o e =
           let m = item_moves earlier f item v o here keep.0 filled.0 kinds.0 e in
           (m.place, m.own, m.names, place_gone m.path m.place m.is_place (λ x is. among x (rw (m.of_moved x is) (first_one x (moved_by_items items)))))
 
-      not_again : item_fits types variables f item ≡ true → items_fit types variables cs items ≡ true → IsNotAmong v vs
+      not_again : component_item_fits types variables f item ≡ true → items_fit types variables cs items ≡ true → IsNotAmong v vs
       not_again here behind o i e n =
           let m = item_moves earlier f item v o here keep.0 filled.0 kinds.0 e in
           let l = later_moved cs items vs (named_by_item item ++ earlier) behind keep.1 filled.1 kinds.1 i o n in
@@ -342,11 +370,11 @@ module _ (types : List TypeForm) (variables : List VariableForm) (heap : List Ob
       shifted n = let e : n + suc c ≡ suc n + c = omega arith in ap kind e ∙ kinds_are (suc n)
 
   -- The newest operands, in order, are in hand.
-  pub filled_in_hand : (access : ℕ) (components : List ComponentKind) (done : List ItemForm) (operands : List Value) → ((x : ℕ) → is_one_of (moved_by_items (back_onto done [])) x ≡ true → is_one_of xs x ≡ true) → reached_components types access ≡ Some components → items_fit types variables components (back_onto done []) ≡ true → DoneKeep target holds done → Filled heap places done operands → HaveKinds (cells_of heap) components (reverse (take (length (back_onto done [])) operands)) → AreInHand heap (bare places) after (λ c. access_of (kind_among (reached_components types access) c)) 0 (reverse (take (length (back_onto done [])) operands))
+  pub filled_in_hand : (access : ℕ) (components : List ComponentKind) (done : List ItemForm) (operands : List Value) → ((x : ℕ) → is_one_of (moved_by_items (back_onto done [])) x ≡ true → is_one_of xs x ≡ true) → reached_components types access ≡ Some components → items_fit types variables components (back_onto done []) ≡ true → DoneKeep types spot target holds done → Filled heap places done operands → HaveKinds (cells_of heap) components (reverse (take (length (back_onto done [])) operands)) → AreInHand heap (bare places) after (λ c. access_of (kind_among (reached_components types access) c)) 0 (reverse (take (length (back_onto done [])) operands))
   filled_in_hand access components done operands among reached fits keep filled kinds =
       let all = back_onto done [] in
       let counted : length all ≡ length done = let h = back_length done [] in omega (arith, h) in
       let order : FilledInOrder heap places all (reverse (take (length all) operands)) =
       rw (counted, ← append-nil (reverse (take (length done) operands))) (in_order heap places done [] operands [] filled tt) in
       items_in_hand (λ c. access_of (kind_among (reached_components types access) c)) 0 components all (reverse (take (length all) operands)) []
-      (λ n. let same : n + 0 ≡ n = omega arith in rw (reached, same) refl) among fits (keep_in_order target holds done [] keep tt) order kinds
+      (λ n. let same : n + 0 ≡ n = omega arith in rw (reached, same) refl) among fits (keep_in_order types spot target holds done [] keep tt) order kinds

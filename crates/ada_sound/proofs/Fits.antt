@@ -6,7 +6,9 @@ use Rattle.std.specs.List.{slice_get, slice_set, slice_index_or}
 use Rattle.std.proofs.lemmas.Bool.{eqb-true}
 use Rattle.ada_text.specs.declared.spot.Spot.{Spot}
 use Rattle.ada_program.specs.ProgramForm.{TypeForm, VariableForm}
-use Rattle.ada_program.specs.WellFormed.{access_of, reached_components, kind_among}
+use Rattle.ada_program.specs.declared.program.VariableKind.{VariableKind}
+use Rattle.ada_program.specs.declared.program.VariableKind.TheVariants as variable_kinds
+use Rattle.ada_program.specs.WellFormed.{access_of, reached_components, kind_among, variable_kind}
 use Rattle.ada_flow.specs.declared.rule.Hold.{Hold}
 use Rattle.ada_flow.specs.declared.rule.Hold.TheVariants as hold
 use Rattle.ada_flow.specs.declared.rule.Region.{Region}
@@ -71,10 +73,22 @@ IsBlank hold.Lost v = Unit {0}
 abbrev pub place_at : List Value → ℕ → Value
 place_at places x = slice_index_or places x Null
 
--- All places are as they are relied on to be.
+-- A variable is a record object.
+abbrev pub names_object : Option VariableKind → Bool
+names_object None = false
+names_object (Some variable_kinds.Integer) = false
+names_object (Some variable_kinds.Boolean) = false
+names_object (Some (variable_kinds.Access access)) = false
+names_object (Some (variable_kinds.Record object)) = true
+
+abbrev pub is_object : List VariableForm → ℕ → Bool
+is_object variables x = names_object (variable_kind variables x)
+
+-- All places are as they are relied on to be; and a record object that is not lost is there.
 pub record Fit (types : List TypeForm) (variables : List VariableForm) (spared : Id → Bool) (heap : List Object) (places : List Value) (holds : Holds) : Type 0 where
   pub owners : Fits (kinds_of types variables) heap (bare places) (hold_in spared holds)
   pub nulls : (x : ℕ) → IsBlank (hold_at holds x) (place_at places x)
+  pub objects : (x : ℕ) → is_object variables x ≡ true → hold_at holds x ≢ hold.Lost → place_at places x ≢ Null
 
 -- A value is in hand: no place owns what it names.
 abbrev pub Hand : List TypeForm → List VariableForm → (spared : Id → Bool) → List Object → List Value → Holds → (kind : Option ℕ) → Value → Type 0
@@ -116,6 +130,13 @@ blank_good g hold.Lost v e is = tt
 blank_good hold.Null hold.Null v e is = is
 blank_good g h v e is = absurd (cc e)
 
+-- What is not lost by less was not lost before.
+lost_stays : (g h : Hold) → is_as_good g h ≡ true → h ≢ hold.Lost → g ≢ hold.Lost
+lost_stays g hold.Null e ne is = absurd (cc (is, e))
+lost_stays g (hold.Own r) e ne is = absurd (cc (is, e))
+lost_stays g (hold.Alias r) e ne is = absurd (cc (is, e))
+lost_stays g hold.Lost e ne is = ne refl
+
 -- What is relied on is as good everywhere, if it is so for variables.
 weaker_holds : (spared : Id → Bool) (holds less : Holds) → ((x : ℕ) → is_as_good (hold_at holds x) (hold_at less x) ≡ true) → (p : Place) → is_as_good (hold_in spared holds p) (hold_in spared less p) ≡ true
 weaker_holds spared holds less good (variable x) = good x
@@ -127,6 +148,7 @@ pub weaker_fit : {types : List TypeForm} {variables : List VariableForm} {spared
 weaker_fit {spared = spared} {places = places} {holds = holds} less good f = record {
   owners = weaken (hold_in spared less) (weaker_holds spared holds less good) f.owners;
   nulls = λ x. blank_good (hold_at holds x) (hold_at less x) (place_at places x) (good x) (f.nulls x);
+  objects = λ x is ne. f.objects x is (lost_stays (hold_at holds x) (hold_at less x) (good x) ne);
 }
 
 -- A component that may be spared says no more than one that isn't.
@@ -144,6 +166,7 @@ pub spare_fit : {types : List TypeForm} {variables : List VariableForm} {heap : 
 spare_fit {holds = holds} spared f = record {
   owners = weaken (hold_in spared holds) (spared_holds spared holds) f.owners;
   nulls = f.nulls;
+  objects = f.objects;
 }
 
 -- A variable has another hold, that says no more.
@@ -201,29 +224,58 @@ set_nulls holds places after x h others here blank y = go (same_or_not y x)
 put_nulls : (holds : Holds) (places : List Value) (x : ℕ) (v : Value) (h : Hold) → IsBlank h (place_at (slice_set places x v) x) → ((y : ℕ) → IsBlank (hold_at holds y) (place_at places y)) → (y : ℕ) → IsBlank (hold_at (slice_set holds x h) y) (place_at (slice_set places x v) y)
 put_nulls holds places x v h here blank = set_nulls holds places (slice_set places x v) x h (λ y ne. read_other places x y v Null ne) here blank
 
+-- What is a record object, and not lost, is there still.
+set_objects : (variables : List VariableForm) (holds : Holds) (places after : List Value) (x : ℕ) (h : Hold) → ((y : ℕ) → y ≢ x → place_at after y ≡ place_at places y) → (is_object variables x ≡ true → h ≢ hold.Lost → place_at after x ≢ Null) → ((y : ℕ) → is_object variables y ≡ true → hold_at holds y ≢ hold.Lost → place_at places y ≢ Null) → (y : ℕ) → is_object variables y ≡ true → hold_at (slice_set holds x h) y ≢ hold.Lost → place_at after y ≢ Null
+set_objects variables holds places after x h others here there y is ne null = go (same_or_not y x)
+  where
+    by : (g : Hold) → (g ≡ h) ⊎ (g ≡ hold.Lost) → g ≢ hold.Lost → h ≢ hold.Lost
+    by g (inl e) kept lost = kept (e ∙ lost)
+    by g (inr e) kept lost = kept e
+
+    go : (y ≡ x) ⊎ (y ≢ x) → ⊥
+    go (inl e) = here (rw e at is) (by (hold_at (slice_set holds x h) x) (read_same holds x h hold.Lost) (rw e at ne)) (rw e at null)
+    go (inr other) = there y is (rw (read_other holds x y h hold.Lost other) at ne) (sym (others y other) ∙ null)
+
+put_objects : (variables : List VariableForm) (holds : Holds) (places : List Value) (x : ℕ) (v : Value) (h : Hold) → (is_object variables x ≡ true → h ≢ hold.Lost → place_at (slice_set places x v) x ≢ Null) → ((y : ℕ) → is_object variables y ≡ true → hold_at holds y ≢ hold.Lost → place_at places y ≢ Null) → (y : ℕ) → is_object variables y ≡ true → hold_at (slice_set holds x h) y ≢ hold.Lost → place_at (slice_set places x v) y ≢ Null
+put_objects variables holds places x v h here there = set_objects variables holds places (slice_set places x v) x h (λ y ne. read_other places x y v Null ne) here there
+
+-- A variable that is none needs not be there; nor is one a record object that is null and not lost.
+pub no_object : {X : Type 0} (variables : List VariableForm) (x : ℕ) → is_object variables x ≡ false → is_object variables x ≡ true → X
+no_object variables x none is = absurd (cc (none, is))
+
+object_by : (b : Bool) → (b ≡ true → ⊥) → b ≡ false
+object_by true none = absurd (none refl)
+object_by false none = refl
+
+pub null_object : {types : List TypeForm} {variables : List VariableForm} {spared : Id → Bool} {heap : List Object} {places : List Value} {holds : Holds} (x : ℕ) → hold_at holds x ≢ hold.Lost → place_at places x ≡ Null → Fit types variables spared heap places holds → is_object variables x ≡ false
+null_object {variables = variables} x ne null f = object_by (is_object variables x) (λ is. f.objects x is ne null)
+
 null_put : (places : List Value) (x : ℕ) → place_at (slice_set places x Null) x ≡ Null
 null_put places x = elim (read_same places x Null Null) [ inl e ↦ e | inr e ↦ e ]
 
 -- A variable gets any value, on which nothing relies; null; or what is in hand.
 pub put_lost : {types : List TypeForm} {variables : List VariableForm} {spared : Id → Bool} {heap : List Object} {places : List Value} {holds : Holds} (x : ℕ) (v : Value) → Fit types variables spared heap places holds → Fit types variables spared heap (slice_set places x v) (slice_set holds x hold.Lost)
-put_lost {spared = spared} {places = places} {holds = holds} x v f = record {
+put_lost {variables = variables} {spared = spared} {places = places} {holds = holds} x v f = record {
   owners = put_fits x v (hold_in spared (slice_set holds x hold.Lost)) (set_others spared holds x hold.Lost) f.owners
       (λ o e. rw (set_lost spared holds x) tt)
       (λ o own. absurd (lost_owns (hold_in spared (slice_set holds x hold.Lost) (variable x)) (set_lost spared holds x) own));
   nulls = put_nulls holds places x v hold.Lost tt f.nulls;
+  objects = put_objects variables holds places x v hold.Lost (λ is ne. absurd (ne refl)) f.objects;
 }
 
-pub put_null : {types : List TypeForm} {variables : List VariableForm} {spared : Id → Bool} {heap : List Object} {places : List Value} {holds : Holds} (x : ℕ) → Fit types variables spared heap places holds → Fit types variables spared heap (slice_set places x Null) (slice_set holds x hold.Null)
-put_null {spared = spared} {places = places} {holds = holds} x f = record {
+pub put_null : {types : List TypeForm} {variables : List VariableForm} {spared : Id → Bool} {heap : List Object} {places : List Value} {holds : Holds} (x : ℕ) → is_object variables x ≡ false → Fit types variables spared heap places holds → Fit types variables spared heap (slice_set places x Null) (slice_set holds x hold.Null)
+put_null {variables = variables} {spared = spared} {places = places} {holds = holds} x none f = record {
   owners = put_blank x Null (hold_in spared (slice_set holds x hold.Null)) (set_others spared holds x hold.Null) f.owners (λ o e. cc e);
   nulls = put_nulls holds places x Null hold.Null (null_put places x) f.nulls;
+  objects = put_objects variables holds places x Null hold.Null (λ is. no_object variables x none is) f.objects;
 }
 
-pub put_owner : {types : List TypeForm} {variables : List VariableForm} {spared : Id → Bool} {heap : List Object} {places : List Value} {holds : Holds} (x : ℕ) (v : Value) (r : Region) → Hand types variables spared heap places holds (variable_access variables x) v → Fit types variables spared heap places holds → Fit types variables spared heap (slice_set places x v) (slice_set holds x (hold.Own r))
-put_owner {spared = spared} {places = places} {holds = holds} x v r hand f = record {
+pub put_owner : {types : List TypeForm} {variables : List VariableForm} {spared : Id → Bool} {heap : List Object} {places : List Value} {holds : Holds} (x : ℕ) (v : Value) (r : Region) → (is_object variables x ≡ true → place_at (slice_set places x v) x ≢ Null) → Hand types variables spared heap places holds (variable_access variables x) v → Fit types variables spared heap places holds → Fit types variables spared heap (slice_set places x v) (slice_set holds x (hold.Own r))
+put_owner {variables = variables} {spared = spared} {places = places} {holds = holds} x v r there hand f = record {
   owners = put_hand x v (hold_in spared (slice_set holds x (hold.Own r))) (set_others spared holds x (hold.Own r)) f.owners
       (some_by (hold_in spared (slice_set holds x (hold.Own r)) (variable x)) r (set_here spared holds x (hold.Own r))) hand;
   nulls = put_nulls holds places x v (hold.Own r) tt f.nulls;
+  objects = put_objects variables holds places x v (hold.Own r) (λ is ne. there is) f.objects;
 }
 
 -- A variable borrows what another place owns, or gets null.
@@ -235,19 +287,21 @@ alias_owns : (g : Hold) (r : Region) → (g ≡ hold.Alias r) ⊎ (g ≡ hold.Lo
 alias_owns g r (inl e) own = rw e at own
 alias_owns g r (inr e) own = rw e at own
 
-pub put_alias : {types : List TypeForm} {variables : List VariableForm} {spared : Id → Bool} {heap : List Object} {places : List Value} {holds : Holds} (x : ℕ) (v : Value) (r : Region) → MayName heap (variable_access variables x) v → Fit types variables spared heap places holds → Fit types variables spared heap (slice_set places x v) (slice_set holds x (hold.Alias r))
-put_alias {variables = variables} {spared = spared} {heap = heap} {places = places} {holds = holds} x v r may f = record {
+pub put_alias : {types : List TypeForm} {variables : List VariableForm} {spared : Id → Bool} {heap : List Object} {places : List Value} {holds : Holds} (x : ℕ) (v : Value) (r : Region) → is_object variables x ≡ false → MayName heap (variable_access variables x) v → Fit types variables spared heap places holds → Fit types variables spared heap (slice_set places x v) (slice_set holds x (hold.Alias r))
+put_alias {variables = variables} {spared = spared} {heap = heap} {places = places} {holds = holds} x v r none may f = record {
   owners = put_fits x v (hold_in spared (slice_set holds x (hold.Alias r))) (set_others spared holds x (hold.Alias r)) f.owners
       (λ o e. says_alias heap (hold_in spared (slice_set holds x (hold.Alias r)) (variable x)) r (variable_access variables x) o (set_here spared holds x (hold.Alias r)) (may o e))
       (λ o own. absurd (alias_owns (hold_in spared (slice_set holds x (hold.Alias r)) (variable x)) r (set_here spared holds x (hold.Alias r)) own));
   nulls = put_nulls holds places x v (hold.Alias r) tt f.nulls;
+  objects = put_objects variables holds places x v (hold.Alias r) (λ is. no_object variables x none is) f.objects;
 }
 
 -- A variable that is null may be called so.
-pub null_fit : {types : List TypeForm} {variables : List VariableForm} {spared : Id → Bool} {heap : List Object} {places : List Value} {holds : Holds} (y : ℕ) → place_at places y ≡ Null → Fit types variables spared heap places holds → Fit types variables spared heap places (slice_set holds y hold.Null)
-null_fit {spared = spared} {places = places} {holds = holds} y is f = record {
+pub null_fit : {types : List TypeForm} {variables : List VariableForm} {spared : Id → Bool} {heap : List Object} {places : List Value} {holds : Holds} (y : ℕ) → is_object variables y ≡ false → place_at places y ≡ Null → Fit types variables spared heap places holds → Fit types variables spared heap places (slice_set holds y hold.Null)
+null_fit {variables = variables} {spared = spared} {places = places} {holds = holds} y none is f = record {
   owners = nulls (variable y) (hold_in spared (slice_set holds y hold.Null)) (set_others spared holds y hold.Null) (λ o e. cc (is, e)) f.owners;
   nulls = set_nulls holds places places y hold.Null (λ x ne. refl) is f.nulls;
+  objects = set_objects variables holds places places y hold.Null (λ x ne. refl) (λ object. no_object variables y none object) f.objects;
 }
 
 -- What owns is relied on to own.
@@ -262,8 +316,8 @@ hand_of {spared = spared} {holds = holds} y own f =
     (λ a. lost_owns (hold_in spared (slice_set holds y hold.Lost) (variable y)) (set_lost spared holds y) a) (set_others spared holds y hold.Lost) f.owners
 
 -- X := Y, where Y is an owner of X's access type: also where X is Y.
-pub move_fit : {types : List TypeForm} {variables : List VariableForm} {spared : Id → Bool} {heap : List Object} {places : List Value} {holds : Holds} (x y : ℕ) (r : Region) → IsOwn (hold_at holds y) → variable_access variables x ≡ variable_access variables y → Fit types variables spared heap places holds → Fit types variables spared heap (slice_set places x (place_at places y)) (slice_set (slice_set holds y hold.Lost) x (hold.Own r))
-move_fit {places = places} x y r own same f = put_owner x (place_at places y) r (rw same (hand_of y own f)) (lose y f)
+pub move_fit : {types : List TypeForm} {variables : List VariableForm} {spared : Id → Bool} {heap : List Object} {places : List Value} {holds : Holds} (x y : ℕ) (r : Region) → is_object variables x ≡ false → IsOwn (hold_at holds y) → variable_access variables x ≡ variable_access variables y → Fit types variables spared heap places holds → Fit types variables spared heap (slice_set places x (place_at places y)) (slice_set (slice_set holds y hold.Lost) x (hold.Own r))
+move_fit {variables = variables} {places = places} x y r none own same f = put_owner x (place_at places y) r (λ is. no_object variables x none is) (rw same (hand_of y own f)) (lose y f)
 
 -- What is relied on to name an object names one that is there.
 pub there_by : (heap : List Object) (kind : Option ℕ) (o : Id) → IsOf (access_at heap) kind o → IsThere heap o
@@ -314,12 +368,14 @@ pub store_blank : {types : List TypeForm} {variables : List VariableForm} {spare
 store_blank {spared = spared} {heap = heap} {holds = holds} o object c v found none f = record {
   owners = changes.store_blank heap o object found c v (hold_in spared holds) (λ q ne. refl) f.owners none;
   nulls = f.nulls;
+  objects = f.objects;
 }
 
 pub store_owner : {types : List TypeForm} {variables : List VariableForm} {heap : List Object} {places : List Value} {holds : Holds} (o : Id) (object : Object) (c : ℕ) (v : Value) → object_at heap o ≡ Some object → object.listed ≡ true → Hand types variables none_spared heap places holds (component_access types object c) v → Fit types variables none_spared heap places holds → Fit types variables none_spared (store heap (Names o) c v) places holds
 store_owner {heap = heap} {holds = holds} o object c v found listed hand f = record {
   owners = store_hand heap o object found c v (hold_in none_spared holds) (λ q ne. refl) f.owners (λ e. cc e) (rw (access_is heap o object found listed) hand);
   nulls = f.nulls;
+  objects = f.objects;
 }
 
 -- What a variable that is not lost names is of its access type; so is what a component of an object in its collection names.
@@ -352,14 +408,15 @@ from_reliance_with : {kinds : Kinds} {heap : List Object} {activations : List (A
 from_reliance_with holds x Whole f = from_reliance (slice_set holds x (hold.Own Whole)) f
 
 -- A take pair, T := O.C; O.C := null;, with another variable for T, or with a component.
-pub take_variable : {types : List TypeForm} {variables : List VariableForm} {heap : List Object} {places : List Value} {holds : Holds} (x : ℕ) (r : Region) (o : Id) (object : Object) (c : ℕ) (v : Value) → object_at heap o ≡ Some object → object.listed ≡ true → slice_get object.cell.values c ≡ Some v → variable_access variables x ≡ component_access types object c → Fit types variables none_spared heap places holds → Fit types variables none_spared (store heap (Names o) c Null) (slice_set places x v) (slice_set holds x (hold.Own r))
-take_variable {types = types} {variables = variables} {heap = heap} {places = places} {holds = holds} x r o object c v found listed at same f =
+pub take_variable : {types : List TypeForm} {variables : List VariableForm} {heap : List Object} {places : List Value} {holds : Holds} (x : ℕ) (r : Region) → is_object variables x ≡ false → (o : Id) (object : Object) (c : ℕ) (v : Value) → object_at heap o ≡ Some object → object.listed ≡ true → slice_get object.cell.values c ≡ Some v → variable_access variables x ≡ component_access types object c → Fit types variables none_spared heap places holds → Fit types variables none_spared (store heap (Names o) c Null) (slice_set places x v) (slice_set holds x (hold.Own r))
+take_variable {types = types} {variables = variables} {heap = heap} {places = places} {holds = holds} x r none o object c v found listed at same f =
     let t = object.cell.access in
     let at_t = access_is heap o object found listed in
     let pair = take_pairs_keep (kinds_of types variables) heap (bare places) (as_reliance holds) (to_reliance holds f.owners) x o c t at_t (sym same) refl in
     record {
       owners = from_reliance_with holds x r (rw (component_value heap (bare places) o object c v found listed at) at pair);
       nulls = put_nulls holds places x v (hold.Own r) tt f.nulls;
+      objects = put_objects variables holds places x v (hold.Own r) (λ is. no_object variables x none is) f.objects;
     }
 
 pub take_component : {types : List TypeForm} {variables : List VariableForm} {heap : List Object} {places : List Value} {holds : Holds} (k : Id) (holder : Object) (d : ℕ) (o : Id) (object : Object) (c : ℕ) (v : Value) → object_at heap k ≡ Some holder → holder.listed ≡ true → object_at heap o ≡ Some object → object.listed ≡ true → slice_get object.cell.values c ≡ Some v → component_access types holder d ≡ component_access types object c → Fit types variables none_spared heap places holds → Fit types variables none_spared (store (store heap (Names k) d v) (Names o) c Null) places holds
@@ -369,12 +426,12 @@ take_component {types = types} {variables = variables} {heap = heap} {places = p
     let at_u = access_is heap k holder at_k listed_k in
     let at_t = access_is heap o object found listed in
     let pair = component_pairs_keep (kinds_of types variables) heap (bare places) (as_reliance holds) (to_reliance holds f.owners) k o d c u t at_u at_t same refl in
-    record { owners = from_reliance holds (rw (component_value heap (bare places) o object c v found listed at) at pair); nulls = f.nulls }
+    record { owners = from_reliance holds (rw (component_value heap (bare places) o object c v found listed at) at pair); nulls = f.nulls; objects = f.objects }
 
 -- A new object, whose items were in hand: its name is in hand.
 pub create_fit : {types : List TypeForm} {variables : List VariableForm} {heap : List Object} {places : List Value} {holds : Holds} (words : ℕ) (cell : Cell Value) → AreInHand heap (bare places) (hold_in none_spared holds) (λ c. access_of (kind_among (reached_components types cell.access) c)) 0 cell.values → Fit types variables none_spared heap places holds → Fit types variables none_spared (create heap words cell) places holds × Hand types variables none_spared (create heap words cell) places holds (Some cell.access) (created heap words)
 create_fit {heap = heap} words cell items f =
-    (record { owners = create_fits heap words cell (λ c e. cc e) f.owners items; nulls = f.nulls }, created_hand heap words cell f.owners items)
+    (record { owners = create_fits heap words cell (λ c e. cc e) f.owners items; nulls = f.nulls; objects = f.objects }, created_hand heap words cell f.owners items)
 
 -- What is relied on says no less than the same once a component is lent.
 lent_good : (holds : Holds) (o : Id) (c : ℕ) (p : Place) → is_as_good (hold_in none_spared holds p) (hold_of (with_lent o c (as_reliance holds)) p) ≡ true
@@ -387,7 +444,7 @@ pub insert_fit : {types : List TypeForm} {variables : List VariableForm} {heap :
 insert_fit {types = types} {variables = variables} {heap = heap} {places = places} {holds = holds} words cell o object c found listed same items f =
     let lent = weaken (hold_of (with_lent o c (as_reliance holds))) (lent_good holds o c) f.owners in
     let kept = insertions_keep (kinds_of types variables) heap (bare places) (as_reliance holds) o c object.cell.access words cell lent (access_is heap o object found listed) same items in
-    record { owners = from_reliance holds kept; nulls = f.nulls }
+    record { owners = from_reliance holds kept; nulls = f.nulls; objects = f.objects }
 
 -- Of what is in hand no place is an owner.
 pub hand_is_unnamed : (types : List TypeForm) (variables : List VariableForm) (spared : Id → Bool) (heap : List Object) (places : List Value) (holds : Holds) (kind : Option ℕ) (o : Id) → Hand types variables spared heap places holds kind (Names o) → ((q : Place) → Borrows (hold_in spared holds q) → value_at heap (bare places) q ≡ Names o → ⊥) → IsUnnamed heap (bare places) (hold_in spared holds) o
@@ -401,18 +458,21 @@ pub part_fit : {types : List TypeForm} {variables : List VariableForm} {spared :
 part_fit {heap = heap} o x found none f = record {
   owners = rw (changed_is heap o x found (parted x) parted refl) at (part_fits heap o x found f.owners none);
   nulls = f.nulls;
+  objects = f.objects;
 }
 
 pub finish_fit : {types : List TypeForm} {variables : List VariableForm} {spared : Id → Bool} {heap : List Object} {places : List Value} {holds : Holds} (o : Id) (x : Object) → object_at heap o ≡ Some x → x.listed ≡ false → Fit types variables spared heap places holds → Fit types variables spared (slice_set heap o.0 (finished x)) places holds
 finish_fit {heap = heap} o x found off f = record {
   owners = rw (changed_is heap o x found (finished x) finished refl) at (finish_parted heap o x found off f.owners);
   nulls = f.nulls;
+  objects = f.objects;
 }
 
 pub back_fit : {types : List TypeForm} {variables : List VariableForm} {spared : Id → Bool} {heap : List Object} {places : List Value} {holds : Holds} (o : Id) (x : Object) → object_at heap o ≡ Some x → Fit types variables spared heap places holds → Fit types variables spared (slice_set heap o.0 (returned x)) places holds
 back_fit {heap = heap} o x found f = record {
   owners = rw (changed_is heap o x found (returned x) returned refl) at (back_fits heap o x found f.owners);
   nulls = f.nulls;
+  objects = f.objects;
 }
 
 -- Behind the end of an object less is known of its access type's aliases, and as much of all else.
@@ -447,15 +507,15 @@ behind_borrows {variables = variables} {heap = heap} {holds = holds} (Some t) o 
     forget_borrows variables t holds x b same
 
 -- Free (X), where X owns: X is null then, its object has no owner, and no alias names it.
-pub freed_unnamed : {types : List TypeForm} {variables : List VariableForm} {spared : Id → Bool} {heap : List Object} {places : List Value} {holds : Holds} (x : ℕ) (o : Id) → IsOwn (hold_at holds x) → place_at places x ≡ Names o → Fit types variables spared heap places holds → Fit types variables spared heap (slice_set places x Null) (freed variables x holds) × IsUnnamed heap (bare (slice_set places x Null)) (hold_in spared (freed variables x holds)) o × IsThere heap o
-freed_unnamed {variables = variables} {spared = spared} {heap = heap} {places = places} {holds = holds} x o own is f =
+pub freed_unnamed : {types : List TypeForm} {variables : List VariableForm} {spared : Id → Bool} {heap : List Object} {places : List Value} {holds : Holds} (x : ℕ) (o : Id) → is_object variables x ≡ false → IsOwn (hold_at holds x) → place_at places x ≡ Names o → Fit types variables spared heap places holds → Fit types variables spared heap (slice_set places x Null) (freed variables x holds) × IsUnnamed heap (bare (slice_set places x Null)) (hold_in spared (freed variables x holds)) o × IsThere heap o
+freed_unnamed {variables = variables} {spared = spared} {heap = heap} {places = places} {holds = holds} x o none_object own is f =
     let owns = own_owns (hold_at holds x) own in
     let of = kernel.owned_at f.owners.fit (variable x) owns o is in
     let none : IsUnnamed heap (bare (slice_set places x Null)) (hold_in spared (freed variables x holds)) o = record {
       unowned = λ q a b. unowned owns q (same_place q (variable x)) a b;
       unborrowed = λ q a b. unborrowed of q (same_place q (variable x)) a b;
     } in
-    (put_null x (behind_fit (variable_access variables x) f), none, there_by heap (variable_access variables x) o of)
+    (put_null x none_object (behind_fit (variable_access variables x) f), none, there_by heap (variable_access variables x) o of)
   where
     behind : Holds
     behind = behind_end variables (variable_access variables x) holds
@@ -504,6 +564,7 @@ respare : {types : List TypeForm} {variables : List VariableForm} {heap : List O
 respare {heap = heap} {places = places} {holds = holds} spared to same f = record {
   owners = record { fit = kernel.held_same f.owners.fit (hold_in to holds) go };
   nulls = f.nulls;
+  objects = f.objects;
 }
   where
     go : (p : Place) (k : Id) → value_at heap (bare places) p ≡ Names k → hold_in to holds p ≡ hold_in spared holds p
@@ -555,6 +616,7 @@ pub first_fit : (types : List TypeForm) (variables : List VariableForm) (places 
 first_fit types variables places holds lost = record {
   owners = record { fit = record { relied = relied_first; apart = λ p q o a b c d. absurd (none_owns p o a c) } };
   nulls = λ x. rw (lost x) tt;
+  objects = λ x is ne. absurd (ne (lost x));
 }
   where
     relied_first : (p : Place) (o : Id) → value_at [] (bare places) p ≡ Names o → Says (access_at []) (hold_in none_spared holds p) (kind_of (kinds_of types variables) (access_at []) p) o

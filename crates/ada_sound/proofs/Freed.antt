@@ -7,13 +7,14 @@ use Rattle.std.proofs.lemmas.Bool.{eq-eqb}
 use Rattle.ada_text.specs.declared.spot.Spot.{Spot}
 use Rattle.ada_program.specs.declared.program.VariableKind.{VariableKind}
 use Rattle.ada_program.specs.Form.{PathForm}
+use Rattle.ada_effects.specs.Effects.{path_raises}
 use Rattle.ada_program.specs.ProgramForm.{TypeForm, VariableForm}
 use Rattle.ada_program.specs.WellFormed.{access_of, variable_kind, selected_kind, selectors_kind, path_access, is_this}
 use Rattle.ada_flow.specs.declared.rule.Hold.{Hold}
 use Rattle.ada_flow.specs.declared.rule.Hold.TheVariants as hold
 use Rattle.ada_flow.specs.declared.rule.Region.{Region}
 use Rattle.ada_flow.specs.declared.rule.Rule.TheVariants.{LostValue}
-use Rattle.ada_flow.specs.Flow.{Holds, hold_at, faults, goes, ends_with, Breach, unless_broken, variable_access, without_alias, freed_behind, passes_type, passes_own, released_behind, without_aliases, behind_end, freed, released, frees_path}
+use Rattle.ada_flow.specs.Flow.{Holds, hold_at, faults, goes, raising_if, ends_with, Breach, unless_broken, variable_access, without_alias, freed_behind, passes_type, passes_own, released_behind, without_aliases, behind_end, freed, released, frees_path}
 use Rattle.ada_sound.specs.Agreement.{IsOwner}
 use Rattle.ada_sound.specs.Owners.{OwnsNothing, RaisedFreeLeavesNoAlias, FreedLiesOffItsWay, LostIsNotFreedBehind, OnlyOwnersAreFreed, FreedOwnsNothing, FreeLeavesNoAlias}
 use Rattle.ada_sound.proofs.Values.{read_same, read_other, same_or_not}
@@ -41,11 +42,16 @@ freed_goes variables x spot holds normal raising (hold.Own r) e = (cc e, cc e)
 freed_goes variables x spot holds normal raising (hold.Alias r) e = absurd (cc e)
 freed_goes variables x spot holds normal raising hold.Lost e = absurd (cc e)
 
+-- What is known where something may raise.
+raised_is : (b : Bool) (holds raised : Holds) → raising_if b holds ≡ Some raised → raised ≡ holds
+raised_is true holds raised e = cc e
+raised_is false holds raised e = absurd (cc e)
+
 -- Free (P.C) comes to its end, and raises, with aliases of its access type lost; and the rules do not refuse it.
 record Behind (types : List TypeForm) (variables : List VariableForm) (path : PathForm) (holds : Holds) (access : Option ℕ) (normal raising : Option Holds) : Type 0 where
   kept : freed_behind (passes_own types variables path access) (hold_at holds path.root) path.spot ≡ None
   normal_is : normal ≡ Some (behind_end variables access holds)
-  raising_is : raising ≡ Some (behind_end variables access holds)
+  raising_is : (raised : Holds) → raising ≡ Some raised → raised ≡ behind_end variables access holds
 
 behind_goes : (types : List TypeForm) (variables : List VariableForm) (path : PathForm) (holds : Holds) (access : Option ℕ) (normal raising : Option Holds) → released_behind types variables path holds access ≡ goes normal raising → Behind types variables path holds access normal raising
 behind_goes types variables path holds access normal raising e = go (freed_behind (passes_own types variables path access) (hold_at holds path.root) path.spot) refl e
@@ -53,8 +59,8 @@ behind_goes types variables path holds access normal raising e = go (freed_behin
     after : Holds
     after = behind_end variables access holds
 
-    go : (b : Option Breach) → freed_behind (passes_own types variables path access) (hold_at holds path.root) path.spot ≡ b → unless_broken b (ends_with true after after) ≡ goes normal raising → Behind types variables path holds access normal raising
-    go None is e' = record { kept = is; normal_is = cc e'; raising_is = cc e' }
+    go : (b : Option Breach) → freed_behind (passes_own types variables path access) (hold_at holds path.root) path.spot ≡ b → unless_broken b (ends_with (path_raises path) after after) ≡ goes normal raising → Behind types variables path holds access normal raising
+    go None is e' = record { kept = is; normal_is = cc e'; raising_is = λ raised at. raised_is (path_raises path) after raised (let same : raising_if (path_raises path) after ≡ raising = cc e' in same ∙ at) }
     go (Some breach) is e' = absurd (cc e')
 
 path_nothing : (types : List TypeForm) (variables : List VariableForm) (cs : List ℕ) (path : PathForm) (holds after : Holds) (raising : Option Holds) → cs ≡ [] → frees_path types variables cs path holds ≡ goes (Some after) raising → OwnsNothing after path.root
@@ -118,7 +124,7 @@ none_raised types variables t path [] holds raised normal e own =
     absurd (cc never)
 none_raised types variables t path (c ∷ cs) holds raised normal e own =
     let access = path_access types variables path in
-    let same : behind_end variables access holds ≡ raised = cc ((behind_goes types variables path holds access normal (Some raised) e).raising_is) in
+    let same : behind_end variables access holds ≡ raised = sym ((behind_goes types variables path holds access normal (Some raised) e).raising_is raised refl) in
     rw (← same) (none_behind variables t access holds own)
 
 pub raised_free_leaves_no_alias : RaisedFreeLeavesNoAlias

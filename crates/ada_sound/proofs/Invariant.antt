@@ -1,20 +1,21 @@
 -- What every step keeps: control typed by its flow, places that fit, objects that are stored.
 
-use Rattle.std.proofs.Common.{◌≡◌, ◌≢◌, ℕ, suc, ◌≤◌, Bool, true, false, ◌&&◌, ◌||◌, List, [], ◌∷◌, ◌++◌, length, ◌⊎◌}
+use Rattle.std.proofs.Common.{◌≡◌, ◌≢◌, ℕ, suc, ◌≤◌, Bool, true, false, ◌&&◌, ◌||◌, List, [], ◌∷◌, ◌++◌, length, take, drop, ◌⊎◌}
 use Rattle.std.specs.Prelude.{ℤ, Option, Some, None}
-use Rattle.std.specs.List.{slice_set}
+use Rattle.ada_text.specs.declared.spot.Spot.{Spot}
+use Rattle.std.specs.List.{list_any, slice_set}
 use Rattle.ada_program.specs.declared.program.Exception.{Exception}
 use Rattle.ada_program.specs.declared.program.Exception.TheVariants.{ConstraintError, StorageError, EndError}
-use Rattle.ada_program.specs.Form.{PathForm, ExpressionForm, ItemForm, null_item, item_of_path, item_of_value, RightForm, nothing, value_of, allocates, allocates_default, computes, assigns, StmtsForm, a_stmt, BranchesForm, HandlersForm, DeclarationForm}
+use Rattle.ada_program.specs.Form.{PathForm, ExpressionForm, ItemForm, null_item, item_of_path, item_of_value, item_of_record, RightForm, nothing, value_of, allocates, allocates_default, computes, assigns, StmtsForm, a_stmt, BranchesForm, HandlersForm, DeclarationForm}
 use Rattle.ada_program.specs.declared.program.ComponentKind.{ComponentKind}
 use Rattle.ada_program.specs.ProgramForm.{TypeForm, VariableForm, ProgramForm}
 use Rattle.ada_program.specs.declared.program.VariableKind.{VariableKind}
-use Rattle.ada_program.specs.WellFormed.{is_access, access_of, selectors_kind, reached_components, items_fit}
+use Rattle.ada_program.specs.WellFormed.{is_access, access_of, selectors_kind, variable_kind, record_components, reached_components, items_fit, is_record_object}
 use Rattle.ada_program.specs.Handling.{is_same, handler_of}
-use Rattle.ada_effects.specs.Effects.{expression_raises, links_raise, items_raise, condition_raises, unary_raises, binary_raises, right_raises, declaration_raises, stmts_raise, branches_raise, handlers_raise}
+use Rattle.ada_effects.specs.Effects.{expression_raises, links_raise, items_raise, path_raises, condition_raises, unary_raises, binary_raises, right_raises, declaration_raises, stmts_raise, branches_raise, handlers_raise}
 use Rattle.ada_flow.specs.declared.rule.Hold.TheVariants as hold
 use Rattle.ada_flow.specs.declared.rule.Region.TheVariants.{Whole}
-use Rattle.ada_flow.specs.Flow.{Holds, hold_at, variable_access, Outcome, faults, goes, Use, uses_in, uses_in_links, uses_in_item, named_by_item, broken_among, without_values, moved_by_items, passes_type, behind_end, gives, gives_component, clears, are_as_good, have_exit, branches_have_exit, handlers_have_exit, is_left, condition_flow, stmts_flow, branches_flow, handlers_flow, declaration_flow, collected, is_among, left, Around, in_loop}
+use Rattle.ada_flow.specs.Flow.{Holds, hold_at, variable_access, Outcome, faults, goes, Use, uses_in, uses_in_links, uses_in_item, named_by_item, is_owning, is_owning_record, owns_at_first, broken_among, without_values, moved_by_items, passes_type, behind_end, gives, gives_component, clears, are_as_good, have_exit, branches_have_exit, handlers_have_exit, is_left, condition_flow, stmts_flow, branches_flow, handlers_flow, declaration_flow, Gone as GoneWith, collected, is_among, left, Around, in_loop}
 use Rattle.ada_meaning.specs.declared.state.Id.{Id}
 use Rattle.ada_meaning.specs.declared.state.Value.{Value}
 use Rattle.ada_meaning.specs.declared.state.Value.TheVariants.{Null, Names, Scalar}
@@ -25,11 +26,11 @@ use Rattle.ada_meaning.specs.declared.event.Cause.{Cause}
 use Rattle.ada_meaning.specs.declared.event.Cause.TheVariants.{Leaving, Freeing, Assigning, Undoing}
 use Rattle.ada_meaning.specs.declared.event.Halt.{Halt}
 use Rattle.ada_meaning.specs.declared.event.Halt.TheVariants.{Finished, Unhandled, Erroneous, Stuck, Memory}
-use Rattle.ada_meaning.specs.Frame.{Frame, Elaborates, Does, Decides, Repeats, Turns, Ranges, Counts, Exits, Handles, Closes, Leaves, Evaluates, Computes, Follows, TestsNull, Continues, Applies, AppliesAlone, Fills, Creates, Stores, Targets, StoresIn, Receives, FreesIn, Declares, Writes, Ends, GivesBack, Clears, ClearsIn}
+use Rattle.ada_meaning.specs.Frame.{Frame, Elaborates, Does, Decides, Repeats, Turns, Ranges, Counts, Exits, Handles, Closes, Leaves, Evaluates, Computes, Follows, TestsNull, Continues, Applies, AppliesAlone, Fills, Copies, Creates, Stores, Targets, StoresIn, TargetsRecord, StoresRecord, Receives, FreesIn, Declares, DeclaresRecord, Writes, Ends, GivesBack, Clears, ClearsIn}
 use Rattle.ada_meaning.specs.Event.{Born, Finalized, Back, Followed, Left, Line, Quiet}
 use Rattle.ada_meaning.specs.State.{Activation, Owned, declared, collection, record_object, Item, Master}
 use Rattle.ada_meaning.specs.Heap.{Home, finds}
-use Rattle.ada_meaning.specs.Step.{halts, moves, tells, asks, picks, first_or, older, before_last, last_of, places, operands}
+use Rattle.ada_meaning.specs.Step.{halts, moves, tells, asks, picks, first_or, older, in_front, before_last, last_of, places, operands}
 use Rattle.ada_meaning.specs.Named.{Object, State, Next, object_at, store}
 use Rattle.ada_meaning.specs.Run.{Event}
 use Rattle.ada_meaning.specs.Law.{AtItem, leaving_by, LeavesHome}
@@ -39,7 +40,7 @@ use Rattle.ada_sound.proofs.Stored.{Stored}
 use Rattle.ada_owners.specs.Keeping.{IsThere}
 use Rattle.ada_owners.specs.Places.{component_in}
 use Rattle.ada_owners.specs.Walks.{walk}
-use Rattle.ada_sound.proofs.Fits.{Fit, IsRelied, MayFollow, component_access, none_spared, going, place_at}
+use Rattle.ada_sound.proofs.Fits.{Fit, IsRelied, MayFollow, component_access, is_object, none_spared, going, place_at}
 use Rattle.ada_sound.proofs.Orderings.{AsGood}
 use Rattle.ada_sound.proofs.Alters.{BackIn, Alters}
 
@@ -52,9 +53,9 @@ pub record Known : Type 1 where
   pub program : ProgramForm
   pub At : Control → Holds → Type 0
 
--- The types of the collections and the record objects that each master may own, innermost first.
+-- What goes with each master: the types of the collections and the record objects that it may own, and its variables, innermost first.
 abbrev pub Rooms : Type 0
-Rooms = List (List ℕ)
+Rooms = List GoneWith
 
 abbrev pub OwnedAmong : Owned → List ℕ → Type 0
 OwnedAmong (declared x) types = Unit {0}
@@ -67,9 +68,9 @@ ItemsAmong (i ∷ is) types = OwnedAmong i.owned types × ItemsAmong is types
 
 abbrev pub Roomed : List Master → Rooms → Type 0
 Roomed [] [] = Unit {0}
-Roomed [] (types ∷ rooms) = ⊥
+Roomed [] (gone ∷ rooms) = ⊥
 Roomed (m ∷ ms) [] = ⊥
-Roomed (m ∷ ms) (types ∷ rooms) = ItemsAmong m.items types × Roomed ms rooms
+Roomed (m ∷ ms) (gone ∷ rooms) = ItemsAmong m.items gone.types × Roomed ms rooms
 
 abbrev pub AllAmong : List ℕ → List ℕ → Type 0
 AllAmong [] types = Unit {0}
@@ -112,8 +113,8 @@ abbrev pub FromTo : Known → Around → Control → HandlersForm → Holds → 
 FromTo known around k hs holds =
     (way : List Turning) (place : Control) (at : Holds) → ComesTo known.program.types known.program.variables around k hs holds way place at → known.At place at
 
--- What may leave a loop with this start, through blocks with collections of these types, does so with no less known.
-abbrev pub MayExit : List VariableForm → Option Holds → List ℕ → Holds → Type 0
+-- What may leave a loop with this start, through blocks with which this goes, does so with no less known.
+abbrev pub MayExit : List VariableForm → Option Holds → GoneWith → Holds → Type 0
 MayExit variables None inside holds = Unit {0}
 MayExit variables (Some start) inside holds = are_as_good (left variables inside holds) start ≡ true
 
@@ -179,20 +180,20 @@ Handled known hs k w = record w {
   raised = λ e holds. TakenBy known k w e (handler_of e hs) holds;
 }
 
--- Behind a master that owned collections of these types.
-abbrev pub Outside : List VariableForm → List ℕ → Ways → Ways
-Outside variables types w = record {
-  normal = λ holds. To w.normal (left variables types holds);
-  raised = λ e holds. To (w.raised e) (left variables types holds);
-  exited = λ holds. To w.exited (left variables types holds);
-  returned = λ holds. To w.returned (left variables types holds);
+-- Behind a master with which this goes.
+abbrev pub Outside : List VariableForm → GoneWith → Ways → Ways
+Outside variables gone w = record {
+  normal = λ holds. To w.normal (left variables gone holds);
+  raised = λ e holds. To (w.raised e) (left variables gone holds);
+  exited = λ holds. To w.exited (left variables gone holds);
+  returned = λ holds. To w.returned (left variables gone holds);
 }
 
 -- Declarations, and what is behind them.
 abbrev pub Elaborating : Known → List DeclarationForm → (more : Holds → Type 0) → Ways → Holds → Type 0
 Elaborating known [] more w holds = more holds
 Elaborating known (d ∷ ds) more w holds =
-    Goes (declaration_flow known.program.variables d holds) (Elaborating known ds more w) (Raised (λ e. declaration_raises (is_same e) d) w)
+    Goes (declaration_flow known.program.types known.program.variables d holds) (Elaborating known ds more w) (Raised (λ e. declaration_raises (is_same e) d) w)
 
 -- By the mode.
 abbrev pub By : Mode → Ways → Holds → Type 0
@@ -215,10 +216,10 @@ anywhere = record { normal = λ holds. Unit {0}; raised = λ e holds. Unit {0}; 
 -- What is left to do, by the mode that it is come to in. A form that waits for a value is passed by a jump alone.
 abbrev pub ways : Known → Control → Rooms → Ways
 ways known [] [] = anywhere
-ways known [] (types ∷ rooms) = nowhere
+ways known [] (gone ∷ rooms) = nowhere
 ways known (Elaborates ds fs hs ∷ k) [] = nowhere
-ways known (Elaborates ds fs hs ∷ k) (types ∷ rooms) = record (Outside known.program.variables types (ways known k rooms)) {
-  normal = λ holds. AllAmong (collected ds) types × Elaborating known ds (Doing known fs (Handles hs ∷ Closes ∷ k) (Handled known hs (Closes ∷ k) (Outside known.program.variables types (ways known k rooms)))) (Outside known.program.variables types (ways known k rooms)) holds;
+ways known (Elaborates ds fs hs ∷ k) (gone ∷ rooms) = record (Outside known.program.variables gone (ways known k rooms)) {
+  normal = λ holds. AllAmong (collected ds) gone.types × Elaborating known ds (Doing known fs (Handles hs ∷ Closes ∷ k) (Handled known hs (Closes ∷ k) (Outside known.program.variables gone (ways known k rooms)))) (Outside known.program.variables gone (ways known k rooms)) holds;
 }
 ways known (Does fs ∷ k) rooms = record (ways known k rooms) { normal = λ holds. Doing known fs k (ways known k rooms) holds }
 ways known (Repeats condition body ∷ k) rooms = record (ways known k rooms) {
@@ -231,9 +232,9 @@ ways known (Counts x next last body ∷ k) rooms = record (ways known k rooms) {
 }
 ways known (Handles hs ∷ k) rooms = Handled known hs k (ways known k rooms)
 ways known (Closes ∷ k) [] = nowhere
-ways known (Closes ∷ k) (types ∷ rooms) = Outside known.program.variables types (ways known k rooms)
+ways known (Closes ∷ k) (gone ∷ rooms) = Outside known.program.variables gone (ways known k rooms)
 ways known (Leaves mode ∷ k) [] = nowhere
-ways known (Leaves mode ∷ k) (types ∷ rooms) = record nowhere { normal = λ holds. NamesNone known.program.variables types holds × To (By mode (ways known k rooms)) holds }
+ways known (Leaves mode ∷ k) (gone ∷ rooms) = record nowhere { normal = λ holds. NamesNone known.program.variables gone.types holds × To (By mode (ways known k rooms)) holds }
 ways known (f ∷ k) rooms = record (ways known k rooms) { normal = λ holds. ⊥ }
 
 -- What runs on is known in these rooms.
@@ -293,7 +294,7 @@ IsOne (c ∷ d ∷ cs) = ⊥
 abbrev pub GivesTo : Known → RightForm → Rooms → Holds → ℕ → Control → Type 0
 GivesTo known right rooms holds x k =
     (cleared : Bool)
-    × Goes (gives known.program.variables cleared x right holds) (RunsOn known k rooms) (Raised (λ e. right_raises (is_same e) right) (ways known k rooms))
+    × ((spot : Spot) × Goes (gives known.program.types known.program.variables spot cleared x right holds) (RunsOn known k rooms) (Raised (λ e. right_raises (is_same e) right) (ways known k rooms)))
     × Pairs cleared right (λ path. x ≢ path.root) k
 
 -- A declaration is no half of a take pair.
@@ -305,12 +306,12 @@ IsAlone true = ⊥
 abbrev pub DeclaresTo : Known → RightForm → Rooms → Holds → ℕ → Control → Type 0
 DeclaresTo known right rooms holds x k =
     (cleared : Bool)
-    × Goes (gives known.program.variables cleared x right holds) (RunsOn known k rooms) (Raised (λ e. right_raises (is_same e) right) (ways known k rooms))
+    × ((spot : Spot) × Goes (gives known.program.types known.program.variables spot cleared x right holds) (RunsOn known k rooms) (Raised (λ e. right_raises (is_same e) right) (ways known k rooms)))
     × IsAlone cleared
 
--- Which exceptions an assignment to a component may raise.
-abbrev pub component_among : RightForm → Exception → Bool
-component_among right e = is_same e ConstraintError || right_raises (is_same e) right
+-- Which exceptions an assignment to a component may raise, whose path may raise one or not.
+abbrev pub component_among : (may : Bool) → RightForm → Exception → Bool
+component_among may right e = (is_same e ConstraintError && may) || right_raises (is_same e) right
 
 -- A path leads to what is found behind this value by these selectors, and names this component of it last.
 abbrev pub LeadsTo : List Object → List Value → Value → List ℕ → (c : ℕ) → PathForm → Type 0
@@ -320,7 +321,7 @@ LeadsTo heap places w cs c path = (walk heap (place_at places path.root) (front 
 abbrev pub FillsIn : Known → RightForm → (leads : PathForm → Type 0) → Rooms → Holds → Control → Type 0
 FillsIn known right leads rooms holds k =
     (path : PathForm) × (cleared : Bool)
-    × Goes (gives_component cleared path right holds) (RunsOn known k rooms) (Raised (component_among right) (ways known k rooms))
+    × Goes (gives_component known.program.types cleared path right holds) (RunsOn known k rooms) (Raised (component_among (path_raises path) right) (ways known k rooms))
     × Pairs cleared right (λ taken. IsOne taken.selectors) k × leads path
 
 -- An object that a component lies in is there.
@@ -355,19 +356,23 @@ named_of [] = []
 named_of (d ∷ done) = named_by_item d ++ named_of done
 
 -- Items break no rule, behind others that name these paths; or newest first.
-abbrev pub ItemsKeep : (target : Option PathForm) → Holds → (earlier : List PathForm) → List ItemForm → Type 0
-ItemsKeep target holds earlier [] = Unit {0}
-ItemsKeep target holds earlier (i ∷ is) = NoneBroken holds (uses_in_item target earlier i) × ItemsKeep target holds (named_by_item i ++ earlier) is
+abbrev pub ItemsKeep : List TypeForm → Spot → (target : Option PathForm) → Holds → (earlier : List PathForm) → List ItemForm → Type 0
+ItemsKeep types spot target holds earlier [] = Unit {0}
+ItemsKeep types spot target holds earlier (i ∷ is) =
+    NoneBroken holds (uses_in_item types spot target earlier i) × ItemsKeep types spot target holds (named_by_item i ++ earlier) is
 
-abbrev pub DoneKeep : (target : Option PathForm) → Holds → List ItemForm → Type 0
-DoneKeep target holds [] = Unit {0}
-DoneKeep target holds (d ∷ done) = NoneBroken holds (uses_in_item target (named_of done) d) × DoneKeep target holds done
+abbrev pub DoneKeep : List TypeForm → Spot → (target : Option PathForm) → Holds → List ItemForm → Type 0
+DoneKeep types spot target holds [] = Unit {0}
+DoneKeep types spot target holds (d ∷ done) =
+    NoneBroken holds (uses_in_item types spot target (named_of done) d) × DoneKeep types spot target holds done
 
--- The value of an item that is a path is the one that the path leads to.
+-- The value of an item that is a path is the one that the path leads to. A record has several; once it is copied, each of its components counts as an
+-- item of its own.
 abbrev pub FilledBy : List Object → List Value → ItemForm → Value → Type 0
 FilledBy heap places null_item v = v ≡ Null
 FilledBy heap places (item_of_path path) v = walk heap (place_at places path.root) path.selectors ≡ finds v
 FilledBy heap places (item_of_value e) v = Unit {0}
+FilledBy heap places (item_of_record p) v = ⊥
 
 -- The newest operands are the values of items, newest first.
 abbrev pub Filled : List Object → List Value → List ItemForm → List Value → Type 0
@@ -388,34 +393,83 @@ pub record Allocating (known : Known) (heap : List Object) (access : ℕ) (all :
   pub fails : MayRaise known (items_raise all) ConstraintError k rooms holds
   pub refused : MayRaise known true StorageError k rooms holds
   pub to : StoresTo k
-      (λ x k'. (variable_access known.program.variables x ≡ Some access)
+      (λ x k'. ((variable_access known.program.variables x ≡ Some access) × (is_object known.program.variables x ≡ false))
       × RunsOn known k' rooms (slice_set (without_values (moved_by_items all) holds) x (hold.Own Whole)))
       (λ o c k'. Accepts known heap o c (Some access) × RunsOn known k' rooms (without_values (moved_by_items all) holds))
 
 -- Some items are evaluated, and these are left.
 pub record Filling (known : Known) (heap : List Object) (places : List Value) (access count : ℕ) (todo : List ItemForm) (k : Control) (operands : List Value) (rooms : Rooms) (holds : Holds) : Type 0 where
   pub done : List ItemForm
+  pub spot : Spot
   pub target : Option PathForm
   pub into : GoesInto heap places target k
   pub filled : Filled heap places done operands
-  pub counted : count ≡ length (back_onto done todo)
-  pub before : DoneKeep target holds done
-  pub behind : ItemsKeep target holds (named_of done) todo
+  pub before : DoneKeep known.program.types spot target holds done
+  pub behind : ItemsKeep known.program.types spot target holds (named_of done) todo
   pub leads : Allocating known heap access (back_onto done todo) k rooms holds
+  pub counted : count ≡ length leads.components
+
+-- Items that a record gets break no rule, and it is known what they raise.
+pub record Giving (known : Known) (todo : List ItemForm) (k : Control) (rooms : Rooms) (holds : Holds) : Type 0 where
+  pub spot : Spot
+  pub earlier : List PathForm
+  pub keeps : ItemsKeep known.program.types spot None holds earlier todo
+  pub raises : MayRaise known (items_raise todo) ConstraintError k rooms holds
+
+-- An object is there, and so many of its components, from one on, are Integers and Booleans.
+abbrev pub IsPlainIn : Known → List Object → Value → (first count : ℕ) → Type 0
+IsPlainIn known heap Null first count = ⊥
+IsPlainIn known heap (Names o) first count =
+    (object : Object) × (object_at heap o ≡ Some object) × (object.listed ≡ true)
+    × (components : List ComponentKind) × (reached_components known.program.types object.cell.access ≡ Some components)
+    × (list_any is_owning (take count (drop first components)) ≡ false)
+IsPlainIn known heap (Scalar v) first count = ⊥
+
+-- The innermost master may own a record object that is known by this type.
+abbrev pub MayOwn : Rooms → (object_type : ℕ) → Type 0
+MayOwn [] t = ⊥
+MayOwn (gone ∷ rooms) t = is_among gone.types (Some t) ≡ true
+
+-- A record object of Integers and Booleans is declared, of this type.
+abbrev pub Recording : Known → (x object_type : ℕ) → Control → Rooms → Holds → Type 0
+Recording known x t k rooms holds =
+    (owns_at_first known.program.types t ≡ false) × (is_record_object t (variable_kind known.program.variables x) ≡ true)
+    × MayOwn rooms t × RunsOn known k rooms (slice_set holds x (hold.Own Whole))
 
 abbrev pub FillsTo : Known → List Object → List Value → List ItemForm → Control → (operands : List Value) → Rooms → Holds → Type 0
 FillsTo known heap places todo [] operands rooms holds = ⊥
 FillsTo known heap places todo (Creates access count ∷ k) operands rooms holds = Filling known heap places access count todo k operands rooms holds
+FillsTo known heap places todo (StoresRecord o first count ∷ k) operands rooms holds =
+    Giving known todo k rooms holds × (IsPlainIn known heap o first count × RunsOn known k rooms holds)
+FillsTo known heap places todo (DeclaresRecord x t ∷ k) operands rooms holds = Giving known todo k rooms holds × Recording known x t k rooms holds
 FillsTo known heap places todo (f ∷ k) operands rooms holds = ⊥
+
+-- Where a value is null, Constraint_Error may be raised; and where selectors are followed behind it.
+abbrev pub RaisesAt : Known → Value → List ℕ → Control → Rooms → Holds → Type 0
+RaisesAt known v [] k rooms holds = v ≡ Null → To ((ways known k rooms).raised ConstraintError) holds
+RaisesAt known v (c ∷ cs) k rooms holds = To ((ways known k rooms).raised ConstraintError) holds
+
+-- The components of a record of this type are copied onto these operands, and then more items come.
+abbrev pub CopiesTo : Known → List Object → List Value → (record_type : ℕ) → (below : List Value) → Control → Rooms → Holds → Type 0
+CopiesTo known heap places t below [] rooms holds = ⊥
+CopiesTo known heap places t below (Fills items ∷ k) rooms holds =
+    (kinds : List ComponentKind) × (record_components known.program.types t ≡ Some kinds)
+    × ((vs : List Value) → length vs ≡ length kinds → FillsTo known heap places items k (in_front vs below) rooms holds)
+CopiesTo known heap places t below (f ∷ k) rooms holds = ⊥
+
+-- A record of this type, of Integers and Booleans, is a target.
+abbrev pub RecordIn : Known → (record_type : ℕ) → List ItemForm → Control → Rooms → Holds → Type 0
+RecordIn known t items k rooms holds =
+    (is_owning_record known.program.types t ≡ false) × Giving known items k rooms holds × RunsOn known k rooms holds
 
 -- A component is a target (5.2): the value before it is null, or gives access to its object.
 abbrev pub Targeting : Known → List Object → List Value → Value → (c : ℕ) → RightForm → Control → Rooms → Holds → Type 0
 Targeting known heap places v c right k rooms holds =
-    MayFollow heap v × MayRaise known true ConstraintError k rooms holds × FillsIn known right (LeadsTo heap places v [] c) rooms holds k
+    MayFollow heap v × RaisesAt known v [] k rooms holds × FillsIn known right (LeadsTo heap places v [] c) rooms holds k
 
 abbrev pub Receiving : Known → List Object → Value → Control → Rooms → Holds → Type 0
 Receiving known heap v k rooms holds =
-    MayFollow heap v × MayRaise known true ConstraintError k rooms holds × MayRaise known true EndError k rooms holds × RunsOn known k rooms holds
+    MayFollow heap v × RaisesAt known v [] k rooms holds × MayRaise known true EndError k rooms holds × RunsOn known k rooms holds
 
 -- What a value names, if it names anything, is of this kind.
 abbrev pub OfKind : List Object → Value → Option VariableKind → Type 0
@@ -439,7 +493,7 @@ pub record Releasing (known : Known) (heap : List Object) (v : Value) (cs : List
   pub passes : PassesNone known.program.types from (cs ++ c ∷ []) access
   pub of_type : access_of (selectors_kind known.program.types from (cs ++ c ∷ [])) ≡ access
   pub own : (t : ℕ) → access ≡ Some t → is_access known.program.types t ≡ true
-  pub raises : MayRaise known true ConstraintError k rooms (behind_end known.program.variables access holds)
+  pub raises : RaisesAt known v cs k rooms (behind_end known.program.variables access holds)
   pub runs : RunsOn known k rooms (behind_end known.program.variables access holds)
 
 -- A condition is awaited: by branches, by a loop, by an exit.
@@ -617,15 +671,19 @@ StoringIn known o c v k heap places masters =
 abbrev pub WalksOn : List Object → List Value → PathForm → Value → List ℕ → Type 0
 WalksOn heap places path w cs = (walk heap (place_at places path.root) (front path.selectors) ≡ walk heap w (front cs)) × (final path.selectors ≡ final cs)
 
--- What a path is followed for: a value that is read; a component that is a target, or is freed; a value that is moved; or an item's value.
-abbrev pub FindsFor : Known → List Object → List Value → Value → List ℕ → Control → Rooms → Holds → Type 0
-FindsFor known heap places w cs [] rooms holds = ⊥
-FindsFor known heap places w cs (Targets c right ∷ k) rooms holds =
-    MayRaise known true ConstraintError k rooms holds × FillsIn known right (LeadsTo heap places w cs c) rooms holds k
-FindsFor known heap places w cs (Receives c ∷ k) rooms holds =
-    MayRaise known true ConstraintError k rooms holds × MayRaise known true EndError k rooms holds × RunsOn known k rooms holds
-FindsFor known heap places w cs (FreesIn access c ∷ k) rooms holds = Releasing known heap w cs c k rooms holds
-FindsFor known heap places w cs (f ∷ k) rooms holds = ⊥
+-- What a path is followed for: a value that is read; a component or a record that is a target; a component that is freed; a record that is copied; a
+-- value that is moved; or an item's value.
+abbrev pub FindsFor : Known → List Object → List Value → Value → (below : List Value) → List ℕ → Control → Rooms → Holds → Type 0
+FindsFor known heap places w below cs [] rooms holds = ⊥
+FindsFor known heap places w below cs (Targets c right ∷ k) rooms holds =
+    RaisesAt known w cs k rooms holds × FillsIn known right (LeadsTo heap places w cs c) rooms holds k
+FindsFor known heap places w below cs (TargetsRecord first t items ∷ k) rooms holds = RaisesAt known w cs k rooms holds × RecordIn known t items k rooms holds
+FindsFor known heap places w below cs (Copies first t ∷ k) rooms holds =
+    RaisesAt known w cs k rooms holds × CopiesTo known heap places t below k rooms holds
+FindsFor known heap places w below cs (Receives c ∷ k) rooms holds =
+    RaisesAt known w cs k rooms holds × MayRaise known true EndError k rooms holds × RunsOn known k rooms holds
+FindsFor known heap places w below cs (FreesIn access c ∷ k) rooms holds = Releasing known heap w cs c k rooms holds
+FindsFor known heap places w below cs (f ∷ k) rooms holds = ⊥
 
 abbrev pub MovesOn : Known → List Object → List Value → Value → List ℕ → Control → Rooms → Holds → Type 0
 MovesOn known heap places w [] k rooms holds = ⊥
@@ -639,7 +697,7 @@ FillsOn known heap places w below cs (f ∷ k) rooms holds = ⊥
 abbrev pub FollowsFor : Known → List Object → List Value → Value → (below : List Value) → List ℕ → Control → Rooms → Holds → Type 0
 FollowsFor known heap places w below cs k rooms holds =
     MayFollow heap w
-    × (FindsFor known heap places w cs k rooms holds
+    × (FindsFor known heap places w below cs k rooms holds
     ⊎ (MayRaise known true ConstraintError k rooms holds
     × (Awaits known heap places below k rooms holds ⊎ (MovesOn known heap places w cs k rooms holds ⊎ FillsOn known heap places w below cs k rooms holds))))
 
@@ -674,14 +732,22 @@ ReadyBy known (Applies operator) k heap places operands masters = Working known 
 ReadyBy known (AppliesAlone operator) k heap places operands masters =
     Working known heap places masters (Awaits known heap places (older operands) (AppliesAlone operator ∷ k))
 ReadyBy known (Fills items) k heap places operands masters = Working known heap places masters (FillsTo known heap places items k operands)
+ReadyBy known (Copies first t) k heap places operands masters = Working known heap places masters (λ rooms holds.
+    MayFollow heap (first_or Null operands) × RaisesAt known (first_or Null operands) [] k rooms holds
+    × CopiesTo known heap places t (older operands) k rooms holds)
 ReadyBy known (Creates access count) k heap places operands masters = Working known heap places masters (Filling known heap places access count [] k operands)
 ReadyBy known (Stores x) k heap places operands masters = Resumes known heap (slice_set places x (first_or Null operands)) masters k
 ReadyBy known (Targets c right) k heap places operands masters = TargetsTo known (first_or Null operands) c right k heap places masters
 ReadyBy known (StoresIn o c) k heap places operands masters = StoringIn known o c (first_or Null operands) k heap places masters
+ReadyBy known (TargetsRecord first t items) k heap places operands masters = Working known heap places masters (λ rooms holds.
+    MayFollow heap (first_or Null operands) × RaisesAt known (first_or Null operands) [] k rooms holds × RecordIn known t items k rooms holds)
+ReadyBy known (StoresRecord o first count) k heap places operands masters =
+    Working known heap places masters (λ rooms holds. IsPlainIn known heap o first count × RunsOn known k rooms holds)
 ReadyBy known (Receives c) k heap places operands masters = Working known heap places masters (Receiving known heap (first_or Null operands) k)
 ReadyBy known (FreesIn access c) k heap places operands masters =
     Working known heap places masters (λ rooms holds. MayFollow heap (first_or Null operands) × Releasing known heap (first_or Null operands) [] c k rooms holds)
 ReadyBy known (Declares x) k heap places operands masters = Working known heap (slice_set places x (first_or Null operands)) masters (RunsOn known k)
+ReadyBy known (DeclaresRecord x t) k heap places operands masters = Working known heap places masters (Recording known x t k)
 ReadyBy known Writes k heap places operands masters = Working known heap places masters (RunsOn known k)
 ReadyBy known (Ends v) k heap places operands masters = EndingBy known v k heap places masters
 ReadyBy known (GivesBack v cause pool) k heap places operands masters = BackingBy known v cause pool k heap places masters

@@ -4,6 +4,8 @@ use Rattle.std.proofs.Common.{◌≡◌, ◌≢◌, ℕ, zero, suc, Bool, true, 
 use Rattle.std.specs.Prelude.{Some, None, ◌==◌, if◌then◌else◌}
 use Rattle.std.specs.List.{slice_get}
 use Rattle.std.proofs.lemmas.Bool.{and_parts, eqb-true, eq-eqb}
+use Rattle.ada_text.specs.declared.spot.Spot.{Spot}
+use Rattle.ada_program.specs.ProgramForm.{TypeForm}
 use Rattle.ada_program.specs.Form.{PathForm, ItemForm, item_of_path, allocates, allocates_default}
 use Rattle.ada_program.specs.WellFormed.{names_borrower}
 use Rattle.ada_program.specs.Nested.{is_one_of}
@@ -52,8 +54,8 @@ record MovesOne (holds : Holds) (target : PathForm) (earlier : List PathForm) (p
   moved : Moved holds target path
   new : is_named earlier path ≡ false
 
-moves_one : (holds : Holds) (target : PathForm) (earlier : List PathForm) (path : PathForm) → NoneBroken holds (uses_in_item (target_at target.selectors target) earlier (item_of_path path)) → MovesOne holds target earlier path
-moves_one holds target earlier path e = go (is_named earlier path) refl (first_kept holds _ [] e).0
+moves_one : (types : List TypeForm) (spot : Spot) (holds : Holds) (target : PathForm) (earlier : List PathForm) (path : PathForm) → NoneBroken holds (uses_in_item types spot (target_at target.selectors target) earlier (item_of_path path)) → MovesOne holds target earlier path
+moves_one types spot holds target earlier path e = go (is_named earlier path) refl (first_kept holds _ [] e).0
   where
     go : (b : Bool) → is_named earlier path ≡ b → broken_in holds (if b then moves_again path else moves_it (is_target (target_at target.selectors target) path) path) ≡ None → MovesOne holds target earlier path
     go true b m = absurd (cc m)
@@ -67,45 +69,45 @@ named_later (p ∷ ps) qs path e = go (same_path p path) (named_later ps qs path
     go true later = refl
     go false later = later
 
-item_kept : (holds : Holds) (target : PathForm) (earlier : List PathForm) (items : List ItemForm) (i : ℕ) (path : PathForm) → slice_get items i ≡ Some (item_of_path path) → NoneBroken holds (uses_in_items (target_at target.selectors target) earlier items) → (before : List PathForm) × ((p : PathForm) → is_named earlier p ≡ true → is_named before p ≡ true) × MovesOne holds target before path
-item_kept holds target earlier [] i path found e = absurd (cc found)
-item_kept holds target earlier (item ∷ items) zero path found e =
+item_kept : (types : List TypeForm) (spot : Spot) (holds : Holds) (target : PathForm) (earlier : List PathForm) (items : List ItemForm) (i : ℕ) (path : PathForm) → slice_get items i ≡ Some (item_of_path path) → NoneBroken holds (uses_in_items types spot (target_at target.selectors target) earlier items) → (before : List PathForm) × ((p : PathForm) → is_named earlier p ≡ true → is_named before p ≡ true) × MovesOne holds target before path
+item_kept types spot holds target earlier [] i path found e = absurd (cc found)
+item_kept types spot holds target earlier (item ∷ items) zero path found e =
     let to = target_at target.selectors target in
     let same : item ≡ item_of_path path = cc found in
-    let here = (kept_apart holds (uses_in_item to earlier item) (uses_in_items to (named_by_item item ++ earlier) items) e).0 in
-    (earlier, λ p is. is, moves_one holds target earlier path (rw same at here))
-item_kept holds target earlier (item ∷ items) (suc i) path found e =
+    let here = (kept_apart holds (uses_in_item types spot to earlier item) (uses_in_items types spot to (named_by_item item ++ earlier) items) e).0 in
+    (earlier, λ p is. is, moves_one types spot holds target earlier path (rw same at here))
+item_kept types spot holds target earlier (item ∷ items) (suc i) path found e =
     let to = target_at target.selectors target in
-    let later = (kept_apart holds (uses_in_item to earlier item) (uses_in_items to (named_by_item item ++ earlier) items) e).1 in
-    let rest = item_kept holds target (named_by_item item ++ earlier) items i path found later in
+    let later = (kept_apart holds (uses_in_item types spot to earlier item) (uses_in_items types spot to (named_by_item item ++ earlier) items) e).1 in
+    let rest = item_kept types spot holds target (named_by_item item ++ earlier) items i path found later in
     (rest.0, λ p is. rest.1 p (named_later (named_by_item item) earlier p is), rest.2)
 
 -- Of two items the later one moves another path.
 named_first : (path other : PathForm) (earlier : List PathForm) → IsSamePath path other → is_named (path ∷ earlier) other ≡ true
 named_first path other earlier same = rw (parts_same path other same) refl
 
-first_apart : (holds : Holds) (target : PathForm) (earlier : List PathForm) (item : ItemForm) (items : List ItemForm) (i : ℕ) (path other : PathForm) → item ≡ item_of_path path → slice_get items i ≡ Some (item_of_path other) → NoneBroken holds (uses_in_items (target_at target.selectors target) earlier (item ∷ items)) → IsSamePath path other → ⊥
-first_apart holds target earlier item items i path other is found e same =
+first_apart : (types : List TypeForm) (spot : Spot) (holds : Holds) (target : PathForm) (earlier : List PathForm) (item : ItemForm) (items : List ItemForm) (i : ℕ) (path other : PathForm) → item ≡ item_of_path path → slice_get items i ≡ Some (item_of_path other) → NoneBroken holds (uses_in_items types spot (target_at target.selectors target) earlier (item ∷ items)) → IsSamePath path other → ⊥
+first_apart types spot holds target earlier item items i path other is found e same =
     let to = target_at target.selectors target in
-    let parts = kept_apart holds (uses_in_item to earlier item) (uses_in_items to (named_by_item item ++ earlier) items) e in
-    let later : NoneBroken holds (uses_in_items to (path ∷ earlier) items) = rw is at (parts.1) in
-    let rest = item_kept holds target (path ∷ earlier) items i other found later in
+    let parts = kept_apart holds (uses_in_item types spot to earlier item) (uses_in_items types spot to (named_by_item item ++ earlier) items) e in
+    let later : NoneBroken holds (uses_in_items types spot to (path ∷ earlier) items) = rw is at (parts.1) in
+    let rest = item_kept types spot holds target (path ∷ earlier) items i other found later in
     let here : is_named rest.0 other ≡ true = rest.1 other (named_first path other earlier same) in
     cc (here, rest.2.new)
 
 turned : (p q : PathForm) → IsSamePath p q → IsSamePath q p
 turned p q (root, selectors) = (sym root, sym selectors)
 
-items_apart : (holds : Holds) (target : PathForm) (earlier : List PathForm) (items : List ItemForm) (i k : ℕ) (path other : PathForm) → i ≢ k → slice_get items i ≡ Some (item_of_path path) → slice_get items k ≡ Some (item_of_path other) → NoneBroken holds (uses_in_items (target_at target.selectors target) earlier items) → IsSamePath path other → ⊥
-items_apart holds target earlier [] i k path other ne found there e same = absurd (cc found)
-items_apart holds target earlier (item ∷ items) zero zero path other ne found there e same = absurd (ne refl)
-items_apart holds target earlier (item ∷ items) zero (suc k) path other ne found there e same = first_apart holds target earlier item items k path other (cc found) there e same
-items_apart holds target earlier (item ∷ items) (suc i) zero path other ne found there e same =
-    first_apart holds target earlier item items i other path (cc there) found e (turned path other same)
-items_apart holds target earlier (item ∷ items) (suc i) (suc k) path other ne found there e same =
+items_apart : (types : List TypeForm) (spot : Spot) (holds : Holds) (target : PathForm) (earlier : List PathForm) (items : List ItemForm) (i k : ℕ) (path other : PathForm) → i ≢ k → slice_get items i ≡ Some (item_of_path path) → slice_get items k ≡ Some (item_of_path other) → NoneBroken holds (uses_in_items types spot (target_at target.selectors target) earlier items) → IsSamePath path other → ⊥
+items_apart types spot holds target earlier [] i k path other ne found there e same = absurd (cc found)
+items_apart types spot holds target earlier (item ∷ items) zero zero path other ne found there e same = absurd (ne refl)
+items_apart types spot holds target earlier (item ∷ items) zero (suc k) path other ne found there e same = first_apart types spot holds target earlier item items k path other (cc found) there e same
+items_apart types spot holds target earlier (item ∷ items) (suc i) zero path other ne found there e same =
+    first_apart types spot holds target earlier item items i other path (cc there) found e (turned path other same)
+items_apart types spot holds target earlier (item ∷ items) (suc i) (suc k) path other ne found there e same =
     let to = target_at target.selectors target in
-    items_apart holds target (named_by_item item ++ earlier) items i k path other (λ one. ne (ap suc one)) found there
-    (kept_apart holds (uses_in_item to earlier item) (uses_in_items to (named_by_item item ++ earlier) items) e).1 same
+    items_apart types spot holds target (named_by_item item ++ earlier) items i k path other (λ one. ne (ap suc one)) found there
+    (kept_apart holds (uses_in_item types spot to earlier item) (uses_in_items types spot to (named_by_item item ++ earlier) items) e).1 same
 
 -- A variable that an item moves is one of those that the assignment moves.
 variable_here : (cs : List ℕ) (x : ℕ) (rest : List ℕ) → cs ≡ [] → is_one_of (variable_of cs x ++ rest) x ≡ true
@@ -121,22 +123,22 @@ item_moved (item ∷ items) (suc i) path found is = later_one (moved_by_item ite
 
 pub only_owners_are_items : OnlyOwnersAreItems
 only_owners_are_items types variables target path access i items holds found kept =
-    let all = assigns_by variables (names_borrower variables target) kept.1 target (allocates access items) holds kept.2 kept.3 refl kept.4 in
-    (item_kept holds target [] items i path found all.kept).2.moved
+    let all = assigns_by types variables (names_borrower variables target) kept.1 target (allocates access items) holds kept.2 kept.3 refl kept.4 in
+    (item_kept types target.spot holds target [] items i path found all.kept).2.moved
 
 pub items_move_apart : ItemsMoveApart
 items_move_apart types variables target path other access i k items holds ne found there kept same =
-    let all = assigns_by variables (names_borrower variables target) kept.1 target (allocates access items) holds kept.2 kept.3 refl kept.4 in
-    items_apart holds target [] items i k path other ne found there all.kept same
+    let all = assigns_by types variables (names_borrower variables target) kept.1 target (allocates access items) holds kept.2 kept.3 refl kept.4 in
+    items_apart types target.spot holds target [] items i k path other ne found there all.kept same
 
 pub items_own_nothing : ItemsOwnNothing
 items_own_nothing types variables target path access i items holds after is found other ends =
-    ends_nothing variables (names_borrower variables target) ends.1 target (allocates access items) holds after ends.2 path.root refl other
+    ends_nothing types variables (names_borrower variables target) ends.1 target (allocates access items) holds after ends.2 path.root refl other
     (item_moved items i path found is) ends.3
 
 pub items_stay_where_raised : ItemsStayWhereRaised
 items_stay_where_raised types variables target access items holds raised raises =
-    (assigns_by variables (names_borrower variables target) raises.1 target (allocates access items) holds raises.2 (Some raised) refl raises.3).raises raised refl
+    (assigns_by types variables (names_borrower variables target) raises.1 target (allocates access items) holds raises.2 (Some raised) refl raises.3).raises raised refl
 
 -- Without items nothing is moved.
 default_assigned : (borrows : Bool) (target : PathForm) (cs : List ℕ) (access : ℕ) (holds : Holds) (x : ℕ) → target.selectors ≡ cs → IsElsewhere target x → hold_at (assigned borrows cs target.root (allocates_default access) holds) x ≡ hold_at holds x
@@ -146,10 +148,10 @@ default_assigned borrows target (c ∷ cs) access holds x is other = refl
 pub defaults_move_nothing : DefaultsMoveNothing
 defaults_move_nothing types variables target access holds after ends x other =
     let borrows = names_borrower variables target in
-    let all = assigns_by variables borrows ends.1 target (allocates_default access) holds (Some after) ends.2 refl ends.3 in
+    let all = assigns_by types variables borrows ends.1 target (allocates_default access) holds (Some after) ends.2 refl ends.3 in
     let same : assigned borrows target.selectors target.root (allocates_default access) holds ≡ after = cc (all.ends) in
     rw (← same) (default_assigned borrows target target.selectors access holds x refl other)
 
 pub defaults_stay_where_raised : DefaultsStayWhereRaised
 defaults_stay_where_raised types variables target access holds raised raises =
-    (assigns_by variables (names_borrower variables target) raises.1 target (allocates_default access) holds raises.2 (Some raised) refl raises.3).raises raised refl
+    (assigns_by types variables (names_borrower variables target) raises.1 target (allocates_default access) holds raises.2 (Some raised) refl raises.3).raises raised refl

@@ -20,11 +20,11 @@ use Rattle.ada_sound.proofs.Leavings.{left_good, names_none}
 
 module _ (known : Known) (k : Control) where
   -- What comes to the end of a master leaves it.
-  closes_by : (mode : Mode) (types : _) (rooms : Rooms) (holds : Holds) → By mode (Outside known.program.variables types (ways known k rooms)) holds → To (By mode (ways known k rooms)) (left known.program.variables types holds)
-  closes_by Running types rooms holds r = r
-  closes_by (Raising e) types rooms holds r = r
-  closes_by Exiting types rooms holds r = r
-  closes_by Returning types rooms holds r = r
+  closes_by : (mode : Mode) (gone : _) (rooms : Rooms) (holds : Holds) → By mode (Outside known.program.variables gone (ways known k rooms)) holds → To (By mode (ways known k rooms)) (left known.program.variables gone holds)
+  closes_by Running gone rooms holds r = r
+  closes_by (Raising e) gone rooms holds r = r
+  closes_by Exiting gone rooms holds r = r
+  closes_by Returning gone rooms holds r = r
 
   none_closes : (mode : Mode) (holds : Holds) → By mode (ways known (Closes ∷ k) []) holds → ⊥
   none_closes Running holds r = r
@@ -34,34 +34,34 @@ module _ (known : Known) (k : Control) where
 
   pub leaves_from : (mode : Mode) (rooms : Rooms) (holds : Holds) → GoesOn known mode (Closes ∷ k) rooms holds → To (RunsOn known (Leaves mode ∷ k) rooms) holds
   leaves_from mode [] holds r = absurd (none_closes mode holds r)
-  leaves_from mode (types ∷ rooms) holds r = (left known.program.variables types holds, left_good known.program.variables types holds, (names_none known.program.variables types holds, closes_by mode types rooms holds r))
+  leaves_from mode (gone ∷ rooms) holds r = (left known.program.variables gone holds, left_good known.program.variables gone holds, (names_none known.program.variables gone holds, closes_by mode gone rooms holds r))
 
   -- An exception in declarations, and what never is one, leaves the master as well.
   module _ (ds : List DeclarationForm) (fs : StmtsForm) (hs : HandlersForm) where
     raised_closes : (e : Exception) (rooms : Rooms) (holds : Holds) → GoesOn known (Raising e) (Elaborates ds fs hs ∷ k) rooms holds → GoesOn known (Raising e) (Closes ∷ k) rooms holds
     raised_closes e [] holds r = r
-    raised_closes e (types ∷ rooms) holds r = r
+    raised_closes e (gone ∷ rooms) holds r = r
 
     exited_closes : (rooms : Rooms) (holds : Holds) → GoesOn known Exiting (Elaborates ds fs hs ∷ k) rooms holds → GoesOn known Exiting (Closes ∷ k) rooms holds
     exited_closes [] holds r = r
-    exited_closes (types ∷ rooms) holds r = r
+    exited_closes (gone ∷ rooms) holds r = r
 
     returned_closes : (rooms : Rooms) (holds : Holds) → GoesOn known Returning (Elaborates ds fs hs ∷ k) rooms holds → GoesOn known Returning (Closes ∷ k) rooms holds
     returned_closes [] holds r = r
-    returned_closes (types ∷ rooms) holds r = r
+    returned_closes (gone ∷ rooms) holds r = r
 
   -- No jump is on its way where a master is being left.
   raised_leaves : (mode : Mode) (e : Exception) (rooms : Rooms) (holds : Holds) → GoesOn known (Raising e) (Leaves mode ∷ k) rooms holds → ⊥
   raised_leaves mode e [] holds r = r
-  raised_leaves mode e (types ∷ rooms) holds r = r
+  raised_leaves mode e (gone ∷ rooms) holds r = r
 
   exited_leaves : (mode : Mode) (rooms : Rooms) (holds : Holds) → GoesOn known Exiting (Leaves mode ∷ k) rooms holds → ⊥
   exited_leaves mode [] holds r = r
-  exited_leaves mode (types ∷ rooms) holds r = r
+  exited_leaves mode (gone ∷ rooms) holds r = r
 
   returned_leaves : (mode : Mode) (rooms : Rooms) (holds : Holds) → GoesOn known Returning (Leaves mode ∷ k) rooms holds → ⊥
   returned_leaves mode [] holds r = r
-  returned_leaves mode (types ∷ rooms) holds r = r
+  returned_leaves mode (gone ∷ rooms) holds r = r
 
   module _ (a : Activation Value) (rest : List (Activation Value)) (s : State) where
     -- The master is left first.

@@ -1,14 +1,14 @@
 -- Behind a block its collections are gone: what is known of variables, and that a member that is taken has no owner.
 
-use Rattle.std.proofs.Common.{◌≡◌, ℕ, zero, suc, Bool, true, false, ◌||◌, not, List, [], ◌∷◌, ◌++◌, refl, sym, ap, ◌⊎◌, inl, inr}
+use Rattle.std.proofs.Common.{◌≡◌, ◌≢◌, ℕ, zero, suc, Bool, true, false, ◌||◌, not, List, [], ◌∷◌, ◌++◌, refl, sym, ap, ◌∙◌, ◌⊎◌, inl, inr}
 use Rattle.std.proofs.lemmas.Bool.{eq-eqb}
 use Rattle.std.specs.Prelude.{Option, Some, None, if◌then◌else◌}
-use Rattle.std.specs.List.{slice_get, slice_index_or}
+use Rattle.std.specs.List.{slice_get, slice_set, slice_index_or}
 use Rattle.ada_program.specs.ProgramForm.{TypeForm, VariableForm}
 use Rattle.ada_program.specs.WellFormed.{access_of, is_this}
 use Rattle.ada_flow.specs.declared.rule.Hold.{Hold}
 use Rattle.ada_flow.specs.declared.rule.Hold.TheVariants as hold
-use Rattle.ada_flow.specs.Flow.{Holds, hold_at, variable_access, if_own, is_as_good, is_among, left}
+use Rattle.ada_flow.specs.Flow.{Holds, hold_at, variable_access, if_own, is_as_good, is_among, Gone, gone_with_both, without_types, without_variables, left}
 use Rattle.ada_meaning.specs.declared.state.Id.{Id}
 use Rattle.ada_meaning.specs.declared.state.Value.{Value}
 use Rattle.ada_meaning.specs.declared.state.Value.TheVariants.{Null, Names}
@@ -20,6 +20,7 @@ use Rattle.ada_owners.specs.Reliance.{IsOf, Says, Owns, Borrows, component_hold}
 use Rattle.ada_owners.proofs.Ends.{IsUnnamed}
 use Rattle.ada_sound.proofs.Fits.{Fit, IsRelied, hold_in, bare, place_at, going, lies_among, hand_is_unnamed}
 use Rattle.ada_sound.proofs.Orderings.{AsGood, good_here, good_lost}
+use Rattle.ada_sound.proofs.Values.{read_other, same_or_not, lost_here}
 use Rattle.ada_sound.proofs.Invariant.{AllAmong, NamesNone}
 
 -- What a variable holds behind a block: what it did, if it is of another access type; else it is lost.
@@ -30,25 +31,42 @@ left_one : (b : Bool) (h : Hold) → LeftBy b h (if_own (not b) h)
 left_one true h = inr refl
 left_one false h = inl (refl, refl)
 
-left_at : (variables : List VariableForm) (types : List ℕ) (holds : Holds) (x : ℕ) → LeftBy (is_among types (variable_access variables x)) (hold_at holds x) (hold_at (left variables types holds) x)
-left_at [] types holds x = inr refl
-left_at (v ∷ vs) types [] x = inr refl
-left_at (v ∷ vs) types (h ∷ hs) zero = left_one (is_among types (access_of (Some v.kind))) h
-left_at (v ∷ vs) types (h ∷ hs) (suc x) = left_at vs types hs x
+types_at : (variables : List VariableForm) (types : List ℕ) (holds : Holds) (x : ℕ) → LeftBy (is_among types (variable_access variables x)) (hold_at holds x) (hold_at (without_types variables types holds) x)
+types_at [] types holds x = inr refl
+types_at (v ∷ vs) types [] x = inr refl
+types_at (v ∷ vs) types (h ∷ hs) zero = left_one (is_among types (access_of (Some v.kind))) h
+types_at (v ∷ vs) types (h ∷ hs) (suc x) = types_at vs types hs x
+
+-- Then the block's own variables are lost, too.
+one_lost : (b : Bool) (before : Hold) (holds : Holds) (y x : ℕ) → LeftBy b before (hold_at holds x) → LeftBy b before (hold_at (slice_set holds y hold.Lost) x)
+one_lost b before holds y x l = go (same_or_not x y)
+  where
+    go : (x ≡ y) ⊎ (x ≢ y) → LeftBy b before (hold_at (slice_set holds y hold.Lost) x)
+    go (inl e) = inr (rw e (lost_here holds y))
+    go (inr ne) = rw (read_other holds y x hold.Lost hold.Lost ne) l
+
+variables_at : (b : Bool) (before : Hold) (xs : List ℕ) (holds : Holds) (x : ℕ) → LeftBy b before (hold_at holds x) → LeftBy b before (hold_at (without_variables xs holds) x)
+variables_at b before [] holds x l = l
+variables_at b before (y ∷ ys) holds x l = variables_at b before ys (slice_set holds y hold.Lost) x (one_lost b before holds y x l)
+
+left_at : (variables : List VariableForm) (gone : Gone) (holds : Holds) (x : ℕ) → LeftBy (is_among gone.types (variable_access variables x)) (hold_at holds x) (hold_at (left variables gone holds) x)
+left_at variables gone holds x =
+    variables_at (is_among gone.types (variable_access variables x)) (hold_at holds x) gone.variables (without_types variables gone.types holds) x
+    (types_at variables gone.types holds x)
 
 good_left_by : (b : Bool) (before after : Hold) → LeftBy b before after → is_as_good before after ≡ true
 good_left_by b before after (inl e) = rw (e.0) (good_here before)
 good_left_by b before after (inr e) = rw e (good_lost before)
 
-pub left_good : (variables : List VariableForm) (types : List ℕ) (holds : Holds) → AsGood holds (left variables types holds)
-left_good variables types holds x = good_left_by (is_among types (variable_access variables x)) (hold_at holds x) (hold_at (left variables types holds) x) (left_at variables types holds x)
+pub left_good : (variables : List VariableForm) (gone : Gone) (holds : Holds) → AsGood holds (left variables gone holds)
+left_good variables gone holds x = good_left_by (is_among gone.types (variable_access variables x)) (hold_at holds x) (hold_at (left variables gone holds) x) (left_at variables gone holds x)
 
 none_left_by : (b : Bool) (before after : Hold) → LeftBy b before after → IsRelied after → b ≡ false
 none_left_by b before after (inl e) own = e.1
 none_left_by b before after (inr e) own = absurd (rw e at own)
 
-pub names_none : (variables : List VariableForm) (types : List ℕ) (holds : Holds) → NamesNone variables types (left variables types holds)
-names_none variables types holds x own = none_left_by (is_among types (variable_access variables x)) (hold_at holds x) (hold_at (left variables types holds) x) (left_at variables types holds x) own
+pub names_none : (variables : List VariableForm) (gone : Gone) (holds : Holds) → NamesNone variables gone.types (left variables gone holds)
+names_none variables gone holds x own = none_left_by (is_among gone.types (variable_access variables x)) (hold_at holds x) (hold_at (left variables gone holds) x) (left_at variables gone holds x) own
 
 -- Two blocks are left one after another.
 among_append : (ts us : List ℕ) (access : Option ℕ) → is_among (ts ++ us) access ≡ (is_among ts access || is_among us access)
@@ -65,12 +83,39 @@ own_twice true false h = refl
 own_twice false true h = refl
 own_twice false false h = refl
 
-pub left_twice : (variables : List VariableForm) (ts us : List ℕ) (holds : Holds) → left variables (ts ++ us) holds ≡ left variables us (left variables ts holds)
-left_twice [] ts us holds = refl
-left_twice (v ∷ vs) ts us [] = refl
-left_twice (v ∷ vs) ts us (h ∷ hs) =
+types_twice : (variables : List VariableForm) (ts us : List ℕ) (holds : Holds) → without_types variables (ts ++ us) holds ≡ without_types variables us (without_types variables ts holds)
+types_twice [] ts us holds = refl
+types_twice (v ∷ vs) ts us [] = refl
+types_twice (v ∷ vs) ts us (h ∷ hs) =
     let access = access_of (Some v.kind) in
-    rw (among_append ts us access, own_twice (is_among ts access) (is_among us access) h, left_twice vs ts us hs) refl
+    rw (among_append ts us access, own_twice (is_among ts access) (is_among us access) h, types_twice vs ts us hs) refl
+
+variables_twice : (xs ys : List ℕ) (holds : Holds) → without_variables (xs ++ ys) holds ≡ without_variables ys (without_variables xs holds)
+variables_twice [] ys holds = refl
+variables_twice (x ∷ xs) ys holds = variables_twice xs ys (slice_set holds x hold.Lost)
+
+own_lost : (b : Bool) → if_own b hold.Lost ≡ hold.Lost
+own_lost true = refl
+own_lost false = refl
+
+-- What is lost by its type or as a variable is lost in either order.
+one_apart : (variables : List VariableForm) (types : List ℕ) (holds : Holds) (x : ℕ) → without_types variables types (slice_set holds x hold.Lost) ≡ slice_set (without_types variables types holds) x hold.Lost
+one_apart [] types holds x = refl
+one_apart (v ∷ vs) types [] x = refl
+one_apart (v ∷ vs) types (h ∷ hs) zero = ap (λ g. g ∷ without_types vs types hs) (own_lost (not (is_among types (access_of (Some v.kind)))))
+one_apart (v ∷ vs) types (h ∷ hs) (suc x) = ap (λ gs. if_own (not (is_among types (access_of (Some v.kind)))) h ∷ gs) (one_apart vs types hs x)
+
+apart : (variables : List VariableForm) (types xs : List ℕ) (holds : Holds) → without_types variables types (without_variables xs holds) ≡ without_variables xs (without_types variables types holds)
+apart variables types [] holds = refl
+apart variables types (x ∷ xs) holds =
+    apart variables types xs (slice_set holds x hold.Lost) ∙ ap (without_variables xs) (one_apart variables types holds x)
+
+pub left_twice : (variables : List VariableForm) (inner outer : Gone) (holds : Holds) → left variables (gone_with_both inner outer) holds ≡ left variables outer (left variables inner holds)
+left_twice variables inner outer holds =
+    let kept = without_types variables inner.types holds in
+    ap (without_variables (inner.variables ++ outer.variables)) (types_twice variables inner.types outer.types holds)
+    ∙ (variables_twice inner.variables outer.variables (without_types variables outer.types kept)
+    ∙ ap (without_variables outer.variables) (sym (apart variables outer.types inner.variables kept)))
 
 -- Types are among themselves.
 among_here : (t : ℕ) (ts : List ℕ) → is_among (t ∷ ts) (Some t) ≡ true

@@ -30,6 +30,8 @@ pub mod Outcomes
 pub mod Raising
 -- what is known behind a block
 pub mod Leavings
+-- what a path begins with, and where it may raise an exception
+pub mod Roots
 -- expressions
 pub mod Expressions
 -- how paths are walked
@@ -40,6 +42,8 @@ pub mod Assigned
 pub mod Taken
 -- what the items of an allocator give
 pub mod Filled
+-- records that are copied as items
+pub mod Copied
 -- what is relied on while a new object is made
 pub mod Lendings
 -- allocators
@@ -60,6 +64,8 @@ pub mod Endings
 pub mod Releases
 -- record objects are declared
 pub mod Records
+-- records are copied and assigned to as wholes
+pub mod Wholes
 -- declarations and statements
 pub mod Statements
 -- jumps on their way
@@ -82,6 +88,8 @@ pub mod ItemMoves
 pub mod Borrowing
 -- what is freed
 pub mod Freed
+-- what is copied as a whole
+pub mod Plain
 -- runs by their choices
 pub mod Choices
 -- programs that meet the premises, and that need the rules
@@ -96,6 +104,8 @@ pub mod ExampleOwners
 pub mod ExampleBorrowers
 -- the same with components that get new objects, or are freed
 pub mod ExampleFrees
+-- the same with records that are copied as wholes
+pub mod ExampleRecords
 -- where a statement begins
 pub mod Agreeing
 -- the laws

@@ -6,7 +6,8 @@ use Rattle.std.specs.List.{slice_set}
 use Rattle.std.proofs.lemmas.Bool.{and_parts, eqb-true, eq-eqb}
 use Rattle.ada_text.specs.declared.spot.Spot.{Spot}
 use Rattle.ada_program.specs.Form.{PathForm, RightForm, nothing, value_of, assigns, StmtsForm, a_stmt}
-use Rattle.ada_program.specs.ProgramForm.{VariableForm}
+use Rattle.ada_program.specs.ProgramForm.{TypeForm, VariableForm}
+use Rattle.ada_effects.specs.Effects.{path_raises}
 use Rattle.ada_program.specs.WellFormed.{is_borrower, names_borrower}
 use Rattle.ada_flow.specs.declared.rule.Hold.{Hold}
 use Rattle.ada_flow.specs.declared.rule.Hold.TheVariants as hold
@@ -58,12 +59,12 @@ target_at [] target = None
 target_at (c ∷ cs) target = Some target
 
 -- None of its paths breaks a rule.
-pub record Assigns (borrows cleared : Bool) (cs : List ℕ) (target : PathForm) (right : RightForm) (holds : Holds) (normal raising : Option Holds) : Type 0 where
-  pub kept : NoneBroken holds (uses_in_right borrows cleared (target_at cs target) right)
+pub record Assigns (types : List TypeForm) (borrows cleared : Bool) (cs : List ℕ) (target : PathForm) (right : RightForm) (holds : Holds) (normal raising : Option Holds) : Type 0 where
+  pub kept : NoneBroken holds (uses_in_right types target.spot borrows cleared (target_at cs target) right)
   pub ends : normal ≡ Some (assigned borrows cs target.root right holds)
   pub raises : (raised : Holds) → raising ≡ Some raised → raised ≡ holds
 
-kept_uses : (uses : List Use) (holds : Holds) (after : Outcome) (normal raising : Option Holds) → using_paths uses holds after ≡ goes normal raising → NoneBroken holds uses × (after ≡ goes normal raising)
+pub kept_uses : (uses : List Use) (holds : Holds) (after : Outcome) (normal raising : Option Holds) → using_paths uses holds after ≡ goes normal raising → NoneBroken holds uses × (after ≡ goes normal raising)
 kept_uses uses holds after normal raising e = go (broken_among holds uses) refl e
   where
     go : (b : Option Breach) → broken_among holds uses ≡ b → unless_broken b after ≡ goes normal raising → NoneBroken holds uses × (after ≡ goes normal raising)
@@ -74,26 +75,28 @@ raised_is : (b : Bool) (holds raised : Holds) → raising_if b holds ≡ Some ra
 raised_is true holds raised e = cc e
 raised_is false holds raised e = absurd (cc e)
 
-ended : (b : Bool) (holds after : Holds) (normal raising : Option Holds) → ends_with b holds after ≡ goes normal raising → (normal ≡ Some after) × ((raised : Holds) → raising ≡ Some raised → raised ≡ holds)
+pub ended : (b : Bool) (holds after : Holds) (normal raising : Option Holds) → ends_with b holds after ≡ goes normal raising → (normal ≡ Some after) × ((raised : Holds) → raising ≡ Some raised → raised ≡ holds)
 ended b holds after normal raising e = (cc e, λ raised is. let same : raising_if b holds ≡ raising = cc e in raised_is b holds raised (same ∙ is))
 
-pub assigns_as : (variables : List VariableForm) (cleared : Bool) (cs : List ℕ) (target : PathForm) (right : RightForm) (holds : Holds) (normal raising : Option Holds) → gives_path variables cleared cs target right holds ≡ goes normal raising → Assigns (borrows_at variables cs target.root) cleared cs target right holds normal raising
-assigns_as variables cleared [] target right holds normal raising e =
+pub assigns_as : (types : List TypeForm) (variables : List VariableForm) (cleared : Bool) (cs : List ℕ) (target : PathForm) (right : RightForm) (holds : Holds) (normal raising : Option Holds) → gives_path types variables cleared cs target right holds ≡ goes normal raising → Assigns types (borrows_at variables cs target.root) cleared cs target right holds normal raising
+assigns_as types variables cleared [] target right holds normal raising e =
     let borrows = is_borrower variables target.root in
     let after = assigned borrows [] target.root right holds in
-    let uses = kept_uses (uses_in_right borrows cleared None right) holds (ends_with (evaluation_raises right) holds after) normal raising e in
+    let uses = kept_uses (uses_in_right types target.spot borrows cleared None right) holds (ends_with (evaluation_raises right) holds after) normal raising e in
     let ends = ended (evaluation_raises right) holds after normal raising uses.1 in
     record { kept = uses.0; ends = ends.0; raises = ends.1 }
-assigns_as variables cleared (c ∷ cs) target right holds normal raising e =
+assigns_as types variables cleared (c ∷ cs) target right holds normal raising e =
     let after = assigned false (c ∷ cs) target.root right holds in
-    let uses = kept_uses (uses_in_target target ++ uses_in_right false cleared (Some target) right) holds (ends_with true holds after) normal raising e in
-    let ends = ended true holds after normal raising uses.1 in
-    record { kept = (kept_apart holds (uses_in_target target) (uses_in_right false cleared (Some target) right) uses.0).1; ends = ends.0; raises = ends.1 }
+    let may = path_raises target || evaluation_raises right in
+    let of_right = uses_in_right types target.spot false cleared (Some target) right in
+    let uses = kept_uses (uses_in_target target ++ of_right) holds (ends_with may holds after) normal raising e in
+    let ends = ended may holds after normal raising uses.1 in
+    record { kept = (kept_apart holds (uses_in_target target) of_right uses.0).1; ends = ends.0; raises = ends.1 }
 
-pub assigns_by : (variables : List VariableForm) (borrows cleared : Bool) (target : PathForm) (right : RightForm) (holds : Holds) (normal raising : Option Holds) → names_borrower variables target ≡ borrows → gives_path variables cleared target.selectors target right holds ≡ goes normal raising → Assigns borrows cleared target.selectors target right holds normal raising
-assigns_by variables borrows cleared target right holds normal raising is e =
+pub assigns_by : (types : List TypeForm) (variables : List VariableForm) (borrows cleared : Bool) (target : PathForm) (right : RightForm) (holds : Holds) (normal raising : Option Holds) → names_borrower variables target ≡ borrows → gives_path types variables cleared target.selectors target right holds ≡ goes normal raising → Assigns types borrows cleared target.selectors target right holds normal raising
+assigns_by types variables borrows cleared target right holds normal raising is e =
     let same : borrows_at variables target.selectors target.root ≡ borrows = sym (borrows_is variables target) ∙ is in
-    subst (λ b. Assigns b cleared target.selectors target right holds normal raising) same (assigns_as variables cleared target.selectors target right holds normal raising e)
+    subst (λ b. Assigns types b cleared target.selectors target right holds normal raising) same (assigns_as types variables cleared target.selectors target right holds normal raising e)
 
 -- Only an owner, or null, is moved.
 pub moved_owner : (h : Hold) (spot : Spot) → moved_by h spot ≡ None → IsOwner h
@@ -112,7 +115,7 @@ behind_cleared cleared (c ∷ cs) h spot some e = (cleared_is cleared h spot e).
 
 pub only_owners_moved : OnlyOwnersAreMoved
 only_owners_moved types variables target path holds owns is kept =
-    let all = assigns_by variables false kept.1 target (value_of path) holds kept.2 kept.3 owns kept.4 in
+    let all = assigns_by types variables false kept.1 target (value_of path) holds kept.2 kept.3 owns kept.4 in
     behind_owner kept.1 path.selectors (hold_at holds path.root) path.spot is (first_kept holds (moves_it kept.1 path) [] all.kept).0
 
 -- What was moved owns nothing.
@@ -148,9 +151,9 @@ assigned_nothing borrows target [] right holds x is other moved =
     set_elsewhere (without_values (moved_by_right borrows right) holds) target.root x (right_hold borrows right holds) (other is) (moved_nothing (moved_by_right borrows right) holds x moved)
 assigned_nothing borrows target (c ∷ cs) right holds x is other moved = moved_nothing (moved_by_right borrows right) holds x moved
 
-pub ends_nothing : (variables : List VariableForm) (borrows cleared : Bool) (target : PathForm) (right : RightForm) (holds after : Holds) (raising : Option Holds) (x : ℕ) → names_borrower variables target ≡ borrows → IsElsewhere target x → is_one_of (moved_by_right borrows right) x ≡ true → gives_path variables cleared target.selectors target right holds ≡ goes (Some after) raising → OwnsNothing after x
-ends_nothing variables borrows cleared target right holds after raising x is other moved e =
-    let all = assigns_by variables borrows cleared target right holds (Some after) raising is e in
+pub ends_nothing : (types : List TypeForm) (variables : List VariableForm) (borrows cleared : Bool) (target : PathForm) (right : RightForm) (holds after : Holds) (raising : Option Holds) (x : ℕ) → names_borrower variables target ≡ borrows → IsElsewhere target x → is_one_of (moved_by_right borrows right) x ≡ true → gives_path types variables cleared target.selectors target right holds ≡ goes (Some after) raising → OwnsNothing after x
+ends_nothing types variables borrows cleared target right holds after raising x is other moved e =
+    let all = assigns_by types variables borrows cleared target right holds (Some after) raising is e in
     let same : assigned borrows target.selectors target.root right holds ≡ after = cc (all.ends) in
     rw (← same) (assigned_nothing borrows target target.selectors right holds x refl other moved)
 
@@ -160,7 +163,7 @@ variable_one (c ∷ cs) x is = absurd (cc is)
 
 pub moved_owns_nothing : MovedOwnsNothing
 moved_owns_nothing types variables target path holds after owns is other ends =
-    ends_nothing variables false ends.1 target (value_of path) holds after ends.2 path.root owns other (variable_one path.selectors path.root is) ends.3
+    ends_nothing types variables false ends.1 target (value_of path) holds after ends.2 path.root owns other (variable_one path.selectors path.root is) ends.3
 
 -- A component is moved by the first statement of a take pair.
 first_goes : (o : Outcome) (more : Holds → Outcome) (normal raising : Option Holds) → then_flow o more ≡ goes normal raising → (here raised : Option Holds) × (o ≡ goes here raised)
@@ -170,8 +173,8 @@ first_goes (goes here raised) more normal raising e = (here, raised, refl)
 pub only_pairs_take : OnlyPairsTake
 only_pairs_take types variables target path behind holds owns some kept =
     let pair = begins_pair (assigns target (value_of path)) behind in
-    let first = first_goes (gives_path variables pair target.selectors target (value_of path) holds) _ kept.1 kept.2 kept.3 in
-    let all = assigns_by variables false pair target (value_of path) holds first.0 first.1 owns first.2 in
+    let first = first_goes (gives_path types variables pair target.selectors target (value_of path) holds) _ kept.1 kept.2 kept.3 in
+    let all = assigns_by types variables false pair target (value_of path) holds first.0 first.1 owns first.2 in
     behind_cleared pair path.selectors (hold_at holds path.root) path.spot some (first_kept holds (moves_it pair path) [] all.kept).0
 
 -- What a take pair is.

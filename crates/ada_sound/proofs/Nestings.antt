@@ -1,6 +1,6 @@
 -- Statements in which others nest: what their flow says of their parts.
 
-use Rattle.std.proofs.Common.{◌≡◌, ℕ, Bool, true, false, ◌&&◌, ◌||◌, List, [], ◌∷◌, ◌++◌, refl}
+use Rattle.std.proofs.Common.{◌≡◌, ℕ, Bool, true, false, ◌&&◌, ◌||◌, List, [], ◌∷◌, refl}
 use Rattle.std.specs.Prelude.{if◌then◌else◌, ℤ, Option, Some, None}
 use Rattle.ada_text.specs.declared.spot.Spot.{Spot}
 use Rattle.ada_program.specs.declared.program.Exception.{Exception}
@@ -8,7 +8,7 @@ use Rattle.ada_program.specs.declared.program.Exception.TheVariants.{ConstraintE
 use Rattle.ada_program.specs.Form.{ExpressionForm, DeclarationForm, StmtForm, chooses, repeats, counts, encloses, StmtsForm, a_stmt, BranchesForm, otherwise, a_branch, HandlersForm, no_handlers, a_handler}
 use Rattle.ada_program.specs.Handling.{is_same, some_takes, handler_of}
 use Rattle.ada_effects.specs.Effects.{expression_raises, untaken, declaration_raises, declarations_raise, stmt_raises, stmts_raise, branches_raise, handlers_raise, passes}
-use Rattle.ada_flow.specs.Flow.{Holds, Outcome, loop_flow, uses_in, computed as computed_flow, bounds_flow, either_of, opened_by_all, counting_start, has_exit, have_exit, branches_have_exit, handlers_have_exit, is_left, condition_flow, ends_turn, exit_of, exit_flow, declaration_flow, declarations_flow, collected, left, Around, in_loop, in_block, begins_pair, stmt_flow, stmts_flow, branches_flow, handlers_flow, handled, then_flow, goes}
+use Rattle.ada_flow.specs.Flow.{Holds, Outcome, loop_flow, uses_in, computed as computed_flow, bounds_flow, either_of, opened_by_all, counting_start, has_exit, have_exit, branches_have_exit, handlers_have_exit, is_left, condition_flow, ends_turn, exit_of, exit_flow, declaration_flow, declarations_flow, Gone, nothing_gone, gone_with, gone_with_both, left, Around, in_loop, in_block, begins_pair, stmt_flow, stmts_flow, branches_flow, handlers_flow, handled, then_flow, goes}
 use Rattle.ada_meaning.specs.Frame.{Does, Repeats, Counts, Handles, Closes}
 use Rattle.ada_sound.specs.Agreement.{Turning, past, into, counting, behind, in_branches, in_body, in_count, in_enclosed, in_others, in_this, in_next, to_this, to_next, ComesInside, in_statements, in_handlers}
 use Rattle.ada_sound.proofs.Orderings.{AsGood, as_good_then, good_each, all_good, good_to_lost}
@@ -120,8 +120,8 @@ module _ (known : Known) where
       )
 
   -- What may leave a loop is known behind it.
-  exits_loop : (start : Holds) (w : Ways) → To w.normal start → (holds : Holds) → MayExit known.program.variables (Some start) [] holds → To w.normal holds
-  exits_loop start w behind' holds may = to_before w.normal holds start (as_good_then holds (left known.program.variables [] holds) start (left_good known.program.variables [] holds) (good_each (left known.program.variables [] holds) start may)) behind'
+  exits_loop : (start : Holds) (w : Ways) → To w.normal start → (holds : Holds) → MayExit known.program.variables (Some start) nothing_gone holds → To w.normal holds
+  exits_loop start w behind' holds may = to_before w.normal holds start (as_good_then holds (left known.program.variables nothing_gone holds) start (left_good known.program.variables nothing_gone holds) (good_each (left known.program.variables nothing_gone holds) start may)) behind'
 
   -- The body of a loop is followed by the next turn, and its exits lead behind the loop.
   abbrev pub Again : Option ExpressionForm → StmtsForm → Control → Ways → Ways
@@ -179,7 +179,7 @@ module _ (known : Known) where
   )
 
   -- An exit goes behind the loop, or on (5.7).
-  pub exit_parts : (start : Option Holds) (inside : List ℕ) (condition : Option ExpressionForm) (spot : Spot) (holds : Holds) (more raised exited : Holds → Type 0) → Goes (exit_flow known.program.variables start inside condition spot holds) more raised → ((h : Holds) → MayExit known.program.variables start inside h → exited h) → Goes (exit_of condition holds) more raised × exited holds
+  pub exit_parts : (start : Option Holds) (inside : Gone) (condition : Option ExpressionForm) (spot : Spot) (holds : Holds) (more raised exited : Holds → Type 0) → Goes (exit_flow known.program.variables start inside condition spot holds) more raised → ((h : Holds) → MayExit known.program.variables start inside h → exited h) → Goes (exit_of condition holds) more raised × exited holds
   exit_parts None inside condition spot holds more raised exited g out = (g, out holds tt)
   exit_parts (Some start) inside condition spot holds more raised exited g out =
       let h = worse_goes start (left known.program.variables inside holds) spot (exit_of condition holds) more raised g in
@@ -213,13 +213,13 @@ module _ (known : Known) where
       pick false here more past' = more past'
 
   -- Declarations come one after another.
-  elaborates_from : (ds : List DeclarationForm) (holds : Holds) (more : Holds → Type 0) (among : Exception → Bool) (w : Ways) → ((e : Exception) → declarations_raise (is_same e) ds ≡ true → among e ≡ true) → Goes (declarations_flow known.program.variables ds holds) more (Raised among w) → Elaborating known ds more w holds
+  elaborates_from : (ds : List DeclarationForm) (holds : Holds) (more : Holds → Type 0) (among : Exception → Bool) (w : Ways) → ((e : Exception) → declarations_raise (is_same e) ds ≡ true → among e ≡ true) → Goes (declarations_flow known.program.types known.program.variables ds holds) more (Raised among w) → Elaborating known ds more w holds
   elaborates_from [] holds more among w m g = g.0
   elaborates_from (d ∷ ds) holds more among w m g =
-      goes_map (declaration_flow known.program.variables d holds) (λ h. Goes (declarations_flow known.program.variables ds h) more (Raised among w)) (Raised among w) (Elaborating known ds more w) (Raised (λ e. declaration_raises (is_same e) d) w)
+      goes_map (declaration_flow known.program.types known.program.variables d holds) (λ h. Goes (declarations_flow known.program.types known.program.variables ds h) more (Raised among w)) (Raised among w) (Elaborating known ds more w) (Raised (λ e. declaration_raises (is_same e) d) w)
       (λ h n. elaborates_from ds h more among w (λ e i. m e (or_right (declaration_raises (is_same e) d) (declarations_raise (is_same e) ds) i)) n)
       (λ h r. raised_less among (λ e. declaration_raises (is_same e) d) w (λ e i. m e (or_left (declaration_raises (is_same e) d) (declarations_raise (is_same e) ds) i)) h r)
-      (then_goes (declaration_flow known.program.variables d holds) (declarations_flow known.program.variables ds) more (Raised among w) (raised_before among w) g)
+      (then_goes (declaration_flow known.program.types known.program.variables d holds) (declarations_flow known.program.types known.program.variables ds) more (Raised among w) (raised_before among w) g)
 
   -- What a part may raise: its declarations, its statements past their handlers, its handlers.
   pub record PartRaises (ds : List DeclarationForm) (fs : StmtsForm) (hs : HandlersForm) (among : Exception → Bool) : Type 0 where
@@ -230,14 +230,14 @@ module _ (known : Known) where
   -- Declarations, the statements behind them, and their handlers, before a master is left.
   pub part_from : (inner : Around) (k : Control) (ds : List DeclarationForm) (fs : StmtsForm) (hs : HandlersForm) (o : Ways) (among : Exception → Bool) (holds : Holds) → PartRaises ds fs hs among
       → ((way : List Turning) (place : Control) (at : Holds) → ComesInside known.program.types known.program.variables inner k ds fs hs holds way place at → known.At place at)
-      → Goes (then_flow (declarations_flow known.program.variables ds holds) (λ at. handled (passes fs hs) (handlers_flow known.program.types known.program.variables inner hs) (stmts_flow known.program.types known.program.variables inner fs at))) (To o.normal) (Raised among o)
+      → Goes (then_flow (declarations_flow known.program.types known.program.variables ds holds) (λ at. handled (passes fs hs) (handlers_flow known.program.types known.program.variables inner hs) (stmts_flow known.program.types known.program.variables inner fs at))) (To o.normal) (Raised among o)
       → OnExit known.program.variables (have_exit fs) inner o.exited → OnExit known.program.variables (handlers_have_exit hs) inner o.exited → OnReturn o
       → Elaborating known ds (Doing known fs (Handles hs ∷ Closes ∷ k) (Handled known hs (Closes ∷ k) o)) o holds
   part_from inner k ds fs hs o among holds p from g exits' exits'' returns' =
       let v = known.program.variables in
       let part : Holds → Outcome = λ at. handled (passes fs hs) (handlers_flow known.program.types v inner hs) (stmts_flow known.program.types v inner fs at) in
       elaborates_from ds holds (Doing known fs (Handles hs ∷ Closes ∷ k) (Handled known hs (Closes ∷ k) o)) among o p.by_declarations
-      (goes_with (declarations_flow v ds holds) (λ at. Goes (part at) (To o.normal) (Raised among o)) (Raised among o) (Doing known fs (Handles hs ∷ Closes ∷ k) (Handled known hs (Closes ∷ k) o)) (Raised among o)
+      (goes_with (declarations_flow known.program.types v ds holds) (λ at. Goes (part at) (To o.normal) (Raised among o)) (Raised among o) (Doing known fs (Handles hs ∷ Closes ∷ k) (Handled known hs (Closes ∷ k) o)) (Raised among o)
       (λ at raising declared m. (
         inner,
         (λ way place at' c. from (into ∷ way) place at' (in_statements at declared c)),
@@ -255,23 +255,23 @@ module _ (known : Known) where
         returns',
       ))
       (λ normal h is r. r)
-      (then_goes (declarations_flow v ds holds) part (To o.normal) (Raised among o) (raised_before among o) g))
+      (then_goes (declarations_flow known.program.types v ds holds) part (To o.normal) (Raised among o) (raised_before among o) g))
 
   -- What leaves a block on its way behind a loop.
-  exits_block : (types inside : List ℕ) (start : Option Holds) (holds : Holds) → MayExit known.program.variables start (types ++ inside) holds → MayExit known.program.variables start inside (left known.program.variables types holds)
-  exits_block types inside None holds may = tt
-  exits_block types inside (Some start) holds may = rw (← left_twice known.program.variables types inside holds) may
+  exits_block : (gone inside : Gone) (start : Option Holds) (holds : Holds) → MayExit known.program.variables start (gone_with_both gone inside) holds → MayExit known.program.variables start inside (left known.program.variables gone holds)
+  exits_block gone inside None holds may = tt
+  exits_block gone inside (Some start) holds may = rw (← left_twice known.program.variables gone inside holds) may
 
   -- A block begins with its declarations (5.6).
   pub encloses_from : (around : Around) (ds : List DeclarationForm) (body : StmtsForm) (hs : HandlersForm) (fs : StmtsForm) (k : Control) (w : Ways) (holds : Holds) → Starting around (encloses ds body hs) fs k w holds
-      → Elaborating known ds (Doing known body (Handles hs ∷ Closes ∷ Does fs ∷ k) (Handled known hs (Closes ∷ Does fs ∷ k) (Outside known.program.variables (collected ds) (Then fs k w)))) (Outside known.program.variables (collected ds) (Then fs k w)) holds
+      → Elaborating known ds (Doing known body (Handles hs ∷ Closes ∷ Does fs ∷ k) (Handled known hs (Closes ∷ Does fs ∷ k) (Outside known.program.variables (gone_with ds) (Then fs k w)))) (Outside known.program.variables (gone_with ds) (Then fs k w)) holds
   encloses_from around ds body hs fs k w holds (from, g, out, returns') =
       let v = known.program.variables in
-      let types = collected ds in
-      let inner = in_block (collected ds) around in
-      let o : Ways = Outside v (collected ds) (Then fs k w) in
+      let gone = gone_with ds in
+      let inner = in_block (gone_with ds) around in
+      let o : Ways = Outside v (gone_with ds) (Then fs k w) in
       let among : Exception → Bool = λ e. stmt_raises (is_same e) (encloses ds body hs) in
-      let flow : Outcome = then_flow (declarations_flow v ds holds) (λ at. handled (passes body hs) (handlers_flow known.program.types v inner hs) (stmts_flow known.program.types v inner body at)) in
+      let flow : Outcome = then_flow (declarations_flow known.program.types v ds holds) (λ at. handled (passes body hs) (handlers_flow known.program.types v inner hs) (stmts_flow known.program.types v inner body at)) in
       part_from inner (Does fs ∷ k) ds body hs o among holds
       (record {
         by_declarations = λ e i. or_left (declarations_raise (is_same e) ds || stmts_raise (untaken hs (is_same e)) body) (handlers_raise (is_same e) hs) (or_left (declarations_raise (is_same e) ds) (stmts_raise (untaken hs (is_same e)) body) i);
@@ -279,9 +279,9 @@ module _ (known : Known) where
         by_handlers = λ e i. or_right (declarations_raise (is_same e) ds || stmts_raise (untaken hs (is_same e)) body) (handlers_raise (is_same e) hs) i;
       })
       (λ way place at c. from (into ∷ way) place at (in_enclosed c))
-      (goes_map flow (λ h. Doing known fs k w (left v types h)) (λ h. Raised among w (left v types h)) (To o.normal) (Raised among o)
-      (λ h n. to_here o.normal h (to_here (Then fs k w).normal (left v types h) n)) (λ h r. λ e i. to_here (o.raised e) h (r e i))
-      (block_goes v types flow (Doing known fs k w) (Raised among w) g))
-      (λ one h may. to_here w.exited (left v types h) (out (or_left (have_exit body) (handlers_have_exit hs) one) (left v types h) (exits_block types around.inside around.start h may)))
-      (λ one h may. to_here w.exited (left v types h) (out (or_right (have_exit body) (handlers_have_exit hs) one) (left v types h) (exits_block types around.inside around.start h may)))
-      (λ h. to_here w.returned (left v types h) (returns' (left v types h)))
+      (goes_map flow (λ h. Doing known fs k w (left v gone h)) (λ h. Raised among w (left v gone h)) (To o.normal) (Raised among o)
+      (λ h n. to_here o.normal h (to_here (Then fs k w).normal (left v gone h) n)) (λ h r. λ e i. to_here (o.raised e) h (r e i))
+      (block_goes v gone flow (Doing known fs k w) (Raised among w) g))
+      (λ one h may. to_here w.exited (left v gone h) (out (or_left (have_exit body) (handlers_have_exit hs) one) (left v gone h) (exits_block gone around.inside around.start h may)))
+      (λ one h may. to_here w.exited (left v gone h) (out (or_right (have_exit body) (handlers_have_exit hs) one) (left v gone h) (exits_block gone around.inside around.start h may)))
+      (λ h. to_here w.returned (left v gone h) (returns' (left v gone h)))

@@ -2,7 +2,7 @@
 
 use Rattle.std.proofs.Common.{◌≡◌, ◌≢◌, ℕ, zero, suc, Bool, true, false, ◌&&◌, List, [], ◌∷◌, refl, ◌⊎◌, inl, inr}
 use Rattle.std.specs.List.{slice_set}
-use Rattle.ada_program.specs.Form.{StmtForm, skips, assigns, frees, gets, writes, writes_text, chooses, repeats, counts, exits, returns, raises, encloses, StmtsForm, no_stmts, a_stmt, BranchesForm, otherwise, a_branch, HandlersForm, no_handlers, a_handler}
+use Rattle.ada_program.specs.Form.{StmtForm, skips, assigns, assigns_record, frees, gets, writes, writes_text, chooses, repeats, counts, exits, returns, raises, encloses, StmtsForm, no_stmts, a_stmt, BranchesForm, otherwise, a_branch, HandlersForm, no_handlers, a_handler}
 use Rattle.ada_program.specs.ProgramForm.{VariableForm}
 use Rattle.ada_program.specs.WellFormed.{is_borrower}
 use Rattle.ada_flow.specs.declared.rule.Hold.{Hold}
@@ -130,6 +130,7 @@ mutual
   by_good : (variables : List VariableForm) (f : StmtForm) (holds : Holds) → AsGood holds (opened_by variables f holds)
   by_good variables skips holds = as_good holds
   by_good variables (assigns target right) holds = target_good variables target.selectors target.root holds
+  by_good variables (assigns_record target items) holds = as_good holds
   by_good variables (frees access path) holds = as_good holds
   by_good variables (gets target) holds = as_good holds
   by_good variables (writes e) holds = as_good holds

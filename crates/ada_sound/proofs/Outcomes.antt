@@ -1,6 +1,6 @@
 -- What an outcome that breaks no rule says of its parts.
 
-use Rattle.std.proofs.Common.{◌≡◌, Bool, true, false, List, ℕ, refl}
+use Rattle.std.proofs.Common.{◌≡◌, Bool, true, false, List, refl}
 use Rattle.std.specs.Prelude.{if◌then◌else◌, Option, Some, None}
 use Rattle.ada_text.specs.declared.spot.Spot.{Spot}
 use Rattle.ada_program.specs.declared.program.Exception.{Exception}
@@ -8,7 +8,7 @@ use Rattle.ada_program.specs.Form.{ExpressionForm}
 use Rattle.ada_program.specs.ProgramForm.{VariableForm}
 use Rattle.ada_effects.specs.Effects.{expression_raises}
 use Rattle.ada_flow.specs.declared.rule.Rule.TheVariants.{LoopState}
-use Rattle.ada_flow.specs.Flow.{Holds, Outcome, faults, goes, Breach, join, join_option, also_raises, then_flow, raising_if, ends_with, unless_broken, using_paths, uses_in, broken_among, computed, either_of, are_as_good, unless_worse, ends_turn, left_with, left, left_option, leaves_block, handled}
+use Rattle.ada_flow.specs.Flow.{Holds, Outcome, faults, goes, Breach, join, join_option, also_raises, then_flow, raising_if, ends_with, unless_broken, using_paths, uses_in, broken_among, computed, either_of, are_as_good, unless_worse, ends_turn, left_with, Gone, left, left_option, leaves_block, handled}
 use Rattle.ada_sound.proofs.Orderings.{AsGood, as_good, as_good_then, good_each, join_left, join_right}
 use Rattle.ada_sound.proofs.Invariant.{GoesBy, Goes, To, Ways, Raised, NoneBroken}
 
@@ -121,13 +121,13 @@ left_goes leaves start (faults spot rule) more raised g = absurd g
 left_goes leaves start (goes normal raising) more raised g = ((any_goes normal, g.1), left_some leaves start more g.0)
 
 -- A block: it is left both ways.
-block_some : (variables : List VariableForm) (types : List ℕ) (o : Option Holds) (more : Holds → Type 0) → GoesBy (left_option variables types o) more → GoesBy o (λ h. more (left variables types h))
-block_some variables types None more g = g
-block_some variables types (Some h) more g = g
+block_some : (variables : List VariableForm) (gone : Gone) (o : Option Holds) (more : Holds → Type 0) → GoesBy (left_option variables gone o) more → GoesBy o (λ h. more (left variables gone h))
+block_some variables gone None more g = g
+block_some variables gone (Some h) more g = g
 
-pub block_goes : (variables : List VariableForm) (types : List ℕ) (o : Outcome) (more raised : Holds → Type 0) → Goes (leaves_block variables types o) more raised → Goes o (λ h. more (left variables types h)) (λ h. raised (left variables types h))
-block_goes variables types (faults spot rule) more raised g = g
-block_goes variables types (goes normal raising) more raised g = (block_some variables types normal more g.0, block_some variables types raising raised g.1)
+pub block_goes : (variables : List VariableForm) (gone : Gone) (o : Outcome) (more raised : Holds → Type 0) → Goes (leaves_block variables gone o) more raised → Goes o (λ h. more (left variables gone h)) (λ h. raised (left variables gone h))
+block_goes variables gone (faults spot rule) more raised g = g
+block_goes variables gone (goes normal raising) more raised g = (block_some variables gone normal more g.0, block_some variables gone raising raised g.1)
 
 -- Statements with handlers: what is raised comes to these, or passes them.
 pub handled_goes : (passes : Bool) (handlers : Holds → Outcome) (o : Outcome) (more raised : Holds → Type 0) → Down more → Down raised → Goes (handled passes handlers o) more raised → Goes o more (λ h. (passes ≡ true → raised h) × Goes (handlers h) more raised)

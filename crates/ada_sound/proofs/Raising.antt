@@ -14,9 +14,9 @@ use Rattle.ada_values.specs.declared.fault.OperatorFault.TheVariants.{Overflow, 
 use Rattle.ada_values.specs.Outcome.{outcome_of, outcome_of_integers, outcome_of_booleans, unary_outcome_of}
 use Rattle.ada_program.specs.declared.program.Exception.{Exception}
 use Rattle.ada_program.specs.declared.program.Exception.TheVariants.{ConstraintError, ProgramError, StorageError, EndError, Declared}
-use Rattle.ada_program.specs.Form.{RightForm, nothing, value_of, allocates, allocates_default, computes, DeclarationForm, collects, declares, declares_record, StmtForm, skips, assigns, frees, gets, writes, writes_text, chooses, repeats, counts, exits, returns, raises, encloses, StmtsForm, no_stmts, a_stmt, BranchesForm, otherwise, a_branch, HandlersForm, no_handlers, a_handler}
+use Rattle.ada_program.specs.Form.{RightForm, nothing, value_of, allocates, allocates_default, computes, DeclarationForm, collects, declares, declares_record, StmtForm, skips, assigns, assigns_record, frees, gets, writes, writes_text, chooses, repeats, counts, exits, returns, raises, encloses, StmtsForm, no_stmts, a_stmt, BranchesForm, otherwise, a_branch, HandlersForm, no_handlers, a_handler}
 use Rattle.ada_program.specs.Handling.{is_same, handler_of, is_taken}
-use Rattle.ada_effects.specs.Effects.{expression_raises, condition_raises, items_raise, path_raises, untaken, unary_raises, binary_raises, right_raises, declaration_raises, declarations_raise, stmt_raises, stmts_raise, branches_raise, handlers_raise}
+use Rattle.ada_effects.specs.Effects.{expression_raises, condition_raises, items_raise, path_raises, record_path_raises, initial_raises, untaken, unary_raises, binary_raises, right_raises, declaration_raises, declarations_raise, stmt_raises, stmts_raise, branches_raise, handlers_raise}
 use Rattle.ada_meaning.specs.declared.state.Value.{Value}
 use Rattle.ada_meaning.specs.declared.state.Value.TheVariants.{Null, Names, Scalar}
 use Rattle.ada_meaning.specs.Named.{as_value, unary_given, binary_given}
@@ -71,7 +71,7 @@ untaken_more hs among more m e is = and_first (among e) (not (is_taken hs e)) (m
 
 right_more : (among more : Exception → Bool) → IsAmong among more → (right : RightForm) → right_raises among right ≡ true → right_raises more right ≡ true
 right_more among more m nothing is = is
-right_more among more m (value_of path) is = and_first (among ConstraintError) (path_raises path.selectors) (more ConstraintError) (m ConstraintError) is
+right_more among more m (value_of path) is = and_first (among ConstraintError) (path_raises path) (more ConstraintError) (m ConstraintError) is
 right_more among more m (allocates access items) is =
     or_map (among StorageError) (among ConstraintError && items_raise items) (more StorageError) (more ConstraintError && items_raise items) (m StorageError)
     (λ i. and_first (among ConstraintError) (items_raise items) (more ConstraintError) (m ConstraintError) i) is
@@ -86,18 +86,20 @@ declarations_more among more m (d ∷ ds) is =
     one : (d : DeclarationForm) → declaration_raises among d ≡ true → declaration_raises more d ≡ true
     one (collects access) i = i
     one (declares x right) i = right_more among more m right i
-    one (declares_record x t) i = i
+    one (declares_record x t initial) i = and_first (among ConstraintError) (initial_raises initial) (more ConstraintError) (m ConstraintError) i
 
 mutual
   stmt_more : (f : StmtForm) (among more : Exception → Bool) → IsAmong among more → stmt_raises among f ≡ true → stmt_raises more f ≡ true
   stmt_more skips among more m is = is
   stmt_more (assigns target right) among more m is =
-      let follows = path_raises target.selectors in
+      let follows = path_raises target in
       or_map (among ConstraintError && follows) (right_raises among right) (more ConstraintError && follows) (right_raises more right)
       (λ i. and_first (among ConstraintError) follows (more ConstraintError) (m ConstraintError) i) (right_more among more m right) is
-  stmt_more (frees access path) among more m is = and_first (among ConstraintError) (path_raises path.selectors) (more ConstraintError) (m ConstraintError) is
+  stmt_more (assigns_record target items) among more m is =
+      and_first (among ConstraintError) (record_path_raises target || items_raise items) (more ConstraintError) (m ConstraintError) is
+  stmt_more (frees access path) among more m is = and_first (among ConstraintError) (path_raises path) (more ConstraintError) (m ConstraintError) is
   stmt_more (gets target) among more m is =
-      let follows = path_raises target.selectors in
+      let follows = path_raises target in
       or_map (among EndError) (among ConstraintError && follows) (more EndError) (more ConstraintError && follows)
       (m EndError) (λ i. and_first (among ConstraintError) follows (more ConstraintError) (m ConstraintError) i) is
   stmt_more (writes e) among more m is = and_first (among ConstraintError) (expression_raises e) (more ConstraintError) (m ConstraintError) is

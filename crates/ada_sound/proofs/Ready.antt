@@ -40,12 +40,12 @@ at_less w rest = with_less w rest.0 rest.1 rest.2
 -- Where nothing is left to do, no master is left.
 pub none_left : (known : Known) (mode : Mode) (ms : List Master) (rooms : Rooms) (holds : Holds) → Roomed ms rooms → GoesOn known mode [] rooms holds → NoMaster ms
 none_left known mode [] [] holds r g = tt
-none_left known mode [] (types ∷ rooms) holds r g = absurd r
+none_left known mode [] (gone ∷ rooms) holds r g = absurd r
 none_left known mode (m ∷ ms) [] holds r g = absurd r
-none_left known Running (m ∷ ms) (types ∷ rooms) holds r g = absurd g
-none_left known (Raising e) (m ∷ ms) (types ∷ rooms) holds r g = absurd g
-none_left known Exiting (m ∷ ms) (types ∷ rooms) holds r g = absurd g
-none_left known Returning (m ∷ ms) (types ∷ rooms) holds r g = absurd g
+none_left known Running (m ∷ ms) (gone ∷ rooms) holds r g = absurd g
+none_left known (Raising e) (m ∷ ms) (gone ∷ rooms) holds r g = absurd g
+none_left known Exiting (m ∷ ms) (gone ∷ rooms) holds r g = absurd g
+none_left known Returning (m ∷ ms) (gone ∷ rooms) holds r g = absurd g
 
 module _ (known : Known) where
   -- A step that leaves objects as they are.

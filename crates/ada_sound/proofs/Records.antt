@@ -1,29 +1,32 @@
 -- Record objects are declared: each is stored at its own item, and its variable owns it.
 
-use Rattle.std.proofs.Common.{◌≡◌, ◌≢◌, ℕ, suc, Bool, true, false, List, [], ◌∷◌, ◌++◌, map, refl, sym, ap, inl, inr}
+use Rattle.std.proofs.Common.{◌≡◌, ℕ, zero, suc, Bool, true, false, ◌||◌, List, [], ◌∷◌, length, take, drop, reverse, map, refl, sym, ap, ◌∙◌, inl}
 use Rattle.std.proofs.lemmas.Bool.{eqb-true}
 use Rattle.std.specs.Prelude.{Option, Some, None}
-use Rattle.std.specs.List.{slice_set}
+use Rattle.std.specs.List.{list_any, slice_get, slice_index_or, slice_set}
 use Rattle.ada_program.specs.declared.program.ComponentKind.{ComponentKind}
 use Rattle.ada_program.specs.declared.program.ComponentKind.TheVariants as component
 use Rattle.ada_program.specs.declared.program.TypeDefinition.{TypeDefinition}
 use Rattle.ada_program.specs.declared.program.VariableKind.{VariableKind}
 use Rattle.ada_program.specs.declared.program.VariableKind.TheVariants as variable
-use Rattle.ada_program.specs.Form.{StmtsForm, HandlersForm, DeclarationForm, declares_record}
-use Rattle.ada_program.specs.Typed.{reached_of, words_of}
-use Rattle.ada_program.specs.WellFormed.{access_of, kind_among, reached_components, variable_kind, is_record_object}
+use Rattle.ada_program.specs.Form.{ItemForm, StmtsForm, HandlersForm, DeclarationForm, declares_record}
+use Rattle.ada_program.specs.declared.program.Exception.TheVariants.{ConstraintError}
+use Rattle.ada_program.specs.Handling.{is_same}
+use Rattle.ada_program.specs.ProgramForm.{VariableForm}
+use Rattle.ada_effects.specs.Effects.{items_raise, declaration_raises}
+use Rattle.ada_program.specs.Typed.{reached_of, count_of, words_of}
+use Rattle.ada_program.specs.WellFormed.{access_of, held_kind, kind_among, reached_components, variable_kind, is_record_object}
 use Rattle.ada_flow.specs.declared.rule.Hold.{Hold}
 use Rattle.ada_flow.specs.declared.rule.Hold.TheVariants as hold
 use Rattle.ada_flow.specs.declared.rule.Region.TheVariants.{Whole}
-use Rattle.ada_flow.specs.Flow.{Holds, variable_access}
+use Rattle.ada_flow.specs.Flow.{Holds, variable_access, is_owning, owns_at_first, declared_at, copies_to, uses_in_items, ends_with}
 use Rattle.ada_meaning.specs.declared.state.Id.{Id}
 use Rattle.ada_meaning.specs.declared.state.Value.{Value}
-use Rattle.ada_meaning.specs.declared.state.Value.TheVariants.{Names}
+use Rattle.ada_meaning.specs.declared.state.Value.TheVariants.{Null, Names}
 use Rattle.ada_meaning.specs.Event.{Quiet}
-use Rattle.ada_meaning.specs.Frame.{Elaborates}
-use Rattle.ada_meaning.specs.Heap.{Cell}
-use Rattle.ada_meaning.specs.State.{Activation, record_object, Item, Master, height}
-use Rattle.ada_meaning.specs.Step.{owning, owned, made, record_cell, initial_value, initial_values}
+use Rattle.ada_meaning.specs.Frame.{Elaborates, Handles, Closes, Fills, DeclaresRecord}
+use Rattle.ada_meaning.specs.State.{Activation, record_object, Master, height}
+use Rattle.ada_meaning.specs.Step.{owning, made, record_next, record_cell, initial_value, initial_values}
 use Rattle.ada_meaning.specs.Named.{Object, State, named, new_object, create, created}
 use Rattle.ada_meaning.specs.Law.{items_of}
 use Rattle.ada_owners.specs.Places.{Place}
@@ -31,10 +34,17 @@ use Rattle.ada_owners.specs.Reliance.{AreInHand}
 use Rattle.ada_owners.proofs.Kernel.{blank}
 use Rattle.ada_sound.proofs.Items.{HasItem}
 use Rattle.ada_sound.proofs.Stored.{stored_new, stored_owning}
-use Rattle.ada_sound.proofs.Fits.{bare, none_spared, hold_in, put_owner, create_fit}
+use Rattle.ada_typed.specs.Holding.{Cells, HasKind, HaveKinds, cells_of}
+use Rattle.ada_typed.proofs.Values.{AreComputed, AreHeld, active_placed}
+use Rattle.ada_typed.proofs.Control as typed
+use Rattle.ada_sound.proofs.Fits.{bare, none_spared, place_at, hold_in, put_owner, create_fit}
 use Rattle.ada_sound.proofs.Alters.{alters_new}
-use Rattle.ada_sound.proofs.Invariant.{Known, Control, Rooms, Roomed, RunsOn, Working, Stepped}
-use Rattle.ada_sound.proofs.Ready.{running}
+use Rattle.ada_sound.proofs.Invariant.{Known, Control, Rooms, Roomed, Raised, Doing, Handled, Outside, Elaborating, Giving, MayOwn, Recording, RunsOn, Working, Stepped, Fine, ways}
+use Rattle.ada_sound.proofs.Ready.{running, at_work, runs_ready, ready_on}
+use Rattle.ada_sound.proofs.Outcomes.{using_goes, ends_goes}
+use Rattle.ada_sound.proofs.Followings.{first_kept}
+use Rattle.ada_sound.proofs.Copied.{items_keep, copied_plain}
+use Rattle.ada_sound.proofs.Defaults.{Reaches}
 
 -- What a component holds at first names nothing.
 first_blank : (kind : ComponentKind) (o : Id) → initial_value named kind ≡ Names o → ⊥
@@ -59,41 +69,124 @@ record_access (Some variable.Boolean) t e = absurd (cc e)
 record_access (Some (variable.Access access)) t e = absurd (cc e)
 record_access (Some (variable.Record object)) t e = ap Some (eqb-true object.0 t e)
 
-module _ (known : Known) (a : Activation Value) (rest : List (Activation Value)) (s : State) (types : List TypeDefinition) (x t : ℕ) (ds : List DeclarationForm) (fs : StmtsForm) (hs : HandlersForm) (k : Control) where
+-- A place that is there holds what it gets.
+put_there : (places : List Value) (x : ℕ) (u v : Value) → slice_get places x ≡ Some u → place_at (slice_set places x v) x ≡ v
+put_there [] x u v e = absurd (cc e)
+put_there (w ∷ places) zero u v e = refl
+put_there (w ∷ places) (suc x) u v e = put_there places x u v e
+
+-- Values of Integers and Booleans name nothing.
+neither : (a b : Bool) → (a || b) ≡ false → (a ≡ false) × (b ≡ false)
+neither true b e = absurd (cc e)
+neither false b e = (refl, e)
+
+pub plain_blank : (cells : Cells) (kind : ComponentKind) (v : Value) → is_owning kind ≡ false → HasKind cells (held_kind kind) v → (o : Id) → v ≡ Names o → ⊥
+plain_blank cells (component.Integer initial) v plain has o is = rw is at has
+plain_blank cells (component.Boolean initial) v plain has o is = rw is at has
+plain_blank cells (component.Access access) v plain has o is = cc plain
+
+abbrev pub NameNothing : List Value → Type 0
+NameNothing [] = Unit {0}
+NameNothing (v ∷ vs) = ((o : Id) → v ≡ Names o → ⊥) × NameNothing vs
+
+pub plain_names_nothing : (cells : Cells) (kinds : List ComponentKind) (vs : List Value) → list_any is_owning kinds ≡ false → HaveKinds cells kinds vs → NameNothing vs
+plain_names_nothing cells kinds [] plain have = tt
+plain_names_nothing cells [] (v ∷ vs) plain have = absurd have
+plain_names_nothing cells (kind ∷ kinds) (v ∷ vs) plain have =
+    let two = neither (is_owning kind) (list_any is_owning kinds) plain in
+    (plain_blank cells kind v two.0 have.0, plain_names_nothing cells kinds vs two.1 have.1)
+
+nothing_in_hand : (heap : List Object) (places : List Value) (holding : Place → Hold) (kind : ℕ → Option ℕ) (c : ℕ) (vs : List Value) → NameNothing vs → AreInHand heap (bare places) holding kind c vs
+nothing_in_hand heap places holding kind c [] none = tt
+nothing_in_hand heap places holding kind c (v ∷ vs) none =
+    (record { hand = blank none.0 }, (λ o i e f. none.0 o e), nothing_in_hand heap places holding kind (suc c) vs none.1)
+
+-- The variable of a record object has a place.
+pub has_place : (cells : Cells) (variables : List VariableForm) (places : List Value) (x t : ℕ) → AreHeld cells variables places → is_record_object t (variable_kind variables x) ≡ true → (u : Value) × (slice_get places x ≡ Some u)
+has_place cells variables places x t held is = by (variable_kind variables x) refl is
+  where
+    by : (kind : Option VariableKind) → variable_kind variables x ≡ kind → is_record_object t kind ≡ true → (u : Value) × (slice_get places x ≡ Some u)
+    by None of e = absurd (cc e)
+    by (Some kind) of e = (slice_index_or places x Null, active_placed cells variables [] (record { places = places; operands = [] } ∷ []) x kind (held, tt) of)
+
+module _ (known : Known) (rest : List (Activation Value)) (s : State) (types : List TypeDefinition) (x t : ℕ) where
   -- The new item is the object's home, and is one that the master may own.
-  has_own : (holds : Holds) (ms : List Master) (rooms : Rooms) → Roomed ms rooms → RunsOn known (Elaborates (declares_record x t ∷ ds) fs hs ∷ k) rooms holds → HasItem (height ms) t None (items_of (owning (record { number = height ms; owned = record_object t }) ms))
-  has_own holds [] [] r e = absurd e
-  has_own holds [] (ts ∷ rooms) r e = absurd r
-  has_own holds (m ∷ ms) rooms r e = inl (refl, (refl, refl))
+  has_own : (ms : List Master) (rooms : Rooms) → Roomed ms rooms → MayOwn rooms t → HasItem (height ms) t None (items_of (owning (record { number = height ms; owned = record_object t }) ms))
+  has_own [] [] r e = absurd e
+  has_own [] (gone ∷ rooms) r e = absurd r
+  has_own (m ∷ ms) rooms r e = inl (refl, (refl, refl))
 
-  roomed_more : (item : ℕ) (holds : Holds) (ms : List Master) (rooms : Rooms) → Roomed ms rooms → RunsOn known (Elaborates (declares_record x t ∷ ds) fs hs ∷ k) rooms holds → Roomed (owning (record { number = item; owned = record_object t }) ms) rooms
-  roomed_more item holds [] rooms r e = r
-  roomed_more item holds (m ∷ ms) [] r e = r
-  roomed_more item holds (m ∷ ms) (ts ∷ rooms) r e = ((e.0.0, r.0), r.1)
+  roomed_more : (item : ℕ) (ms : List Master) (rooms : Rooms) → Roomed ms rooms → MayOwn rooms t → Roomed (owning (record { number = item; owned = record_object t }) ms) rooms
+  roomed_more item [] rooms r e = r
+  roomed_more item (m ∷ ms) [] r e = r
+  roomed_more item (m ∷ ms) (gone ∷ rooms) r e = ((e, r.0), r.1)
 
-  runs_more : (holds : Holds) (rooms : Rooms) → RunsOn known (Elaborates (declares_record x t ∷ ds) fs hs ∷ k) rooms holds → RunsOn known (Elaborates ds fs hs ∷ k) rooms (slice_set holds x (hold.Own Whole))
-  runs_more holds [] e = absurd e
-  runs_more holds (ts ∷ rooms) e = (e.0.1, e.1.0)
-
-  pub record_fine : is_record_object t (variable_kind known.program.variables x) ≡ true → Working known s.heap a.places s.masters (RunsOn known (Elaborates (declares_record x t ∷ ds) fs hs ∷ k)) → Stepped known s.heap Quiet (owned (record_object t) (made named types x t (running (Elaborates ds fs hs ∷ k) a rest s)))
-  record_fine is w =
-      let cell = record_cell named types t (height s.masters) in
+  -- An object comes to be whose components name nothing, and its variable owns it.
+  pub made_fine : (a : Activation Value) (k : Control) (values : List Value) (u : Value) → is_record_object t (variable_kind known.program.variables x) ≡ true → slice_get a.places x ≡ Some u → ((holding : Place → Hold) (kind : ℕ → Option ℕ) → AreInHand s.heap (bare a.places) holding kind 0 values) → Working known s.heap a.places s.masters (λ rooms holds. MayOwn rooms t × RunsOn known k rooms (slice_set holds x (hold.Own Whole))) → Stepped known s.heap Quiet (made named types x t values (running k a rest s))
+  made_fine a k values u is there in_hand w =
+      let cell = record_cell named t (height s.masters) values in
       let words = words_of types t in
       let kinds = λ (c : ℕ). access_of (kind_among (reached_components known.program.types t) c) in
-      let both = create_fit words cell (initials_in_hand s.heap a.places (hold_in none_spared w.holds) kinds (reached_of types t)) w.fit in
+      let both = create_fit words cell (in_hand (hold_in none_spared w.holds) kinds) w.fit in
       let own : variable_access known.program.variables x ≡ Some t = record_access (variable_kind known.program.variables x) t is in
+      let placed = put_there a.places x u (created s.heap words) there in
+      let after : Working known (create s.heap words cell) (slice_set a.places x (created s.heap words)) (owning (record { number = height s.masters; owned = record_object t }) s.masters) (RunsOn known k) = record {
+        rooms = w.rooms;
+        holds = slice_set w.holds x (hold.Own Whole);
+        stored = stored_new cell (has_own s.masters w.rooms w.roomed w.rest.0) (stored_owning (record_object t) w.stored);
+        roomed = roomed_more (height s.masters) s.masters w.rooms w.roomed w.rest.0;
+        fit = put_owner x (created s.heap words) Whole (λ object null. (let names : Null ≡ created s.heap words = sym null ∙ placed in absurd (cc names))) (rw own both.1) both.0;
+        rest = w.rest.1;
+      } in
       record {
-        ready = (
-          tt,
-          record {
-            rooms = w.rooms;
-            holds = slice_set w.holds x (hold.Own Whole);
-            stored = stored_new cell (has_own w.holds s.masters w.rooms w.roomed w.rest) (stored_owning (record_object t) w.stored);
-            roomed = roomed_more (height s.masters) w.holds s.masters w.rooms w.roomed w.rest;
-            fit = put_owner x (created s.heap words) Whole (rw own both.1) both.0;
-            rest = runs_more w.holds w.rooms w.rest;
-          },
-        );
+        ready = (tt, runs_ready known k (create s.heap words cell) (slice_set a.places x (created s.heap words)) a.operands _ after);
         alters = alters_new s.heap Quiet (new_object cell) refl;
         says = tt;
       }
+
+module _ (known : Known) (a : Activation Value) (rest : List (Activation Value)) (s : State) (types : List TypeDefinition) (x t : ℕ) (ds : List DeclarationForm) (fs : StmtsForm) (hs : HandlersForm) (k : Control) where
+  -- What is known where a record object comes to be: without an initial value, or behind one.
+  by_default : (holds : Holds) (rooms : Rooms) → RunsOn known (Elaborates (declares_record x t None ∷ ds) fs hs ∷ k) rooms holds → MayOwn rooms t × RunsOn known (Elaborates ds fs hs ∷ k) rooms (slice_set holds x (hold.Own Whole))
+  by_default holds [] e = absurd e
+  by_default holds (gone ∷ rooms) e = (e.0.0, (e.0.1, e.1.0))
+
+  by_items : (items : List ItemForm) (holds : Holds) (rooms : Rooms) → is_record_object t (variable_kind known.program.variables x) ≡ true → RunsOn known (Elaborates (declares_record x t (Some items) ∷ ds) fs hs ∷ k) rooms holds → Giving known items (Elaborates ds fs hs ∷ k) rooms holds × Recording known x t (Elaborates ds fs hs ∷ k) rooms holds
+  by_items items holds [] is e = absurd e
+  by_items items holds (gone ∷ rooms) is e =
+      let program = known.program in
+      let o = Outside program.variables gone (ways known k rooms) in
+      let spot = declared_at program.variables x in
+      let owning = owns_at_first program.types t in
+      let used = uses_in_items program.types spot None [] items in
+      let more = Elaborating known ds (Doing known fs (Handles hs ∷ Closes ∷ k) (Handled known hs (Closes ∷ k) o)) o in
+      let raised' = Raised (λ e'. declaration_raises (is_same e') (declares_record x t (Some items))) o in
+      let after = slice_set holds x (hold.Own Whole) in
+      let u = using_goes (copies_to owning spot ∷ used) holds (ends_with (items_raise items) holds after) more raised' e.1 in
+      let n = ends_goes (items_raise items) holds after more raised' u.1 in
+      let kept = first_kept holds (copies_to owning spot) used u.0 in (
+        record {
+          spot = spot;
+          earlier = [];
+          keeps = items_keep program.types spot None holds [] items kept.1;
+          raises = λ may. n.1 may ConstraintError may;
+        },
+        (copied_plain owning spot kept.0, is, e.0.0, (e.0.1, n.0)),
+      )
+
+  pub record_fine : (initial : Option (List ItemForm)) (u : Value) → slice_get a.places x ≡ Some u → is_record_object t (variable_kind known.program.variables x) ≡ true → Working known s.heap a.places s.masters (RunsOn known (Elaborates (declares_record x t initial ∷ ds) fs hs ∷ k)) → Fine known s.heap s.masters (record_next named types x t initial (running (Elaborates ds fs hs ∷ k) a rest s))
+  record_fine None u there is w =
+      made_fine known rest s types x t a (Elaborates ds fs hs ∷ k) (initial_values named (reached_of types t)) u is there
+      (λ holding kind. initials_in_hand s.heap a.places holding kind (reached_of types t)) (at_work w (by_default w.holds w.rooms w.rest))
+  record_fine (Some items) u there is w =
+      ready_on known (Fills items ∷ DeclaresRecord x t ∷ Elaborates ds fs hs ∷ k) a rest s a.operands (at_work w (by_items items w.holds w.rooms is w.rest))
+
+-- A record object comes to be with the items of its initial value.
+pub recorded_fine : (known : Known) (k : Control) (a : Activation Value) (rest : List (Activation Value)) (s : State) (types : List TypeDefinition) → Reaches known types → (x t : ℕ) (kinds : List VariableKind) → typed.Fits known.program (cells_of s.heap) kinds (DeclaresRecord x t ∷ k) → AreComputed (cells_of s.heap) kinds a.operands → AreHeld (cells_of s.heap) known.program.variables a.places → Working known s.heap a.places s.masters (Recording known x t k) → Stepped known s.heap Quiet (made named types x t (reverse (take (words_of types t) a.operands)) (running k (record a { operands = drop (words_of types t) a.operands }) rest s))
+recorded_fine known k a rest s types reaches x t kinds (ks, object, cs, is, of, one, reached, other, more) computed held w =
+    let counted : words_of types t ≡ length cs = ap count_of (reaches.0 t ∙ reached) in
+    let have = (typed.split (cells_of s.heap) cs ks a.operands (rw is at computed)).0 in
+    let plain : list_any is_owning cs ≡ false = rw reached at w.rest.0 in
+    let none = plain_names_nothing (cells_of s.heap) cs (reverse (take (length cs) a.operands)) plain have in
+    let place = has_place (cells_of s.heap) known.program.variables a.places x t held w.rest.1 in
+    made_fine known rest s types x t (record a { operands = drop (words_of types t) a.operands }) k (reverse (take (words_of types t) a.operands)) place.0 w.rest.1 place.1
+    (λ holding kind. nothing_in_hand s.heap a.places holding kind 0 (reverse (take (words_of types t) a.operands)) (rw counted none)) (at_work w (w.rest.2, w.rest.3))

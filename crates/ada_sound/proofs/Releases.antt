@@ -9,8 +9,9 @@ use Rattle.ada_program.specs.declared.program.Exception.{Exception}
 use Rattle.ada_program.specs.declared.program.Exception.TheVariants.{ConstraintError}
 use Rattle.ada_program.specs.declared.program.VariableKind.{VariableKind}
 use Rattle.ada_program.specs.Form.{PathForm, StmtsForm}
+use Rattle.ada_effects.specs.Effects.{path_raises}
 use Rattle.ada_program.specs.ProgramForm.{TypeForm, VariableForm}
-use Rattle.ada_program.specs.WellFormed.{access_of, variable_kind, selectors_kind, path_access, is_this, is_freed_by}
+use Rattle.ada_program.specs.WellFormed.{access_of, variable_kind, selectors_kind, path_kind, path_access, is_this, is_freed_by}
 use Rattle.ada_flow.specs.declared.rule.Hold.{Hold}
 use Rattle.ada_flow.specs.declared.rule.Hold.TheVariants as hold
 use Rattle.ada_flow.specs.Flow.{Holds, hold_at, Breach, lost_by, unless_broken, ends_with, behind_end, passes_own, freed_behind, released_behind, frees_path}
@@ -35,6 +36,7 @@ use Rattle.ada_sound.proofs.Assigned.{freed_at}
 use Rattle.ada_sound.proofs.Invariant.{Pooled, Known, Control, Goes, Raised, RunsOn, PassesNone, Releasing, Working, Stepped, Fine, ways}
 use Rattle.ada_sound.proofs.Ready.{running, at_work, stays, runs_ready, jumps_less}
 use Rattle.ada_sound.proofs.Outcomes.{ends_goes}
+use Rattle.ada_sound.proofs.Roots.{access_leads, root_object, object_there, front_raises}
 use Rattle.ada_sound.proofs.Taken.{root_access}
 use Rattle.ada_sound.proofs.Walks.{selected_access, raises_less, finds_fine}
 use Rattle.ada_sound.proofs.Targets.{followed}
@@ -46,16 +48,16 @@ front_last c [] = refl
 front_last c (d ∷ ds) = ap (λ (es : List ℕ). c ∷ es) (front_last d ds)
 
 -- What flow says of a component that is freed: its path follows nothing lost, and passes its own type nowhere.
-released_goes : (types : List TypeForm) (variables : List VariableForm) (path : PathForm) (holds : Holds) (access : Option ℕ) (more raised : Holds → Type 0) → Goes (released_behind types variables path holds access) more raised → (freed_behind (passes_own types variables path access) (hold_at holds path.root) path.spot ≡ None) × more (behind_end variables access holds) × raised (behind_end variables access holds)
+released_goes : (types : List TypeForm) (variables : List VariableForm) (path : PathForm) (holds : Holds) (access : Option ℕ) (more raised : Holds → Type 0) → Goes (released_behind types variables path holds access) more raised → (freed_behind (passes_own types variables path access) (hold_at holds path.root) path.spot ≡ None) × more (behind_end variables access holds) × (path_raises path ≡ true → raised (behind_end variables access holds))
 released_goes types variables path holds access more raised g = go (freed_behind (passes_own types variables path access) (hold_at holds path.root) path.spot) refl g
   where
     after : Holds
     after = behind_end variables access holds
 
-    go : (o : Option Breach) → freed_behind (passes_own types variables path access) (hold_at holds path.root) path.spot ≡ o → Goes (unless_broken o (ends_with true (behind_end variables access holds) (behind_end variables access holds))) more raised → (freed_behind (passes_own types variables path access) (hold_at holds path.root) path.spot ≡ None) × more (behind_end variables access holds) × raised (behind_end variables access holds)
+    go : (o : Option Breach) → freed_behind (passes_own types variables path access) (hold_at holds path.root) path.spot ≡ o → Goes (unless_broken o (ends_with (path_raises path) (behind_end variables access holds) (behind_end variables access holds))) more raised → (freed_behind (passes_own types variables path access) (hold_at holds path.root) path.spot ≡ None) × more (behind_end variables access holds) × (path_raises path ≡ true → raised (behind_end variables access holds))
     go None is m =
-        let n = ends_goes true (behind_end variables access holds) (behind_end variables access holds) more raised m in
-        (is, n.0, n.1 refl)
+        let n = ends_goes (path_raises path) (behind_end variables access holds) (behind_end variables access holds) more raised m in
+        (is, n.0, n.1)
     go (Some breach) is m = absurd m
 
 freed_kept : (b : Bool) (h : Hold) (spot : Spot) → freed_behind b h spot ≡ None → (lost_by h spot ≡ None) × (b ≡ false)
@@ -71,12 +73,13 @@ passes_none types variables path cs (Some t) is e = rw is at e
 
 module _ (known : Known) (a : Activation Value) (rest : List (Activation Value)) (s : State) where
   -- A Free of a component begins: its object is found first.
-  pub free_begins : (c : ℕ) (cs : List ℕ) (access : ℕ) (path : PathForm) (fs : StmtsForm) (k : Control) (among : Exception → Bool) → among ConstraintError ≡ true → is_freed_by known.program.types access (path_access known.program.types known.program.variables path) ≡ true → path.selectors ≡ c ∷ cs → Working known s.heap a.places s.masters (λ rooms holds. Goes (frees_path known.program.types known.program.variables (c ∷ cs) path holds) (RunsOn known (Does fs ∷ k) rooms) (Raised among (ways known k rooms))) → Fine known s.heap s.masters (path_next named (before_last c cs) (place_at a.places path.root) (running (FreesIn access (last_of c cs) ∷ Does fs ∷ k) a rest s))
+  pub free_begins : (c : ℕ) (cs : List ℕ) (access : ℕ) (path : PathForm) (fs : StmtsForm) (k : Control) (among : Exception → Bool) → (path_raises path ≡ true → among ConstraintError ≡ true) → is_freed_by known.program.types access (path_access known.program.types known.program.variables path) ≡ true → path.selectors ≡ c ∷ cs → Working known s.heap a.places s.masters (λ rooms holds. Goes (frees_path known.program.types known.program.variables (c ∷ cs) path holds) (RunsOn known (Does fs ∷ k) rooms) (Raised among (ways known k rooms))) → Fine known s.heap s.masters (path_next named (before_last c cs) (place_at a.places path.root) (running (FreesIn access (last_of c cs) ∷ Does fs ∷ k) a rest s))
   free_begins c cs access path fs k among may freed is w =
       let types = known.program.types in
       let variables = known.program.variables in
       let own = path_access types variables path in
       let at = freed_at types variables access path freed in
+      let leads = access_leads (path_kind types variables path) at.0 at.1 in
       let g = released_goes types variables path w.holds own (RunsOn known (Does fs ∷ k) w.rooms) (Raised among (ways known k w.rooms)) w.rest in
       let kept = freed_kept (passes_own types variables path own) (hold_at w.holds path.root) path.spot g.0 in
       let all : path.selectors ≡ before_last c cs ++ last_of c cs ∷ [] = is ∙ sym (front_last c cs) in
@@ -88,7 +91,9 @@ module _ (known : Known) (a : Activation Value) (rest : List (Activation Value))
         passes = passes_none types variables path (before_last c cs ++ last_of c cs ∷ []) own all kept.1;
         of_type = ap (λ (ds : List ℕ). access_of (selectors_kind types (variable_kind variables path.root) ds)) (sym all) ∙ (at.2 ∙ sym at.1);
         own = λ t same. (let one : at.0 ≡ t = let other = at.1 in cc (same, other) in rw (← one) at.3);
-        raises = λ e. g.2 ConstraintError may;
+        raises = front_raises known (place_at a.places path.root) (Does fs ∷ k) w.rooms (behind_end variables own w.holds) path.of_record c cs
+            (λ whole. object_there path.root path.spot kept.0 (root_object types variables path leads.0 leads.1 whole) w.fit)
+            (λ raises. (let follows : path_raises path ≡ true = rw is raises in g.2 follows ConstraintError (may follows)));
         runs = g.1;
       }))
       (root_follows path.root path.spot kept.0 w.fit)

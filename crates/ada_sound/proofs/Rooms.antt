@@ -9,4 +9,4 @@ use Rattle.ada_sound.proofs.Invariant.{Rooms, Roomed}
 pub roomed_declares : (item : ℕ) (x : ℕ) (ms : List Master) (rooms : Rooms) → Roomed ms rooms → Roomed (owning (record { number = item; owned = declared x }) ms) rooms
 roomed_declares item x [] rooms r = r
 roomed_declares item x (m ∷ ms) [] r = r
-roomed_declares item x (m ∷ ms) (types ∷ rooms) r = ((tt, r.0), r.1)
+roomed_declares item x (m ∷ ms) (gone ∷ rooms) r = ((tt, r.0), r.1)

@@ -1,6 +1,6 @@
 -- Nothing relies on an Integer or a Boolean: in a well-formed program flow calls it lost, wherever it comes to.
 
-use Rattle.std.proofs.Common.{◌≡◌, ◌≢◌, ℕ, zero, suc, Bool, true, false, List, [], ◌∷◌, ◌++◌, length, refl, ◌⊎◌, inl, inr}
+use Rattle.std.proofs.Common.{◌≡◌, ◌≢◌, ℕ, zero, suc, Bool, true, false, ◌||◌, List, [], ◌∷◌, ◌++◌, length, refl, ◌⊎◌, inl, inr}
 use Rattle.std.specs.Prelude.{Option, Some, None, if◌then◌else◌}
 use Rattle.std.specs.List.{list_all, slice_set}
 use Rattle.std.proofs.Math.ListN.{replicate}
@@ -9,15 +9,15 @@ use Rattle.ada_text.specs.declared.spot.Spot.{Spot}
 use Rattle.ada_program.specs.declared.program.Program.{Program}
 use Rattle.ada_program.specs.declared.program.VariableKind.{VariableKind}
 use Rattle.ada_program.specs.declared.program.VariableKind.TheVariants as variable
-use Rattle.ada_program.specs.Form.{PathForm, ExpressionForm, RightForm, computes, DeclarationForm, collects, declares, declares_record, StmtForm, skips, assigns, frees, gets, writes, writes_text, chooses, repeats, counts, exits, returns, raises, encloses, StmtsForm, no_stmts, a_stmt, BranchesForm, otherwise, a_branch, HandlersForm, no_handlers, a_handler}
+use Rattle.ada_program.specs.Form.{PathForm, ExpressionForm, RightForm, computes, DeclarationForm, collects, declares, declares_record, StmtForm, skips, assigns, assigns_record, frees, gets, writes, writes_text, chooses, repeats, counts, exits, returns, raises, encloses, StmtsForm, no_stmts, a_stmt, BranchesForm, otherwise, a_branch, HandlersForm, no_handlers, a_handler}
 use Rattle.ada_program.specs.ProgramForm.{TypeForm, VariableForm, program_form}
 use Rattle.ada_program.specs.WellFormed.{access_of, variable_kind, is_borrower, selectors_kind, path_access, right_fits, initial_fits, is_freed_by, statement_fits, stmts_fit, branches_fit, handlers_fit, IsWellFormed, value_access, root_kind, is_record_object}
-use Rattle.ada_effects.specs.Effects.{expression_raises, passes}
+use Rattle.ada_effects.specs.Effects.{expression_raises, path_raises, record_path_raises, items_raise, initial_raises, passes}
 use Rattle.ada_flow.specs.declared.rule.Hold.{Hold}
 use Rattle.ada_flow.specs.declared.rule.Region.TheVariants.{Whole}
 use Rattle.ada_flow.specs.declared.rule.Hold.TheVariants.{Null, Own, Alias, Lost}
 use Rattle.ada_flow.specs.declared.rule.Rule.TheVariants.{LoopState}
-use Rattle.ada_flow.specs.Flow.{Holds, hold_at, variable_access, join, join_option, Outcome, faults, goes, also_raises, then_flow, raising_if, ends_with, Use, uses_in, uses_in_right, uses_in_target, Breach, broken_among, unless_broken, using_paths, computed, left_by_move, without_value, without_values, moved_by_right, right_hold, evaluation_raises, gives, gives_path, without_alias, without_aliases, behind_end, freed, released, passes_own, freed_behind, frees_path, gets_path, either_of, are_as_good, opened_hold, opened, opened_target, opened_by, opened_by_all, opened_by_branches, opened_by_handlers, ends_turn, left_with, is_left, condition_flow, loop_flow, collected, if_own, left, left_option, leaves_block, handled, Around, in_loop, in_block, exit_of, exit_flow, declaration_flow, declarations_flow, bounds_flow, counting_start, begins_pair, stmt_flow, stmts_flow, branches_flow, handlers_flow, variables_of}
+use Rattle.ada_flow.specs.Flow.{Holds, hold_at, variable_access, join, join_option, Outcome, faults, goes, also_raises, then_flow, raising_if, ends_with, Use, uses_in, uses_in_right, uses_in_target, Breach, broken_among, unless_broken, using_paths, computed, left_by_move, without_value, without_values, moved_by_right, right_hold, evaluation_raises, gives, gives_path, without_alias, without_aliases, behind_end, freed, released, passes_own, freed_behind, frees_path, gets_path, either_of, are_as_good, opened_hold, opened, opened_target, opened_by, opened_by_all, opened_by_branches, opened_by_handlers, ends_turn, left_with, is_left, condition_flow, loop_flow, Gone, gone_with, declared_at, uses_in_initial, uses_in_record, reaches_it, without_types, without_variables, if_own, left, left_option, leaves_block, handled, Around, in_loop, in_block, exit_of, exit_flow, declaration_flow, declarations_flow, bounds_flow, counting_start, begins_pair, stmt_flow, stmts_flow, branches_flow, handlers_flow, variables_of}
 use Rattle.ada_sound.proofs.Assigned.{root_or_none}
 use Rattle.ada_sound.specs.Agreement.{Place, Turning, Comes, here, behind, in_branches, in_body, in_count, in_enclosed, ComesBy, in_others, in_this, in_next, ComesTo, to_this, to_next, ComesInside, in_statements, in_handlers, IsFlowAt}
 use Rattle.ada_sound.proofs.Values.{read_same, read_other, same_or_not}
@@ -34,11 +34,26 @@ own_lost : (b : Bool) → if_own b Lost ≡ Lost
 own_lost true = refl
 own_lost false = refl
 
-left_lost : (variables : List VariableForm) (types : List ℕ) (holds : Holds) (x : ℕ) → hold_at holds x ≡ Lost → hold_at (left variables types holds) x ≡ Lost
-left_lost [] types holds x e = refl
-left_lost (v ∷ vs) types [] x e = refl
-left_lost (v ∷ vs) types (h ∷ hs) zero e = rw e (own_lost _)
-left_lost (v ∷ vs) types (h ∷ hs) (suc x) e = left_lost vs types hs x e
+types_lost : (variables : List VariableForm) (types : List ℕ) (holds : Holds) (x : ℕ) → hold_at holds x ≡ Lost → hold_at (without_types variables types holds) x ≡ Lost
+types_lost [] types holds x e = refl
+types_lost (v ∷ vs) types [] x e = refl
+types_lost (v ∷ vs) types (h ∷ hs) zero e = rw e (own_lost _)
+types_lost (v ∷ vs) types (h ∷ hs) (suc x) e = types_lost vs types hs x e
+
+one_lost : (holds : Holds) (y x : ℕ) → hold_at holds x ≡ Lost → hold_at (slice_set holds y Lost) x ≡ Lost
+one_lost holds y x e = go (same_or_not x y)
+  where
+    go : (x ≡ y) ⊎ (x ≢ y) → hold_at (slice_set holds y Lost) x ≡ Lost
+    go (inl same) = rw same (elim (read_same holds y Lost Lost) [ inl is ↦ is | inr is ↦ is ])
+    go (inr ne) = rw (read_other holds y x Lost Lost ne) e
+
+variables_lost : (xs : List ℕ) (holds : Holds) (x : ℕ) → hold_at holds x ≡ Lost → hold_at (without_variables xs holds) x ≡ Lost
+variables_lost [] holds x e = e
+variables_lost (y ∷ ys) holds x e = variables_lost ys (slice_set holds y Lost) x (one_lost holds y x e)
+
+left_lost : (variables : List VariableForm) (gone : Gone) (holds : Holds) (x : ℕ) → hold_at holds x ≡ Lost → hold_at (left variables gone holds) x ≡ Lost
+left_lost variables gone holds x e =
+    variables_lost gone.variables (without_types variables gone.types holds) x (types_lost variables gone.types holds x e)
 
 -- It does so behind the end of an object.
 alias_lost : (b : Bool) → without_alias b Lost ≡ Lost
@@ -155,22 +170,22 @@ module _ (types : List TypeForm) (variables : List VariableForm) (texts exceptio
   condition_keeps (Some e) holds s = computed_keeps e holds s
 
   -- What is assigned.
-  gives_keeps : (cleared : Bool) (x : ℕ) (right : RightForm) (holds : Holds) → right_fits types variables (variable_kind variables x) right ≡ true → Scalars holds → Keeps (gives variables cleared x right holds)
-  gives_keeps cleared x right holds fits s =
+  gives_keeps : (spot : Spot) (cleared : Bool) (x : ℕ) (right : RightForm) (holds : Holds) → right_fits types variables (variable_kind variables x) right ≡ true → Scalars holds → Keeps (gives types variables spot cleared x right holds)
+  gives_keeps spot cleared x right holds fits s =
       let borrows = is_borrower variables x in
       let after = slice_set (without_values (moved_by_right borrows right) holds) x (right_hold borrows right holds) in
-      using_keeps (uses_in_right borrows cleared None right) holds (ends_with (evaluation_raises right) holds after)
+      using_keeps (uses_in_right types spot borrows cleared None right) holds (ends_with (evaluation_raises right) holds after)
       (ends_keep (evaluation_raises right) holds after s
       (set_keeps (without_values (moved_by_right borrows right) holds) x (right_hold borrows right holds)
       (right_lost borrows types variables (variable_kind variables x) right holds fits) (without_keeps (moved_by_right borrows right) holds s)))
 
-  path_keeps : (cleared : Bool) (cs : List ℕ) (path : PathForm) (right : RightForm) (holds : Holds) → right_fits types variables (selectors_kind types (root_kind path.of_record (variable_kind variables path.root)) cs) right ≡ true → Scalars holds → Keeps (gives_path variables cleared cs path right holds)
+  path_keeps : (cleared : Bool) (cs : List ℕ) (path : PathForm) (right : RightForm) (holds : Holds) → right_fits types variables (selectors_kind types (root_kind path.of_record (variable_kind variables path.root)) cs) right ≡ true → Scalars holds → Keeps (gives_path types variables cleared cs path right holds)
   path_keeps cleared [] path right holds fits s =
-      gives_keeps cleared path.root right holds
+      gives_keeps path.spot cleared path.root right holds
       (elim (root_or_none path.of_record (variable_kind variables path.root)) [ inl same ↦ rw same at fits | inr none ↦ absurd (let never : right_fits types variables None right ≡ true = rw none at fits in cc never) ]) s
   path_keeps cleared (c ∷ cs) path right holds fits s =
-      using_keeps (uses_in_target path ++ uses_in_right false cleared (Some path) right) holds (ends_with true holds (without_values (moved_by_right false right) holds))
-      (ends_keep true holds (without_values (moved_by_right false right) holds) s (without_keeps (moved_by_right false right) holds s))
+      using_keeps (uses_in_target path ++ uses_in_right types path.spot false cleared (Some path) right) holds (ends_with (path_raises path || evaluation_raises right) holds (without_values (moved_by_right false right) holds))
+      (ends_keep (path_raises path || evaluation_raises right) holds (without_values (moved_by_right false right) holds) s (without_keeps (moved_by_right false right) holds s))
 
   behind_end_keeps : (access : Option ℕ) (holds : Holds) → Scalars holds → Scalars (behind_end variables access holds)
   behind_end_keeps None holds s = s
@@ -193,8 +208,8 @@ module _ (types : List TypeForm) (variables : List VariableForm) (texts exceptio
   frees_keeps (c ∷ cs) access path holds fits s =
       let own = path_access types variables path in
       let after = behind_end variables own holds in
-      unless_keeps (freed_behind (passes_own types variables path own) (hold_at holds path.root) path.spot) (ends_with true after after)
-      (ends_keep true after after (behind_end_keeps own holds s) (behind_end_keeps own holds s))
+      unless_keeps (freed_behind (passes_own types variables path own) (hold_at holds path.root) path.spot) (ends_with (path_raises path) after after)
+      (ends_keep (path_raises path) after after (behind_end_keeps own holds s) (behind_end_keeps own holds s))
 
   gets_keeps : (cs : List ℕ) (path : PathForm) (holds : Holds) → Scalars holds → Keeps (gets_path cs path holds)
   gets_keeps [] path holds s = (set_keeps holds path.root Lost (λ n. refl) s, s)
@@ -212,6 +227,7 @@ module _ (types : List TypeForm) (variables : List VariableForm) (texts exceptio
     opens : (f : StmtForm) (holds : Holds) → Scalars holds → Scalars (opened_by variables f holds)
     opens skips holds s = s
     opens (assigns target right) holds s = target_keeps target.selectors target.root holds s
+    opens (assigns_record target items) holds s = s
     opens (frees access path) holds s = s
     opens (gets target) holds s = s
     opens (writes e) holds s = s
@@ -262,7 +278,7 @@ module _ (types : List TypeForm) (variables : List VariableForm) (texts exceptio
       (then_keeps (condition_flow condition start) (λ hs. ends_turn start spot (turn (Some start) hs)) (condition_keeps condition start s)
       (λ holds k. turn_keeps start spot (turn (Some start) holds) (t holds k)))
 
-  exit_keeps : (start : Option Holds) (inside : List ℕ) (condition : Option ExpressionForm) (spot : Spot) (holds : Holds) → Scalars holds → Keeps (exit_flow variables start inside condition spot holds)
+  exit_keeps : (start : Option Holds) (inside : Gone) (condition : Option ExpressionForm) (spot : Spot) (holds : Holds) → Scalars holds → Keeps (exit_flow variables start inside condition spot holds)
   exit_keeps start inside condition spot holds s = go start (once condition)
     where
       once : (e : Option ExpressionForm) → Keeps (exit_of e holds)
@@ -273,29 +289,33 @@ module _ (types : List TypeForm) (variables : List VariableForm) (texts exceptio
       go None k = k
       go (Some start) k = worse_keeps (are_as_good (left variables inside holds) start) spot (exit_of condition holds) k
 
-  left_keeps : (collections : List ℕ) (way : Option Holds) → OnWay way → OnWay (left_option variables collections way)
-  left_keeps collections None k = tt
-  left_keeps collections (Some holds) k = λ x none. left_lost variables collections holds x (k x none)
+  left_keeps : (gone : Gone) (way : Option Holds) → OnWay way → OnWay (left_option variables gone way)
+  left_keeps gone None k = tt
+  left_keeps gone (Some holds) k = λ x none. left_lost variables gone holds x (k x none)
 
-  block_keeps : (collections : List ℕ) (o : Outcome) → Keeps o → Keeps (leaves_block variables collections o)
-  block_keeps collections (faults spot rule) k = tt
-  block_keeps collections (goes normal raising) k = (left_keeps collections normal k.0, left_keeps collections raising k.1)
+  block_keeps : (gone : Gone) (o : Outcome) → Keeps o → Keeps (leaves_block variables gone o)
+  block_keeps gone (faults spot rule) k = tt
+  block_keeps gone (goes normal raising) k = (left_keeps gone normal k.0, left_keeps gone raising k.1)
 
   handled_keeps : (b : Bool) (handlers : Holds → Outcome) (o : Outcome) → Keeps o → ((holds : Holds) → Scalars holds → Keeps (handlers holds)) → Keeps (handled b handlers o)
   handled_keeps b handlers (faults spot rule) k h = tt
   handled_keeps b handlers (goes normal None) k h = (k.0, tt)
   handled_keeps b handlers (goes normal (Some raising)) k h = either_keeps (goes normal (raising_if b raising)) (handlers raising) (k.0, if_keeps b raising k.1) (h raising k.1)
 
-  declarations_keep : (ds : List DeclarationForm) (holds : Holds) → list_all (initial_fits types variables) ds ≡ true → Scalars holds → Keeps (declarations_flow variables ds holds)
+  declarations_keep : (ds : List DeclarationForm) (holds : Holds) → list_all (initial_fits types variables) ds ≡ true → Scalars holds → Keeps (declarations_flow types variables ds holds)
   declarations_keep [] holds fits s = (s, tt)
   declarations_keep (d ∷ ds) holds fits s =
       let parts = and_parts _ _ fits in
-      then_keeps (declaration_flow variables d holds) (declarations_flow variables ds) (one d parts.0) (λ hs k. declarations_keep ds hs parts.1 k)
+      then_keeps (declaration_flow types variables d holds) (declarations_flow types variables ds) (one d parts.0) (λ hs k. declarations_keep ds hs parts.1 k)
     where
-      one : (d : DeclarationForm) → initial_fits types variables d ≡ true → Keeps (declaration_flow variables d holds)
+      one : (d : DeclarationForm) → initial_fits types variables d ≡ true → Keeps (declaration_flow types variables d holds)
       one (collects access) e = (s, tt)
-      one (declares x right) e = gives_keeps false x right holds (and_parts _ _ (and_parts _ _ e).0).1 s
-      one (declares_record x t) e = (set_keeps holds x (Own Whole) (λ none. absurd (record_some (variable_kind variables x) t e none)) s, tt)
+      one (declares x right) e = gives_keeps (declared_at variables x) false x right holds (and_parts _ _ (and_parts _ _ e).0).1 s
+      one (declares_record x t initial) e =
+          let after = slice_set holds x (Own Whole) in
+          let is = (and_parts _ _ e).0 in
+          using_keeps (uses_in_initial types (declared_at variables x) t initial) holds (ends_with (initial_raises initial) holds after)
+          (ends_keep (initial_raises initial) holds after s (set_keeps holds x (Own Whole) (λ none. absurd (record_some (variable_kind variables x) t is none)) s))
 
   bounds_keep : (low high : ExpressionForm) (holds : Holds) → Scalars holds → Keeps (bounds_flow low high holds)
   bounds_keep low high holds s = then_keeps (computed low holds) (computed high) (computed_keeps low holds s) (λ hs k. computed_keeps high hs k)
@@ -305,6 +325,9 @@ module _ (types : List TypeForm) (variables : List VariableForm) (texts exceptio
     stmt_keeps : (around : Around) (inside cleared : Bool) (f : StmtForm) (holds : Holds) → statement_fits types variables texts exceptions inside f ≡ true → Scalars holds → Keeps (stmt_flow types variables around cleared f holds)
     stmt_keeps around inside cleared skips holds fits s = (s, tt)
     stmt_keeps around inside cleared (assigns target right) holds fits s = path_keeps cleared target.selectors target right holds (and_parts _ _ fits).0 s
+    stmt_keeps around inside cleared (assigns_record target items) holds fits s =
+        let may = record_path_raises target || items_raise items in
+        using_keeps (reaches_it target.object ∷ uses_in_record types target.object.spot target.record_type items) holds (ends_with may holds holds) (ends_keep may holds holds s s)
     stmt_keeps around inside cleared (frees access path) holds fits s = frees_keeps path.selectors access path holds (and_parts _ _ fits).0 s
     stmt_keeps around inside cleared (gets target) holds fits s = gets_keeps target.selectors target holds s
     stmt_keeps around inside cleared (writes e) holds fits s = computed_keeps e holds s
@@ -324,12 +347,12 @@ module _ (types : List TypeForm) (variables : List VariableForm) (texts exceptio
     stmt_keeps around inside cleared (encloses ds fs hs) holds fits s =
         let parts = and_parts _ _ fits in
         let more = and_parts _ _ parts.0 in
-        block_keeps (collected ds) _
-        (then_keeps (declarations_flow variables ds holds) _ (declarations_keep ds holds (and_parts _ _ more.0).1 s)
+        block_keeps (gone_with ds) _
+        (then_keeps (declarations_flow types variables ds holds) _ (declarations_keep ds holds (and_parts _ _ more.0).1 s)
         (λ at k.
-        handled_keeps (passes fs hs) (handlers_flow types variables (in_block (collected ds) around) hs) (stmts_flow types variables (in_block (collected ds) around) fs at)
-        (stmts_keep (in_block (collected ds) around) inside fs at more.1 k)
-        (λ gs m. handlers_keep (in_block (collected ds) around) inside hs gs parts.1 m)))
+        handled_keeps (passes fs hs) (handlers_flow types variables (in_block (gone_with ds) around) hs) (stmts_flow types variables (in_block (gone_with ds) around) fs at)
+        (stmts_keep (in_block (gone_with ds) around) inside fs at more.1 k)
+        (λ gs m. handlers_keep (in_block (gone_with ds) around) inside hs gs parts.1 m)))
 
     stmts_keep : (around : Around) (inside : Bool) (fs : StmtsForm) (holds : Holds) → stmts_fit types variables texts exceptions inside fs ≡ true → Scalars holds → Keeps (stmts_flow types variables around fs holds)
     stmts_keep around inside no_stmts holds fits s = (s, tt)

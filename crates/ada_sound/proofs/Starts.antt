@@ -9,7 +9,7 @@ use Rattle.ada_program.specs.ProgramForm.{program_form}
 use Rattle.ada_program.specs.WellFormed.{IsWellFormed}
 use Rattle.ada_program.specs.Nested.{CollectionsNest}
 use Rattle.ada_flow.specs.declared.rule.Hold.TheVariants as hold
-use Rattle.ada_flow.specs.Flow.{Holds, hold_at, left, collected, outermost, first_holds, variables_of, program_flow, ObeysRules}
+use Rattle.ada_flow.specs.Flow.{Holds, hold_at, left, collected, gone_with, outermost, first_holds, variables_of, program_flow, ObeysRules}
 use Rattle.ada_meaning.specs.Frame.{Elaborates}
 use Rattle.ada_meaning.specs.Named.{State}
 use Rattle.ada_meaning.specs.Run.{blank_of, first_state}
@@ -45,12 +45,12 @@ goes_anywhere (Some holds) = tt
 
 -- Behind the main procedure nothing is asked for.
 abbrev behind_main : Program → Ways
-behind_main program = Outside (variables_of program) (collected (declaration_forms program)) anywhere
+behind_main program = Outside (variables_of program) (gone_with (declaration_forms program)) anywhere
 
 ends_main : (program : Program) (holds : Holds) → (behind_main program).normal holds
-ends_main program holds = to_here (λ h. Unit {0}) (left (variables_of program) (collected (declaration_forms program)) holds) tt
+ends_main program holds = to_here (λ h. Unit {0}) (left (variables_of program) (gone_with (declaration_forms program)) holds) tt
 
-program_runs : (program : Program) → ObeysRules program → RunsOn (reached program) (Elaborates (declaration_forms program) (stmt_forms program) (handler_forms program) ∷ []) (collected (declaration_forms program) ∷ []) (first_holds program)
+program_runs : (program : Program) → ObeysRules program → RunsOn (reached program) (Elaborates (declaration_forms program) (stmt_forms program) (handler_forms program) ∷ []) (gone_with (declaration_forms program) ∷ []) (first_holds program)
 program_runs program (normal, raising, is) =
     let all : Goes (program_flow program) (λ holds. Unit {0}) (λ holds. Unit {0}) = rw is (goes_anywhere normal, goes_anywhere raising) in (
       all_among (collected (declaration_forms program)),
@@ -73,7 +73,7 @@ ready_first : (program : Program) (input : List ℤ) → ObeysRules program → 
 ready_first program input obeys = (
   tt,
   record {
-    rooms = collected (declaration_forms program) ∷ [];
+    rooms = gone_with (declaration_forms program) ∷ [];
     holds = first_holds program;
     stored = record { counted = tt; sane = λ o x e. absurd (cc e) };
     roomed = (tt, tt);

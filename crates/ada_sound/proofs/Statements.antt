@@ -5,13 +5,13 @@ use Rattle.std.specs.Prelude.{ℤ, pos, ◌+ℤ◌, int_le, ◌==◌, if◌then�
 use Rattle.std.specs.List.{slice_set, list_all}
 use Rattle.std.proofs.lemmas.Bool.{eq-eqb, and_parts}
 use Rattle.ada_program.specs.declared.program.TypeDefinition.{TypeDefinition}
-use Rattle.ada_program.specs.WellFormed.{access_of, selectors_kind, variable_kind, path_access, is_freed_by, initial_fits, statement_fits, stmts_fit}
+use Rattle.ada_program.specs.WellFormed.{access_of, selectors_kind, variable_kind, path_kind, path_access, reached_components, right_fits, lends_to, names_borrower, is_freed_by, is_record_object, record_initial_fits, initial_fits, statement_fits, stmts_fit}
 use Rattle.ada_program.specs.declared.program.Exception.{Exception}
 use Rattle.ada_program.specs.declared.program.Exception.TheVariants.{ConstraintError, EndError}
-use Rattle.ada_program.specs.Form.{PathForm, ExpressionForm, RightForm, nothing, value_of, allocates, allocates_default, computes, StmtForm, skips, assigns, frees, gets, writes, writes_text, chooses, repeats, counts, exits, returns, raises, encloses, StmtsForm, no_stmts, a_stmt, BranchesForm, otherwise, a_branch, HandlersForm, DeclarationForm, collects, declares, declares_record}
+use Rattle.ada_program.specs.Form.{PathForm, ExpressionForm, RightForm, nothing, value_of, allocates, allocates_default, computes, StmtForm, skips, assigns, assigns_record, frees, gets, writes, writes_text, chooses, repeats, counts, exits, returns, raises, encloses, StmtsForm, no_stmts, a_stmt, BranchesForm, otherwise, a_branch, HandlersForm, DeclarationForm, collects, declares, declares_record}
 use Rattle.ada_program.specs.Handling.{is_same}
 use Rattle.ada_effects.specs.Effects.{expression_raises, path_raises, condition_raises, right_raises}
-use Rattle.ada_flow.specs.Flow.{Holds, uses_in_target, ends_with, bounds_flow, gives, gives_component, gives_path, gets_path, frees_path, leaves_path, clears, begins_pair, exit_of, collected, computed, Around}
+use Rattle.ada_flow.specs.Flow.{Holds, uses_in_target, ends_with, bounds_flow, gives, gives_path, gets_path, frees_path, leaves_path, clears, begins_pair, exit_of, declared_at, collected, gone_with, computed, Around}
 use Rattle.ada_meaning.specs.declared.state.Value.{Value}
 use Rattle.ada_meaning.specs.declared.state.Mode.TheVariants.{Raising, Exiting, Returning}
 use Rattle.ada_meaning.specs.Frame.{Elaborates, Does, Decides, Repeats, Turns, Ranges, Counts, Exits, Handles, Closes, Evaluates, Computes, Stores, Declares, Writes}
@@ -20,10 +20,15 @@ use Rattle.ada_meaning.specs.State.{collection, Activation, Master}
 use Rattle.ada_meaning.specs.Step.{moves, owning, assign_next, frees_next, gets_next, branches_next, decided_next, turn_next, repeats_next, turned_next, count_turn_next, counts_next, ranges_next, exit_next, exited_next, stmt_next, stmts_next, declaration_next, declarations_next}
 use Rattle.ada_meaning.specs.Named.{Object, State, named}
 use Rattle.ada_sound.proofs.Stored.{stored_owning, stored_entered}
-use Rattle.ada_sound.proofs.Fits.{weaker_fit, put_lost}
+use Rattle.ada_typed.specs.Holding.{cells_of}
+use Rattle.ada_typed.proofs.Values.{AreHeld}
+use Rattle.ada_sound.proofs.Fits.{is_object, weaker_fit, put_lost}
 use Rattle.ada_sound.proofs.Orderings.{good_losing}
 use Rattle.ada_sound.proofs.Assigned.{freed_at}
-use Rattle.ada_sound.proofs.Records.{record_fine}
+use Rattle.ada_sound.proofs.Roots.{root_object, value_root, right_leads, integer_leads}
+use Rattle.ada_sound.proofs.Copied.{record_there}
+use Rattle.ada_sound.proofs.Records.{has_place, record_fine}
+use Rattle.ada_sound.proofs.Wholes.{record_begins}
 use Rattle.ada_sound.proofs.Invariant.{Pooled, Known, Control, Rooms, Roomed, Goes, Raised, Doing, Choosing, TurnsTo, condition_among, component_among, Counting, Elaborating, Handled, Outside, RunsOn, Deciding, TurningOn, ExitingTo, Computing, IsOne, Pairs, Takes, Working, Resumes, EvaluatesTo, Fine, ways}
 use Rattle.ada_sound.proofs.Ready.{running, at_work, with_less, at_less, stays, lost_stored, ready_on, runs_on, jumps, jumps_less}
 use Rattle.ada_sound.proofs.Nestings.{Starting, starts, others_do, branch_does, chooses_from, repeats_from, turn_runs, counts_from, count_runs, exit_parts, encloses_from}
@@ -34,23 +39,12 @@ use Rattle.ada_sound.proofs.Targets.{component_begins, get_begins, half_begins}
 use Rattle.ada_sound.proofs.Frees.{free_fine}
 use Rattle.ada_sound.proofs.Releases.{free_begins}
 
--- Which exceptions an assignment may raise, and which Get may.
-abbrev assign_among : List ℕ → RightForm → Exception → Bool
-assign_among cs right e = (is_same e ConstraintError && path_raises cs) || right_raises (is_same e) right
+-- Which exceptions a Free may raise, and which Get may.
+abbrev free_among : PathForm → Exception → Bool
+free_among path e = is_same e ConstraintError && path_raises path
 
-abbrev free_among : List ℕ → Exception → Bool
-free_among cs e = is_same e ConstraintError && path_raises cs
-
-abbrev get_among : List ℕ → Exception → Bool
-get_among cs e = is_same e EndError || (is_same e ConstraintError && path_raises cs)
-
--- An assignment to a component may always raise Constraint_Error.
-component_raises : (c : ℕ) (cs : List ℕ) (right : RightForm) (e : Exception) → component_among right e ≡ true → assign_among (c ∷ cs) right e ≡ true
-component_raises c cs right e may = go (is_same e ConstraintError) (right_raises (is_same e) right) may
-  where
-    go : (a b : Bool) → (a || b) ≡ true → ((a && true) || b) ≡ true
-    go true b h = refl
-    go false b h = h
+abbrev get_among : PathForm → Exception → Bool
+get_among target e = is_same e EndError || (is_same e ConstraintError && path_raises target)
 
 -- The target of the first half of a take pair leaves the path alone that is moved.
 another : (a b : ℕ) → not (a == b) ≡ true → a ≢ b
@@ -90,27 +84,30 @@ module _ (known : Known) where
   roomed_collects : (item access : ℕ) (ds : List DeclarationForm) (fs : StmtsForm) (hs : HandlersForm) (k : Control) (holds : Holds) (ms : List Master) (rooms : Rooms) → Roomed ms rooms → RunsOn known (Elaborates (collects access ∷ ds) fs hs ∷ k) rooms holds → Roomed (owning (record { number = item; owned = collection access }) ms) rooms
   roomed_collects item access ds fs hs k holds [] rooms r e = r
   roomed_collects item access ds fs hs k holds (m ∷ ms) [] r e = r
-  roomed_collects item access ds fs hs k holds (m ∷ ms) (types ∷ rooms) r e = ((e.0.0, r.0), r.1)
+  roomed_collects item access ds fs hs k holds (m ∷ ms) (gone ∷ rooms) r e = ((e.0.0, r.0), r.1)
 
   -- What declarations go on with.
   collects_more : (access : ℕ) (ds : List DeclarationForm) (fs : StmtsForm) (hs : HandlersForm) (k : Control) (holds : Holds) (rooms : Rooms) → RunsOn known (Elaborates (collects access ∷ ds) fs hs ∷ k) rooms holds → RunsOn known (Elaborates ds fs hs ∷ k) rooms holds
   collects_more access ds fs hs k holds [] e = absurd e
-  collects_more access ds fs hs k holds (types ∷ rooms) e = (e.0.1, e.1.0)
+  collects_more access ds fs hs k holds (gone ∷ rooms) e = (e.0.1, e.1.0)
 
   declares_more : (heap : List Object) (places : List Value) (x : ℕ) (right : RightForm) (ds : List DeclarationForm) (fs : StmtsForm) (hs : HandlersForm) (k : Control) (holds : Holds) (rooms : Rooms) → RunsOn known (Elaborates (declares x right ∷ ds) fs hs ∷ k) rooms holds → Takes known heap places right (Declares x ∷ Elaborates ds fs hs ∷ k) rooms holds
   declares_more heap places x right ds fs hs k holds [] e = absurd e
-  declares_more heap places x right ds fs hs k holds (types ∷ rooms) e =
-      let o = Outside known.program.variables types (ways known k rooms) in (
+  declares_more heap places x right ds fs hs k holds (gone ∷ rooms) e =
+      let o = Outside known.program.variables gone (ways known k rooms) in (
         false,
-        goes_map (gives known.program.variables false x right holds) (Elaborating known ds (Doing known fs (Handles hs ∷ Closes ∷ k) (Handled known hs (Closes ∷ k) (Outside known.program.variables types (ways known k rooms)))) (Outside known.program.variables types (ways known k rooms)))
-            (Raised (λ e'. right_raises (is_same e') right) o) (RunsOn known (Elaborates ds fs hs ∷ k) (types ∷ rooms)) (Raised (λ e'. right_raises (is_same e') right) (ways known (Elaborates ds fs hs ∷ k) (types ∷ rooms)))
-            (λ h g. (e.0, g)) (λ h r. r) e.1,
+        (
+          declared_at known.program.variables x,
+          goes_map (gives known.program.types known.program.variables (declared_at known.program.variables x) false x right holds) (Elaborating known ds (Doing known fs (Handles hs ∷ Closes ∷ k) (Handled known hs (Closes ∷ k) (Outside known.program.variables gone (ways known k rooms)))) (Outside known.program.variables gone (ways known k rooms)))
+              (Raised (λ e'. right_raises (is_same e') right) o) (RunsOn known (Elaborates ds fs hs ∷ k) (gone ∷ rooms)) (Raised (λ e'. right_raises (is_same e') right) (ways known (Elaborates ds fs hs ∷ k) (gone ∷ rooms)))
+              (λ h g. (e.0, g)) (λ h r. r) e.1,
+        ),
         tt,
       )
 
   begins_more : (fs : StmtsForm) (hs : HandlersForm) (k : Control) (holds : Holds) (rooms : Rooms) → RunsOn known (Elaborates [] fs hs ∷ k) rooms holds → RunsOn known (Does fs ∷ Handles hs ∷ Closes ∷ k) rooms holds
   begins_more fs hs k holds [] e = absurd e
-  begins_more fs hs k holds (types ∷ rooms) e = e.1
+  begins_more fs hs k holds (gone ∷ rooms) e = e.1
 
   module _ (a : Activation Value) (rest : List (Activation Value)) (s : State) where
     -- Something is evaluated for a variable.
@@ -130,8 +127,8 @@ module _ (known : Known) where
 
     -- Declarations.
     module _ (fs : StmtsForm) (hs : HandlersForm) (k : Control) where
-      declaration_fine : (types : List TypeDefinition) (d : DeclarationForm) (ds : List DeclarationForm) → initial_fits known.program.types known.program.variables d ≡ true → Working known s.heap a.places s.masters (RunsOn known (Elaborates (d ∷ ds) fs hs ∷ k)) → Fine known s.heap s.masters (declaration_next named types d (running (Elaborates ds fs hs ∷ k) a rest s))
-      declaration_fine types (collects access) ds fits w =
+      declaration_fine : (types : List TypeDefinition) (d : DeclarationForm) (ds : List DeclarationForm) → AreHeld (cells_of s.heap) known.program.variables a.places → initial_fits known.program.types known.program.variables d ≡ true → Working known s.heap a.places s.masters (RunsOn known (Elaborates (d ∷ ds) fs hs ∷ k)) → Fine known s.heap s.masters (declaration_next named types d (running (Elaborates ds fs hs ∷ k) a rest s))
+      declaration_fine types (collects access) ds held fits w =
           stays known Quiet _ (
             tt,
             record {
@@ -143,49 +140,50 @@ module _ (known : Known) where
               rest = collects_more access ds fs hs k w.holds w.rooms w.rest;
             },
           ) tt
-      declaration_fine types (declares_record x t) ds fits w = record_fine known a rest s types x t ds fs hs k fits w
-      declaration_fine types (declares x right) ds fits w =
+      declaration_fine types (declares_record x t initial) ds held fits w =
+          let is = (and_parts (is_record_object t (variable_kind known.program.variables x)) (record_initial_fits known.program.types known.program.variables x (reached_components known.program.types t) initial) fits).0 in
+          let place = has_place (cells_of s.heap) known.program.variables a.places x t held is in
+          record_fine known a rest s types x t ds fs hs k initial place.0 place.1 is w
+      declaration_fine types (declares x right) ds held fits w =
           ready_on known (Evaluates right ∷ Declares x ∷ Elaborates ds fs hs ∷ k) a rest s a.operands
           (declares_ready right x (Elaborates ds fs hs ∷ k) (at_work w (declares_more s.heap a.places x right ds fs hs k w.holds w.rooms w.rest)))
 
-      pub declarations_fine : (types : List TypeDefinition) (ds : List DeclarationForm) → list_all (initial_fits known.program.types known.program.variables) ds ≡ true → Working known s.heap a.places s.masters (RunsOn known (Elaborates ds fs hs ∷ k)) → Fine known s.heap s.masters (declarations_next named types ds fs hs (running k a rest s))
-      declarations_fine types [] fits w = runs_on known (Does fs ∷ Handles hs ∷ Closes ∷ k) a rest s (at_work w (begins_more fs hs k w.holds w.rooms w.rest)) Quiet tt
-      declarations_fine types (d ∷ ds) fits w = declaration_fine types d ds (and_parts _ _ fits).0 w
+      pub declarations_fine : (types : List TypeDefinition) (ds : List DeclarationForm) → AreHeld (cells_of s.heap) known.program.variables a.places → list_all (initial_fits known.program.types known.program.variables) ds ≡ true → Working known s.heap a.places s.masters (RunsOn known (Elaborates ds fs hs ∷ k)) → Fine known s.heap s.masters (declarations_next named types ds fs hs (running k a rest s))
+      declarations_fine types [] held fits w = runs_on known (Does fs ∷ Handles hs ∷ Closes ∷ k) a rest s (at_work w (begins_more fs hs k w.holds w.rooms w.rest)) Quiet tt
+      declarations_fine types (d ∷ ds) held fits w = declaration_fine types d ds held (and_parts _ _ fits).0 w
 
     -- Paths that are targets, or are freed.
-    assign_fine : (cs : List ℕ) (target : PathForm) (right : RightForm) (fs : StmtsForm) (k : Control) → target.selectors ≡ cs → Working known s.heap a.places s.masters (λ rooms holds. Goes (gives_path known.program.variables (begins_pair (assigns target right) fs) cs target right holds) (RunsOn known (Does fs ∷ k) rooms) (Raised (assign_among cs right) (ways known k rooms))) → Fine known s.heap s.masters (assign_next named cs target.root right (running (Does fs ∷ k) a rest s))
-    assign_fine [] target right fs k is w =
+    assign_fine : (cs : List ℕ) (target : PathForm) (right : RightForm) (fs : StmtsForm) (k : Control) → target.selectors ≡ cs → (target.of_record ≡ true → is_object known.program.variables target.root ≡ true) → Working known s.heap a.places s.masters (λ rooms holds. Goes (gives_path known.program.types known.program.variables (begins_pair (assigns target right) fs) cs target right holds) (RunsOn known (Does fs ∷ k) rooms) (Raised (component_among (path_raises target) right) (ways known k rooms))) → Fine known s.heap s.masters (assign_next named cs target.root right (running (Does fs ∷ k) a rest s))
+    assign_fine [] target right fs k is whole w =
         let out = ways known k w.rooms in
         let cleared = begins_pair (assigns target right) fs in
+        let among = component_among (path_raises target) right in
         ready_on known (Evaluates right ∷ Stores target.root ∷ Does fs ∷ k) a rest s a.operands
         (stores_ready right target.root (Does fs ∷ k) (at_work w (
           cleared,
-          goes_map (gives known.program.variables cleared target.root right w.holds) (RunsOn known (Does fs ∷ k) w.rooms) (Raised (assign_among [] right) out) (RunsOn known (Does fs ∷ k) w.rooms) (Raised (λ e. right_raises (is_same e) right) out)
-              (λ h m. m) (λ h r. raised_less (assign_among [] right) (λ e. right_raises (is_same e) right) out (λ e may. or_right (is_same e ConstraintError && false) (right_raises (is_same e) right) may) h r) w.rest,
+          (
+            target.spot,
+            goes_map (gives known.program.types known.program.variables target.spot cleared target.root right w.holds) (RunsOn known (Does fs ∷ k) w.rooms) (Raised among out) (RunsOn known (Does fs ∷ k) w.rooms) (Raised (λ e. right_raises (is_same e) right) out)
+                (λ h m. m) (λ h r. raised_less among (λ e. right_raises (is_same e) right) out (λ e may. or_right (is_same e ConstraintError && path_raises target) (right_raises (is_same e) right) may) h r) w.rest,
+          ),
           pairs_variable target right fs k is,
         )))
-    assign_fine (c ∷ cs) target right fs k is w =
-        let out = ways known k w.rooms in
+    assign_fine (c ∷ cs) target right fs k is whole w =
         let cleared = begins_pair (assigns target right) fs in
-        component_begins known a rest s cleared c cs target right fs k is
-        (at_work w (
-          goes_map (gives_component cleared target right w.holds) (RunsOn known (Does fs ∷ k) w.rooms) (Raised (assign_among (c ∷ cs) right) out) (RunsOn known (Does fs ∷ k) w.rooms) (Raised (component_among right) out)
-              (λ h m. m) (λ h r. raised_less (assign_among (c ∷ cs) right) (component_among right) out (component_raises c cs right) h r) w.rest,
-          pairs_component c cs target right fs k is,
-        ))
+        component_begins known a rest s cleared c cs target right fs k is whole (at_work w (w.rest, pairs_component c cs target right fs k is))
 
-    frees_fine : (cs : List ℕ) (access : ℕ) (path : PathForm) (fs : StmtsForm) (k : Control) → Pooled known.program.types s.heap → is_freed_by known.program.types access (path_access known.program.types known.program.variables path) ≡ true → path.selectors ≡ cs → Working known s.heap a.places s.masters (λ rooms holds. Goes (frees_path known.program.types known.program.variables cs path holds) (RunsOn known (Does fs ∷ k) rooms) (Raised (free_among cs) (ways known k rooms))) → Fine known s.heap s.masters (frees_next named cs access path.root (running (Does fs ∷ k) a rest s))
+    frees_fine : (cs : List ℕ) (access : ℕ) (path : PathForm) (fs : StmtsForm) (k : Control) → Pooled known.program.types s.heap → is_freed_by known.program.types access (path_access known.program.types known.program.variables path) ≡ true → path.selectors ≡ cs → Working known s.heap a.places s.masters (λ rooms holds. Goes (frees_path known.program.types known.program.variables cs path holds) (RunsOn known (Does fs ∷ k) rooms) (Raised (free_among path) (ways known k rooms))) → Fine known s.heap s.masters (frees_next named cs access path.root (running (Does fs ∷ k) a rest s))
     frees_fine [] access path fs k pooled freed is w =
         let own = freed_at known.program.types known.program.variables access path freed in
-        free_fine known a rest s access path.root path.spot fs k (λ rooms. Raised (free_among []) (ways known k rooms)) pooled own.0 (sym (ap (λ (cs : List ℕ). access_of (selectors_kind known.program.types (variable_kind known.program.variables path.root) cs)) is) ∙ own.2) own.3 w
-    frees_fine (c ∷ cs) access path fs k pooled freed is w = free_begins known a rest s c cs access path fs k (free_among (c ∷ cs)) refl freed is w
+        free_fine known a rest s access path.root (value_root known.program.types known.program.variables path own.0 is own.1) path.spot fs k (λ rooms. Raised (free_among path) (ways known k rooms)) pooled own.0 (sym (ap (λ (cs : List ℕ). access_of (selectors_kind known.program.types (variable_kind known.program.variables path.root) cs)) is) ∙ own.2) own.3 w
+    frees_fine (c ∷ cs) access path fs k pooled freed is w = free_begins known a rest s c cs access path fs k (free_among path) (λ may. may) freed is w
 
-    gets_fine : (cs : List ℕ) (target : PathForm) (input : List ℤ) (fs : StmtsForm) (k : Control) → target.selectors ≡ cs → Working known s.heap a.places s.masters (λ rooms holds. Goes (gets_path cs target holds) (RunsOn known (Does fs ∷ k) rooms) (Raised (get_among cs) (ways known k rooms))) → Fine known s.heap s.masters (gets_next named cs target.root input (running (Does fs ∷ k) a rest s))
-    gets_fine (c ∷ cs) target input fs k is w =
-        let u = using_goes (uses_in_target target) w.holds (ends_with true w.holds w.holds) (RunsOn known (Does fs ∷ k) w.rooms) (Raised (get_among (c ∷ cs)) (ways known k w.rooms)) w.rest in
-        get_begins known a rest s c cs target fs k is (at_work w (u.0, (λ may. u.1.1 ConstraintError refl), (λ may. u.1.1 EndError refl), u.1.0))
-    gets_fine [] target [] fs k is w = jumps_less known (Does fs ∷ k) a rest s (Raising EndError) (at_work w (w.rest.1 EndError refl))
-    gets_fine [] target (i ∷ others) fs k is w =
+    gets_fine : (cs : List ℕ) (target : PathForm) (input : List ℤ) (fs : StmtsForm) (k : Control) → target.selectors ≡ cs → (target.of_record ≡ true → is_object known.program.variables target.root ≡ true) → Working known s.heap a.places s.masters (λ rooms holds. Goes (gets_path cs target holds) (RunsOn known (Does fs ∷ k) rooms) (Raised (get_among target) (ways known k rooms))) → Fine known s.heap s.masters (gets_next named cs target.root input (running (Does fs ∷ k) a rest s))
+    gets_fine (c ∷ cs) target input fs k is whole w =
+        let u = using_goes (uses_in_target target) w.holds (ends_with true w.holds w.holds) (RunsOn known (Does fs ∷ k) w.rooms) (Raised (get_among target) (ways known k w.rooms)) w.rest in
+        get_begins known a rest s c cs target fs k is whole (at_work w (u.0, (λ may. u.1.1 ConstraintError may), (λ may. u.1.1 EndError refl), u.1.0))
+    gets_fine [] target [] fs k is whole w = jumps_less known (Does fs ∷ k) a rest s (Raising EndError) (at_work w (w.rest.1 EndError refl))
+    gets_fine [] target (i ∷ others) fs k is whole w =
         let v = named.integer i in
         runs_on known (Does fs ∷ k) (record a { places = slice_set a.places target.root v }) rest (record s { input = others })
         (lost_stored known target.root (Does fs ∷ k) v s.heap a.places s.masters (at_work w w.rest.0)) Quiet tt
@@ -275,9 +273,21 @@ module _ (known : Known) where
     -- Statements.
     stmt_fine : (inside : Bool) (around : Around) (f : StmtForm) (fs : StmtsForm) (k : Control) → Pooled known.program.types s.heap → statement_fits known.program.types known.program.variables known.program.texts known.program.exceptions inside f ≡ true → Working known s.heap a.places s.masters (λ rooms holds. Starting known around f fs k (ways known k rooms) holds) → Fine known s.heap s.masters (stmt_next named f (running (Does fs ∷ k) a rest s))
     stmt_fine inside around skips fs k pooled fits w = runs_on known (Does fs ∷ k) a rest s (at_work w w.rest.1.0) Quiet tt
-    stmt_fine inside around (assigns target right) fs k pooled fits w = assign_fine target.selectors target right fs k refl (at_work w w.rest.1)
+    stmt_fine inside around (assigns target right) fs k pooled fits w =
+        let types = known.program.types in
+        let variables = known.program.variables in
+        let leads = right_leads types variables (path_kind types variables target) right (and_parts (right_fits types variables (path_kind types variables target) right) (lends_to variables (names_borrower variables target) right) fits).0 in
+        assign_fine target.selectors target right fs k refl (root_object types variables target leads.0 leads.1) (at_work w w.rest.1)
+    stmt_fine inside around (assigns_record target items) fs k pooled fits w =
+        let there = record_there known.program.types known.program.variables target (and_parts _ _ fits).0 in
+        record_begins known a rest s target items fs k there (at_work w w.rest.1)
     stmt_fine inside around (frees access path) fs k pooled fits w = frees_fine path.selectors access path fs k pooled (and_parts _ _ fits).0 refl (at_work w w.rest.1)
-    stmt_fine inside around (gets target) fs k pooled fits w = gets_fine target.selectors target s.input fs k refl (at_work w w.rest.1)
+    stmt_fine inside around (gets target) fs k pooled fits w = (
+        let types = known.program.types in
+        let variables = known.program.variables in
+        let leads = integer_leads (path_kind types variables target) fits in
+        gets_fine target.selectors target s.input fs k refl (root_object types variables target leads.0 leads.1) (at_work w w.rest.1)
+        )
     stmt_fine inside around (writes e) fs k pooled fits w =
         let h = computed_goes e w.holds (RunsOn known (Does fs ∷ k) w.rooms) (Raised (λ x. is_same x ConstraintError && expression_raises e) (ways known k w.rooms)) w.rest.1 in
         ready_on known (Computes e ∷ Writes ∷ Does fs ∷ k) a rest s a.operands (at_work w (h.0, (λ may. h.2 may ConstraintError may), h.1))
@@ -296,7 +306,7 @@ module _ (known : Known) where
         stays known Quiet _ (
           tt,
           record {
-            rooms = collected ds ∷ w.rooms;
+            rooms = gone_with ds ∷ w.rooms;
             holds = w.holds;
             stored = stored_entered s.next w.stored;
             roomed = (tt, w.roomed);

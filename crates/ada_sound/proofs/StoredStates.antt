@@ -10,7 +10,7 @@ use Rattle.ada_meaning.specs.declared.state.Value.{Value}
 use Rattle.ada_meaning.specs.declared.state.Value.TheVariants.{Null, Names, Scalar}
 use Rattle.ada_meaning.specs.declared.state.Mode.{Mode}
 use Rattle.ada_meaning.specs.declared.state.Mode.TheVariants.{Running, Raising, Exiting, Returning}
-use Rattle.ada_meaning.specs.Frame.{Frame, Elaborates, Does, Decides, Repeats, Turns, Ranges, Counts, Exits, Handles, Closes, Leaves, Evaluates, Computes, Follows, TestsNull, Continues, Applies, AppliesAlone, Fills, Creates, Stores, Targets, StoresIn, Receives, FreesIn, Declares, Writes, Ends, GivesBack, Clears, ClearsIn}
+use Rattle.ada_meaning.specs.Frame.{Frame, Elaborates, Does, Decides, Repeats, Turns, Ranges, Counts, Exits, Handles, Closes, Leaves, Evaluates, Computes, Follows, TestsNull, Continues, Applies, AppliesAlone, Fills, Copies, Creates, Stores, Targets, StoresIn, TargetsRecord, StoresRecord, Receives, FreesIn, Declares, DeclaresRecord, Writes, Ends, GivesBack, Clears, ClearsIn}
 use Rattle.ada_meaning.specs.State.{Master}
 use Rattle.ada_meaning.specs.Step.{first_or}
 use Rattle.ada_meaning.specs.Named.{Object, State, store}
@@ -100,13 +100,17 @@ module _ (known : Known) where
   frame_stored (Applies operator) k heap places operands ms r = (None, r.stored)
   frame_stored (AppliesAlone operator) k heap places operands ms r = (None, r.stored)
   frame_stored (Fills items) k heap places operands ms r = (None, r.stored)
+  frame_stored (Copies first t) k heap places operands ms r = (None, r.stored)
   frame_stored (Creates access count) k heap places operands ms r = (None, r.stored)
   frame_stored (Stores x) k heap places operands ms r = resumes_stored k heap (slice_set places x (first_or Null operands)) ms r
   frame_stored (Targets c right) k heap places operands ms r = target_stored (first_or Null operands) c right k heap places ms r
   frame_stored (StoresIn o c) k heap places operands ms r = put_stored o c (first_or Null operands) k heap places ms r
+  frame_stored (TargetsRecord first t items) k heap places operands ms r = (None, r.stored)
+  frame_stored (StoresRecord o first count) k heap places operands ms r = (None, r.stored)
   frame_stored (Receives c) k heap places operands ms r = (None, r.stored)
   frame_stored (FreesIn access c) k heap places operands ms r = (None, r.stored)
   frame_stored (Declares x) k heap places operands ms r = (None, r.stored)
+  frame_stored (DeclaresRecord x t) k heap places operands ms r = (None, r.stored)
   frame_stored Writes k heap places operands ms r = (None, r.stored)
   frame_stored (Ends v) k heap places operands ms r = value_stored v k heap places ms r
   frame_stored (GivesBack v cause pool) k heap places operands ms r = words_stored v cause pool k heap places ms r

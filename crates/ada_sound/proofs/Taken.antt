@@ -1,9 +1,10 @@
 -- Values that are moved: what flow and typing say of them, and what objects are then.
 
-use Rattle.std.proofs.Common.{◌≡◌, ◌≢◌, ℕ, Bool, true, false, ◌==◌, List, [], ◌∷◌, refl, sym, ap, ◌∙◌, ◌⊎◌, inl, inr}
+use Rattle.std.proofs.Common.{◌≡◌, ◌≢◌, ℕ, Bool, true, false, ◌==◌, ◌||◌, List, [], ◌∷◌, ◌++◌, refl, sym, ap, ◌∙◌, ◌⊎◌, inl, inr}
 use Rattle.std.proofs.lemmas.Bool.{and_parts, eqb-true}
 use Rattle.std.specs.Prelude.{Option, Some, None}
 use Rattle.std.specs.List.{slice_get, slice_set}
+use Rattle.ada_program.specs.declared.program.Exception.{Exception}
 use Rattle.ada_program.specs.declared.program.Exception.TheVariants.{ConstraintError}
 use Rattle.ada_program.specs.declared.program.VariableKind.{VariableKind}
 use Rattle.ada_program.specs.declared.program.VariableKind.TheVariants as held
@@ -12,10 +13,10 @@ use Rattle.ada_program.specs.ProgramForm.{TypeForm, VariableForm, ProgramForm}
 use Rattle.ada_text.specs.declared.spot.Spot.{Spot}
 use Rattle.ada_program.specs.Handling.{is_same}
 use Rattle.ada_program.specs.WellFormed.{access_of, selectors_kind, variable_kind, path_access, kind_takes, is_borrower, value_access, path_kind}
-use Rattle.ada_effects.specs.Effects.{path_raises, right_raises}
+use Rattle.ada_effects.specs.Effects.{follows_value, path_raises, right_raises}
 use Rattle.ada_flow.specs.declared.rule.Hold.{Hold}
 use Rattle.ada_flow.specs.declared.rule.Hold.TheVariants as hold
-use Rattle.ada_flow.specs.Flow.{Holds, hold_at, variable_access, reads_it, moves_it, left_by_move, gives_component, moved_behind, moved_by, taken_by, lost_by, without_values, variable_of, value_hold, borrows_it, borrowed_hold, ends_with, gives, same_selectors}
+use Rattle.ada_flow.specs.Flow.{Holds, hold_at, variable_access, uses_in_target, moves_it, left_by_move, gives_component, moved_behind, moved_by, taken_by, lost_by, without_values, variable_of, value_hold, borrows_it, borrowed_hold, ends_with, gives, same_selectors}
 use Rattle.ada_meaning.specs.declared.state.Id.{Id}
 use Rattle.ada_meaning.specs.declared.state.Value.{Value}
 use Rattle.ada_meaning.specs.declared.state.Value.TheVariants.{Null, Names}
@@ -33,10 +34,11 @@ use Rattle.ada_typed.proofs.Control as typed
 use Rattle.ada_sound.proofs.Objects.{set_here, set_other}
 use Rattle.ada_sound.proofs.Values.{same_or_not}
 use Rattle.ada_sound.proofs.Stored.{Stored, stored_filled}
-use Rattle.ada_sound.proofs.Fits.{Fit, component_access, none_spared, place_at, null_fit, lose, put_null, put_alias, root_names, hand_of, move_fit, store_blank, store_owner}
-use Rattle.ada_sound.proofs.Invariant.{Known, Control, To, component_among, Goes, Raised, RunsOn, Takes, Working, ways}
+use Rattle.ada_sound.proofs.Fits.{Fit, component_access, names_object, is_object, null_object, none_spared, place_at, null_fit, lose, put_null, put_alias, root_names, hand_of, move_fit, store_blank, store_owner}
+use Rattle.ada_sound.proofs.Invariant.{Known, Control, Rooms, MayRaise, component_among, Goes, Raised, RunsOn, Takes, Working, ways}
 use Rattle.ada_sound.proofs.Outcomes.{using_goes, ends_goes}
-use Rattle.ada_sound.proofs.Followings.{first_kept}
+use Rattle.ada_sound.proofs.Followings.{first_kept, kept_apart}
+use Rattle.ada_sound.proofs.Raising.{or_right}
 use Rattle.ada_sound.proofs.Assigned.{value_goes, kind_names, selected_of, leads_from}
 
 -- What typing says of a variable and of a component that a value goes to.
@@ -51,6 +53,13 @@ component_goes p heap kind kinds o object c k found (ks, access, other, same, na
     let one : kind ≡ other = cc same in
     selected_of p.types (Some (held.Access access)) object c other (kind_names heap (held.Access access) o object has found) leads ∙ ap (λ q. access_of (Some q)) (sym one)
 
+-- A variable that a value goes to that no record object is, is none either.
+pub variable_none : (p : ProgramForm) (heap : List Object) (kind : VariableKind) (kinds : List VariableKind) (x : ℕ) (k : Control) → names_object (Some kind) ≡ false → typed.Fits p (cells_of heap) (kind ∷ kinds) (Stores x ∷ k) → is_object p.variables x ≡ false
+variable_none p heap kind kinds x k none (ks, other, same, is, more) = let one : kind ≡ other = cc same in ap names_object is ∙ (ap (λ q. names_object (Some q)) (sym one) ∙ none)
+
+pub declared_none : (p : ProgramForm) (heap : List Object) (kind : VariableKind) (kinds : List VariableKind) (x : ℕ) (k : Control) → names_object (Some kind) ≡ false → typed.Fits p (cells_of heap) (kind ∷ kinds) (Declares x ∷ k) → is_object p.variables x ≡ false
+declared_none p heap kind kinds x k none (ks, other, same, is, more) = let one : kind ≡ other = cc same in ap names_object is ∙ (ap (λ q. names_object (Some q)) (sym one) ∙ none)
+
 -- A path by its parts.
 abbrev pub at_path : (of_record : Bool) → (root : ℕ) → List ℕ → Spot → PathForm
 at_path whole root cs spot = record { root = root; of_record = whole; selectors = cs; spot = spot }
@@ -60,47 +69,50 @@ module _ {types : List TypeForm} {variables : List VariableForm} {heap : List Ob
   pub null_place : hold_at holds y ≡ hold.Null → place_at places y ≡ Null
   null_place is = rw is at (f.nulls y)
 
-  pub move_by : (x : ℕ) (h : Hold) → hold_at holds y ≡ h → variable_access variables x ≡ variable_access variables y → moved_by h spot ≡ None → Fit types variables none_spared heap (slice_set places x (place_at places y)) (slice_set (slice_set holds y (left_by_move h)) x h)
-  move_by x hold.Null is same kept = let null = null_place is in rw null (put_null x (null_fit y null f))
-  move_by x (hold.Own r) is same kept = move_fit x y r (rw is tt) same f
-  move_by x (hold.Alias r) is same kept = absurd (cc kept)
-  move_by x hold.Lost is same kept = absurd (cc kept)
+  pub move_by : (x : ℕ) (h : Hold) → is_object variables x ≡ false → hold_at holds y ≡ h → variable_access variables x ≡ variable_access variables y → moved_by h spot ≡ None → Fit types variables none_spared heap (slice_set places x (place_at places y)) (slice_set (slice_set holds y (left_by_move h)) x h)
+  move_by x hold.Null none is same kept = let null = null_place is in rw null (put_null x none (null_fit y (null_object y (λ lost. cc (lost, is)) null f) null f))
+  move_by x (hold.Own r) none is same kept = move_fit x y r none (rw is tt) same f
+  move_by x (hold.Alias r) none is same kept = absurd (cc kept)
+  move_by x hold.Lost none is same kept = absurd (cc kept)
 
   pub store_by : (o : Id) (object : Object) (c : ℕ) (h : Hold) → hold_at holds y ≡ h → object_at heap o ≡ Some object → object.listed ≡ true → component_access types object c ≡ variable_access variables y → moved_by h spot ≡ None → Fit types variables none_spared (store heap (Names o) c (place_at places y)) places (slice_set holds y (left_by_move h))
-  store_by o object c hold.Null is found listed same kept = let null = null_place is in rw null (store_blank o object c Null found (λ p e. cc e) (null_fit y null f))
+  store_by o object c hold.Null is found listed same kept = let null = null_place is in rw null (store_blank o object c Null found (λ p e. cc e) (null_fit y (null_object y (λ lost. cc (lost, is)) null f) null f))
   store_by o object c (hold.Own r) is found listed same kept = store_owner o object c (place_at places y) found listed (rw same (hand_of y (rw is tt) f)) (lose y f)
   store_by o object c (hold.Alias r) is found listed same kept = absurd (cc kept)
   store_by o object c hold.Lost is found listed same kept = absurd (cc kept)
 
   -- What a variable names that is not lost may be lent to a borrower; so may what a component of an object in its collection names.
-  pub borrow_by : (x : ℕ) (h : Hold) → hold_at holds y ≡ h → variable_access variables x ≡ variable_access variables y → lost_by h spot ≡ None → Fit types variables none_spared heap (slice_set places x (place_at places y)) (slice_set holds x (borrowed_hold h))
-  borrow_by x hold.Null is same kept = let null = null_place is in rw null (put_null x f)
-  borrow_by x (hold.Own r) is same kept = put_alias x (place_at places y) r (rw same (root_names y spot (rw is kept) f)) f
-  borrow_by x (hold.Alias r) is same kept = put_alias x (place_at places y) r (rw same (root_names y spot (rw is kept) f)) f
-  borrow_by x hold.Lost is same kept = absurd (cc kept)
+  pub borrow_by : (x : ℕ) (h : Hold) → is_object variables x ≡ false → hold_at holds y ≡ h → variable_access variables x ≡ variable_access variables y → lost_by h spot ≡ None → Fit types variables none_spared heap (slice_set places x (place_at places y)) (slice_set holds x (borrowed_hold h))
+  borrow_by x hold.Null none is same kept = let null = null_place is in rw null (put_null x none f)
+  borrow_by x (hold.Own r) none is same kept = put_alias x (place_at places y) r none (rw same (root_names y spot (rw is kept) f)) f
+  borrow_by x (hold.Alias r) none is same kept = put_alias x (place_at places y) r none (rw same (root_names y spot (rw is kept) f)) f
+  borrow_by x hold.Lost none is same kept = absurd (cc kept)
 
 -- What flow says where a path is moved to a variable, or into a component.
-pub value_gives : (variables : List VariableForm) (cleared : Bool) (x : ℕ) (whole : Bool) (root : ℕ) (cs : List ℕ) (spot : Spot) (holds : Holds) (more raised : Holds → Type 0) → is_borrower variables x ≡ false → Goes (gives variables cleared x (value_of (at_path whole root cs spot)) holds) more raised → (moved_behind cleared cs (hold_at holds root) spot ≡ None) × more (slice_set (without_values (variable_of cs root) holds) x (value_hold cs (hold_at holds root))) × (path_raises cs ≡ true → raised holds)
-value_gives variables cleared x whole root cs spot holds more raised owned g =
+pub value_gives : (types : List TypeForm) (variables : List VariableForm) (here : Spot) (cleared : Bool) (x : ℕ) (whole : Bool) (root : ℕ) (cs : List ℕ) (spot : Spot) (holds : Holds) (more raised : Holds → Type 0) → is_borrower variables x ≡ false → Goes (gives types variables here cleared x (value_of (at_path whole root cs spot)) holds) more raised → (moved_behind cleared cs (hold_at holds root) spot ≡ None) × more (slice_set (without_values (variable_of cs root) holds) x (value_hold cs (hold_at holds root))) × (follows_value whole cs ≡ true → raised holds)
+value_gives types variables here cleared x whole root cs spot holds more raised owned g =
     let after = slice_set (without_values (variable_of cs root) holds) x (value_hold cs (hold_at holds root)) in
-    let u = using_goes (moves_it cleared (at_path whole root cs spot) ∷ []) holds (ends_with (path_raises cs) holds after) more raised (rw owned at g) in
-    let e = ends_goes (path_raises cs) holds after more raised u.1 in
+    let u = using_goes (moves_it cleared (at_path whole root cs spot) ∷ []) holds (ends_with (follows_value whole cs) holds after) more raised (rw owned at g) in
+    let e = ends_goes (follows_value whole cs) holds after more raised u.1 in
     ((first_kept holds (moves_it cleared (at_path whole root cs spot)) [] u.0).0, e.0, e.1)
 
 -- What flow says where a path's value is lent to a borrower.
-pub borrow_gives : (variables : List VariableForm) (cleared : Bool) (x : ℕ) (whole : Bool) (root : ℕ) (cs : List ℕ) (spot : Spot) (holds : Holds) (more raised : Holds → Type 0) → is_borrower variables x ≡ true → Goes (gives variables cleared x (value_of (at_path whole root cs spot)) holds) more raised → (lost_by (hold_at holds root) spot ≡ None) × more (slice_set holds x (borrowed_hold (hold_at holds root))) × (path_raises cs ≡ true → raised holds)
-borrow_gives variables cleared x whole root cs spot holds more raised lent g =
+pub borrow_gives : (types : List TypeForm) (variables : List VariableForm) (here : Spot) (cleared : Bool) (x : ℕ) (whole : Bool) (root : ℕ) (cs : List ℕ) (spot : Spot) (holds : Holds) (more raised : Holds → Type 0) → is_borrower variables x ≡ true → Goes (gives types variables here cleared x (value_of (at_path whole root cs spot)) holds) more raised → (lost_by (hold_at holds root) spot ≡ None) × more (slice_set holds x (borrowed_hold (hold_at holds root))) × (follows_value whole cs ≡ true → raised holds)
+borrow_gives types variables here cleared x whole root cs spot holds more raised lent g =
     let after = slice_set holds x (borrowed_hold (hold_at holds root)) in
-    let u = using_goes (borrows_it (at_path whole root cs spot) ∷ []) holds (ends_with (path_raises cs) holds after) more raised (rw lent at g) in
-    let e = ends_goes (path_raises cs) holds after more raised u.1 in
+    let u = using_goes (borrows_it (at_path whole root cs spot) ∷ []) holds (ends_with (follows_value whole cs) holds after) more raised (rw lent at g) in
+    let e = ends_goes (follows_value whole cs) holds after more raised u.1 in
     ((first_kept holds (borrows_it (at_path whole root cs spot)) [] u.0).0, e.0, e.1)
 
-pub value_fills : (cleared : Bool) (target : PathForm) (whole : Bool) (root : ℕ) (cs : List ℕ) (spot : Spot) (holds : Holds) (more raised : Holds → Type 0) → Goes (gives_component cleared target (value_of (at_path whole root cs spot)) holds) more raised → (moved_behind cleared cs (hold_at holds root) spot ≡ None) × more (without_values (variable_of cs root) holds) × raised holds
-value_fills cleared target whole root cs spot holds more raised g =
+pub value_fills : (types : List TypeForm) (cleared : Bool) (target : PathForm) (whole : Bool) (root : ℕ) (cs : List ℕ) (spot : Spot) (holds : Holds) (more raised : Holds → Type 0) → Goes (gives_component types cleared target (value_of (at_path whole root cs spot)) holds) more raised → (moved_behind cleared cs (hold_at holds root) spot ≡ None) × more (without_values (variable_of cs root) holds) × (follows_value whole cs ≡ true → raised holds)
+value_fills types cleared target whole root cs spot holds more raised g =
     let after = without_values (variable_of cs root) holds in
-    let u = using_goes (reads_it target ∷ moves_it cleared (at_path whole root cs spot) ∷ []) holds (ends_with true holds after) more raised g in
-    let later = (first_kept holds (reads_it target) (moves_it cleared (at_path whole root cs spot) ∷ []) u.0).1 in
-    ((first_kept holds (moves_it cleared (at_path whole root cs spot)) [] later).0, u.1.0, u.1.1)
+    let may = path_raises target || follows_value whole cs in
+    let moves = moves_it cleared (at_path whole root cs spot) ∷ [] in
+    let u = using_goes (uses_in_target target ++ moves) holds (ends_with may holds after) more raised g in
+    let e = ends_goes may holds after more raised u.1 in
+    let later = (kept_apart holds (uses_in_target target) moves u.0).1 in
+    ((first_kept holds (moves_it cleared (at_path whole root cs spot)) [] later).0, e.0, (λ follows. e.1 (or_right (path_raises target) (follows_value whole cs) follows)))
 
 -- A component is moved only where the next statement clears it, and behind a value that is not lost.
 pub cleared_is : (cleared : Bool) (h : Hold) (spot : Spot) → taken_by cleared h spot ≡ None → (cleared ≡ true) × (lost_by h spot ≡ None)
@@ -148,28 +160,34 @@ selectors_are (c ∷ cs) (d ∷ ds) e =
 pub walk_on : (heap : List Object) (o : Id) (object : Object) (c : ℕ) (cs : List ℕ) (v : Value) → object_at heap o ≡ Some object → object.stage ≡ Existing → slice_get object.cell.values c ≡ Some v → walk heap (Names o) (c ∷ cs) ≡ walk heap v cs
 walk_on heap o object c cs v found exists at = rw (found, exists, at) refl
 
--- Where a component is moved, or lent, its path begins at a value that is not lost.
-pub kept_by : (variables : List VariableForm) (cleared : Bool) (x : ℕ) (whole : Bool) (root c : ℕ) (cs : List ℕ) (spot : Spot) (holds : Holds) (more raised : Holds → Type 0) → Goes (gives variables cleared x (value_of (at_path whole root (c ∷ cs) spot)) holds) more raised → (lost_by (hold_at holds root) spot ≡ None) × raised holds
-kept_by variables cleared x whole root c cs spot holds more raised g = go (is_borrower variables x) refl
+-- Where a component is moved, or lent, its path begins at a value that is not lost, and Constraint_Error is known where the path may raise it.
+kept_by : (types : List TypeForm) (variables : List VariableForm) (here : Spot) (cleared : Bool) (x : ℕ) (whole : Bool) (root c : ℕ) (cs : List ℕ) (spot : Spot) (holds : Holds) (more raised : Holds → Type 0) → Goes (gives types variables here cleared x (value_of (at_path whole root (c ∷ cs) spot)) holds) more raised → (lost_by (hold_at holds root) spot ≡ None) × (follows_value whole (c ∷ cs) ≡ true → raised holds)
+kept_by types variables here cleared x whole root c cs spot holds more raised g = go (is_borrower variables x) refl
   where
-    go : (b : Bool) → is_borrower variables x ≡ b → (lost_by (hold_at holds root) spot ≡ None) × raised holds
-    go true is = let h = borrow_gives variables cleared x whole root (c ∷ cs) spot holds more raised is g in (h.0, h.2 refl)
+    go : (b : Bool) → is_borrower variables x ≡ b → (lost_by (hold_at holds root) spot ≡ None) × (follows_value whole (c ∷ cs) ≡ true → raised holds)
+    go true is = let h = borrow_gives types variables here cleared x whole root (c ∷ cs) spot holds more raised is g in (h.0, h.2)
     go false is =
-        let h = value_gives variables cleared x whole root (c ∷ cs) spot holds more raised is g in
-        ((cleared_is cleared (hold_at holds root) spot h.0).1, h.2 refl)
+        let h = value_gives types variables here cleared x whole root (c ∷ cs) spot holds more raised is g in
+        ((cleared_is cleared (hold_at holds root) spot h.0).1, h.2)
 
-pub kept_root : (known : Known) (k : Control) (heap : List Object) (places : List Value) (ms : List Master) (whole : Bool) (root c : ℕ) (cs : List ℕ) (spot : Spot) → (w : Working known heap places ms (Takes known heap places (value_of (at_path whole root (c ∷ cs) spot)) k)) → (lost_by (hold_at w.holds root) spot ≡ None) × To ((ways known k w.rooms).raised ConstraintError) w.holds
+raised_here : (known : Known) (k : Control) (rooms : Rooms) (holds : Holds) (whole : Bool) (cs : List ℕ) (among : Exception → Bool) → ((follows_value whole cs ≡ true) → Raised among (ways known k rooms) holds) → (follows_value whole cs ≡ true → among ConstraintError ≡ true) → MayRaise known (follows_value whole cs) ConstraintError k rooms holds
+raised_here known k rooms holds whole cs among r is may = r may ConstraintError (is may)
+
+pub kept_root : (known : Known) (k : Control) (heap : List Object) (places : List Value) (ms : List Master) (whole : Bool) (root c : ℕ) (cs : List ℕ) (spot : Spot) → (w : Working known heap places ms (Takes known heap places (value_of (at_path whole root (c ∷ cs) spot)) k)) → (lost_by (hold_at w.holds root) spot ≡ None) × MayRaise known (follows_value whole (c ∷ cs)) ConstraintError k w.rooms w.holds
 kept_root known [] heap places ms whole root c cs spot w = absurd (w.rest)
 kept_root known (Stores x ∷ k) heap places ms whole root c cs spot w =
-    let h = kept_by known.program.variables w.rest.0 x whole root c cs spot w.holds (RunsOn known k w.rooms) (Raised (λ e. right_raises (is_same e) (value_of (at_path whole root (c ∷ cs) spot))) (ways known k w.rooms)) w.rest.1 in
-    (h.0, h.1 ConstraintError refl)
+    let among : Exception → Bool = λ e. right_raises (is_same e) (value_of (at_path whole root (c ∷ cs) spot)) in
+    let h = kept_by known.program.types known.program.variables w.rest.1.0 w.rest.0 x whole root c cs spot w.holds (RunsOn known k w.rooms) (Raised among (ways known k w.rooms)) w.rest.1.1 in
+    (h.0, raised_here known k w.rooms w.holds whole (c ∷ cs) among h.1 (λ may. may))
 kept_root known (Declares x ∷ k) heap places ms whole root c cs spot w =
-    let h = kept_by known.program.variables w.rest.0 x whole root c cs spot w.holds (RunsOn known k w.rooms) (Raised (λ e. right_raises (is_same e) (value_of (at_path whole root (c ∷ cs) spot))) (ways known k w.rooms)) w.rest.1 in
-    (h.0, h.1 ConstraintError refl)
+    let among : Exception → Bool = λ e. right_raises (is_same e) (value_of (at_path whole root (c ∷ cs) spot)) in
+    let h = kept_by known.program.types known.program.variables w.rest.1.0 w.rest.0 x whole root c cs spot w.holds (RunsOn known k w.rooms) (Raised among (ways known k w.rooms)) w.rest.1.1 in
+    (h.0, raised_here known k w.rooms w.holds whole (c ∷ cs) among h.1 (λ may. may))
 kept_root known (StoresIn o d ∷ k) heap places ms whole root c cs spot w =
     let g = w.rest.1 in
-    let h = value_fills g.1 g.0 whole root (c ∷ cs) spot w.holds (RunsOn known k w.rooms) (Raised (component_among (value_of (at_path whole root (c ∷ cs) spot))) (ways known k w.rooms)) g.2 in
-    ((cleared_is g.1 (hold_at w.holds root) spot h.0).1, h.2 ConstraintError refl)
+    let among = component_among (path_raises g.0) (value_of (at_path whole root (c ∷ cs) spot)) in
+    let h = value_fills known.program.types g.1 g.0 whole root (c ∷ cs) spot w.holds (RunsOn known k w.rooms) (Raised among (ways known k w.rooms)) g.2 in
+    ((cleared_is g.1 (hold_at w.holds root) spot h.0).1, raised_here known k w.rooms w.holds whole (c ∷ cs) among h.2 (λ may. or_right (path_raises g.0) (follows_value whole (c ∷ cs)) may))
 kept_root known (f ∷ k) heap places ms whole root c cs spot w = absurd (w.rest)
 
 -- The object that a variable names which is not lost is of the variable's access type.

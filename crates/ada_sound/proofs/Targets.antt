@@ -1,16 +1,16 @@
 -- Components that are assigned to: their objects are found, and a value goes into them.
 
-use Rattle.std.proofs.Common.{◌≡◌, Bool, true, false, ℕ, List, [], ◌∷◌, ◌++◌, refl, sym, ap, ◌∙◌, inl, inr}
+use Rattle.std.proofs.Common.{◌≡◌, Bool, true, false, ◌||◌, ℕ, List, [], ◌∷◌, ◌++◌, refl, sym, ap, ◌∙◌, inl, inr}
 use Rattle.std.specs.Prelude.{ℤ, Option, Some, None}
 use Rattle.std.specs.List.{slice_get}
 use Rattle.ada_program.specs.declared.program.Exception.TheVariants.{ConstraintError, EndError}
 use Rattle.ada_program.specs.declared.program.VariableKind.{VariableKind}
 use Rattle.ada_program.specs.declared.program.VariableKind.TheVariants as variable
 use Rattle.ada_program.specs.Form.{PathForm, RightForm, nothing, value_of, allocates, allocates_default, computes, StmtsForm, a_stmt, assigns}
-use Rattle.ada_program.specs.ProgramForm.{VariableForm}
+use Rattle.ada_program.specs.ProgramForm.{TypeForm, VariableForm}
 use Rattle.ada_program.specs.Handling.{is_same}
-use Rattle.ada_effects.specs.Effects.{stmt_raises}
-use Rattle.ada_flow.specs.Flow.{Holds, reads_it, gives_component, gives_path, uses_in_target, uses_in_right, ends_with, without_values, moved_by_right}
+use Rattle.ada_effects.specs.Effects.{path_raises, right_raises, stmt_raises}
+use Rattle.ada_flow.specs.Flow.{Holds, reads_it, gives_component, gives_path, uses_in_target, uses_in_right, evaluation_raises, ends_with, without_values, moved_by_right}
 use Rattle.ada_meaning.specs.declared.state.Id.{Id}
 use Rattle.ada_meaning.specs.declared.state.Value.{Value}
 use Rattle.ada_meaning.specs.declared.state.Value.TheVariants.{Null, Names, Scalar}
@@ -27,12 +27,14 @@ use Rattle.ada_owners.proofs.Changes.{store_is}
 use Rattle.ada_typed.specs.Holding.{cells_of}
 use Rattle.ada_typed.proofs.Values.{AreComputed}
 use Rattle.ada_typed.proofs.Control as typed
-use Rattle.ada_sound.proofs.Fits.{MayFollow, component_access, place_at, root_follows, store_blank}
+use Rattle.ada_sound.proofs.Fits.{MayFollow, is_object, component_access, place_at, root_follows, store_blank}
 use Rattle.ada_sound.proofs.Stored.{Stored, exists_out, stored_filled}
 use Rattle.ada_sound.proofs.Alters.{alters_set}
-use Rattle.ada_sound.proofs.Invariant.{Known, Control, Rooms, ReadyIn, Goes, Raised, RunsOn, NoneBroken, MayRaise, Pairs, IsOne, component_among, Doing, LeadsTo, FillsIn, Receiving, Working, Half, HalfBy, Resumes, Clearing, EvaluatesTo, TargetsTo, StoringIn, IsFollowed, Stepped, Fine, front, final, ways}
+use Rattle.ada_sound.proofs.Invariant.{Known, Control, Rooms, ReadyIn, Goes, Raised, RunsOn, NoneBroken, MayRaise, RaisesAt, Pairs, IsOne, component_among, Doing, LeadsTo, FillsIn, Receiving, Working, Half, HalfBy, Resumes, Clearing, EvaluatesTo, TargetsTo, StoringIn, IsFollowed, Stepped, Fine, front, final, ways}
 use Rattle.ada_sound.proofs.Ready.{running, at_work, at_less, stays, runs_ready, resumes_ready, goes_ready, jumps_less}
 use Rattle.ada_sound.proofs.Followings.{first_kept, kept_apart}
+use Rattle.ada_sound.proofs.Raising.{or_left}
+use Rattle.ada_sound.proofs.Roots.{object_there, front_raises}
 use Rattle.ada_sound.proofs.Outcomes.{using_goes, ends_goes}
 use Rattle.ada_sound.proofs.Nestings.{starts}
 use Rattle.ada_sound.proofs.Back.{stored_before}
@@ -57,42 +59,53 @@ blank_works {heap = heap} o object c v found none w = record {
 
 -- What flow says of a component that is a target: its path uses nothing that is lost, variables that are moved are lost where it comes to its end, and
 -- it may raise an exception.
-target_goes : (cleared : Bool) (path : PathForm) (right : RightForm) (holds : Holds) (more raised : Holds → Type 0) → Goes (gives_component cleared path right holds) more raised → (NoneBroken holds (uses_in_target path)) × more (without_values (moved_by_right false right) holds) × raised holds
-target_goes cleared path right holds more raised g =
+target_goes : (types : List TypeForm) (cleared : Bool) (path : PathForm) (right : RightForm) (holds : Holds) (more raised : Holds → Type 0) → Goes (gives_component types cleared path right holds) more raised → (NoneBroken holds (uses_in_target path)) × more (without_values (moved_by_right false right) holds) × (path_raises path ≡ true → raised holds)
+target_goes types cleared path right holds more raised g =
     let after = without_values (moved_by_right false right) holds in
-    let u = using_goes (uses_in_target path ++ uses_in_right false cleared (Some path) right) holds (ends_with true holds after) more raised g in
-    let n = ends_goes true holds after more raised u.1 in
-    ((kept_apart holds (uses_in_target path) (uses_in_right false cleared (Some path) right) u.0).0, n.0, n.1 refl)
+    let may = path_raises path || evaluation_raises right in
+    let uses = uses_in_right types path.spot false cleared (Some path) right in
+    let u = using_goes (uses_in_target path ++ uses) holds (ends_with may holds after) more raised g in
+    let n = ends_goes may holds after more raised u.1 in
+    ((kept_apart holds (uses_in_target path) uses u.0).0, n.0, (λ raises. n.1 (or_left (path_raises path) (evaluation_raises right) raises)))
 
 -- Null leaves all that is known as it is.
-cleared_goes : (variables : List VariableForm) (cs : List ℕ) (d : ℕ) (ds : List ℕ) (path : PathForm) (holds : Holds) (more raised : Holds → Type 0) → cs ≡ d ∷ ds → Goes (gives_path variables false cs path nothing holds) more raised → more holds
-cleared_goes variables [] d ds path holds more raised is g = absurd (cc is)
-cleared_goes variables (c ∷ cs) d ds path holds more raised is g = (target_goes false path nothing holds more raised g).1
+cleared_goes : (types : List TypeForm) (variables : List VariableForm) (cs : List ℕ) (d : ℕ) (ds : List ℕ) (path : PathForm) (holds : Holds) (more raised : Holds → Type 0) → cs ≡ d ∷ ds → Goes (gives_path types variables false cs path nothing holds) more raised → more holds
+cleared_goes types variables [] d ds path holds more raised is g = absurd (cc is)
+cleared_goes types variables (c ∷ cs) d ds path holds more raised is g = (target_goes types false path nothing holds more raised g).1
 
 module _ (known : Known) (a : Activation Value) (rest : List (Activation Value)) (s : State) where
   -- The path of a target may be followed.
   target_follows : {more : Rooms → Holds → Type 0} (c : ℕ) (cs : List ℕ) (target : PathForm) → target.selectors ≡ c ∷ cs → (w : Working known s.heap a.places s.masters more) → NoneBroken w.holds (uses_in_target target) → MayFollow s.heap (place_at a.places target.root)
   target_follows c cs target is w kept = root_follows target.root target.spot (rw is at (first_kept w.holds (reads_it target) [] kept).0) w.fit
 
+  -- Where its path may raise Constraint_Error.
+  target_raises : {more : Rooms → Holds → Type 0} (c : ℕ) (cs : List ℕ) (target : PathForm) (k : Control) → target.selectors ≡ c ∷ cs → (target.of_record ≡ true → is_object known.program.variables target.root ≡ true) → (w : Working known s.heap a.places s.masters more) → NoneBroken w.holds (uses_in_target target) → MayRaise known (path_raises target) ConstraintError k w.rooms w.holds → RaisesAt known (place_at a.places target.root) (before_last c cs) k w.rooms w.holds
+  target_raises c cs target k is whole w kept may =
+      front_raises known (place_at a.places target.root) k w.rooms w.holds target.of_record c cs
+      (λ object. object_there target.root target.spot (rw is at (first_kept w.holds (reads_it target) [] kept).0) (whole object) w.fit) (rw is at may)
+
   -- An assignment to a component begins: its object is found first.
-  pub component_begins : (cleared : Bool) (c : ℕ) (cs : List ℕ) (target : PathForm) (right : RightForm) (fs : StmtsForm) (k : Control) → target.selectors ≡ c ∷ cs → Working known s.heap a.places s.masters (λ rooms holds. Goes (gives_component cleared target right holds) (RunsOn known (Does fs ∷ k) rooms) (Raised (component_among right) (ways known k rooms)) × Pairs cleared right (λ taken. IsOne taken.selectors) (Does fs ∷ k)) → Fine known s.heap s.masters (path_next named (before_last c cs) (place_at a.places target.root) (running (Targets (last_of c cs) right ∷ Does fs ∷ k) a rest s))
-  component_begins cleared c cs target right fs k is w =
-      let g = target_goes cleared target right w.holds (RunsOn known (Does fs ∷ k) w.rooms) (Raised (component_among right) (ways known k w.rooms)) w.rest.0 in
+  pub component_begins : (cleared : Bool) (c : ℕ) (cs : List ℕ) (target : PathForm) (right : RightForm) (fs : StmtsForm) (k : Control) → target.selectors ≡ c ∷ cs → (target.of_record ≡ true → is_object known.program.variables target.root ≡ true) → Working known s.heap a.places s.masters (λ rooms holds. Goes (gives_component known.program.types cleared target right holds) (RunsOn known (Does fs ∷ k) rooms) (Raised (component_among (path_raises target) right) (ways known k rooms)) × Pairs cleared right (λ taken. IsOne taken.selectors) (Does fs ∷ k)) → Fine known s.heap s.masters (path_next named (before_last c cs) (place_at a.places target.root) (running (Targets (last_of c cs) right ∷ Does fs ∷ k) a rest s))
+  component_begins cleared c cs target right fs k is whole w =
+      let g = target_goes known.program.types cleared target right w.holds (RunsOn known (Does fs ∷ k) w.rooms) (Raised (component_among (path_raises target) right) (ways known k w.rooms)) w.rest.0 in
       finds_fine known a rest s a.operands (Targets (last_of c cs) right ∷ Does fs ∷ k) (before_last c cs) (place_at a.places target.root)
-      (at_work w ((λ may. g.2 ConstraintError refl), (target, cleared, w.rest.0, w.rest.1, (ap (λ (ds : List ℕ). walk s.heap (place_at a.places target.root) (front ds)) is, ap final is)))) (target_follows c cs target is w g.0)
+      (at_work w (
+        target_raises c cs target (Does fs ∷ k) is whole w g.0 (λ may. g.2 may ConstraintError (or_left (path_raises target) (right_raises (is_same ConstraintError) right) may)),
+        (target, cleared, w.rest.0, w.rest.1, (ap (λ (ds : List ℕ). walk s.heap (place_at a.places target.root) (front ds)) is, ap final is)),
+      )) (target_follows c cs target is w g.0)
 
   -- So does a read into a component.
-  pub get_begins : (c : ℕ) (cs : List ℕ) (target : PathForm) (fs : StmtsForm) (k : Control) → target.selectors ≡ c ∷ cs → Working known s.heap a.places s.masters (λ rooms holds. NoneBroken holds (uses_in_target target) × MayRaise known true ConstraintError (Does fs ∷ k) rooms holds × MayRaise known true EndError (Does fs ∷ k) rooms holds × RunsOn known (Does fs ∷ k) rooms holds) → Fine known s.heap s.masters (path_next named (before_last c cs) (place_at a.places target.root) (running (Receives (last_of c cs) ∷ Does fs ∷ k) a rest s))
-  get_begins c cs target fs k is w =
+  pub get_begins : (c : ℕ) (cs : List ℕ) (target : PathForm) (fs : StmtsForm) (k : Control) → target.selectors ≡ c ∷ cs → (target.of_record ≡ true → is_object known.program.variables target.root ≡ true) → Working known s.heap a.places s.masters (λ rooms holds. NoneBroken holds (uses_in_target target) × MayRaise known (path_raises target) ConstraintError (Does fs ∷ k) rooms holds × MayRaise known true EndError (Does fs ∷ k) rooms holds × RunsOn known (Does fs ∷ k) rooms holds) → Fine known s.heap s.masters (path_next named (before_last c cs) (place_at a.places target.root) (running (Receives (last_of c cs) ∷ Does fs ∷ k) a rest s))
+  get_begins c cs target fs k is whole w =
       finds_fine known a rest s a.operands (Receives (last_of c cs) ∷ Does fs ∷ k) (before_last c cs) (place_at a.places target.root)
-      (at_work w (w.rest.1, w.rest.2, w.rest.3)) (target_follows c cs target is w w.rest.0)
+      (at_work w (target_raises c cs target (Does fs ∷ k) is whole w w.rest.0 w.rest.1, w.rest.2, w.rest.3)) (target_follows c cs target is w w.rest.0)
 
   -- Behind the second half of a take pair come the other statements.
   cleared_runs : (o : Id) (c d : ℕ) (ds : List ℕ) (path : PathForm) (later : StmtsForm) (k : Control) → path.selectors ≡ d ∷ ds → Working known (store s.heap (Names o) c Null) a.places s.masters (RunsOn known (Does (a_stmt (assigns path nothing) later) ∷ k)) → Working known (store s.heap (Names o) c Null) a.places s.masters (RunsOn known (Does later ∷ k))
   cleared_runs o c d ds path later k is w =
       let runs = ways known k w.rooms in
       let first = starts known (assigns path nothing) later k runs w.holds w.rest in
-      at_work w (cleared_goes known.program.variables path.selectors d ds path w.holds (Doing known later k runs) (Raised (λ e. stmt_raises (is_same e) (assigns path nothing)) runs) is first.1)
+      at_work w (cleared_goes known.program.types known.program.variables path.selectors d ds path w.holds (Doing known later k runs) (Raised (λ e. stmt_raises (is_same e) (assigns path nothing)) runs) is first.1)
 
   -- Its object is found first, which is known to be there.
   pair_ends : (path : PathForm) (cs : List ℕ) (later : StmtsForm) (k : Control) (o : Id) (c : ℕ) → path.selectors ≡ cs → final path.selectors ≡ Some c → walk s.heap (place_at a.places path.root) (front path.selectors) ≡ finds (Names o) → IsThere s.heap o → Working known (store s.heap (Names o) c Null) a.places s.masters (RunsOn known (Does (a_stmt (assigns path nothing) later) ∷ k)) → Fine known s.heap s.masters (assign_next named cs path.root nothing (running (Does later ∷ k) a rest s))
@@ -111,7 +124,7 @@ module _ (known : Known) (k : Control) (a : Activation Value) (rest : List (Acti
   -- What goes into the component of the object that was found is evaluated next: null counts as stored already.
   evaluates : (right : RightForm) (o : Id) (object : Object) (c : ℕ) → object_at s.heap o ≡ Some object → object.listed ≡ true → Working known s.heap a.places s.masters (λ rooms holds. FillsIn known right (LeadsTo s.heap a.places (Names o) [] c) rooms holds k) → EvaluatesTo known right (StoresIn (Names o) c ∷ k) s.heap a.places s.masters
   evaluates nothing o object c found listed w =
-      let g = target_goes w.rest.1 w.rest.0 nothing w.holds (RunsOn known k w.rooms) (Raised (component_among nothing) (ways known k w.rooms)) w.rest.2 in
+      let g = target_goes known.program.types w.rest.1 w.rest.0 nothing w.holds (RunsOn known k w.rooms) (Raised (component_among (path_raises w.rest.0) nothing) (ways known k w.rooms)) w.rest.2 in
       ((object, found, listed), blank_works {more = RunsOn known k} o object c Null found (λ p e. cc e) (at_work w g.1))
   evaluates (value_of path) o object c found listed w = at_work w ((object, found, listed), w.rest)
   evaluates (allocates access items) o object c found listed w = at_work w ((object, found, listed), w.rest)

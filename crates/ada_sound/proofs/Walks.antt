@@ -15,7 +15,7 @@ use Rattle.ada_meaning.specs.declared.state.Value.TheVariants.{Null, Names, Scal
 use Rattle.ada_meaning.specs.declared.state.Stage.{Stage}
 use Rattle.ada_meaning.specs.declared.state.Stage.TheVariants.{Building, Existing, Gone}
 use Rattle.ada_meaning.specs.declared.state.Mode.TheVariants.{Running, Raising}
-use Rattle.ada_meaning.specs.Frame.{Targets, Receives, FreesIn, Follows, Fills}
+use Rattle.ada_meaning.specs.Frame.{Targets, TargetsRecord, Copies, Receives, FreesIn, Follows, Fills}
 use Rattle.ada_meaning.specs.Event.{Followed, Quiet}
 use Rattle.ada_meaning.specs.Heap.{finds}
 use Rattle.ada_meaning.specs.State.{Activation, Master}
@@ -28,7 +28,8 @@ use Rattle.ada_owners.specs.Walks.{then_found, value_found, behind, walk}
 use Rattle.ada_sound.proofs.Stored.{Stored, exists_out}
 use Rattle.ada_sound.proofs.Fits.{Fit, MayFollow, none_spared, place_at, component_access, component_is, component_follows, behind_good}
 use Rattle.ada_sound.proofs.Orderings.{as_good_then}
-use Rattle.ada_sound.proofs.Invariant.{Known, Control, Rooms, To, MayRaise, Working, Clearing, PassesNone, FillsTo, FindsFor, FillsOn, WalksOn, HalfFollows, ReadyIn, Stepped, Fine, front, final, ways}
+use Rattle.ada_sound.proofs.Invariant.{Known, Control, Rooms, To, RaisesAt, Working, Clearing, PassesNone, FillsTo, FindsFor, FillsOn, WalksOn, HalfFollows, ReadyIn, Stepped, Fine, front, final, ways}
+use Rattle.ada_sound.proofs.Roots.{raises_null, raises_next}
 use Rattle.ada_sound.proofs.Ready.{running, at_work, stays, jumps_less}
 use Rattle.ada_sound.proofs.Back.{stored_before}
 
@@ -153,14 +154,16 @@ raises_less known k rooms holds access less =
 
 module _ (known : Known) (heap : List Object) (places : List Value) where
   -- What a path is followed for is known one selector on.
-  finds_next : (k : Control) (v : Value) (c : ℕ) (cs : List ℕ) (o : Id) (object : Object) (w : Value) (rooms : Rooms) (holds : Holds) → v ≡ Names o → object_at heap o ≡ Some object → object.listed ≡ true → object.stage ≡ Existing → slice_get object.cell.values c ≡ Some w → Fit known.program.types known.program.variables none_spared heap places holds → FindsFor known heap places v (c ∷ cs) k rooms holds → FindsFor known heap places w cs k rooms holds
-  finds_next [] v c cs o object w rooms holds is found listed exists at fit f = absurd f
-  finds_next (Targets d right ∷ k) v c cs o object w rooms holds is found listed exists at fit f =
+  finds_next : (k : Control) (v : Value) (below : List Value) (c : ℕ) (cs : List ℕ) (o : Id) (object : Object) (w : Value) (rooms : Rooms) (holds : Holds) → v ≡ Names o → object_at heap o ≡ Some object → object.listed ≡ true → object.stage ≡ Existing → slice_get object.cell.values c ≡ Some w → Fit known.program.types known.program.variables none_spared heap places holds → FindsFor known heap places v below (c ∷ cs) k rooms holds → FindsFor known heap places w below cs k rooms holds
+  finds_next [] v below c cs o object w rooms holds is found listed exists at fit f = absurd f
+  finds_next (Targets d right ∷ k) v below c cs o object w rooms holds is found listed exists at fit f =
       let on : behind heap v c ≡ finds w = rw is (behind_is heap o object c w found exists at) in
       let g = f.1 in
-      (f.0, (g.0, g.1, g.2, g.3, (g.4.0 ∙ walk_behind heap v c cs w on, g.4.1)))
-  finds_next (Receives d ∷ k) v c cs o object w rooms holds is found listed exists at fit f = f
-  finds_next (FreesIn access d ∷ k) v c cs o object w rooms holds is found listed exists at fit f =
+      (raises_next known v w c cs k rooms holds f.0, (g.0, g.1, g.2, g.3, (g.4.0 ∙ walk_behind heap v c cs w on, g.4.1)))
+  finds_next (TargetsRecord first t items ∷ k) v below c cs o object w rooms holds is found listed exists at fit f = (raises_next known v w c cs k rooms holds f.0, f.1)
+  finds_next (Copies first t ∷ k) v below c cs o object w rooms holds is found listed exists at fit f = (raises_next known v w c cs k rooms holds f.0, f.1)
+  finds_next (Receives d ∷ k) v below c cs o object w rooms holds is found listed exists at fit f = (raises_next known v w c cs k rooms holds f.0, f.1, f.2)
+  finds_next (FreesIn access d ∷ k) v below c cs o object w rooms holds is found listed exists at fit f =
       let types = known.program.types in
       let here = f.is_from o object is found in
       record {
@@ -170,53 +173,58 @@ module _ (known : Known) (heap : List Object) (places : List Value) where
         passes = passes_behind types f.from c (cs ++ d ∷ []) f.access f.passes;
         of_type = f.of_type;
         own = f.own;
-        raises = f.raises;
+        raises = raises_next known v w c cs k rooms (behind_end known.program.variables f.access holds) f.raises;
         runs = f.runs;
       }
-  finds_next (g ∷ k) v c cs o object w rooms holds is found listed exists at fit f = absurd f
+  finds_next (g ∷ k) v below c cs o object w rooms holds is found listed exists at fit f = absurd f
 
   -- Null on the way raises Constraint_Error.
-  finds_raises : (k : Control) (v : Value) (cs : List ℕ) (rooms : Rooms) (holds : Holds) → FindsFor known heap places v cs k rooms holds → To ((ways known k rooms).raised ConstraintError) holds
-  finds_raises [] v cs rooms holds f = absurd f
-  finds_raises (Targets d right ∷ k) v cs rooms holds f = f.0 refl
-  finds_raises (Receives d ∷ k) v cs rooms holds f = f.0 refl
-  finds_raises (FreesIn access d ∷ k) v cs rooms holds f = raises_less known k rooms holds f.access (f.raises refl)
-  finds_raises (g ∷ k) v cs rooms holds f = absurd f
+  finds_raises : (k : Control) (v : Value) (below : List Value) (cs : List ℕ) (rooms : Rooms) (holds : Holds) → v ≡ Null → FindsFor known heap places v below cs k rooms holds → To ((ways known k rooms).raised ConstraintError) holds
+  finds_raises [] v below cs rooms holds null f = absurd f
+  finds_raises (Targets d right ∷ k) v below cs rooms holds null f = raises_null known v k rooms holds cs f.0 null
+  finds_raises (TargetsRecord first t items ∷ k) v below cs rooms holds null f = raises_null known v k rooms holds cs f.0 null
+  finds_raises (Copies first t ∷ k) v below cs rooms holds null f = raises_null known v k rooms holds cs f.0 null
+  finds_raises (Receives d ∷ k) v below cs rooms holds null f = raises_null known v k rooms holds cs f.0 null
+  finds_raises (FreesIn access d ∷ k) v below cs rooms holds null f =
+      raises_less known k rooms holds f.access (raises_null known v k rooms (behind_end known.program.variables f.access holds) cs f.raises null)
+  finds_raises (g ∷ k) v below cs rooms holds null f = absurd f
 
-  -- The object of a target, or of a component that is freed, is found: it is there, or null.
-  finds_ready : (k : Control) (v : Value) (below : List Value) (ms : List Master) (w : Working known heap places ms (FindsFor known heap places v [] k)) → MayFollow heap v → ReadyIn known Running k heap places (v ∷ below) ms
+  -- The object of a target, of a component that is freed, or of a record, is found: it is there, or null.
+  finds_ready : (k : Control) (v : Value) (below : List Value) (ms : List Master) (w : Working known heap places ms (FindsFor known heap places v below [] k)) → MayFollow heap v → ReadyIn known Running k heap places (v ∷ below) ms
   finds_ready [] v below ms w follows = absurd (w.rest)
   finds_ready (Targets c right ∷ k) v below ms w follows = inl (at_work w (follows, w.rest.0, w.rest.1))
+  finds_ready (TargetsRecord first t items ∷ k) v below ms w follows = at_work w (follows, w.rest.0, w.rest.1)
+  finds_ready (Copies first t ∷ k) v below ms w follows = at_work w (follows, w.rest.0, w.rest.1)
   finds_ready (Receives c ∷ k) v below ms w follows = at_work w (follows, w.rest.0, w.rest.1, w.rest.2)
   finds_ready (FreesIn access c ∷ k) v below ms w follows = at_work w (follows, w.rest)
   finds_ready (f ∷ k) v below ms w follows = absurd (w.rest)
 
 module _ (known : Known) (a : Activation Value) (rest : List (Activation Value)) (s : State) (below : List Value) where
   -- The path of a target, or of a component that is freed, is followed.
-  pub finds_fine : (k : Control) (cs : List ℕ) (v : Value) (w : Working known s.heap a.places s.masters (FindsFor known s.heap a.places v cs k)) → MayFollow s.heap v → Fine known s.heap s.masters (path_next named cs v (running k (record a { operands = below }) rest s))
+  pub finds_fine : (k : Control) (cs : List ℕ) (v : Value) (w : Working known s.heap a.places s.masters (FindsFor known s.heap a.places v below cs k)) → MayFollow s.heap v → Fine known s.heap s.masters (path_next named cs v (running k (record a { operands = below }) rest s))
   finds_fine k [] v w follows =
       stays known Quiet (running k (record a { operands = v ∷ below }) rest s) (tt, finds_ready known s.heap a.places k v below s.masters w follows) tt
   finds_fine k (c ∷ cs) v w follows =
       follow_fine known k a rest s below c cs v w.stored follows
-      (λ is. jumps_less known k (record a { operands = below }) rest s (Raising ConstraintError) (at_work w (finds_raises known s.heap a.places k v (c ∷ cs) w.rooms w.holds w.rest)))
+      (λ is. jumps_less known k (record a { operands = below }) rest s (Raising ConstraintError) (at_work w (finds_raises known s.heap a.places k v below (c ∷ cs) w.rooms w.holds is w.rest)))
       (λ o object u is found listed at. next cs u (component_follows o object c u refl found listed at w.fit)
-      (finds_next known s.heap a.places k v c cs o object u w.rooms w.holds is found listed ((w.stored.sane o object found).listed_exists listed) at w.fit w.rest))
+      (finds_next known s.heap a.places k v below c cs o object u w.rooms w.holds is found listed ((w.stored.sane o object found).listed_exists listed) at w.fit w.rest))
     where
-      next : (ds : List ℕ) (u : Value) → MayFollow s.heap u → FindsFor known s.heap a.places u ds k w.rooms w.holds → ReadyIn known Running (behind_these ds k) s.heap a.places (u ∷ below) s.masters
+      next : (ds : List ℕ) (u : Value) → MayFollow s.heap u → FindsFor known s.heap a.places u below ds k w.rooms w.holds → ReadyIn known Running (behind_these ds k) s.heap a.places (u ∷ below) s.masters
       next [] u there f = finds_ready known s.heap a.places k u below s.masters (at_work w f) there
       next (d ∷ ds) u there f = inl (at_work w (there, inl f))
 
   -- The path of an item is followed.
-  pub fills_fine : (items : List ItemForm) (k : Control) (c : ℕ) (cs : List ℕ) (v : Value) (w : Working known s.heap a.places s.masters (FillsOn known s.heap a.places v below (c ∷ cs) (Fills items ∷ k))) → MayFollow s.heap v → MayRaise known true ConstraintError (Fills items ∷ k) w.rooms w.holds → Fine known s.heap s.masters (path_next named (c ∷ cs) v (running (Fills items ∷ k) (record a { operands = below }) rest s))
+  pub fills_fine : (items : List ItemForm) (k : Control) (c : ℕ) (cs : List ℕ) (v : Value) (w : Working known s.heap a.places s.masters (FillsOn known s.heap a.places v below (c ∷ cs) (Fills items ∷ k))) → MayFollow s.heap v → RaisesAt known v cs (Fills items ∷ k) w.rooms w.holds → Fine known s.heap s.masters (path_next named (c ∷ cs) v (running (Fills items ∷ k) (record a { operands = below }) rest s))
   fills_fine items k c cs v w follows raise =
       follow_fine known (Fills items ∷ k) a rest s below c cs v w.stored follows
-      (λ is. jumps_less known (Fills items ∷ k) (record a { operands = below }) rest s (Raising ConstraintError) (at_work w (raise refl)))
-      (λ o object u is found listed at. next cs u (component_follows o object c u refl found listed at w.fit)
+      (λ is. jumps_less known (Fills items ∷ k) (record a { operands = below }) rest s (Raising ConstraintError) (at_work w (raises_null known v (Fills items ∷ k) w.rooms w.holds cs raise is)))
+      (λ o object u is found listed at. next cs u raise (component_follows o object c u refl found listed at w.fit)
       (λ x on. w.rest x (walk_behind s.heap v c cs u (rw is (behind_is s.heap o object c u found ((w.stored.sane o object found).listed_exists listed) at)) ∙ on)))
     where
-      next : (ds : List ℕ) (u : Value) → MayFollow s.heap u → ((x : Value) → walk s.heap u ds ≡ finds x → FillsTo known s.heap a.places items k (x ∷ below) w.rooms w.holds) → ReadyIn known Running (behind_these ds (Fills items ∷ k)) s.heap a.places (u ∷ below) s.masters
-      next [] u there f = at_work w (f u refl)
-      next (d ∷ ds) u there f = inl (at_work w (there, inr (raise, inr (inr f))))
+      next : (ds : List ℕ) (u : Value) → RaisesAt known v ds (Fills items ∷ k) w.rooms w.holds → MayFollow s.heap u → ((x : Value) → walk s.heap u ds ≡ finds x → FillsTo known s.heap a.places items k (x ∷ below) w.rooms w.holds) → ReadyIn known Running (behind_these ds (Fills items ∷ k)) s.heap a.places (u ∷ below) s.masters
+      next [] u raises there f = at_work w (f u refl)
+      next (d ∷ ds) u raises there f = inl (at_work w (there, inr ((λ may. raises), inr (inr f))))
 
   -- Objects are stored before a component is cleared, too.
   clearing_stored : (o : Id) (c : ℕ) (k : Control) → Clearing known (Names o) c k s.heap a.places s.masters → Stored None s.heap s.masters

@@ -7,11 +7,13 @@ use Rattle.ada_program.specs.declared.program.Program.{Program}
 use Rattle.ada_text.specs.declared.spot.Spot.{Spot}
 use Rattle.ada_program.specs.Form.{PathForm, ExpressionForm, nothing, DeclarationForm, StmtForm, assigns, chooses, repeats, counts, encloses, StmtsForm, a_stmt, BranchesForm, otherwise, a_branch, HandlersForm, a_handler, declaration_forms, stmt_forms, handler_forms}
 use Rattle.ada_program.specs.ProgramForm.{TypeForm, VariableForm}
-use Rattle.ada_program.specs.WellFormed.{access_of, reached_components, kind_among}
+use Rattle.ada_program.specs.declared.program.TypeNo.{TypeNo}
+use Rattle.ada_program.specs.declared.program.VariableKind.TheVariants as variable
+use Rattle.ada_program.specs.WellFormed.{access_of, variable_kind, reached_components, kind_among}
 use Rattle.ada_flow.specs.declared.rule.Hold.{Hold}
 use Rattle.ada_flow.specs.declared.rule.Hold.TheVariants as hold
 use Rattle.ada_flow.specs.declared.rule.Region.{Region}
-use Rattle.ada_flow.specs.Flow.{Holds, goes, hold_at, variable_access, declarations_flow, computed, bounds_flow, condition_flow, opened_by_all, counting_start, collected, Around, outermost, in_loop, in_block, begins_pair, stmt_flow, stmts_flow, first_holds, types_of, variables_of}
+use Rattle.ada_flow.specs.Flow.{Holds, goes, hold_at, variable_access, declarations_flow, computed, bounds_flow, condition_flow, opened_by_all, counting_start, gone_with, Around, outermost, in_loop, in_block, begins_pair, stmt_flow, stmts_flow, first_holds, types_of, variables_of}
 use Rattle.ada_meaning.specs.declared.state.Id.{Id}
 use Rattle.ada_meaning.specs.declared.state.Value.{Value}
 use Rattle.ada_meaning.specs.declared.state.Value.TheVariants.{Null, Names, Scalar}
@@ -93,7 +95,7 @@ mutual
         → Comes types variables around outer (a_stmt (counts x low high body end_spot) fs) holds (counting next last ∷ way) place at
     in_enclosed : {around : Around} {outer place : Place}
         {ds : List DeclarationForm} {body fs : StmtsForm} {hs : HandlersForm} {holds at : Holds} {way : List Turning}
-        → ComesInside types variables (in_block (collected ds) around) (frame.Does fs ∷ outer) ds body hs holds way place at
+        → ComesInside types variables (in_block (gone_with ds) around) (frame.Does fs ∷ outer) ds body hs holds way place at
         → Comes types variables around outer (a_stmt (encloses ds body hs) fs) holds (into ∷ way) place at
 
   -- Flow comes to a place from the branches of an `if` on.
@@ -121,12 +123,12 @@ mutual
       : Around → (outer : Place) → List DeclarationForm → StmtsForm → HandlersForm → Holds → List Turning → Place → Holds → Type 0 where
     in_statements : {around : Around} {raising : Option Holds} {outer place : Place}
         {ds : List DeclarationForm} {body : StmtsForm} {hs : HandlersForm} {holds at : Holds} {way : List Turning}
-        (mid : Holds) → declarations_flow variables ds holds ≡ goes (Some mid) raising
+        (mid : Holds) → declarations_flow types variables ds holds ≡ goes (Some mid) raising
         → Comes types variables around (frame.Handles hs ∷ frame.Closes ∷ outer) body mid way place at
         → ComesInside types variables around outer ds body hs holds (into ∷ way) place at
     in_handlers : {around : Around} {raising normal : Option Holds} {outer place : Place}
         {ds : List DeclarationForm} {body : StmtsForm} {hs : HandlersForm} {holds at : Holds} {way : List Turning}
-        (mid raised : Holds) → declarations_flow variables ds holds ≡ goes (Some mid) raising
+        (mid raised : Holds) → declarations_flow types variables ds holds ≡ goes (Some mid) raising
         → stmts_flow types variables around body mid ≡ goes normal (Some raised)
         → ComesTo types variables around (frame.Closes ∷ outer) hs raised way place at
         → ComesInside types variables around outer ds body hs holds (past ∷ way) place at
@@ -177,13 +179,15 @@ pub record IsCleared (s : State) (p : owners.Place) : Type 0 where
   pub leads : walk s.heap (value_in s path.root) (before_last c cs) ≡ finds (Names object)
   pub is : p ≡ owners.component object (last_of c cs)
 
--- Each variable holds what it is relied on to hold, and no two that own name one object. Each component of an object in its collection holds null,
--- an Integer or a Boolean, or names an object that exists. No object has two owners among variables and components: only between the two
--- statements of a take pair, of which the second sets the component to null that the first one read.
+-- Each variable holds what it is relied on to hold, and no two that own name one object. A record object that is not lost is there. Each component of
+-- an object in its collection holds null, an Integer or a Boolean, or names an object that exists. No object has two owners among variables and
+-- components: only between the two statements of a take pair, of which the second sets the component to null that the first one read.
 pub record Agrees (types : List TypeForm) (variables : List VariableForm) (s : State) (holds : Holds) : Type 0 where
   pub each : (x : ℕ) → IsAs s.heap s.masters (variable_access variables x) (hold_at holds x) (value_in s x)
   pub one_owner : (x y : ℕ) (q r : Region) (o : Id) → x ≢ y
       → hold_at holds x ≡ hold.Own q → hold_at holds y ≡ hold.Own r → value_in s x ≡ Names o → value_in s y ≡ Names o → ⊥
+  pub records : (x : ℕ) (t : TypeNo) → variable_kind variables x ≡ Some (variable.Record t)
+      → hold_at holds x ≢ hold.Lost → value_in s x ≢ Null
   pub components : (o : Id) (object : Object) (c : ℕ) (v : Value)
       → object_at s.heap o ≡ Some object → object.listed ≡ true → slice_get object.cell.values c ≡ Some v
       → IsKept s.heap s.masters (component_access types object c) v

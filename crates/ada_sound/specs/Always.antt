@@ -128,7 +128,7 @@ pub record IsIllNested (program : Program) : Type 0 where
 abbrev pub IsFineAtEnds : Holds → Program → Type 0
 IsFineAtEnds holds program =
     (before within normal raising : Option Holds)
-    × (declarations_flow (variables_of program) (declaration_forms program) (first_holds program) ≡ goes (Some holds) before)
+    × (declarations_flow (types_of program) (variables_of program) (declaration_forms program) (first_holds program) ≡ goes (Some holds) before)
     × (stmts_flow (types_of program) (variables_of program) outermost (stmt_forms program) holds ≡ goes (Some holds) within)
     × (handlers_flow (types_of program) (variables_of program) outermost (handler_forms program) holds ≡ goes normal raising)
 

@@ -12,5 +12,7 @@ pub mod OwnerExamples
 pub mod BorrowerExamples
 -- the same where components get new objects, or are freed
 pub mod FreeExamples
+-- the same where records are copied as wholes
+pub mod RecordExamples
 -- what the rules let through
 pub mod Owners

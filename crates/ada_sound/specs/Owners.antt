@@ -1,14 +1,17 @@
 -- What the rules let through: only owners are freed and moved, and they own nothing after; a component is moved by a take pair, or into the new
--- object that it gets; what is freed lies on no way to it; and borrowers take part in none of that.
+-- object that it gets; what is freed lies on no way to it; borrowers take part in none of that; and what is copied as a whole owns nothing.
 
 use Rattle.std.specs.Prelude.{◌≡◌, ◌≢◌, ◌⊎◌, ℕ, Bool, true, false, List, [], ◌∷◌, ◌++◌, Option, Some}
 use Rattle.std.specs.List.{slice_get}
-use Rattle.ada_program.specs.Form.{PathForm, ItemForm, item_of_path, RightForm, nothing, value_of, allocates, allocates_default, StmtForm, assigns, frees, StmtsForm, a_stmt, declares}
+use Rattle.ada_program.specs.Form.{PathForm, RecordPathForm, ItemForm, item_of_path, item_of_record, RightForm, nothing, value_of, allocates, allocates_default, StmtForm, assigns, assigns_record, frees, StmtsForm, a_stmt, declares, declares_record}
 use Rattle.ada_flow.specs.declared.rule.Hold.TheVariants.{Own, Alias, Lost}
 use Rattle.ada_flow.specs.declared.rule.Region.{Region}
 use Rattle.ada_flow.specs.declared.rule.Rule.TheVariants.{LostValue}
+use Rattle.ada_program.specs.declared.program.ComponentKind.{ComponentKind}
+use Rattle.ada_program.specs.declared.program.ComponentKind.TheVariants as component
+use Rattle.ada_program.specs.declared.program.TypeNo.{TypeNo}
 use Rattle.ada_program.specs.ProgramForm.{TypeForm, VariableForm}
-use Rattle.ada_program.specs.WellFormed.{access_of, variable_kind, selectors_kind, path_access, is_borrower, names_borrower, lends_to}
+use Rattle.ada_program.specs.WellFormed.{access_of, record_components, reached_components, variable_kind, selectors_kind, path_access, is_borrower, names_borrower, lends_to}
 use Rattle.ada_flow.specs.Flow.{Holds, faults, goes, hold_at, variable_access, Around, begins_pair, stmt_flow, stmts_flow, declaration_flow}
 use Rattle.ada_sound.specs.Agreement.{IsOwner}
 
@@ -186,12 +189,56 @@ LostIsNotBorrowed =
 -- B : access T := P; (3.3.1, 3.10): a declaration that suits a borrower moves nothing, so each other variable holds what it did.
 abbrev pub DeclaredBorrowersMoveNothing : Type 0
 DeclaredBorrowersMoveNothing =
-    (variables : List VariableForm) (b : ℕ) (right : RightForm) (holds after : Holds) (raising : Option Holds) → is_borrower variables b ≡ true
-    → lends_to variables true right ≡ true → declaration_flow variables (declares b right) holds ≡ goes (Some after) raising
+    (types : List TypeForm) (variables : List VariableForm) (b : ℕ) (right : RightForm) (holds after : Holds) (raising : Option Holds) → is_borrower variables b ≡ true
+    → lends_to variables true right ≡ true → declaration_flow types variables (declares b right) holds ≡ goes (Some after) raising
     → (x : ℕ) → x ≢ b → hold_at after x ≡ hold_at holds x
 
 -- Behind it the borrower owns nothing.
 abbrev pub DeclaredBorrowersOwnNothing : Type 0
 DeclaredBorrowersOwnNothing =
-    (variables : List VariableForm) (b : ℕ) (right : RightForm) (holds after : Holds) (raising : Option Holds) → is_borrower variables b ≡ true
-    → lends_to variables true right ≡ true → declaration_flow variables (declares b right) holds ≡ goes (Some after) raising → OwnsNothing after b
+    (types : List TypeForm) (variables : List VariableForm) (b : ℕ) (right : RightForm) (holds after : Holds) (raising : Option Holds) → is_borrower variables b ≡ true
+    → lends_to variables true right ≡ true → declaration_flow types variables (declares b right) holds ≡ goes (Some after) raising → OwnsNothing after b
+
+-- None of these components, if there are any, is of an access type (3.10): each holds an Integer or a Boolean.
+abbrev pub HasNoAccess : Option (List ComponentKind) → Type 0
+HasNoAccess found =
+    (components : List ComponentKind) (c : ℕ) (access : TypeNo) → found ≡ Some components → slice_get components c ≢ Some (component.Access access)
+
+-- R := ..; (5.2), a record as a whole: no elementary component of its type is of an access type.
+abbrev pub AssignedRecordsArePlain : Type 0
+AssignedRecordsArePlain =
+    (types : List TypeForm) (variables : List VariableForm) (target : RecordPathForm) (items : List ItemForm) (holds : Holds)
+    → IsLetThrough types variables (assigns_record target items) holds → HasNoAccess (record_components types target.record_type)
+
+-- Nor is one of a record that is copied as an item of what is assigned (4.3.1).
+abbrev pub AssignedItemsArePlain : Type 0
+AssignedItemsArePlain =
+    (types : List TypeForm) (variables : List VariableForm) (target : RecordPathForm) (i : ℕ) (items : List ItemForm) (p : RecordPathForm) (holds : Holds)
+    → slice_get items i ≡ Some (item_of_record p)
+    → IsLetThrough types variables (assigns_record target items) holds → HasNoAccess (record_components types p.record_type)
+
+-- P := new T'(.., R, ..) (4.8): nor is one of a record that is copied into a new object.
+abbrev pub CopiedItemsArePlain : Type 0
+CopiedItemsArePlain =
+    (types : List TypeForm) (variables : List VariableForm) (target : PathForm) (access i : ℕ) (items : List ItemForm) (p : RecordPathForm) (holds : Holds)
+    → slice_get items i ≡ Some (item_of_record p)
+    → IsLetThrough types variables (assigns target (allocates access items)) holds → HasNoAccess (record_components types p.record_type)
+
+-- R : T := ..; (3.3.1): nor is one of a record object with an initial value.
+abbrev pub DeclaredRecordsArePlain : Type 0
+DeclaredRecordsArePlain =
+    (types : List TypeForm) (variables : List VariableForm) (x object_type : ℕ) (items : List ItemForm) (holds : Holds) (normal raising : Option Holds)
+    → declaration_flow types variables (declares_record x object_type (Some items)) holds ≡ goes normal raising
+    → HasNoAccess (reached_components types object_type)
+
+-- An assignment of a record moves nothing: where it comes to its end, each variable holds what it did.
+abbrev pub CopiesMoveNothing : Type 0
+CopiesMoveNothing =
+    (types : List TypeForm) (variables : List VariableForm) (target : RecordPathForm) (items : List ItemForm) (holds after : Holds)
+    → EndsWith types variables (assigns_record target items) holds after → after ≡ holds
+
+-- So it does where it raises one.
+abbrev pub CopiesStayWhereRaised : Type 0
+CopiesStayWhereRaised =
+    (types : List TypeForm) (variables : List VariableForm) (target : RecordPathForm) (items : List ItemForm) (holds raised : Holds)
+    → RaisesWith types variables (assigns_record target items) holds raised → raised ≡ holds

@@ -2,9 +2,9 @@
 
 ghost use Rattle.std.specs.Prelude.{◌≡◌, [], ◌∷◌};
 ghost use Rattle.ada_program.specs.declared.program.Program.{Program};
-ghost use Rattle.ada_program.specs.Form.{stmt_forms, handler_forms};
+ghost use Rattle.ada_program.specs.Form.{declaration_forms, stmt_forms, handler_forms};
 ghost use Rattle.ada_flow.specs.declared.rule.Hold.TheVariants.{Null};
-ghost use Rattle.ada_flow.specs.declared.rule.Rule.TheVariants.{LostValue, TakePair, LoopState, UnsafePath};
+ghost use Rattle.ada_flow.specs.declared.rule.Rule.TheVariants.{LostValue, TakePair, LoopState, UnsafePath, RecordCopied};
 ghost use Rattle.ada_program.specs.declared.program.Exception.TheVariants.{ConstraintError};
 ghost use Rattle.ada_meaning.specs.declared.event.Halt.TheVariants.{Unhandled, Erroneous};
 ghost use Rattle.ada_meaning.specs.declared.event.Why.{Why};
@@ -17,13 +17,14 @@ ghost use Rattle.ada_sound.specs.Examples as examples;
 ghost use Rattle.ada_sound.specs.BorrowerExamples as borrower_examples;
 ghost use Rattle.ada_sound.specs.FreeExamples as free_examples;
 ghost use Rattle.ada_sound.specs.OwnerExamples as owner_examples;
+ghost use Rattle.ada_sound.specs.RecordExamples as record_examples;
 ghost use Rattle.ada_sound.specs.Owners as owners;
 
 /// In every run of a program that is accepted, wherever a statement begins, flow comes to what is left to do there, and
-/// each variable holds what flow says of it: null, or null or an object that exists. Components of objects in their
-/// collections hold null, or name objects that exist. No object has two owners among variables and components, but for a
-/// component that the statement sets to null. A way through the statements leads to one place, and flow says one thing
-/// there.
+/// each variable holds what flow says of it: null, or null or an object that exists; and a record object that flow does not
+/// call lost is there. Components of objects in their collections hold null, or name objects that exist. No object has two
+/// owners among variables and components, but for a component that the statement sets to null. A way through the
+/// statements leads to one place, and flow says one thing there.
 pub fn flow_invariant()
     ensures agrees { (program : Program) → IsChecked program → AgreesWithFlow program }
     ensures one_flow { OneFlow }
@@ -150,6 +151,18 @@ pub fn only_pairs_take()
     ensures is_one { owners.PairsAreTakePairs }
 {}
 
+/// The rules let a record be assigned or declared by its value, or be copied as an item of an aggregate, only where none of
+/// its elementary components is of an access type, at any depth (3.3.1, 4.3.1, 4.8, 5.2). So an assignment of a record
+/// moves nothing: each variable holds what it did, also where it raises an exception.
+pub fn records_are_copied_plain()
+    ensures assigned { owners.AssignedRecordsArePlain }
+    ensures assigned_items { owners.AssignedItemsArePlain }
+    ensures allocated { owners.CopiedItemsArePlain }
+    ensures declared { owners.DeclaredRecordsArePlain }
+    ensures moves_nothing { owners.CopiesMoveNothing }
+    ensures unchanged_where_raised { owners.CopiesStayWhereRaised }
+{}
+
 /// A borrower takes part in no ownership (3.10). An assignment to it, and its declaration, leave what each other variable
 /// holds as it was; it owns nothing of what it gets; and the rules let it borrow nothing that is lost, or is found behind
 /// what is lost.
@@ -178,7 +191,9 @@ pub fn borrowers_only_borrow()
 /// the newer one before the older one. And one that frees a component, whose access type is not the one on the way to it:
 /// the component is null then, and to free it once more has no effect. And one whose objects have no items: it reads what
 /// a component holds at first. And one with a record object, which is an object, too: a component of it gets a new object,
-/// which a take pair takes and which is freed, and the record object goes back with its own item, to no pool.
+/// which a take pair takes and which is freed, and the record object goes back with its own item, to no pool. And one
+/// that copies records of Integers: into a record object that is declared, into a new object, from an aggregate, and from
+/// the object that an access value gives access to.
 pub fn premises_are_met()
     ensures begins { (program : Program) × IsChecked program × ReachesStatement program }
     ensures finishes { (program : Program) × IsChecked program × FinishesAfter examples.example_events program }
@@ -208,6 +223,9 @@ pub fn premises_are_met()
         × IsChecked program × FinishesAfter owner_examples.default_events program }
     ensures records { (program : Program) × (stmt_forms program ≡ owner_examples.record_stmts)
         × IsChecked program × FinishesAfter owner_examples.record_events program }
+    ensures copies { (program : Program) × (declaration_forms program ≡ record_examples.copying_declarations)
+        × (stmt_forms program ≡ record_examples.copying_stmts)
+        × IsChecked program × FinishesAfter record_examples.copying_events program }
     ensures walks { (program : Program) × (stmt_forms program ≡ borrower_examples.walking_stmts)
         × borrower_examples.HasBorrower program
         × IsChecked program × FinishesAfter borrower_examples.walking_events program }
@@ -238,7 +256,8 @@ pub fn premises_are_met()
 /// of a component to be freed does not pass the component's own access type: else it may free the object in which that
 /// component lies, which is gone where the component is to become null. And of components an item moves the one alone
 /// that the new object goes to: else two of them name one object, which one gives to a variable that frees it, and the
-/// other one is followed.
+/// other one is followed. And a record with a component of an access type is not copied: else a component of the copy
+/// names the same object, which is freed by way of one record and followed by way of the other.
 ///
 /// So are the other premises. A variable relies on values of its own access type alone: of a program that is not well
 /// formed, one of another type names what goes with a block. And components name what lasts as long as their objects: of
@@ -284,6 +303,9 @@ pub fn rules_are_needed()
     ensures doubles { (program : Program) × (stmt_forms program ≡ free_examples.doubling_stmts)
         × always.Breaks TakePair program
         × always.HaltsAfter free_examples.doubling_events (Erroneous FollowsGone) program }
+    ensures copies { (program : Program) × (stmt_forms program ≡ record_examples.duplicating_stmts)
+        × always.Breaks RecordCopied program
+        × always.HaltsAfter record_examples.duplicating_events (Erroneous FollowsGone) program }
     ensures nests { (program : Program) × (stmt_forms program ≡ owner_examples.outlasting_stmts)
         × always.IsIllNested program × always.HaltsAfter owner_examples.outlasting_events (Erroneous FollowsGone) program }
 {}

@@ -11,7 +11,7 @@ use Rattle.ada_program.specs.declared.program.VariableKind.{VariableKind}
 use Rattle.ada_program.specs.declared.program.VariableKind.TheVariants as variable
 use Rattle.ada_program.specs.Form.{HandlersForm}
 use Rattle.ada_program.specs.ProgramForm.{ProgramForm}
-use Rattle.ada_program.specs.WellFormed.{reached_components, held_kind, variable_kind, selected_kind, selectors_kind, unary_type, binary_type, type_of, chain_type, items_fit, kind_takes, initial_fits, condition_fits, has_statement, stmts_fit, branches_fit, handlers_fit}
+use Rattle.ada_program.specs.WellFormed.{is_access, reached_components, record_components, held_kind, variable_kind, selected_kind, selectors_kind, unary_type, binary_type, type_of, chain_type, has_record_at, items_fit, kind_takes, initial_fits, condition_fits, has_statement, stmts_fit, branches_fit, handlers_fit}
 use Rattle.ada_meaning.specs.declared.state.Value.{Value}
 use Rattle.ada_meaning.specs.declared.state.Value.TheVariants.{Null, Names, Scalar}
 use Rattle.ada_meaning.specs.declared.state.Mode.{Mode}
@@ -81,13 +81,17 @@ abbrev mutual
   Fits p cells kinds (frame.Applies operator ∷ k) = (ks : List VariableKind) × (l : ScalarType) × (r : ScalarType) × (t : ScalarType) × (kinds ≡ kind_of r ∷ kind_of l ∷ ks) × (binary_type operator (Some l) (Some r) ≡ Some t) × Fits p cells (kind_of t ∷ ks) k
   Fits p cells kinds (frame.AppliesAlone operator ∷ k) = (ks : List VariableKind) × (l : ScalarType) × (t : ScalarType) × (kinds ≡ kind_of l ∷ ks) × (unary_type operator (Some l) ≡ Some t) × Fits p cells (kind_of t ∷ ks) k
   Fits p cells kinds (frame.Fills items ∷ k) = (cs : List ComponentKind) × (items_fit p.types p.variables cs items ≡ true) × Fits p cells (onto cs kinds) k
+  Fits p cells kinds (frame.Copies first t ∷ k) = (ks : List VariableKind) × (access : TypeNo) × (rs : List ComponentKind) × (kinds ≡ variable.Access access ∷ ks) × (record_components p.types t ≡ Some rs) × (has_record_at (reached_components p.types access.0) first (Some rs) ≡ true) × Fits p cells (onto rs ks) k
   Fits p cells kinds (frame.Creates access count ∷ k) = (ks : List VariableKind) × (cs : List ComponentKind) × (kinds ≡ onto cs ks) × (reached_components p.types access ≡ Some cs) × (count ≡ length cs) × Fits p cells (variable.Access (record { 0 = access }) ∷ ks) k
   Fits p cells kinds (frame.Stores x ∷ k) = (ks : List VariableKind) × (kind : VariableKind) × (kinds ≡ kind ∷ ks) × (variable_kind p.variables x ≡ Some kind) × Fits p cells ks k
   Fits p cells kinds (frame.Targets c right ∷ k) = (ks : List VariableKind) × (access : TypeNo) × (kind : VariableKind) × (kinds ≡ variable.Access access ∷ ks) × (selected_kind p.types (Some (variable.Access access)) c ≡ Some kind) × (kind_takes p.types p.variables kind right ≡ true) × Fits p cells ks k
   Fits p cells kinds (frame.StoresIn object c ∷ k) = (ks : List VariableKind) × (access : TypeNo) × (kind : VariableKind) × (kinds ≡ kind ∷ ks) × IsName object × IsAccess cells access.0 object × (selected_kind p.types (Some (variable.Access access)) c ≡ Some kind) × Fits p cells ks k
+  Fits p cells kinds (frame.TargetsRecord first t items ∷ k) = (ks : List VariableKind) × (access : TypeNo) × (rs : List ComponentKind) × (kinds ≡ variable.Access access ∷ ks) × (record_components p.types t ≡ Some rs) × (has_record_at (reached_components p.types access.0) first (Some rs) ≡ true) × (items_fit p.types p.variables rs items ≡ true) × Fits p cells ks k
+  Fits p cells kinds (frame.StoresRecord object first count ∷ k) = (ks : List VariableKind) × (access : TypeNo) × (rs : List ComponentKind) × (kinds ≡ onto rs ks) × (count ≡ length rs) × IsName object × IsAccess cells access.0 object × (has_record_at (reached_components p.types access.0) first (Some rs) ≡ true) × Fits p cells ks k
   Fits p cells kinds (frame.Receives c ∷ k) = (ks : List VariableKind) × (access : TypeNo) × (kinds ≡ variable.Access access ∷ ks) × (selected_kind p.types (Some (variable.Access access)) c ≡ Some variable.Integer) × Fits p cells ks k
   Fits p cells kinds (frame.FreesIn access c ∷ k) = (ks : List VariableKind) × (holder : TypeNo) × (own : TypeNo) × (kinds ≡ variable.Access holder ∷ ks) × (selected_kind p.types (Some (variable.Access holder)) c ≡ Some (variable.Access own)) × Fits p cells ks k
   Fits p cells kinds (frame.Declares x ∷ k) = (ks : List VariableKind) × (kind : VariableKind) × (kinds ≡ kind ∷ ks) × (variable_kind p.variables x ≡ Some kind) × Fits p cells ks k
+  Fits p cells kinds (frame.DeclaresRecord x t ∷ k) = (ks : List VariableKind) × (object : TypeNo) × (cs : List ComponentKind) × (kinds ≡ onto cs ks) × (variable_kind p.variables x ≡ Some (variable.Record object)) × (t ≡ object.0) × (reached_components p.types t ≡ Some cs) × (is_access p.types t ≡ false) × Fits p cells ks k
   Fits p cells kinds (frame.Writes ∷ k) = (ks : List VariableKind) × (kinds ≡ variable.Integer ∷ ks) × Fits p cells ks k
   Fits p cells kinds (frame.Ends v ∷ k) = IsName v × Fits p cells kinds k
   Fits p cells kinds (frame.GivesBack v cause pool ∷ k) = IsName v × Fits p cells kinds k
@@ -126,13 +130,17 @@ depth (frame.Continues links ∷ k) = depth k
 depth (frame.Applies operator ∷ k) = depth k
 depth (frame.AppliesAlone operator ∷ k) = depth k
 depth (frame.Fills items ∷ k) = depth k
+depth (frame.Copies first t ∷ k) = depth k
 depth (frame.Creates access count ∷ k) = depth k
 depth (frame.Stores x ∷ k) = depth k
 depth (frame.Targets c right ∷ k) = depth k
 depth (frame.StoresIn object c ∷ k) = depth k
+depth (frame.TargetsRecord first t items ∷ k) = depth k
+depth (frame.StoresRecord object first count ∷ k) = depth k
 depth (frame.Receives c ∷ k) = depth k
 depth (frame.FreesIn access c ∷ k) = depth k
 depth (frame.Declares x ∷ k) = depth k
+depth (frame.DeclaresRecord x t ∷ k) = depth k
 depth (frame.Writes ∷ k) = depth k
 depth (frame.Ends v ∷ k) = depth k
 depth (frame.GivesBack v cause pool ∷ k) = depth k
@@ -159,13 +167,17 @@ depth_behind (frame.Continues links) k = omega arith
 depth_behind (frame.Applies operator) k = omega arith
 depth_behind (frame.AppliesAlone operator) k = omega arith
 depth_behind (frame.Fills items) k = omega arith
+depth_behind (frame.Copies first t) k = omega arith
 depth_behind (frame.Creates access count) k = omega arith
 depth_behind (frame.Stores x) k = omega arith
 depth_behind (frame.Targets c right) k = omega arith
 depth_behind (frame.StoresIn object c) k = omega arith
+depth_behind (frame.TargetsRecord first t items) k = omega arith
+depth_behind (frame.StoresRecord object first count) k = omega arith
 depth_behind (frame.Receives c) k = omega arith
 depth_behind (frame.FreesIn access c) k = omega arith
 depth_behind (frame.Declares x) k = omega arith
+depth_behind (frame.DeclaresRecord x t) k = omega arith
 depth_behind frame.Writes k = omega arith
 depth_behind (frame.Ends v) k = omega arith
 depth_behind (frame.GivesBack v cause pool) k = omega arith
@@ -221,13 +233,17 @@ module _ (p : ProgramForm) where
   catches cells (frame.Applies operator ∷ k) kinds fits = catches cells k (kind_of fits.3 ∷ fits.0) fits.6
   catches cells (frame.AppliesAlone operator ∷ k) kinds fits = catches cells k (kind_of fits.2 ∷ fits.0) fits.5
   catches cells (frame.Fills items ∷ k) kinds fits = catches cells k (onto fits.0 kinds) fits.2
+  catches cells (frame.Copies first t ∷ k) kinds fits = catches cells k (onto fits.2 fits.0) fits.6
   catches cells (frame.Creates access count ∷ k) kinds fits = catches cells k (variable.Access (record { 0 = access }) ∷ fits.0) fits.5
   catches cells (frame.Stores x ∷ k) kinds fits = catches cells k fits.0 fits.4
   catches cells (frame.Targets c right ∷ k) kinds fits = catches cells k fits.0 fits.6
   catches cells (frame.StoresIn object c ∷ k) kinds fits = catches cells k fits.0 fits.7
+  catches cells (frame.TargetsRecord first t items ∷ k) kinds fits = catches cells k fits.0 fits.7
+  catches cells (frame.StoresRecord object first count ∷ k) kinds fits = catches cells k fits.0 fits.8
   catches cells (frame.Receives c ∷ k) kinds fits = catches cells k fits.0 fits.4
   catches cells (frame.FreesIn access c ∷ k) kinds fits = catches cells k fits.0 fits.5
   catches cells (frame.Declares x ∷ k) kinds fits = catches cells k fits.0 fits.4
+  catches cells (frame.DeclaresRecord x t ∷ k) kinds fits = catches cells k fits.0 fits.8
   catches cells (frame.Writes ∷ k) kinds fits = catches cells k fits.0 fits.2
   catches cells (frame.Ends v ∷ k) kinds fits = catches cells k kinds fits.1
   catches cells (frame.GivesBack v cause pool ∷ k) kinds fits = catches cells k kinds fits.1

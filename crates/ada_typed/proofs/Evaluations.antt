@@ -14,10 +14,10 @@ use Rattle.ada_program.specs.declared.program.TypeDefinition.{TypeDefinition}
 use Rattle.ada_program.specs.declared.program.TypeNo.{TypeNo}
 use Rattle.ada_program.specs.declared.program.VariableKind.{VariableKind}
 use Rattle.ada_program.specs.declared.program.VariableKind.TheVariants as variable
-use Rattle.ada_program.specs.Form.{ExpressionForm, integer, boolean, reads, is_null, applied_to, chained, LinksForm, no_more_links, a_link, ItemForm, null_item, item_of_path, item_of_value, RightForm, nothing, value_of, allocates, allocates_default, computes}
+use Rattle.ada_program.specs.Form.{RecordPathForm, ExpressionForm, integer, boolean, reads, is_null, applied_to, chained, LinksForm, no_more_links, a_link, ItemForm, null_item, item_of_path, item_of_value, item_of_record, RightForm, nothing, value_of, allocates, allocates_default, computes}
 use Rattle.ada_program.specs.ProgramForm.{TypeForm, VariableForm, ProgramForm, type_form}
-use Rattle.ada_program.specs.Typed.{reached_of, count_of, words_of}
-use Rattle.ada_program.specs.WellFormed.{is_access, reached_components, held_kind, component_kind, kind_among, selected_kind, selectors_kind, variable_kind, root_kind, path_kind, value_access, scalar_of, is_this, type_of, chain_type, unary_type, binary_type, item_fits, items_fit, is_filled, kind_takes}
+use Rattle.ada_program.specs.Typed.{reached_of, count_of, words_of, width_of}
+use Rattle.ada_program.specs.WellFormed.{is_access, reached_components, record_components, held_kind, component_kind, kind_among, selected_kind, selectors_kind, variable_kind, root_kind, path_kind, value_access, scalar_of, is_this, type_of, chain_type, unary_type, binary_type, begins_with, begins_with_record, is_record_path, component_item_fits, first_fits, item_fits, item_width, width_in, items_fit, is_filled, kind_takes}
 use Rattle.ada_values.specs.declared.value.Value.TheVariants as scalar
 use Rattle.ada_values.specs.declared.operator.BinaryOperator.{BinaryOperator}
 use Rattle.ada_values.specs.declared.fault.OperatorFault.{OperatorFault}
@@ -33,12 +33,13 @@ use Rattle.ada_program.specs.declared.program.Exception.{Exception}
 use Rattle.ada_program.specs.declared.program.Exception.TheVariants.{ConstraintError, StorageError}
 use Rattle.ada_meaning.specs.Frame.{Frame, is_master}
 use Rattle.ada_meaning.specs.Frame as frame
-use Rattle.ada_meaning.specs.State.{Activation, Owned, Item, Master, height}
+use Rattle.ada_meaning.specs.State.{Activation, Owned, record_object, Item, Master, height}
 use Rattle.ada_meaning.specs.Heap.{Cell}
-use Rattle.ada_meaning.specs.Step.{halts, moves, tells, asks, picks, at, owning, owned, shorter, computed, popped, jumping, raised, put, held, newest, operands, operands_of, with_operands, reading, component_next, follow_next, path_next, expression_next, null_test_next, is_decided, link_next, links_next, outcome_next, item_next, items_next, answered, new_next, new_cell, initial_value, initial_values, in_front, initialized, right_next, record_cell, made}
+use Rattle.ada_meaning.specs.Step.{halts, moves, tells, asks, picks, at, owning, owned, shorter, computed, popped, jumping, raised, put, held, newest, operands, operands_of, with_operands, reading, component_next, follow_next, path_next, expression_next, null_test_next, is_decided, link_next, links_next, outcome_next, item_next, items_next, answered, new_next, new_cell, initial_value, initial_values, initialized, right_next, record_cell, made}
 use Rattle.ada_meaning.specs.Named.{Object, State, Next, named, look, seen, existing, changed, on_object, new_object, reads_boolean, reads_null}
-use Rattle.ada_typed.proofs.Values.{AreFilled, AreComputed, IsActive, kind_of, as_access, as_access_in, kind_as, selectors_as, root_same, filled_new, active_later, designated_more, newest_name, active_held, active_set, active_push, active_pop, active_newest, active_cleared, component_held, filled_at}
-use Rattle.ada_typed.proofs.Shown.{same_components}
+use Rattle.ada_typed.proofs.Values.{AreFilled, IsActive, kind_of, as_access, as_access_in, kind_as, selectors_as, root_same, filled_new, active_later, designated_more, newest_name, active_held, active_set, active_push, active_pop, active_newest, active_cleared, component_held, filled_at}
+use Rattle.ada_typed.proofs.Records.{onto_record, active_front, record_found}
+use Rattle.ada_typed.proofs.Shown.{same_record, same_components}
 use Rattle.ada_typed.proofs.Later.{fits_later}
 use Rattle.ada_typed.proofs.Operators.{and_left, and_right, typed, unary_operand, binary_operand, chain_left, decided_same, GivesKind}
 use Rattle.ada_typed.proofs.Control.{onto, Fits, depth, Ready, Jumps, Typed, running, on_jump, catches, split}
@@ -106,24 +107,24 @@ initial_kind cells (component.Integer initial) = tt
 initial_kind cells (component.Boolean initial) = tt
 initial_kind cells (component.Access access) = tt
 
-computed_initial : (cells : Cells) (cs : List ComponentKind) (kinds : List VariableKind) (vs : List Value) → AreComputed cells kinds vs → AreComputed cells (onto cs kinds) (in_front (map (initial_value named) cs) vs)
-computed_initial cells [] kinds vs h = h
-computed_initial cells (c ∷ cs) kinds vs h = computed_initial cells cs (held_kind c ∷ kinds) (initial_value named c ∷ vs) (initial_kind cells c, h)
-
-active_initial : (cells : Cells) (xs : List VariableForm) (cs : List ComponentKind) (kinds : List VariableKind) (acts : List (Activation Value)) → IsActive cells xs kinds acts → IsActive cells xs (onto cs kinds) (with_operands (in_front (map (initial_value named) cs) (operands_of acts)) acts)
-active_initial cells xs cs kinds [] h = h
-active_initial cells xs cs kinds (a ∷ suspended) h = (h.0, computed_initial cells cs kinds a.operands h.1)
-
 have_initials : (cells : Cells) (cs : List ComponentKind) → HaveKinds cells cs (map (initial_value named) cs)
 have_initials cells [] = tt
 have_initials cells (c ∷ cs) = (initial_kind cells c, have_initials cells cs)
 
-initials_have : (cells : Cells) (o : Option (List ComponentKind)) (cs : List ComponentKind) → o ≡ Some cs → HaveKinds cells cs (initial_values named o)
+pub initials_have : (cells : Cells) (o : Option (List ComponentKind)) (cs : List ComponentKind) → o ≡ Some cs → HaveKinds cells cs (initial_values named o)
 initials_have cells o cs is = subst (λ (found : Option (List ComponentKind)). HaveKinds cells cs (initial_values named found)) (sym is) (have_initials cells cs)
 
 -- The components that the types of a program have are those that are shown of them.
 pub reached_shown : {shown : List TypeForm} (types : List TypeDefinition) (t : ℕ) (cs : List ComponentKind) → map type_form types ≡ shown → reached_components shown t ≡ Some cs → reached_of types t ≡ Some cs
 reached_shown types t cs same reached = sym (same_components types t) ∙ ap (λ (ts : List TypeForm). reached_components ts t) same ∙ reached
+
+-- So an object of a type takes as many words as it has components, and a record type has as many.
+pub words_shown : {shown : List TypeForm} (types : List TypeDefinition) (t : ℕ) (cs : List ComponentKind) → map type_form types ≡ shown → reached_components shown t ≡ Some cs → words_of types t ≡ length cs
+words_shown types t cs same reached = ap count_of (reached_shown types t cs same reached)
+
+pub width_shown : {shown : List TypeForm} (types : List TypeDefinition) (t : ℕ) (rs : List ComponentKind) → map type_form types ≡ shown → record_components shown t ≡ Some rs → width_of types t ≡ length rs
+width_shown types t rs same recorded =
+    ap count_of (sym (same_record types t) ∙ ap (λ (ts : List TypeForm). record_components ts t) same ∙ recorded)
 
 -- There is something.
 pub there_is : {X : Type 0} (o : Option X) → is_some o ≡ true → (x : X) × (o ≡ Some x)
@@ -210,12 +211,14 @@ module _ (p : ProgramForm) where
       ap (λ (cells : Cells). slice_get cells (length xs)) (cells_more xs (new_object cell)) ∙ ap (slice_get (cells_of xs ++ cell ∷ [])) (sym (length_cells xs)) ∙
       newest_name (cells_of xs) cell
 
-  -- A record object is declared (3.3.1): its components hold their initial values, and its variable holds its name.
-  pub ready_made : (types : List TypeDefinition) (x t : ℕ) (object : TypeNo) (cs : List ComponentKind) (kinds : List VariableKind) (s : State) → map type_form types ≡ p.types → Ready p kinds s → variable_kind p.variables x ≡ Some (variable.Record object) → t ≡ object.0 → reached_components p.types t ≡ Some cs → is_access p.types t ≡ false → Ready p kinds (made named types x t s)
-  ready_made types x t object cs kinds s shown ready is own reached never =
-      let cell = record_cell named types t (height s.masters) in
-      let more = ready_more kinds s cell cs ready reached (initials_have (cells_of s.heap) (reached_of types t) cs (reached_shown types t cs shown reached)) (λ access. absurd (cc)) in
-      put_in kinds (record s { heap = s.heap ++ new_object cell ∷ [] }) x (variable.Record object) (Names (record { 0 = length s.heap })) more is (cell, named_newest s.heap cell, own)
+  -- A record object is declared (3.3.1): its components hold these values, and its variable holds its name.
+  pub ready_made : (types : List TypeDefinition) (x t : ℕ) (object : TypeNo) (cs : List ComponentKind) (values : List Value) (kinds : List VariableKind) (s : State) → HaveKinds (cells_of s.heap) cs values → Ready p kinds s → variable_kind p.variables x ≡ Some (variable.Record object) → t ≡ object.0 → reached_components p.types t ≡ Some cs → is_access p.types t ≡ false → Ready p kinds (made named types x t values s)
+  ready_made types x t object cs values kinds s have ready is own reached never =
+      let cell = record_cell named t (height s.masters) values in
+      let more = ready_more kinds s cell cs ready reached have (λ access. absurd (cc)) in
+      let holding = record s { heap = s.heap ++ new_object cell ∷ [] } in
+      let name = Names (record { 0 = length s.heap }) in
+      ready_owning kinds (put x name holding) (record_object t) (put_in kinds holding x (variable.Record object) name more is (cell, named_newest s.heap cell, own))
 
   -- A jump begins: operands are dropped.
   pub jumped : (kinds : List VariableKind) (mode : Mode) (s : State) → Ready p kinds s → Jumps p mode (jumping mode s)
@@ -369,39 +372,75 @@ module _ (p : ProgramForm) where
   this_kind (Some (variable.Record object)) access h = absurd (cc)
 
   -- Allocators.
-  item_fine : (kind : ComponentKind) (item : ItemForm) (s : State) (kinds : List VariableKind) → Ready p kinds s → item_fits p.types p.variables kind item ≡ true → Fits p (cells_of s.heap) (held_kind kind ∷ kinds) s.control → Fine p (item_next named item s)
-  item_fine (component.Integer initial) null_item s kinds ready is fits = absurd (cc)
-  item_fine (component.Integer initial) (item_of_path path) s kinds ready is fits = absurd (cc)
-  item_fine (component.Integer initial) (item_of_value e) s kinds ready is fits =
+  component_fine : (kind : ComponentKind) (item : ItemForm) (s : State) (kinds : List VariableKind) → Ready p kinds s → component_item_fits p.types p.variables kind item ≡ true → Fits p (cells_of s.heap) (held_kind kind ∷ kinds) s.control → Fine p (item_next named item s)
+  component_fine (component.Integer initial) null_item s kinds ready is fits = absurd (cc)
+  component_fine (component.Integer initial) (item_of_path path) s kinds ready is fits = absurd (cc)
+  component_fine (component.Integer initial) (item_of_value e) s kinds ready is fits =
       running kinds (ready_at kinds s (frame.Computes e ∷ s.control) ready ready.deep) (Integer, typed Integer (type_of p.types p.variables e) is, fits)
-  item_fine (component.Boolean initial) null_item s kinds ready is fits = absurd (cc)
-  item_fine (component.Boolean initial) (item_of_path path) s kinds ready is fits = absurd (cc)
-  item_fine (component.Boolean initial) (item_of_value e) s kinds ready is fits =
+  component_fine (component.Integer initial) (item_of_record q) s kinds ready is fits = absurd (cc)
+  component_fine (component.Boolean initial) null_item s kinds ready is fits = absurd (cc)
+  component_fine (component.Boolean initial) (item_of_path path) s kinds ready is fits = absurd (cc)
+  component_fine (component.Boolean initial) (item_of_value e) s kinds ready is fits =
       running kinds (ready_at kinds s (frame.Computes e ∷ s.control) ready ready.deep) (Boolean, typed Boolean (type_of p.types p.variables e) is, fits)
-  item_fine (component.Access access) null_item s kinds ready is fits = running (variable.Access access ∷ kinds) (ready_push kinds s (variable.Access access) Null ready tt) fits
-  item_fine (component.Access access) (item_of_path path) s kinds ready is fits =
+  component_fine (component.Boolean initial) (item_of_record q) s kinds ready is fits = absurd (cc)
+  component_fine (component.Access access) null_item s kinds ready is fits = running (variable.Access access ∷ kinds) (ready_push kinds s (variable.Access access) Null ready tt) fits
+  component_fine (component.Access access) (item_of_path path) s kinds ready is fits =
       root_fine path.of_record path.selectors path.root (variable.Access access) s kinds ready
       (this_kind (path_kind p.types p.variables path) access is) fits
-  item_fine (component.Access access) (item_of_value e) s kinds ready is fits = absurd (cc)
+  component_fine (component.Access access) (item_of_value e) s kinds ready is fits = absurd (cc)
+  component_fine (component.Access access) (item_of_record q) s kinds ready is fits = absurd (cc)
+
+  -- An item for one component, with others behind it.
+  first_fine : (item : ItemForm) (items : List ItemForm) (cs : List ComponentKind) (s : State) (kinds : List VariableKind) → Ready p kinds s → first_fits p.types p.variables cs item ≡ true → items_fit p.types p.variables (drop 1 cs) items ≡ true → Fits p (cells_of s.heap) (onto cs kinds) s.control → Fine p (item_next named item (at (frame.Fills items ∷ s.control) s))
+  first_fine item items [] s kinds ready is later fits = absurd (cc)
+  first_fine item items (c ∷ cs) s kinds ready is later fits =
+      component_fine c item (at (frame.Fills items ∷ s.control) s) kinds (ready_at kinds s (frame.Fills items ∷ s.control) ready ready.deep) is (cs, later, fits)
+
+  -- A record is copied: its components are the first that are left.
+  begun : (o : Option (List ComponentKind)) (rs cs : List ComponentKind) → o ≡ Some rs → begins_with_record cs o ≡ true → begins_with cs rs ≡ true
+  begun o rs cs same is = ap (begins_with_record cs) (sym same) ∙ is
+
+  copy_fine : (q : RecordPathForm) (items : List ItemForm) (cs : List ComponentKind) (s : State) (kinds : List VariableKind) → Ready p kinds s → is_record_path p.types p.variables q ≡ true → begins_with_record cs (record_components p.types q.record_type) ≡ true → items_fit p.types p.variables (drop (width_in (record_components p.types q.record_type)) cs) items ≡ true → Fits p (cells_of s.heap) (onto cs kinds) s.control → Fine p (item_next named (item_of_record q) (at (frame.Fills items ∷ s.control) s))
+  copy_fine q items cs s kinds ready is begins later fits =
+      let found = record_found p.types (path_kind p.types p.variables q.object) q.first q.record_type is in
+      let rs = found.1 in
+      let left : items_fit p.types p.variables (drop (length rs) cs) items ≡ true = ap (λ (o : Option (List ComponentKind)). items_fit p.types p.variables (drop (width_in o) cs) items) (sym found.3) ∙ later in
+      let same : onto (drop (length rs) cs) (onto rs kinds) ≡ onto cs kinds = onto_record cs rs kinds (begun (record_components p.types q.record_type) rs cs found.3 begins) in
+      let inner = frame.Copies q.first q.record_type ∷ frame.Fills items ∷ s.control in
+      root_fine q.object.of_record q.object.selectors q.object.root (variable.Access found.0) (at inner s) kinds (ready_at kinds s inner ready ready.deep) found.2
+      (kinds, found.0, rs, refl, found.3, found.4, (drop (length rs) cs, left, subst (λ (ks : List VariableKind). Fits p (cells_of s.heap) ks s.control) (sym same) fits))
+
+  item_fine : (item : ItemForm) (items : List ItemForm) (cs : List ComponentKind) (s : State) (kinds : List VariableKind) → Ready p kinds s → item_fits p.types p.variables cs item ≡ true → items_fit p.types p.variables (drop (item_width p.types item) cs) items ≡ true → Fits p (cells_of s.heap) (onto cs kinds) s.control → Fine p (item_next named item (at (frame.Fills items ∷ s.control) s))
+  item_fine null_item items cs s kinds ready is later fits = first_fine null_item items cs s kinds ready is later fits
+  item_fine (item_of_path path) items cs s kinds ready is later fits = first_fine (item_of_path path) items cs s kinds ready is later fits
+  item_fine (item_of_value e) items cs s kinds ready is later fits = first_fine (item_of_value e) items cs s kinds ready is later fits
+  item_fine (item_of_record q) items cs s kinds ready is later fits =
+      let leads = is_record_path p.types p.variables q in
+      let begins = begins_with_record cs (record_components p.types q.record_type) in
+      copy_fine q items cs s kinds ready (and_left leads begins is) (and_right leads begins is) later fits
 
   pub items_fine : (items : List ItemForm) (cs : List ComponentKind) (s : State) (kinds : List VariableKind) → Ready p kinds s → items_fit p.types p.variables cs items ≡ true → Fits p (cells_of s.heap) (onto cs kinds) s.control → Fine p (items_next named items s)
   items_fine [] [] s kinds ready is fits = running kinds ready fits
   items_fine [] (c ∷ cs) s kinds ready is fits = absurd (cc)
-  items_fine (i ∷ items) [] s kinds ready is fits = absurd (cc)
-  items_fine (i ∷ items) (c ∷ cs) s kinds ready is fits =
-      item_fine c i (at (frame.Fills items ∷ s.control) s) kinds (ready_at kinds s (frame.Fills items ∷ s.control) ready ready.deep)
-      (and_left (item_fits p.types p.variables c i) (items_fit p.types p.variables cs items) is)
-      (cs, and_right (item_fits p.types p.variables c i) (items_fit p.types p.variables cs items) is, fits)
+  items_fine (i ∷ items) cs s kinds ready is fits =
+      let own = item_fits p.types p.variables cs i in
+      let others = items_fit p.types p.variables (drop (item_width p.types i) cs) items in
+      item_fine i items cs s kinds ready (and_left own others is) (and_right own others is) fits
+
+  -- Operands for components: their values, and the operands without them.
+  pub active_without : (cells : Cells) (cs : List ComponentKind) (ks : List VariableKind) (acts : List (Activation Value)) → IsActive cells p.variables (onto cs ks) acts → IsActive cells p.variables ks (with_operands (drop (length cs) (operands_of acts)) acts)
+  active_without cells cs ks [] active = active
+  active_without cells cs ks (a ∷ suspended) active = (active.0, (split cells cs ks a.operands active.1).1)
+
+  pub active_values : (cells : Cells) (cs : List ComponentKind) (ks : List VariableKind) (acts : List (Activation Value)) → IsActive cells p.variables (onto cs ks) acts → HaveKinds cells cs (reverse (take (length cs) (operands_of acts)))
+  active_values cells cs ks [] active = absurd active
+  active_values cells cs ks (a ∷ suspended) active = (split cells cs ks a.operands active.1).0
 
   active_new : (cells : Cells) (cell : Cell Value) (cs : List ComponentKind) (ks : List VariableKind) (access : TypeNo) (acts : List (Activation Value)) (o : ℕ) → cell.access ≡ access.0 → o ≡ length cells → IsActive cells p.variables (onto cs ks) acts → IsActive (cells ++ cell ∷ []) p.variables (variable.Access access ∷ ks) (with_operands (Names (record { 0 = o }) ∷ drop (length cs) (operands_of acts)) acts)
   active_new cells cell cs ks access [] o own is active = active
   active_new cells cell cs ks access (a ∷ suspended) o own is active =
       let more : IsActive (cells ++ cell ∷ []) p.variables ks (record a { operands = drop (length cs) a.operands } ∷ suspended) = active_later cells (cells ++ cell ∷ []) (designated_more cells cell) p.variables ks (record a { operands = drop (length cs) a.operands } ∷ suspended) (active.0, (split cells cs ks a.operands active.1).1) in
       (more.0, ((cell, ap (slice_get (cells ++ cell ∷ [])) is ∙ newest_name cells cell, own), more.1))
-
-  active_values : (cells : Cells) (cs : List ComponentKind) (ks : List VariableKind) (acts : List (Activation Value)) → IsActive cells p.variables (onto cs ks) acts → HaveKinds cells cs (reverse (take (length cs) (operands_of acts)))
-  active_values cells cs ks [] active = absurd active
-  active_values cells cs ks (a ∷ suspended) active = (split cells cs ks a.operands active.1).0
 
   answered_fine : (access item words : ℕ) (s : State) (ks : List VariableKind) (cs : List ComponentKind) → Ready p (onto cs ks) s → reached_components p.types access ≡ Some cs → Fits p (cells_of s.heap) (variable.Access (record { 0 = access }) ∷ ks) s.control → (granted : Bool) → Typed p (answered named access (length cs) item words s granted)
   answered_fine access item words s ks cs ready reached fits true =
@@ -422,21 +461,14 @@ module _ (p : ProgramForm) where
   new_fine (Some item) access words s ks cs ready reached fits = answered_fine access item words s ks cs ready reached fits
 
   -- What is assigned.
-  filled_items : (o : Option (List ComponentKind)) (vs : List VariableForm) (items : List ItemForm) → is_filled p.types vs o items ≡ true → (cs : List ComponentKind) × (o ≡ Some cs) × (items_fit p.types vs cs items ≡ true)
+  pub filled_items : (o : Option (List ComponentKind)) (vs : List VariableForm) (items : List ItemForm) → is_filled p.types vs o items ≡ true → (cs : List ComponentKind) × (o ≡ Some cs) × (items_fit p.types vs cs items ≡ true)
   filled_items None vs items h = absurd (cc)
   filled_items (Some cs) vs items h = (cs, refl, h)
-
-  as_many : (vs : List VariableForm) (cs : List ComponentKind) (items : List ItemForm) → items_fit p.types vs cs items ≡ true → length items ≡ length cs
-  as_many vs [] [] h = refl
-  as_many vs [] (i ∷ items) h = absurd (cc)
-  as_many vs (c ∷ cs) [] h = absurd (cc)
-  as_many vs (c ∷ cs) (i ∷ items) h = ap suc (as_many vs cs items (and_right (item_fits p.types vs c i) (items_fit p.types vs cs items) h))
 
   ready_initialized : (types : List TypeDefinition) (access : ℕ) (cs : List ComponentKind) (kinds : List VariableKind) (s : State) → reached_of types access ≡ Some cs → Ready p kinds s → Ready p (onto cs kinds) (initialized named types access s)
   ready_initialized types access cs kinds s found ready = record {
     filled = ready.filled;
-    active = subst (λ (o : Option (List ComponentKind)). IsActive (cells_of s.heap) p.variables (onto cs kinds) (with_operands (in_front (initial_values named o) (operands s)) s.activations)) (sym found)
-        (active_initial (cells_of s.heap) p.variables cs kinds s.activations ready.active);
+    active = active_front (cells_of s.heap) p.variables cs kinds (initial_values named (reached_of types access)) s.activations (initials_have (cells_of s.heap) (reached_of types access) cs found) ready.active;
     runs = ready.runs;
     deep = ready.deep;
   }
@@ -461,13 +493,14 @@ module _ (p : ProgramForm) where
   right_fine types shown (allocates t items) (variable.Access access) s kinds ready is fits =
       let same : t ≡ access.0 = eqb-true t access.0 (and_left (t == access.0) (is_filled p.types p.variables (reached_components p.types access.0) items) is) in
       let filled = filled_items (reached_components p.types access.0) p.variables items (and_right (t == access.0) (is_filled p.types p.variables (reached_components p.types access.0) items) is) in
-      running kinds (ready_at kinds s (frame.Fills items ∷ frame.Creates t (length items) ∷ s.control) ready ready.deep)
-      (filled.0, filled.2, (kinds, filled.0, refl, ap (reached_components p.types) same ∙ filled.1, as_many p.variables filled.0 items filled.2, subst (λ (i : ℕ). Fits p (cells_of s.heap) (variable.Access (record { 0 = i }) ∷ kinds) s.control) (sym same) fits))
+      let reached : reached_components p.types t ≡ Some filled.0 = ap (reached_components p.types) same ∙ filled.1 in
+      running kinds (ready_at kinds s (frame.Fills items ∷ frame.Creates t (words_of types t) ∷ s.control) ready ready.deep)
+      (filled.0, filled.2, (kinds, filled.0, refl, reached, words_shown types t filled.0 shown reached, subst (λ (i : ℕ). Fits p (cells_of s.heap) (variable.Access (record { 0 = i }) ∷ kinds) s.control) (sym same) fits))
   right_fine types shown (allocates_default t) (variable.Access access) s kinds ready is fits =
       let same : t ≡ access.0 = eqb-true t access.0 (and_left (t == access.0) (is_some (reached_components p.types access.0)) is) in
       let components = there_is (reached_components p.types access.0) (and_right (t == access.0) (is_some (reached_components p.types access.0)) is) in
       let reached : reached_components p.types t ≡ Some components.0 = ap (reached_components p.types) same ∙ components.1 in
-      let found : reached_of types t ≡ Some components.0 = sym (same_components types t) ∙ ap (λ (ts : List TypeForm). reached_components ts t) shown ∙ reached in
+      let found : reached_of types t ≡ Some components.0 = reached_shown types t components.0 shown reached in
       running (onto components.0 kinds)
       (ready_at (onto components.0 kinds) (initialized named types t s) (frame.Creates t (words_of types t) ∷ s.control) (ready_initialized types t components.0 kinds s found ready) ready.deep)
       (kinds, components.0, refl, reached, ap count_of found, subst (λ (i : ℕ). Fits p (cells_of s.heap) (variable.Access (record { 0 = i }) ∷ kinds) s.control) (sym same) fits)

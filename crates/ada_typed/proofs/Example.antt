@@ -1,11 +1,12 @@
 -- A well-formed program and a run of it to its end; and programs that are not well formed, which get stuck.
 
-use Rattle.std.proofs.Common.{◌≤◌, ℤ, Bool, true, false, List, [], ◌∷◌, ◌++◌, length, map, refl, sym, ap, subst, ◌≡◌, arith}
+use Rattle.std.proofs.Common.{◌<◌, ◌≤◌, ℤ, Bool, true, false, List, [], ◌∷◌, ◌++◌, length, map, refl, sym, ap, subst, ◌≡◌, arith}
 use Rattle.std.specs.Prelude.{Some, None, pos, String}
 use Rattle.std.specs.Global.{Vec, Global}
 use Rattle.ada_text.specs.declared.spot.Spot.{Spot}
 use Rattle.ada_program.specs.declared.program.Expression.{Expression, Integer, Boolean, Path as Reads, NullTest}
 use Rattle.ada_program.specs.declared.program.Path.{Path}
+use Rattle.ada_program.specs.declared.program.RecordPath.{RecordPath}
 use Rattle.ada_program.specs.declared.program.Item.TheVariants as item
 use Rattle.ada_program.specs.declared.program.Right.TheVariants as right
 use Rattle.ada_program.specs.declared.program.Stmt as stmt
@@ -24,13 +25,13 @@ use Rattle.ada_program.specs.declared.program.Choice.TheVariants as choice
 use Rattle.ada_program.specs.declared.program.Exception.{Exception}
 use Rattle.ada_program.specs.declared.program.Exception.TheVariants.{ProgramError, Declared}
 use Rattle.ada_program.specs.declared.program.Handler.{Handler}
-use Rattle.ada_program.specs.Form.{expression_form, stmt_form, path_form, integer, reads, is_null, StmtsForm, no_stmts, a_stmt, assigns, allocates_default, computes, gets, writes, frees, chooses, repeats, counts, exits, raises, encloses, otherwise, a_branch, HandlersForm, no_handlers, a_handler, declaration_forms, stmt_forms, handler_forms, statement_rules, expression_rules}
+use Rattle.ada_program.specs.Form.{expression_form, stmt_form, path_form, record_path_form, item_of_record, integer, reads, is_null, StmtsForm, no_stmts, a_stmt, assigns, assigns_record, allocates_default, computes, gets, writes, frees, chooses, repeats, counts, exits, raises, encloses, otherwise, a_branch, HandlersForm, no_handlers, a_handler, declaration_forms, stmt_forms, handler_forms, statement_rules, expression_rules}
 use Rattle.ada_program.specs.ProgramForm.{program_form}
 use Rattle.ada_program.specs.WellFormed.{Creation, creation, created_by_all, created_by_handlers, creates_from, has_collections, IsWellFormed, stmts_fit}
 use Rattle.ada_meaning.specs.declared.event.Halt.TheVariants.{Finished}
 use Rattle.ada_meaning.specs.Frame as frame
 use Rattle.ada_meaning.specs.Named.{State, next}
-use Rattle.ada_meaning.specs.Run.{Event, Run, Halts, first_state, settled, grants, here, there}
+use Rattle.ada_meaning.specs.Run.{Event, Run, Halts, first_state, settled, grants, takes, here, there}
 use Rattle.ada_typed.specs.Stuck.{Finishes, GetsStuck, HasEmptyHandler}
 use denote.RawPtr.{null_ptr}
 
@@ -46,7 +47,7 @@ no_name = record { bytes = vec [] (omega arith); ok = ∣ ([], (refl, refl)) ∣
 abbrev spot : Spot
 spot = record { line = 1; column = 1 }
 
--- X; X.Value; N; I
+-- X; X.Value; N; R; I
 abbrev x_path : Path
 x_path = record { root = record { 0 = 0 }; selectors = vec [] (omega arith); of_record = false; spot = spot }
 
@@ -56,22 +57,33 @@ value_path = record { root = record { 0 = 0 }; selectors = vec (record { 0 = 0 }
 abbrev n_path : Path
 n_path = record { root = record { 0 = 1 }; selectors = vec [] (omega arith); of_record = false; spot = spot }
 
+abbrev r_path : Path
+r_path = record { root = record { 0 = 2 }; selectors = vec [] (omega arith); of_record = true; spot = spot }
+
 abbrev i_path : Path
-i_path = record { root = record { 0 = 2 }; selectors = vec [] (omega arith); of_record = false; spot = spot }
+i_path = record { root = record { 0 = 3 }; selectors = vec [] (omega arith); of_record = false; spot = spot }
+
+-- X.all; R
+abbrev x_all : RecordPath
+x_all = record { object = x_path; first = record { 0 = 0 }; «record» = record { 0 = 0 } }
+
+abbrev r_all : RecordPath
+r_all = record { object = r_path; first = record { 0 = 0 }; «record» = record { 0 = 0 } }
 
 -- type Cell is record Value : Integer; end record; type Link is access Cell;
 abbrev parts : List Part
 parts = record { name = no_name; kind = part.Elementary (kind.Integer (pos 0)); first = record { 0 = 0 } } ∷ []
 
 abbrev types : List TypeDefinition
-types = definition.Record no_name (vec parts (omega arith)) (vec (kind.Integer (pos 0) ∷ []) (omega arith)) ∷ definition.Access no_name (record { 0 = 0 }) ∷ []
+types = definition.Record no_name (vec parts (omega arith)) (vec (kind.Integer (pos 0) ∷ []) (omega arith)) ∷ definition.Access no_name (record { 0 = 0 }) ∷ definition.Object (record { 0 = 0 }) ∷ []
 
--- X : Link := new Cell'(Value => 7); N : Integer := X.Value; and the parameter I
+-- X : Link := new Cell'(Value => 7); N : Integer := X.Value; R : Cell := (Value => 3); and the parameter I
 abbrev variables : List Variable
 variables =
-    record { name = no_name; kind = variable.Access (record { 0 = 1 }); borrows = false }
-    ∷ record { name = no_name; kind = variable.Integer; borrows = false }
-    ∷ record { name = no_name; kind = variable.Integer; borrows = false }
+    record { name = no_name; spot = spot; kind = variable.Access (record { 0 = 1 }); borrows = false }
+    ∷ record { name = no_name; spot = spot; kind = variable.Integer; borrows = false }
+    ∷ record { name = no_name; spot = spot; kind = variable.Record (record { 0 = 2 }); borrows = false }
+    ∷ record { name = no_name; spot = spot; kind = variable.Integer; borrows = false }
     ∷ []
 
 abbrev declarations : List Declaration
@@ -79,16 +91,18 @@ declarations =
     declaration.Collection (record { 0 = 1 })
     ∷ declaration.Variable (record { 0 = 0 }) (Some (right.Allocator (record { 0 = 1 }) (vec (item.Value (Integer (pos 7)) ∷ []) (omega arith))))
     ∷ declaration.Variable (record { 0 = 1 }) (Some (right.Value (Reads value_path)))
+    ∷ declaration.Record (record { 0 = 2 }) (record { 0 = 2 }) (Some (vec (item.Value (Integer (pos 3)) ∷ []) (omega arith)))
     ∷ []
 
 -- X /= null; X = null
 abbrev x_is : Bool → Expression
 x_is equal = NullTest x_path equal
 
--- Get (X.Value); X.Value := N; Put_Line (Integer'Image (N)); Free (X);
+-- X.all := R; Get (X.Value); X.Value := N; Put_Line (Integer'Image (N)); Free (X);
 abbrev chosen : List Stmt
 chosen =
-    stmt.Get value_path
+    stmt.AssignRecord x_all (vec (item.Record r_all ∷ []) (omega arith))
+    ∷ stmt.Get value_path
     ∷ stmt.Assign value_path (right.Value (Reads n_path))
     ∷ stmt.PutImage (Reads n_path)
     ∷ stmt.Free (record { 0 = 1 }) x_path
@@ -114,7 +128,7 @@ counted = stmt.Block (vec [] (omega arith)) (vec (stmt.Get n_path ∷ stmt.Raise
 abbrev statements : List Stmt
 statements =
     stmt.Loop None (vec body (omega arith)) spot
-    ∷ stmt.For (record { 0 = 2 }) (Integer (pos 1)) (Integer (pos 1)) (vec counted (omega arith)) spot
+    ∷ stmt.For (record { 0 = 3 }) (Integer (pos 1)) (Integer (pos 1)) (vec counted (omega arith)) spot
     ∷ stmt.Assign x_path (right.Default (record { 0 = 1 }))
     ∷ stmt.Free (record { 0 = 1 }) x_path
     ∷ []
@@ -133,9 +147,10 @@ program = record {
 -- The statements as plain data.
 abbrev chosen_forms : StmtsForm
 chosen_forms =
+    a_stmt (assigns_record (record_path_form x_all) (item_of_record (record_path_form r_all) ∷ [])) (
     a_stmt (gets (path_form value_path)) (
     a_stmt (assigns (path_form value_path) (computes (reads (path_form n_path)))) (
-    a_stmt (writes (reads (path_form n_path))) (a_stmt (frees 1 (path_form x_path)) no_stmts)))
+    a_stmt (writes (reads (path_form n_path))) (a_stmt (frees 1 (path_form x_path)) no_stmts))))
 
 abbrev body_forms : StmtsForm
 body_forms = a_stmt (chooses (a_branch (is_null false (path_form x_path)) chosen_forms (otherwise no_stmts))) (a_stmt (exits (Some (is_null true (path_form x_path))) spot) no_stmts)
@@ -149,7 +164,7 @@ counted_forms = a_stmt (encloses [] (a_stmt (gets (path_form n_path)) (a_stmt (r
 abbrev forms : StmtsForm
 forms =
     a_stmt (repeats None body_forms spot) (
-    a_stmt (counts 2 (integer (pos 1)) (integer (pos 1)) counted_forms spot) (
+    a_stmt (counts 3 (integer (pos 1)) (integer (pos 1)) counted_forms spot) (
     a_stmt (assigns (path_form x_path) (allocates_default 1)) (a_stmt (frees 1 (path_form x_path)) no_stmts)))
 
 statements_are : stmt_forms program ≡ forms
@@ -164,7 +179,7 @@ unfolding expression_form
 well_formed = record {
   types_fit = refl;
   variables_fit = refl;
-  creates_in_order = ap (λ (fs : StmtsForm). creates_from 3 0 (creations_with fs)) statements_are;
+  creates_in_order = ap (λ (fs : StmtsForm). creates_from 4 0 (creations_with fs)) statements_are;
   collections_first = refl;
   collections_fit = refl;
   has_one_each = ap (λ (fs : StmtsForm). has_collections (creations_with fs) 0 (program_form program).types) statements_are;
@@ -181,9 +196,13 @@ input = pos 4 ∷ pos 5 ∷ []
 abbrev FinishesFrom : StmtsForm → Type 0
 FinishesFrom fs = (events : List Event) × (last : State) × Run program (record (first_state program input) { control = frame.Elaborates (declaration_forms program) fs no_handlers ∷ [] }) events last × Halts program last Finished
 
+-- The record object is the one member of its item.
+some_member : 0 < 1
+some_member = omega arith
+
 finishes_from : FinishesFrom forms
 unfolding next expression_form
-finishes_from = (_, _, there settled _ (refl, refl) (there settled _ (refl, refl) (there settled _ (refl, refl) (there settled _ (refl, refl) (there settled _ (refl, refl) (there settled _ (refl, refl) (there (grants true) _ (refl, refl) (there settled _ (refl, refl) (there settled _ (refl, refl) (there settled _ (refl, refl) (there settled _ (refl, refl) (there settled _ (refl, refl) (there settled _ (refl, refl) (there settled _ (refl, refl) (there settled _ (refl, refl) (there settled _ (refl, refl) (there settled _ (refl, refl) (there settled _ (refl, refl) (there settled _ (refl, refl) (there settled _ (refl, refl) (there settled _ (refl, refl) (there settled _ (refl, refl) (there settled _ (refl, refl) (there settled _ (refl, refl) (there settled _ (refl, refl) (there settled _ (refl, refl) (there settled _ (refl, refl) (there settled _ (refl, refl) (there settled _ (refl, refl) (there settled _ (refl, refl) (there settled _ (refl, refl) (there settled _ (refl, refl) (there settled _ (refl, refl) (there settled _ (refl, refl) (there settled _ (refl, refl) (there settled _ (refl, refl) (there settled _ (refl, refl) (there settled _ (refl, refl) (there settled _ (refl, refl) (there settled _ (refl, refl) (there settled _ (refl, refl) (there settled _ (refl, refl) (there settled _ (refl, refl) (there settled _ (refl, refl) (there settled _ (refl, refl) (there settled _ (refl, refl) (there settled _ (refl, refl) (there settled _ (refl, refl) (there settled _ (refl, refl) (there settled _ (refl, refl) (there settled _ (refl, refl) (there settled _ (refl, refl) (there settled _ (refl, refl) (there settled _ (refl, refl) (there settled _ (refl, refl) (there settled _ (refl, refl) (there settled _ (refl, refl) (there settled _ (refl, refl) (there settled _ (refl, refl) (there settled _ (refl, refl) (there (grants true) _ (refl, refl) (there settled _ (refl, refl) (there settled _ (refl, refl) (there settled _ (refl, refl) (there settled _ (refl, refl) (there settled _ (refl, refl) (there settled _ (refl, refl) (there settled _ (refl, refl) (there settled _ (refl, refl) (there settled _ (refl, refl) (there settled _ (refl, refl) (there settled _ (refl, refl) (there settled _ (refl, refl) here)))))))))))))))))))))))))))))))))))))))))))))))))))))))))))))))))))))))), refl)
+finishes_from = (_, _, there settled _ (refl, refl) (there settled _ (refl, refl) (there settled _ (refl, refl) (there settled _ (refl, refl) (there settled _ (refl, refl) (there settled _ (refl, refl) (there (grants true) _ (refl, refl) (there settled _ (refl, refl) (there settled _ (refl, refl) (there settled _ (refl, refl) (there settled _ (refl, refl) (there settled _ (refl, refl) (there settled _ (refl, refl) (there settled _ (refl, refl) (there settled _ (refl, refl) (there settled _ (refl, refl) (there settled _ (refl, refl) (there settled _ (refl, refl) (there settled _ (refl, refl) (there settled _ (refl, refl) (there settled _ (refl, refl) (there settled _ (refl, refl) (there settled _ (refl, refl) (there settled _ (refl, refl) (there settled _ (refl, refl) (there settled _ (refl, refl) (there settled _ (refl, refl) (there settled _ (refl, refl) (there settled _ (refl, refl) (there settled _ (refl, refl) (there settled _ (refl, refl) (there settled _ (refl, refl) (there settled _ (refl, refl) (there settled _ (refl, refl) (there settled _ (refl, refl) (there settled _ (refl, refl) (there settled _ (refl, refl) (there settled _ (refl, refl) (there settled _ (refl, refl) (there settled _ (refl, refl) (there settled _ (refl, refl) (there settled _ (refl, refl) (there settled _ (refl, refl) (there settled _ (refl, refl) (there settled _ (refl, refl) (there settled _ (refl, refl) (there settled _ (refl, refl) (there settled _ (refl, refl) (there settled _ (refl, refl) (there settled _ (refl, refl) (there settled _ (refl, refl) (there settled _ (refl, refl) (there settled _ (refl, refl) (there settled _ (refl, refl) (there settled _ (refl, refl) (there settled _ (refl, refl) (there settled _ (refl, refl) (there settled _ (refl, refl) (there settled _ (refl, refl) (there settled _ (refl, refl) (there settled _ (refl, refl) (there settled _ (refl, refl) (there settled _ (refl, refl) (there settled _ (refl, refl) (there settled _ (refl, refl) (there settled _ (refl, refl) (there settled _ (refl, refl) (there settled _ (refl, refl) (there settled _ (refl, refl) (there settled _ (refl, refl) (there settled _ (refl, refl) (there (grants true) _ (refl, refl) (there settled _ (refl, refl) (there settled _ (refl, refl) (there settled _ (refl, refl) (there settled _ (refl, refl) (there settled _ (refl, refl) (there settled _ (refl, refl) (there settled _ (refl, refl) (there settled _ (refl, refl) (there (takes 0) _ (some_member, refl, refl) (there settled _ (refl, refl) (there settled _ (refl, refl) (there settled _ (refl, refl) (there settled _ (refl, refl) (there settled _ (refl, refl) (there settled _ (refl, refl) (there settled _ (refl, refl) here))))))))))))))))))))))))))))))))))))))))))))))))))))))))))))))))))))))))))))))))))))))), refl)
 
 pub finishes : Finishes program
 finishes =

@@ -4,6 +4,8 @@ pub mod Values
 pub mod Operators
 -- what is left to do fits what is there
 pub mod Control
+-- records that lie in objects
+pub mod Records
 -- what is shown of the types of a program has their components
 pub mod Shown
 -- it fits as well once objects have come to be or have changed
@@ -12,6 +14,8 @@ pub mod Later
 pub mod Evaluations
 -- components that are assigned to
 pub mod Targets
+-- records that are copied or assigned to as wholes
+pub mod Wholes
 -- variables and components that are freed
 pub mod Frees
 -- record objects and their types

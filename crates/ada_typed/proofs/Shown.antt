@@ -22,7 +22,8 @@ components_shown (Some (definition.Record name parts components)) = refl
 components_shown (Some (definition.Access name designated)) = refl
 components_shown (Some (definition.Object record_type)) = refl
 
-same_record : (types : List TypeDefinition) (t : ℕ) → record_components (map type_form types) t ≡ components_of types t
+-- The components of a record type (3.8).
+pub same_record : (types : List TypeDefinition) (t : ℕ) → record_components (map type_form types) t ≡ components_of types t
 same_record types t = ap components_in (slice_get-map type_form types t) ∙ components_shown (slice_get types t)
 
 same_reached : (types : List TypeDefinition) (o : Option ℕ) → components_reached (map type_form types) o ≡ reached_by types o

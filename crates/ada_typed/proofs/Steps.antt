@@ -1,19 +1,20 @@
 -- Each step of a state that is typed leads to one that is typed, or ends the run in a way that the language knows.
 
-use Rattle.ada_typed.specs.Holding.{Cells, HasKind, cells_of}
+use Rattle.ada_typed.specs.Holding.{Cells, HasKind, HaveKinds, cells_of}
 use Rattle.ada_typed.specs.Stuck.{EndsByTheLanguage}
 use Rattle.std.proofs.Common.{◌≡◌, ℕ, zero, suc, ◌+◌, ◌<◌, ◌≤◌, ◌&&◌, not, if◌then◌else◌, Bool, true, false, ℤ, ◌+ℤ◌, pos, int_le, List, [], ◌∷◌, length, map, Option, Some, None, arith, refl, sym, ap, ◌∙◌, subst}
 use Rattle.std.specs.List.{slice_get, slice_index_or, list_all}
+use Rattle.ada_program.specs.declared.program.ComponentKind.{ComponentKind}
 use Rattle.ada_program.specs.declared.program.ScalarType.TheVariants.{Integer, Boolean}
 use Rattle.ada_program.specs.declared.program.TypeDefinition.{TypeDefinition}
 use Rattle.ada_program.specs.declared.program.TypeNo.{TypeNo}
 use Rattle.ada_program.specs.declared.program.VariableKind.{VariableKind}
 use Rattle.ada_program.specs.declared.program.VariableKind.TheVariants as variable
-use Rattle.ada_program.specs.Form.{ExpressionForm, RightForm, StmtForm, skips, assigns, frees, gets, writes, writes_text, chooses, repeats, counts, exits, returns, raises as raises_it, encloses, StmtsForm, no_stmts, a_stmt, BranchesForm, otherwise, a_branch, HandlersForm, no_handlers, a_handler, DeclarationForm, collects, declares, declares_record}
+use Rattle.ada_program.specs.Form.{ExpressionForm, ItemForm, RightForm, StmtForm, skips, assigns, assigns_record, frees, gets, writes, writes_text, chooses, repeats, counts, exits, returns, raises as raises_it, encloses, StmtsForm, no_stmts, a_stmt, BranchesForm, otherwise, a_branch, HandlersForm, no_handlers, a_handler, DeclarationForm, collects, declares, declares_record}
 use Rattle.ada_program.specs.Handling.{some_takes, handler_of}
 use Rattle.ada_program.specs.ProgramForm.{VariableForm, ProgramForm, type_form}
-use Rattle.ada_program.specs.Typed.{words_of}
-use Rattle.ada_program.specs.WellFormed.{IsWellFormed, reached_components, is_access, is_object_type, value_access, root_kind, selectors_kind, variable_kind, path_access, scalar_of, is_type, type_of, kind_takes, right_fits, names_borrower, lends_to, is_borrower, path_kind, is_freed_by, collections_first, collection_fits, initial_fits, declarations_fit, has_type, condition_fits, has_statement, choice_fits, statement_fits, stmts_fit, branches_fit, handlers_fit, names_before}
+use Rattle.ada_program.specs.Typed.{reached_of, words_of}
+use Rattle.ada_program.specs.WellFormed.{IsWellFormed, reached_components, record_components, is_access, is_object_type, value_access, root_kind, selectors_kind, variable_kind, path_access, scalar_of, is_type, type_of, kind_takes, right_fits, names_borrower, lends_to, is_borrower, item_owns, item_before, is_filled, is_record_path, is_record_object, record_fits, record_initial_fits, path_kind, is_freed_by, collections_first, collection_fits, initial_fits, declarations_fit, has_type, condition_fits, has_statement, choice_fits, statement_fits, stmts_fit, branches_fit, handlers_fit, names_before}
 use Rattle.ada_values.specs.declared.value.Value.TheVariants as scalar
 use Rattle.ada_meaning.specs.declared.state.Id.{Id}
 use Rattle.ada_meaning.specs.declared.state.Value.{Value}
@@ -33,13 +34,15 @@ use Rattle.ada_meaning.specs.Frame.{Frame, is_master, is_loop, Landing, passes_o
 use Rattle.ada_meaning.specs.Frame as frame
 use Rattle.ada_meaning.specs.State.{Owned, declared, collection, record_object, Item, Master, height, home_of, pool_of}
 use Rattle.ada_meaning.specs.Heap.{Cell, on_gone, finds}
-use Rattle.ada_meaning.specs.Step.{halts, moves, at, older, shorter, popped, jumping, put, held, newest, new_next, end_next, same_pool, told_back, given_back, back_next, record_cell, made, before_last, last_of, assign_next, frees_next, branches_next, decided_next, turn_next, repeats_next, turned_next, count_turn_next, ranges_next, gets_next, exit_next, exited_next, stmt_next, stmts_next, line_next, declarations_next, members_next, item_leave_next, master_leave_next, leave_next, frame_next, landed, pass_next, running_next, jump_next, mode_next, end_of}
+use Rattle.ada_meaning.specs.Step.{halts, moves, at, older, shorter, popped, jumping, put, held, newest, new_next, end_next, same_pool, told_back, given_back, back_next, initial_values, copies_next, newest_ones, without_newest, record_target_next, store_record_next, record_cell, made, record_next, before_last, last_of, assign_next, frees_next, branches_next, decided_next, turn_next, repeats_next, turned_next, count_turn_next, ranges_next, gets_next, exit_next, exited_next, stmt_next, stmts_next, line_next, declarations_next, members_next, item_leave_next, master_leave_next, leave_next, frame_next, landed, pass_next, running_next, jump_next, mode_next, end_of}
 use Rattle.ada_meaning.specs.Named.{an_integer, Object, State, next, named, look, lent, lent_by, seen, existing, on_object, parted, finished, returned, reads_integer, reads_boolean, unary_given, binary_given, members, members_of}
-use Rattle.ada_typed.proofs.Evaluations.{Fine, cells_on, length_shorter, ready_kinds, ready_at, ready_pop, newest_of, held_of, put_in, ready_owning, ready_heap, fits_heap, jumped, raises, ready_made, fits_more, root_fine, path_fine, null_test_fine, expression_fine, links_fine, outcome_fine, items_fine, new_fine, right_fine}
+use Rattle.ada_typed.proofs.Evaluations.{Fine, initials_have, reached_shown, words_shown, width_shown, filled_items, cells_on, length_shorter, ready_kinds, ready_at, ready_pop, newest_of, held_of, put_in, ready_owning, ready_heap, fits_heap, jumped, raises, ready_made, fits_more, root_fine, path_fine, null_test_fine, expression_fine, links_fine, outcome_fine, items_fine, new_fine, right_fine}
 use Rattle.ada_typed.proofs.Values.{kind_of, root_same, active_none}
 use Rattle.ada_typed.proofs.Objects.{kind_there, object_reached, own_object, record_no_access}
 use Rattle.ada_typed.proofs.Operators.{and_left, and_right, typed, unary_gives, binary_gives}
+use Rattle.ada_typed.proofs.Records.{record_found}
 use Rattle.ada_typed.proofs.Targets.{split_kind, target_fine, store_fine, receive_fine}
+use Rattle.ada_typed.proofs.Wholes.{newest_have, ready_without, copies_fine, record_target_fine, store_record_fine}
 use Rattle.ada_typed.proofs.Frees.{free_fine, free_in_fine}
 use Rattle.ada_typed.proofs.Control.{onto, IsName, AtLoop, WhereInside, handlers_in, AtHandlers, FitsBehind, Fits, Lands, Catches, depth, depth_behind, Ready, Jumps, Goes, Typed, running, on_jump, catches, catches_behind}
 
@@ -239,6 +242,15 @@ module _ (p : ProgramForm) (well : IsWellFormed p) where
       let fitting = right_fits p.types p.variables (path_kind p.types p.variables target) right in
       let lending = lends_to p.variables (names_borrower p.variables target) right in
       assign_fine target.of_record target.selectors target.root right s [] ready (and_left fitting lending is) fits
+  stmt_fine (assigns_record target items) inside s ready is lands fits =
+      let leads = is_record_path p.types p.variables target in
+      let filled = is_filled p.types p.variables (record_components p.types target.record_type) items in
+      let others = record_fits p.types p.variables (record_components p.types target.record_type) items in
+      let found = record_found p.types (path_kind p.types p.variables target.object) target.first target.record_type (and_left leads others is) in
+      let own : is_filled p.types p.variables (Some found.1) items ≡ true = ap (λ (o : Option (List ComponentKind)). is_filled p.types p.variables o items) (sym found.3) ∙ and_left filled (list_all (item_owns p.variables) items) (and_right leads others is) in
+      let inner = frame.TargetsRecord target.first target.record_type items ∷ s.control in
+      root_fine p target.object.of_record target.object.selectors target.object.root (variable.Access found.0) (at inner s) [] (ready_at p [] s inner ready ready.deep) found.2
+      ([], found.0, found.1, refl, found.3, found.4, own, fits)
   stmt_fine (frees access path) inside s ready is lands fits =
       let freed = is_freed_by p.types access (path_access p.types p.variables path) in
       frees_fine path.of_record path.selectors access path.root s [] ready (and_left freed (not (names_borrower p.variables path)) is) fits
@@ -298,7 +310,33 @@ module _ (p : ProgramForm) (well : IsWellFormed p) where
   line_fine (Scalar (scalar.Integer i)) s kinds cells has ready fits = running kinds ready fits
   line_fine (Scalar (scalar.Boolean b)) s kinds cells has ready fits = absurd has
 
-  -- Declarations (3.11).
+  -- Declarations (3.11): a record object, whose components have values of their kinds.
+  made_fine : (types : List TypeDefinition) (x t : ℕ) (object : TypeNo) (cs : List ComponentKind) (values : List Value) (kinds : List VariableKind) (s : State) → HaveKinds (cells_of s.heap) cs values → Ready p kinds s → variable_kind p.variables x ≡ Some (variable.Record object) → t ≡ object.0 → reached_components p.types t ≡ Some cs → is_access p.types t ≡ false → Fits p (cells_of s.heap) kinds s.control → Typed p (made named types x t values s)
+  made_fine types x t object cs values kinds s have ready is own reached never fits =
+      running kinds (ready_made p types x t object cs values kinds s have ready is own reached never) (fits_more p kinds s.control s.heap (record_cell named t (height s.masters) values) fits)
+
+  -- What holds of a record object where it is declared.
+  record_fine : (types : List TypeDefinition) → map type_form types ≡ p.types → (x t : ℕ) (initial : Option (List ItemForm)) (s : State) → Ready p [] s → initial_fits p.types p.variables (declares_record x t initial) ≡ true → Fits p (cells_of s.heap) [] s.control → Fine p (record_next named types x t initial s)
+  record_fine types shown x t None s ready is fits =
+      let named_so = and_left (is_record_object t (variable_kind p.variables x)) (record_initial_fits p.types p.variables x (reached_components p.types t) None) is in
+      let own = own_object t (variable_kind p.variables x) named_so in
+      let known : is_object_type p.types own.0.0 ≡ true = kind_there p.types p.variables x (variable.Record own.0) well.variables_fit own.1 in
+      let there = object_reached p.types own.0.0 well.types_fit known in
+      let reached : reached_components p.types t ≡ Some there.0 = ap (reached_components p.types) own.2 ∙ there.1 in
+      let have = initials_have (cells_of s.heap) (reached_of types t) there.0 (reached_shown types t there.0 shown reached) in
+      made_fine types x t own.0 there.0 (initial_values named (reached_of types t)) [] s have ready own.1 own.2 reached (record_no_access p.types p.variables x t well.variables_fit named_so) fits
+  record_fine types shown x t (Some items) s ready is fits =
+      let filled = is_filled p.types p.variables (reached_components p.types t) items in
+      let fitting = record_fits p.types p.variables (reached_components p.types t) items in
+      let initial = record_initial_fits p.types p.variables x (reached_components p.types t) (Some items) in
+      let named_so = and_left (is_record_object t (variable_kind p.variables x)) initial is in
+      let own = own_object t (variable_kind p.variables x) named_so in
+      let later = and_right (is_record_object t (variable_kind p.variables x)) initial is in
+      let found = filled_items p (reached_components p.types t) p.variables items (and_left filled (list_all (item_owns p.variables) items) (and_right (list_all (item_before x) items) fitting later)) in
+      let never : is_access p.types t ≡ false = record_no_access p.types p.variables x t well.variables_fit named_so in
+      running [] (ready_at p [] s (frame.Fills items ∷ frame.DeclaresRecord x t ∷ s.control) ready ready.deep)
+      (found.0, found.2, ([], own.0, found.0, refl, own.1, own.2, found.1, never, fits))
+
   declarations_fine : (types : List TypeDefinition) → map type_form types ≡ p.types → (ds : List DeclarationForm) (fs : StmtsForm) (hs : HandlersForm) (s : State) → Ready p [] s → 1 + depth s.control ≤ length s.masters → Fits p (cells_of s.heap) [] (frame.Elaborates ds fs hs ∷ s.control) → Fine p (declarations_next named types ds fs hs s)
   declarations_fine types shown [] fs hs s ready deep fits =
       running [] (ready_at p [] s (frame.Does fs ∷ frame.Handles hs ∷ frame.Closes ∷ s.control) ready deep)
@@ -306,16 +344,12 @@ module _ (p : ProgramForm) (well : IsWellFormed p) where
   declarations_fine types shown (collects access ∷ ds) fs hs s ready deep fits =
       running [] (ready_owning p [] (at (frame.Elaborates ds fs hs ∷ s.control) s) (collection access) (ready_at p [] s (frame.Elaborates ds fs hs ∷ s.control) ready deep))
       (refl, fits.1, and_right (initial_fits p.types p.variables (collects access)) (list_all (initial_fits p.types p.variables) ds) fits.2, fits.3, fits.4, fits.5, fits.6)
-  declarations_fine types shown (declares_record x t ∷ ds) fs hs s ready deep fits =
+  declarations_fine types shown (declares_record x t initial ∷ ds) fs hs s ready deep fits =
+      let fitting = initial_fits p.types p.variables (declares_record x t initial) in
       let later = list_all (initial_fits p.types p.variables) ds in
-      let own = own_object t (variable_kind p.variables x) (and_left (initial_fits p.types p.variables (declares_record x t)) later fits.2) in
-      let known : is_object_type p.types own.0.0 ≡ true = kind_there p.types p.variables x (variable.Record own.0) well.variables_fit own.1 in
-      let reached = object_reached p.types own.0.0 well.types_fit known in
-      let never : is_access p.types t ≡ false = record_no_access p.types p.variables x t well.variables_fit (and_left (initial_fits p.types p.variables (declares_record x t)) later fits.2) in
-      let inner = at (frame.Elaborates ds fs hs ∷ s.control) s in
-      let left : Fits p (cells_of s.heap) [] inner.control = (refl, fits.1, and_right (initial_fits p.types p.variables (declares_record x t)) later fits.2, fits.3, fits.4, fits.5, fits.6) in
-      let after = ready_made p types x t own.0 reached.0 [] inner shown (ready_at p [] s inner.control ready deep) own.1 own.2 (ap (reached_components p.types) own.2 ∙ reached.1) never in
-      running [] (ready_owning p [] (made named types x t inner) (record_object t) after) (fits_more p [] inner.control s.heap (record_cell named types t (height s.masters)) left)
+      let inner = frame.Elaborates ds fs hs ∷ s.control in
+      record_fine types shown x t initial (at inner s) (ready_at p [] s inner ready deep) (and_left fitting later fits.2)
+      (refl, fits.1, and_right fitting later fits.2, fits.3, fits.4, fits.5, fits.6)
   declarations_fine types shown (declares x right ∷ ds) fs hs s ready deep fits =
       let early = names_before x right in
       let fitting = right_fits p.types p.variables (variable_kind p.variables x) right in
@@ -410,6 +444,10 @@ module _ (p : ProgramForm) (well : IsWellFormed p) where
       outcome_fine p (unary_given operator (newest named s)) fits.2 (popped s) fits.0 (ready_pop p (kind_of fits.1) fits.0 s taken)
       (unary_gives (cells_of s.heap) operator fits.1 fits.2 (newest named s) fits.4 (newest_of p (kind_of fits.1) fits.0 s taken)) fits.5
   frame_fine types shown (frame.Fills items) s kinds ready deep fits = items_fine p items fits.0 s kinds ready fits.1 fits.2
+  frame_fine types shown (frame.Copies first t) s kinds ready deep fits =
+      let taken = ready_kinds p kinds (variable.Access fits.1 ∷ fits.0) s fits.3 ready in
+      subst (λ (m : ℕ). Fine p (copies_next named (newest named s) first m (look s.heap (newest named s)) (popped s))) (sym (width_shown types t fits.2 shown fits.4))
+      (copies_fine p (newest named s) fits.1 first fits.2 (popped s) fits.0 (ready_pop p (variable.Access fits.1) fits.0 s taken) (newest_of p (variable.Access fits.1) fits.0 s taken) fits.5 fits.6)
   frame_fine types shown (frame.Creates access count) s kinds ready deep fits =
       let taken = ready_kinds p kinds (onto fits.1 fits.0) s fits.2 ready in
       subst (λ (m : ℕ). Fine p (new_next named access m (words_of types access) (home_of access s.masters) s)) (sym fits.4)
@@ -423,6 +461,14 @@ module _ (p : ProgramForm) (well : IsWellFormed p) where
   frame_fine types shown (frame.StoresIn object c) s kinds ready deep fits =
       let taken = ready_kinds p kinds (fits.2 ∷ fits.0) s fits.3 ready in
       store_fine p object fits.1 c (newest named s) fits.2 (popped s) fits.0 fits.4 (ready_pop p fits.2 fits.0 s taken) fits.5 fits.6 (newest_of p fits.2 fits.0 s taken) fits.7
+  frame_fine types shown (frame.TargetsRecord first t items) s kinds ready deep fits =
+      let taken = ready_kinds p kinds (variable.Access fits.1 ∷ fits.0) s fits.3 ready in
+      subst (λ (m : ℕ). Fine p (record_target_next named (newest named s) first m items (look s.heap (newest named s)) (popped s))) (sym (width_shown types t fits.2 shown fits.4))
+      (record_target_fine p (newest named s) fits.1 first fits.2 items (popped s) fits.0 (ready_pop p (variable.Access fits.1) fits.0 s taken) (newest_of p (variable.Access fits.1) fits.0 s taken) fits.5 fits.6 fits.7)
+  frame_fine types shown (frame.StoresRecord object first count) s kinds ready deep fits =
+      let taken = ready_kinds p kinds (onto fits.2 fits.0) s fits.3 ready in
+      subst (λ (m : ℕ). Fine p (store_record_next named object first m (look s.heap object) s)) (sym fits.4)
+      (store_record_fine p object fits.1 first fits.2 s fits.0 fits.5 taken fits.6 fits.7 fits.8)
   frame_fine types shown (frame.Receives c) s kinds ready deep fits =
       let taken = ready_kinds p kinds (variable.Access fits.1 ∷ fits.0) s fits.2 ready in
       receive_fine p (newest named s) fits.1 c (popped s) fits.0 (ready_pop p (variable.Access fits.1) fits.0 s taken) (newest_of p (variable.Access fits.1) fits.0 s taken) fits.3 fits.4
@@ -432,6 +478,11 @@ module _ (p : ProgramForm) (well : IsWellFormed p) where
   frame_fine types shown (frame.Declares x) s kinds ready deep fits =
       let taken = ready_kinds p kinds (fits.1 ∷ fits.0) s fits.2 ready in
       running fits.0 (ready_owning p fits.0 (put x (newest named s) (popped s)) (declared x) (put_in p fits.0 (popped s) x fits.1 (newest named s) (ready_pop p fits.1 fits.0 s taken) fits.3 (newest_of p fits.1 fits.0 s taken))) fits.4
+  frame_fine types shown (frame.DeclaresRecord x t) s kinds ready deep fits =
+      let taken = ready_kinds p kinds (onto fits.2 fits.0) s fits.3 ready in
+      let words : words_of types t ≡ length fits.2 = words_shown types t fits.2 shown fits.6 in
+      subst (λ (m : ℕ). Typed p (made named types x t (newest_ones named m s) (without_newest named m s))) (sym words)
+      (made_fine types x t fits.1 fits.2 (newest_ones named (length fits.2) s) fits.0 (without_newest named (length fits.2) s) (newest_have p fits.2 fits.0 s taken) (ready_without p fits.2 fits.0 s taken) fits.4 fits.5 fits.6 fits.7 fits.8)
   frame_fine types shown frame.Writes s kinds ready deep fits =
       let taken = ready_kinds p kinds (variable.Integer ∷ fits.0) s fits.1 ready in
       line_fine (newest named s) (popped s) fits.0 (cells_of s.heap) (newest_of p variable.Integer fits.0 s taken) (ready_pop p variable.Integer fits.0 s taken) fits.2
@@ -467,13 +518,17 @@ module _ (p : ProgramForm) (well : IsWellFormed p) where
   master_deep (frame.Applies operator) k is = absurd (cc)
   master_deep (frame.AppliesAlone operator) k is = absurd (cc)
   master_deep (frame.Fills items) k is = absurd (cc)
+  master_deep (frame.Copies first t) k is = absurd (cc)
   master_deep (frame.Creates access count) k is = absurd (cc)
   master_deep (frame.Stores x) k is = absurd (cc)
   master_deep (frame.Targets c right) k is = absurd (cc)
   master_deep (frame.StoresIn object c) k is = absurd (cc)
+  master_deep (frame.TargetsRecord first t items) k is = absurd (cc)
+  master_deep (frame.StoresRecord object first count) k is = absurd (cc)
   master_deep (frame.Receives c) k is = absurd (cc)
   master_deep (frame.FreesIn access c) k is = absurd (cc)
   master_deep (frame.Declares x) k is = absurd (cc)
+  master_deep (frame.DeclaresRecord x t) k is = absurd (cc)
   master_deep frame.Writes k is = absurd (cc)
   master_deep (frame.Ends v) k is = absurd (cc)
   master_deep (frame.GivesBack v cause pool) k is = absurd (cc)
@@ -505,13 +560,17 @@ module _ (p : ProgramForm) (well : IsWellFormed p) where
   landing_comes e (frame.Applies operator) = refl
   landing_comes e (frame.AppliesAlone operator) = refl
   landing_comes e (frame.Fills items) = refl
+  landing_comes e (frame.Copies first t) = refl
   landing_comes e (frame.Creates access count) = refl
   landing_comes e (frame.Stores x) = refl
   landing_comes e (frame.Targets c right) = refl
   landing_comes e (frame.StoresIn object c) = refl
+  landing_comes e (frame.TargetsRecord first t items) = refl
+  landing_comes e (frame.StoresRecord object first count) = refl
   landing_comes e (frame.Receives c) = refl
   landing_comes e (frame.FreesIn access c) = refl
   landing_comes e (frame.Declares x) = refl
+  landing_comes e (frame.DeclaresRecord x t) = refl
   landing_comes e frame.Writes = refl
   landing_comes e (frame.Ends v) = refl
   landing_comes e (frame.GivesBack v cause pool) = refl

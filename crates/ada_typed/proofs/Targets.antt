@@ -58,11 +58,12 @@ module _ (p : ProgramForm) where
   target_fine (Names o) access c right kind s kinds ready has leads takes fits = target_seen (slice_get s.heap o.0) o access c right kind s kinds ready has leads takes fits
   target_fine (Scalar v) access c right kind s kinds ready has leads takes fits = absurd has
 
-  -- A component gets a value of its kind: then each object has what its type says, and what is left to do fits.
+  -- A component gets a value of its kind: then each object has what its type says, what is left to do fits, and names are of the types that they were.
   pub record Stored (kinds : List VariableKind) (s : State) (heap : List Object) : Type 0 where
     pub filled : AreFilled p.types (cells_of heap) (cells_of heap)
     pub active : IsActive (cells_of heap) p.variables kinds s.activations
     pub fits : Fits p (cells_of heap) kinds s.control
+    pub stay : StayDesignated (cells_of s.heap) (cells_of heap)
 
   stored_at : (o : Id) (access : TypeNo) (c : ℕ) (v : Value) (kind : VariableKind) (object : Object) (s : State) (kinds : List VariableKind) (heap : List Object) → Ready p kinds s → Designates (cells_of s.heap) access.0 o → slice_get s.heap o.0 ≡ Some object → selected_kind p.types (Some (variable.Access access)) c ≡ Some kind → HasKind (cells_of s.heap) kind v → Fits p (cells_of s.heap) kinds s.control → cells_of heap ≡ slice_set (cells_of s.heap) o.0 (filled_cell c v object.cell) → Stored kinds s heap
   stored_at o access c v kind object s kinds heap ready has is leads fitting fits are =
@@ -79,9 +80,10 @@ module _ (p : ProgramForm) where
         filled = subst (λ (cs : Cells). AreFilled p.types cs cs) (sym are) (filled_set p.types after cells o.0 cell (filled_later cells after stay p.types cells ready.filled) (own.0, own.1, values, own.3));
         active = subst (λ (cs : Cells). IsActive cs p.variables kinds s.activations) (sym are) (active_later cells after stay p.variables kinds s.activations ready.active);
         fits = subst (λ (cs : Cells). Fits p cs kinds s.control) (sym are) (fits_later p cells after stay s.control kinds fits);
+        stay = subst (λ (cs : Cells). StayDesignated cells cs) (sym are) stay;
       }
 
-  stored : (o : Id) (access : TypeNo) (c : ℕ) (v : Value) (kind : VariableKind) (object : Object) (s : State) (kinds : List VariableKind) → Ready p kinds s → Designates (cells_of s.heap) access.0 o → slice_get s.heap o.0 ≡ Some object → selected_kind p.types (Some (variable.Access access)) c ≡ Some kind → HasKind (cells_of s.heap) kind v → Fits p (cells_of s.heap) kinds s.control → Stored kinds s (store s.heap (Names o) c v)
+  pub stored : (o : Id) (access : TypeNo) (c : ℕ) (v : Value) (kind : VariableKind) (object : Object) (s : State) (kinds : List VariableKind) → Ready p kinds s → Designates (cells_of s.heap) access.0 o → slice_get s.heap o.0 ≡ Some object → selected_kind p.types (Some (variable.Access access)) c ≡ Some kind → HasKind (cells_of s.heap) kind v → Fits p (cells_of s.heap) kinds s.control → Stored kinds s (store s.heap (Names o) c v)
   stored o access c v kind object s kinds ready has is leads fitting fits =
       let found : store s.heap (Names o) c v ≡ slice_set s.heap o.0 (filled c v object) = ap (λ (at_o : Option Object). changed (filled c v) at_o s.heap o) is in
       stored_at o access c v kind object s kinds (store s.heap (Names o) c v) ready has is leads fitting fits

@@ -96,5 +96,6 @@ fn rule_text(rule: Rule) -> &'static str
         Rule::TakePair => rules::TAKE_PAIR,
         Rule::LoopState => rules::LOOP_STATE,
         Rule::UnsafePath => rules::UNSAFE_PATH,
+        Rule::RecordCopied => rules::RECORD_COPIED,
     }
 }

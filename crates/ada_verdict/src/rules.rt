@@ -62,3 +62,6 @@ pub const LOOP_STATE: &str = "S5 loop-state";
 
 /// A component is freed whose path follows a value of the component's own access type.
 pub const UNSAFE_PATH: &str = "S6 unsafe-path";
+
+/// A record is copied that has a component of an access type, or an aggregate with such a component stands outside an allocator.
+pub const RECORD_COPIED: &str = "S11 record-copied";

@@ -1,4 +1,4 @@
-use Rattle.std.proofs.Common.{◌≡◌, ℕ, ◌+◌, ◌<◌, Bool, true, false, List, ◌∷◌, ◌++◌, map, length, get_or, drop, Option, Some, None, sym, ap, ◌∙◌, subst}
+use Rattle.std.proofs.Common.{◌≡◌, ℕ, ◌+◌, ◌<◌, Bool, true, false, List, ◌∷◌, map, length, get_or, drop, Option, Some, None, sym, ap, ◌∙◌, subst}
 use Rattle.std.proofs.lemmas.List.{at_drop_more}
 use Rattle.std.proofs.lemmas.Result.{err_from_is_err_and}
 use Rattle.std.specs.Prelude.{Ok, Err, IfSome, if◌then◌else◌}
@@ -10,8 +10,8 @@ use Rattle.ada_program.specs.Form.{StmtForm, StmtsForm, ExpressionForm, Handlers
 use Rattle.ada_program.specs.ProgramForm.{TypeForm, VariableForm}
 use Rattle.ada_flow.specs.declared.fault.FlowFault.{FlowFault}
 use Rattle.ada_flow.specs.declared.fault.FlowFault.TheVariants.{Broken, NoMemory}
-use Rattle.ada_flow.specs.Flow.{Holds, goes, Around, join_option, left_option, stmt_flow, stmts_flow, handlers_flow, unless_worse, condition_flow, loop_flow, in_loop, in_block, collected, declarations_flow}
-use Rattle.ada_flow.specs.Told.{Noted, emptied, ending, end_handled, around_of, breach_of, held, joined_end, noted, noted_behind, noted_for, start_in, type_number, types_in, variables_in}
+use Rattle.ada_flow.specs.Flow.{Holds, Gone, goes, Around, gone_with, gone_with_both, nothing_gone, join_option, left_option, stmt_flow, stmts_flow, handlers_flow, unless_worse, condition_flow, loop_flow, in_loop, in_block, declarations_flow}
+use Rattle.ada_flow.specs.Told.{Noted, emptied, ending, end_handled, around_of, breach_of, gone_of, held, joined_end, noted, noted_behind, noted_for, start_in, types_in, variables_in}
 use Rattle.ada_flow.proofs.Noted.{End, handlers_end, turn_returns, turn_stops, block_declares_badly, block_breaks, block_handles}
 use Rattle.ada_flow.proofs.+flowing.Goals as goal
 use Rattle.ada_flow.proofs.+flowing.Goals.{repetition::turn-in-Some+in_ok-unless_worse, repetition::turn-in_default}
@@ -72,6 +72,10 @@ keeps_start start first after seen spot first_is seen_is keeps =
     subst (λ (a : Holds). unless_worse start a spot (goes (Some a) None) ≡ goes (Some a) None) seen_is
     (subst (λ (s : Holds). unless_worse s seen spot (goes (Some seen) None) ≡ goes (Some seen) None) first_is keeps)
 
+-- with which nothing goes
+place_in : (start : Holds) (inside : Gone) (place : Around) → place ≡ record { start = Some start; inside = inside } → inside ≡ nothing_gone → place ≡ in_loop (Some start)
+place_in start inside place place_is nothing = place_is ∙ ap (λ (g : Gone). record { start = Some start; inside = g }) nothing
+
 pub repetition::turn-returns-then-leaves : goal.repetition::turn-returns-then-leaves
 repetition::turn-returns-then-leaves t c =
     let keeps : IfSome (held c.in_ok-after.field-0) (λ after. unless_worse c.args.start.holds.items after c.args.end (goes (Some after) None) ≡ goes (Some after) None) =
@@ -82,7 +86,7 @@ repetition::turn-returns-then-leaves t c =
     turned_in c.args.leaves true (noted c.args.raised.now) (noted c.compute_condition.new.raised) (noted c.statements.new.raised) (condition_form c.args.condition.now) c.args.end
     (types_in c.args.around.now) (types_in c.in_loop-within.result) (variables_in c.args.around.now) (variables_in c.in_loop-within.result) (around_of c.in_loop-within.result) (stmts_form c.args.body.now)
     c.args.start.holds.items c.holds.result.now c.in_ok-copy.field-0.holds.items (held c.in_ok-after.field-0)
-    c.if-leaves.true c.holds.ensures c.in_ok-copy.ensures c.in_loop-within.ensures.types c.in_loop-within.ensures.variables c.in_loop-within.ensures.place
+    c.if-leaves.true c.holds.ensures c.in_ok-copy.ensures c.in_loop-within.ensures.types c.in_loop-within.ensures.variables (place_in c.holds.result.now (gone_of c.nothing-nothing.result) (around_of c.in_loop-within.result) c.in_loop-within.ensures.place c.nothing-nothing.ensures)
     c.in_ok-compute_condition.ensures c.in_ok-after.ensures keeps
 
 pub repetition::turn-returns-else-leaves : goal.repetition::turn-returns-else-leaves
@@ -95,78 +99,76 @@ repetition::turn-returns-else-leaves t c =
     turned_in c.args.leaves false (noted c.args.raised.now) (noted c.compute_condition.new.raised) (noted c.statements.new.raised) (condition_form c.args.condition.now) c.args.end
     (types_in c.args.around.now) (types_in c.in_loop-within.result) (variables_in c.args.around.now) (variables_in c.in_loop-within.result) (around_of c.in_loop-within.result) (stmts_form c.args.body.now)
     c.args.start.holds.items c.holds.result.now c.in_ok-copy.field-0.holds.items (held c.in_ok-after.field-0)
-    c.if-leaves.false c.holds.ensures c.in_ok-copy.ensures c.in_loop-within.ensures.types c.in_loop-within.ensures.variables c.in_loop-within.ensures.place
+    c.if-leaves.false c.holds.ensures c.in_ok-copy.ensures c.in_loop-within.ensures.types c.in_loop-within.ensures.variables (place_in c.holds.result.now (gone_of c.nothing-nothing.result) (around_of c.in_loop-within.result) c.in_loop-within.ensures.place c.nothing-nothing.ensures)
     c.in_ok-compute_condition.ensures c.in_ok-after.ensures keeps
 
 -- how the declarations of a block end
-declared : (n own : Noted) (variables : List VariableForm) (ds ds' : List DeclarationForm) (holds : Holds) (end : End) → own ≡ emptied n → ds' ≡ ds →
-    ending own (declarations_flow variables ds' holds) ≡ end → ending (emptied n) (declarations_flow variables ds holds) ≡ end
-declared n own variables ds ds' holds end own_is ds_is ends =
-    subst (λ (o : Noted). ending o (declarations_flow variables ds holds) ≡ end) own_is
-    (subst (λ (xs : List DeclarationForm). ending own (declarations_flow variables xs holds) ≡ end) ds_is ends)
+declared : (n own : Noted) (types : List TypeForm) (variables : List VariableForm) (ds ds' : List DeclarationForm) (holds : Holds) (end : End) → own ≡ emptied n → ds' ≡ ds →
+    ending own (declarations_flow types variables ds' holds) ≡ end → ending (emptied n) (declarations_flow types variables ds holds) ≡ end
+declared n own types variables ds ds' holds end own_is ds_is ends =
+    subst (λ (o : Noted). ending o (declarations_flow types variables ds holds) ≡ end) own_is
+    (subst (λ (xs : List DeclarationForm). ending own (declarations_flow types variables xs holds) ≡ end) ds_is ends)
 
 -- and its statements
-inner_ends : (m inner : Noted) (types : List TypeForm) (variables : List VariableForm) (around within : Around) (collections : List ℕ) (fs fs' : StmtsForm) (hs hs' : HandlersForm) (at : Holds) (end : End) →
-    within ≡ in_block collections around → inner ≡ noted_for m hs' → hs' ≡ hs → fs' ≡ fs →
-    ending inner (stmts_flow types variables within fs' at) ≡ end → ending (noted_for m hs) (stmts_flow types variables (in_block collections around) fs at) ≡ end
-inner_ends m inner types variables around within collections fs fs' hs hs' at end within_is inner_is hs_is fs_is ends =
-    subst (λ (o : Noted). ending o (stmts_flow types variables (in_block collections around) fs at) ≡ end) (inner_is ∙ ap (noted_for m) hs_is)
+inner_ends : (m inner : Noted) (types : List TypeForm) (variables : List VariableForm) (around within : Around) (gone : Gone) (fs fs' : StmtsForm) (hs hs' : HandlersForm) (at : Holds) (end : End) →
+    within ≡ in_block gone around → inner ≡ noted_for m hs' → hs' ≡ hs → fs' ≡ fs →
+    ending inner (stmts_flow types variables within fs' at) ≡ end → ending (noted_for m hs) (stmts_flow types variables (in_block gone around) fs at) ≡ end
+inner_ends m inner types variables around within gone fs fs' hs hs' at end within_is inner_is hs_is fs_is ends =
+    subst (λ (o : Noted). ending o (stmts_flow types variables (in_block gone around) fs at) ≡ end) (inner_is ∙ ap (noted_for m) hs_is)
     (subst (λ (p : Around). ending inner (stmts_flow types variables p fs at) ≡ end) within_is
     (subst (λ (f : StmtsForm). ending inner (stmts_flow types variables within f at) ≡ end) fs_is ends))
 
 -- where a block's statements stand
-abbrev stands : Option Holds → List ℕ → Around
+abbrev stands : Option Holds → Gone → Around
 stands start inside = record { start = start; inside = inside }
 
-stands_in : (collections inside : List ℕ) (around : Around) → inside ≡ collections ++ around.inside → stands around.start inside ≡ in_block collections around
-stands_in collections inside around e = ap (stands around.start) e
+stands_in : (gone inside : Gone) (around : Around) → inside ≡ gone_with_both gone around.inside → stands around.start inside ≡ in_block gone around
+stands_in gone inside around e = ap (stands around.start) e
 
 -- its declarations break a rule
 declares_badly : (fault : FlowFault) (n own : Noted) (types : List TypeForm) (variables : List VariableForm) (cleared : Bool) (around : Around) (f : StmtForm) (ds ds' : List DeclarationForm) (fs : StmtsForm) (hs : HandlersForm) (holds : Holds) →
     f ≡ encloses ds fs hs → own ≡ emptied n → ds' ≡ ds →
-    IfSome (breach_of fault) (λ breach. ending own (declarations_flow variables ds' holds) ≡ Err breach) →
+    IfSome (breach_of fault) (λ breach. ending own (declarations_flow types variables ds' holds) ≡ Err breach) →
     IfSome (breach_of fault) (λ breach. ending n (stmt_flow types variables around cleared f holds) ≡ Err breach)
 declares_badly NoMemory n own types variables cleared around f ds ds' fs hs holds form own_is ds_is breaks = tt
 declares_badly (Broken spot rule) n own types variables cleared around f ds ds' fs hs holds form own_is ds_is breaks =
     subst (λ (g : StmtForm). ending n (stmt_flow types variables around cleared g holds) ≡ Err (spot, rule)) (sym form)
-    (block_declares_badly n types variables around cleared ds fs hs holds (spot, rule) (declared n own variables ds ds' holds (Err (spot, rule)) own_is ds_is breaks))
+    (block_declares_badly n types variables around cleared ds fs hs holds (spot, rule) (declared n own types variables ds ds' holds (Err (spot, rule)) own_is ds_is breaks))
 
 -- its statements do
-inner_breaks : (fault : FlowFault) (n own m inner : Noted) (types : List TypeForm) (variables : List VariableForm) (cleared : Bool) (around within : Around) (collections : List ℕ) (f : StmtForm) (ds ds' : List DeclarationForm) (fs fs' : StmtsForm) (hs hs' : HandlersForm) (holds at : Holds) →
-    f ≡ encloses ds fs hs → collections ≡ collected ds → own ≡ emptied n → ds' ≡ ds →
-    ending own (declarations_flow variables ds' holds) ≡ Ok (Some at, m) →
-    within ≡ in_block collections around → inner ≡ noted_for m hs' → hs' ≡ hs → fs' ≡ fs →
+inner_breaks : (fault : FlowFault) (n own m inner : Noted) (types : List TypeForm) (variables : List VariableForm) (cleared : Bool) (around within : Around) (gone : Gone) (f : StmtForm) (ds ds' : List DeclarationForm) (fs fs' : StmtsForm) (hs hs' : HandlersForm) (holds at : Holds) →
+    f ≡ encloses ds fs hs → gone ≡ gone_with ds → own ≡ emptied n → ds' ≡ ds →
+    ending own (declarations_flow types variables ds' holds) ≡ Ok (Some at, m) →
+    within ≡ in_block gone around → inner ≡ noted_for m hs' → hs' ≡ hs → fs' ≡ fs →
     IfSome (breach_of fault) (λ breach. ending inner (stmts_flow types variables within fs' at) ≡ Err breach) →
     IfSome (breach_of fault) (λ breach. ending n (stmt_flow types variables around cleared f holds) ≡ Err breach)
-inner_breaks NoMemory n own m inner types variables cleared around within collections f ds ds' fs fs' hs hs' holds at form collections_are own_is ds_is declares within_is inner_is hs_is fs_is breaks = tt
-inner_breaks (Broken spot rule) n own m inner types variables cleared around within collections f ds ds' fs fs' hs hs' holds at form collections_are own_is ds_is declares within_is inner_is hs_is fs_is breaks =
+inner_breaks NoMemory n own m inner types variables cleared around within gone f ds ds' fs fs' hs hs' holds at form gone_is own_is ds_is declares within_is inner_is hs_is fs_is breaks = tt
+inner_breaks (Broken spot rule) n own m inner types variables cleared around within gone f ds ds' fs fs' hs hs' holds at form gone_is own_is ds_is declares within_is inner_is hs_is fs_is breaks =
     subst (λ (g : StmtForm). ending n (stmt_flow types variables around cleared g holds) ≡ Err (spot, rule)) (sym form)
-    (block_breaks n m types variables around cleared collections ds fs hs holds at (spot, rule) collections_are
-    (declared n own variables ds ds' holds (Ok (Some at, m)) own_is ds_is declares)
-    (inner_ends m inner types variables around within collections fs fs' hs hs' at (Err (spot, rule)) within_is inner_is hs_is fs_is breaks))
+    (block_breaks n m types variables around cleared gone ds fs hs holds at (spot, rule) gone_is
+    (declared n own types variables ds ds' holds (Ok (Some at, m)) own_is ds_is declares)
+    (inner_ends m inner types variables around within gone fs fs' hs hs' at (Err (spot, rule)) within_is inner_is hs_is fs_is breaks))
 
 -- and where nothing does
-block_is_left : (n own m inner k l raised : Noted) (types : List TypeForm) (variables : List VariableForm) (cleared : Bool) (around within : Around) (collections behind left : List ℕ) (f : StmtForm) (ds ds' : List DeclarationForm) (fs fs' fs'' : StmtsForm) (hs hs' hs'' : HandlersForm) (holds at : Holds) (normal end leaves : Option Holds) →
-    f ≡ encloses ds fs hs → collections ≡ collected ds → own ≡ emptied n → ds' ≡ ds →
-    ending own (declarations_flow variables ds' holds) ≡ Ok (Some at, m) →
-    within ≡ in_block collections around → inner ≡ noted_for m hs' → hs' ≡ hs → fs' ≡ fs →
+block_is_left : (n own m inner k l raised : Noted) (types : List TypeForm) (variables : List VariableForm) (cleared : Bool) (around within : Around) (gone : Gone) (f : StmtForm) (ds ds' : List DeclarationForm) (fs fs' fs'' : StmtsForm) (hs hs' hs'' : HandlersForm) (holds at : Holds) (normal end leaves : Option Holds) →
+    f ≡ encloses ds fs hs → gone ≡ gone_with ds → own ≡ emptied n → ds' ≡ ds →
+    ending own (declarations_flow types variables ds' holds) ≡ Ok (Some at, m) →
+    within ≡ in_block gone around → inner ≡ noted_for m hs' → hs' ≡ hs → fs' ≡ fs →
     ending inner (stmts_flow types variables within fs' at) ≡ Ok (normal, k) →
     fs'' ≡ fs → hs'' ≡ hs → end_handled m (passes fs'' hs'') (handlers_flow types variables within hs'') normal k ≡ Ok (end, l) →
-    behind ≡ collections → raised ≡ noted_behind n variables behind l → left ≡ collections → leaves ≡ left_option variables left end →
+    raised ≡ noted_behind n variables gone l → leaves ≡ left_option variables gone end →
     ending n (stmt_flow types variables around cleared f holds) ≡ Ok (leaves, raised)
-block_is_left n own m inner k l raised types variables cleared around within collections behind left f ds ds' fs fs' fs'' hs hs' hs'' holds at normal end leaves form collections_are own_is ds_is declares within_is inner_is hs_is fs_is ends fs_is' hs_is' handles behind_is raised_is left_is leaves_is =
-    let handlers_end : end_handled m (passes fs hs) (handlers_flow types variables (in_block collections around) hs) normal k ≡ Ok (end, l) =
+block_is_left n own m inner k l raised types variables cleared around within gone f ds ds' fs fs' fs'' hs hs' hs'' holds at normal end leaves form gone_is own_is ds_is declares within_is inner_is hs_is fs_is ends fs_is' hs_is' handles raised_is leaves_is =
+    let handlers_end : end_handled m (passes fs hs) (handlers_flow types variables (in_block gone around) hs) normal k ≡ Ok (end, l) =
     subst (λ (p : Around). end_handled m (passes fs hs) (handlers_flow types variables p hs) normal k ≡ Ok (end, l)) within_is
     (subst (λ (h : HandlersForm). end_handled m (passes fs h) (handlers_flow types variables within h) normal k ≡ Ok (end, l)) hs_is'
     (subst (λ (g : StmtsForm). end_handled m (passes g hs'') (handlers_flow types variables within hs'') normal k ≡ Ok (end, l)) fs_is' handles)) in
-    let raised_so : raised ≡ noted_behind n variables collections l = raised_is ∙ ap (λ (ts : List ℕ). noted_behind n variables ts l) behind_is in
-    let leaves_so : leaves ≡ left_option variables collections end = leaves_is ∙ ap (λ (ts : List ℕ). left_option variables ts end) left_is in
-    subst (λ (x : Option Holds). ending n (stmt_flow types variables around cleared f holds) ≡ Ok (x, raised)) (sym leaves_so)
-    (subst (λ (x : Noted). ending n (stmt_flow types variables around cleared f holds) ≡ Ok (left_option variables collections end, x)) (sym raised_so)
-    (subst (λ (g : StmtForm). ending n (stmt_flow types variables around cleared g holds) ≡ Ok (left_option variables collections end, noted_behind n variables collections l)) (sym form)
-    (block_handles n m k types variables around cleared collections ds fs hs holds at normal (Ok (end, l)) collections_are
-    (declared n own variables ds ds' holds (Ok (Some at, m)) own_is ds_is declares)
-    (inner_ends m inner types variables around within collections fs fs' hs hs' at (Ok (normal, k)) within_is inner_is hs_is fs_is ends)
+    subst (λ (x : Option Holds). ending n (stmt_flow types variables around cleared f holds) ≡ Ok (x, raised)) (sym leaves_is)
+    (subst (λ (x : Noted). ending n (stmt_flow types variables around cleared f holds) ≡ Ok (left_option variables gone end, x)) (sym raised_is)
+    (subst (λ (g : StmtForm). ending n (stmt_flow types variables around cleared g holds) ≡ Ok (left_option variables gone end, noted_behind n variables gone l)) (sym form)
+    (block_handles n m k types variables around cleared gone ds fs hs holds at normal (Ok (end, l)) gone_is
+    (declared n own types variables ds ds' holds (Ok (Some at, m)) own_is ds_is declares)
+    (inner_ends m inner types variables around within gone fs fs' hs hs' at (Ok (normal, k)) within_is inner_is hs_is fs_is ends)
     handlers_end)))
 
 pub statements::statement-returns-in_err-declare-in-Block :
@@ -176,46 +178,41 @@ statements::statement-returns-in_err-declare-in-Block t c =
     ap stmt_form c.in-Block.is ∙ encloses_form c.in-Block.declarations c.in-Block.statements c.in-Block.handlers in
     let p = err_from_is_err_and c.from_residual-in_err-declare-in-Block.result c.from_residual-in_err-declare-in-Block.ensures.1 in
     rw (p.1, p.2) (declares_badly c.in_err-declare-in-Block.field-0.0 (noted c.args.raised.now) (noted c.emptied-own.result) (types_in c.args.around.now) (variables_in c.args.around.now) c.args.cleared (around_of c.args.around.now) (stmt_form c.args.statement.now)
-    (map declaration_form c.in-Block.declarations.items) (map declaration_form c.deref-in-Block-4.result.now) (stmts_form c.in-Block.statements.items) (handlers_form c.in-Block.handlers.items)
-    c.args.known.holds.items form c.emptied-own.ensures (ap (map declaration_form) c.deref-in-Block-4.ensures.value) c.in_err-declare-in-Block.ensures)
+    (map declaration_form c.in-Block.declarations.items) (map declaration_form c.deref-in-Block-2.result.now) (stmts_form c.in-Block.statements.items) (handlers_form c.in-Block.handlers.items)
+    c.args.known.holds.items form c.emptied-own.ensures (ap (map declaration_form) c.deref-in-Block-2.ensures.value) c.in_err-declare-in-Block.ensures)
 
 pub statements::statement-returns-in_err-end-in-Block :
     goal.statements::statement-returns-in_err-end-in-Block
 statements::statement-returns-in_err-end-in-Block t c =
     let form : stmt_form c.args.statement.now ≡ encloses (map declaration_form c.in-Block.declarations.items) (stmts_form c.in-Block.statements.items) (handlers_form c.in-Block.handlers.items) =
     ap stmt_form c.in-Block.is ∙ encloses_form c.in-Block.declarations c.in-Block.statements c.in-Block.handlers in
-    let collections_are : map type_number c.in_ok-types-in-Block.types.items ≡ collected (map declaration_form c.in-Block.declarations.items) =
-    c.in_ok-types-in-Block.ensures ∙ ap collected (ap (map declaration_form) c.deref-in-Block.ensures.value) in
-    let inside_is : map type_number c.deref-in-Block-3.result.now ≡ map type_number c.in_ok-types-in-Block.types.items ++ map type_number c.args.around.now.inside.now =
-    ap (map type_number) c.deref-in-Block-3.ensures.value ∙ c.in_ok-inside-in-Block.ensures ∙ ap (λ (ts : List ℕ). ts ++ map type_number c.args.around.now.inside.now) (ap (map type_number) c.deref-in-Block-2.ensures.value) in
+    let gone_is : gone_of c.in_ok-gone-in-Block.gone ≡ gone_with (map declaration_form c.in-Block.declarations.items) =
+    c.in_ok-gone-in-Block.ensures ∙ ap gone_with (ap (map declaration_form) c.deref-in-Block.ensures.value) in
     let p = err_from_is_err_and c.from_residual-in_err-end-in-Block.result c.from_residual-in_err-end-in-Block.ensures.1 in
     rw (p.1, p.2) (inner_breaks c.in_err-end-in-Block.field-0.0 (noted c.args.raised.now) (noted c.emptied-own.result) (noted c.declare.new.raised) (noted c.with_handlers-inner.result) (types_in c.args.around.now) (variables_in c.args.around.now) c.args.cleared (around_of c.args.around.now)
-    (stands (start_in c.args.around.now) (map type_number c.deref-in-Block-3.result.now)) (map type_number c.in_ok-types-in-Block.types.items) (stmt_form c.args.statement.now)
-    (map declaration_form c.in-Block.declarations.items) (map declaration_form c.deref-in-Block-4.result.now) (stmts_form c.in-Block.statements.items) (stmts_form c.deref-in-Block-6.result.now)
-    (handlers_form c.in-Block.handlers.items) (handlers_form c.deref-in-Block-5.result.now) c.args.known.holds.items c.declare.new.known.holds.items
-    form collections_are c.emptied-own.ensures (ap (map declaration_form) c.deref-in-Block-4.ensures.value) c.in_ok-declare-in-Block.ensures
-    (stands_in (map type_number c.in_ok-types-in-Block.types.items) (map type_number c.deref-in-Block-3.result.now) (around_of c.args.around.now) inside_is)
-    c.with_handlers-inner.ensures (ap handlers_form c.deref-in-Block-5.ensures.value) (ap stmts_form c.deref-in-Block-6.ensures.value) c.in_err-end-in-Block.ensures)
+    (stands (start_in c.args.around.now) (gone_of c.in_ok-inside-in-Block.inside)) (gone_of c.in_ok-gone-in-Block.gone) (stmt_form c.args.statement.now)
+    (map declaration_form c.in-Block.declarations.items) (map declaration_form c.deref-in-Block-2.result.now) (stmts_form c.in-Block.statements.items) (stmts_form c.deref-in-Block-4.result.now)
+    (handlers_form c.in-Block.handlers.items) (handlers_form c.deref-in-Block-3.result.now) c.args.known.holds.items c.declare.new.known.holds.items
+    form gone_is c.emptied-own.ensures (ap (map declaration_form) c.deref-in-Block-2.ensures.value) c.in_ok-declare-in-Block.ensures
+    (stands_in (gone_of c.in_ok-gone-in-Block.gone) (gone_of c.in_ok-inside-in-Block.inside) (around_of c.args.around.now) c.in_ok-inside-in-Block.ensures)
+    c.with_handlers-inner.ensures (ap handlers_form c.deref-in-Block-3.ensures.value) (ap stmts_form c.deref-in-Block-4.ensures.value) c.in_err-end-in-Block.ensures)
 
 pub statements::statement-returns-in-Block : goal.statements::statement-returns-in-Block
 statements::statement-returns-in-Block t c =
     let form : stmt_form c.args.statement.now ≡ encloses (map declaration_form c.in-Block.declarations.items) (stmts_form c.in-Block.statements.items) (handlers_form c.in-Block.handlers.items) =
     ap stmt_form c.in-Block.is ∙ encloses_form c.in-Block.declarations c.in-Block.statements c.in-Block.handlers in
-    let collections_are : map type_number c.in_ok-types-in-Block.types.items ≡ collected (map declaration_form c.in-Block.declarations.items) =
-    c.in_ok-types-in-Block.ensures ∙ ap collected (ap (map declaration_form) c.deref-in-Block.ensures.value) in
-    let inside_is : map type_number c.deref-in-Block-3.result.now ≡ map type_number c.in_ok-types-in-Block.types.items ++ map type_number c.args.around.now.inside.now =
-    ap (map type_number) c.deref-in-Block-3.ensures.value ∙ c.in_ok-inside-in-Block.ensures ∙ ap (λ (ts : List ℕ). ts ++ map type_number c.args.around.now.inside.now) (ap (map type_number) c.deref-in-Block-2.ensures.value) in
+    let gone_is : gone_of c.in_ok-gone-in-Block.gone ≡ gone_with (map declaration_form c.in-Block.declarations.items) =
+    c.in_ok-gone-in-Block.ensures ∙ ap gone_with (ap (map declaration_form) c.deref-in-Block.ensures.value) in
     block_is_left (noted c.args.raised.now) (noted c.emptied-own.result) (noted c.declare.new.raised) (noted c.with_handlers-inner.result) (noted c.statements-in-Block.new.raised) (noted c.handled.new.raised) (noted c.add_behind.new.self)
     (types_in c.args.around.now) (variables_in c.args.around.now) c.args.cleared (around_of c.args.around.now)
-    (stands (start_in c.args.around.now) (map type_number c.deref-in-Block-3.result.now)) (map type_number c.in_ok-types-in-Block.types.items)
-    (map type_number c.deref-in-Block-9.result.now) (map type_number c.deref-in-Block-10.result.now) (stmt_form c.args.statement.now)
-    (map declaration_form c.in-Block.declarations.items) (map declaration_form c.deref-in-Block-4.result.now)
-    (stmts_form c.in-Block.statements.items) (stmts_form c.deref-in-Block-6.result.now) (stmts_form c.deref-in-Block-8.result.now)
-    (handlers_form c.in-Block.handlers.items) (handlers_form c.deref-in-Block-5.result.now) (handlers_form c.deref-in-Block-7.result.now)
+    (stands (start_in c.args.around.now) (gone_of c.in_ok-inside-in-Block.inside)) (gone_of c.in_ok-gone-in-Block.gone) (stmt_form c.args.statement.now)
+    (map declaration_form c.in-Block.declarations.items) (map declaration_form c.deref-in-Block-2.result.now)
+    (stmts_form c.in-Block.statements.items) (stmts_form c.deref-in-Block-4.result.now) (stmts_form c.deref-in-Block-6.result.now)
+    (handlers_form c.in-Block.handlers.items) (handlers_form c.deref-in-Block-3.result.now) (handlers_form c.deref-in-Block-5.result.now)
     c.args.known.holds.items c.declare.new.known.holds.items
     (held c.in_ok-end-in-Block.end) (held c.in_ok-end-in-Block-2.end) (held c.in_ok-leave_end-in-Block.field-0)
-    form collections_are c.emptied-own.ensures (ap (map declaration_form) c.deref-in-Block-4.ensures.value) c.in_ok-declare-in-Block.ensures
-    (stands_in (map type_number c.in_ok-types-in-Block.types.items) (map type_number c.deref-in-Block-3.result.now) (around_of c.args.around.now) inside_is)
-    c.with_handlers-inner.ensures (ap handlers_form c.deref-in-Block-5.ensures.value) (ap stmts_form c.deref-in-Block-6.ensures.value) c.in_ok-end-in-Block.ensures
-    (ap stmts_form c.deref-in-Block-8.ensures.value) (ap handlers_form c.deref-in-Block-7.ensures.value) c.in_ok-end-in-Block-2.ensures
-    (ap (map type_number) c.deref-in-Block-9.ensures.value) c.in_ok-add_behind-in-Block.ensures (ap (map type_number) c.deref-in-Block-10.ensures.value) c.in_ok-leave_end-in-Block.ensures
+    form gone_is c.emptied-own.ensures (ap (map declaration_form) c.deref-in-Block-2.ensures.value) c.in_ok-declare-in-Block.ensures
+    (stands_in (gone_of c.in_ok-gone-in-Block.gone) (gone_of c.in_ok-inside-in-Block.inside) (around_of c.args.around.now) c.in_ok-inside-in-Block.ensures)
+    c.with_handlers-inner.ensures (ap handlers_form c.deref-in-Block-3.ensures.value) (ap stmts_form c.deref-in-Block-4.ensures.value) c.in_ok-end-in-Block.ensures
+    (ap stmts_form c.deref-in-Block-6.ensures.value) (ap handlers_form c.deref-in-Block-5.ensures.value) c.in_ok-end-in-Block-2.ensures
+    c.in_ok-add_behind-in-Block.ensures c.in_ok-leave_end-in-Block.ensures

@@ -28,7 +28,7 @@ collected_is : (es : List DeclarationForm) (a : ℕ) → is_one_of (collected es
 collected_is [] a = refl
 collected_is (collects t ∷ es) a = ap (λ b. eqb t a || b) (collected_is es a)
 collected_is (declares x source ∷ es) a = collected_is es a
-collected_is (declares_record x object ∷ es) a = collected_is es a
+collected_is (declares_record x object initial ∷ es) a = collected_is es a
 
 -- a part creates the collections of its own access types, and of no others
 due_most : (c d : Bool) → cond c (cond d 1 0) 0 ≤ 1

@@ -13,7 +13,7 @@ use Rattle.ada_program.specs.declared.program.Exception.TheVariants as exception
 use Rattle.ada_program.specs.declared.program.TypeNo.{TypeNo}
 use Rattle.ada_program.specs.declared.program.VariableKind.{VariableKind}
 use Rattle.ada_program.specs.declared.program.VariableKind.TheVariants as variable
-use Rattle.ada_program.specs.Form.{PathForm, RightForm, value_of, DeclarationForm, collects, declares, declares_record}
+use Rattle.ada_program.specs.Form.{ItemForm, PathForm, RightForm, value_of, DeclarationForm, collects, declares, declares_record}
 use Rattle.ada_program.specs.Nested.{is_one_of, kind_is_open, record_objects}
 use Rattle.ada_program.specs.ProgramForm.{TypeForm, record_of, access_to, object_of}
 use Rattle.ada_resolve.specs.declared.scope.Entity.{Entity}
@@ -23,8 +23,9 @@ use Rattle.ada_resolve.specs.Exceptions.{next_exception}
 use Rattle.ada_resolve.specs.Instances.{freed_found, instance_of, is_collected}
 use Rattle.ada_resolve.specs.Known.{Known, Named, Part, named, entered, declared, visible, no_variable_yet, is_empty}
 use Rattle.ada_resolve.specs.Library.{is_library_root}
-use Rattle.ada_resolve.specs.Objects.{type_in, object_type_found, kind_of, initial_found, collections_of, own_types, missing_collections, ends_types, after_types, next_variable, initial_source, variable_created, object_created, next_record, record_created, created_of}
+use Rattle.ada_resolve.specs.Objects.{type_in, object_type_found, held_of, kind_of, initial_items_in, initial_value_in, initial_found, collections_of, own_types, missing_collections, ends_types, after_types, next_variable, initial_source, variable_created, object_created, next_record, record_created, created_of}
 use Rattle.ada_resolve.specs.Paths.{elementary_in, elementary_of}
+use Rattle.ada_resolve.specs.Rights.{Assigned}
 use Rattle.ada_resolve.specs.Records.{Composition, no_components, kind_in, kind_of_component, kinds_within, composed_with, composed, composition_of, components_written, record_type_known}
 use Rattle.ada_resolve.specs.Resolution.{gives, At, known_at, declaration_remark, declaration_known, declarations_told}
 use Rattle.ada_resolve.specs.Statics.{static_value}
@@ -68,7 +69,7 @@ objects_both : (n : ℕ) (types : List TypeForm) (es ds : List DeclarationForm) 
 objects_both n types [] ds old new = new
 objects_both n types (collects t ∷ es) ds old new = objects_both n types es ds old new
 objects_both n types (declares x value ∷ es) ds old new = objects_both n types es ds old new
-objects_both n types (declares_record x object ∷ es) ds old new =
+objects_both n types (declares_record x object initial ∷ es) ds old new =
     let rest = objects_both n types es ds (λ o e. old o (right_or (eqb object o) (is_one_of (record_objects es) o) e)) new in
     λ o e. by_test o (eqb object o) (old o) (rest o) e
   where
@@ -243,12 +244,12 @@ created_open around k name None value w = w
 created_open around k name (Some kind) value w = made_open around k name false kind (initial_source value) w
 
 -- `R : T;`
-record_open : (around : List ℕ) (k : Known) (name : Ident) (t : TypeNo) → Sound k → OpenAround around k → (t.0 < k.here.first_type → RecordOpen around k.types t.0) → OpenAround around (record_created k name t)
-record_open around k name t s w lies =
+record_open : (around : List ℕ) (k : Known) (name : Ident) (t : TypeNo) (initial : Option (List ItemForm)) → Sound k → OpenAround around k → (t.0 < k.here.first_type → RecordOpen around k.types t.0) → OpenAround around (record_created k name t initial)
+record_open around k name t initial s w lies =
     let n = k.here.first_type in
     let form = object_of t.0 in
     let more = k.types ++ form ∷ [] in
-    let made = declares_record (length k.variables) (length k.types) in
+    let made = declares_record (length k.variables) (length k.types) initial in
     let stays : StaysBefore n k.types more = λ u x less is. get_more k.types form u x is in
     let old : ObjectsLie n more k.here.elaborated = λ o e. let own = w.objects o e in (own.0, own.1, get_more k.types form o (object_of own.1) own.2) in
     record {
@@ -287,9 +288,9 @@ object_type_lies around k type_name w e is = by_root (is_library_root type_name.
     by_root true is = absurd (cc is)
     by_root false is = by_rest (is_empty type_name.rest) is
 
-found_created_open : (around : List ℕ) (k : Known) (name : Ident) (o : Option Entity) (value : Option RightForm) → Sound k → OpenAround around k → ((e : Entity) → o ≡ Some e → EntityLies around k.here.first_type k.types e) → OpenAround around (created_of k name o value)
-found_created_open around k name (Some (entity.Record t size)) value s w lies = record_open around k name t s w (lies (entity.Record t size) refl)
-found_created_open around k name o value s w lies = created_open around k name (kind_of o) value w
+found_created_open : (around : List ℕ) (k : Known) (name : Ident) (o : Option Entity) (value : Option Assigned) → Sound k → OpenAround around k → ((e : Entity) → o ≡ Some e → EntityLies around k.here.first_type k.types e) → OpenAround around (created_of k name o value)
+found_created_open around k name (Some (entity.Record t size)) value s w lies = record_open around k name t (initial_items_in value) s w (lies (entity.Record t size) refl)
+found_created_open around k name o value s w lies = created_open around k name (kind_of o) (initial_value_in value) w
 
 -- `B : access T := P;`
 borrower_open : (around : List ℕ) (k : Known) (name : Ident) (o : Option (PathForm × TypeNo)) → OpenAround around k → OpenAround around (borrower_created k name o)
@@ -332,7 +333,7 @@ declaration_open around k (exception_declaration name) s w q = record {
 declaration_open around k (object_declaration name type_name initial) s w q =
     let m = after_types k in
     let o : OpenAround around m = ended_open around k w in
-    found_created_open around m name (object_type_found m type_name) (initial_found m (kind_of (object_type_found m type_name)) initial)
+    found_created_open around m name (object_type_found m type_name) (initial_found m (held_of (object_type_found m type_name)) initial)
     (ended_sound k s) o (object_type_lies around m type_name o)
 declaration_open around k (borrower_declaration name designated initial) s w q =
     borrower_open around (after_types k) name (lender_found (after_types k) initial) (ended_open around k w)

@@ -10,11 +10,12 @@ use Rattle.ada_program.specs.declared.program.Exception.TheVariants.{ConstraintE
 use Rattle.ada_program.specs.Form.{DeclarationForm}
 use Rattle.ada_program.specs.Nested.{is_one_of, kind_is_open, record_objects}
 use Rattle.ada_program.specs.ProgramForm.{PartForm, TypeForm, record_of, access_to, object_of}
+use Rattle.ada_resolve.specs.declared.library.Withs.{Withs}
 use Rattle.ada_resolve.specs.declared.scope.Entity.{Entity}
 use Rattle.ada_resolve.specs.declared.scope.Entity.TheVariants as entity
-use Rattle.ada_resolve.specs.Known.{Known, Named, Part, named, named_in, inner_first, visible, parts}
+use Rattle.ada_resolve.specs.Known.{Known, Named, Part, named, named_in, inner_first, outermost, unit_named, visible, parts}
 use Rattle.ada_resolve.specs.Library.{predefined}
-use Rattle.ada_resolve.proofs.WellFormed.Names.{first_of_two}
+use Rattle.ada_resolve.proofs.WellFormed.Names.{first_of_two, unit_only}
 use Rattle.ada_resolve.proofs.WellFormed.Tables.{all_weaker}
 
 -- the record type of a number is there, and its components name collections that are open around
@@ -127,17 +128,19 @@ predefined_lies around n types text x e =
     standard_lies around n types x (bytes_eq text (codes "INTEGER")) (bytes_eq text (codes "BOOLEAN")) (bytes_eq text (codes "TRUE")) (bytes_eq text (codes "FALSE"))
     (bytes_eq text (codes "CONSTRAINT_ERROR")) (bytes_eq text (codes "PROGRAM_ERROR")) (bytes_eq text (codes "STORAGE_ERROR")) e
 
-inner_lies : (around : List ℕ) (n : ℕ) (types : List TypeForm) (text : List ℕ) (x : Entity) (own : Option Entity) (b : Bool) → ((y : Entity) → own ≡ Some y → EntityLies around n types y) → inner_first own b (predefined text) ≡ Some x → EntityLies around n types x
-inner_lies around n types text x (Some y) b w e = let is : y ≡ x = cc e in rw (sym is) (w y refl)
-inner_lies around n types text x None true w e = let is : entity.Procedure ≡ x = cc e in rw (sym is) tt
-inner_lies around n types text x None false w e = predefined_lies around n types text x e
+inner_lies : (around : List ℕ) (n : ℕ) (types : List TypeForm) (withs : Withs) (text : List ℕ) (x : Entity) (own : Option Entity) (b : Bool) → ((y : Entity) → own ≡ Some y → EntityLies around n types y) → inner_first own b (outermost withs text) ≡ Some x → EntityLies around n types x
+inner_lies around n types withs text x (Some y) b w e = let is : y ≡ x = cc e in rw (sym is) (w y refl)
+inner_lies around n types withs text x None true w e = let is : entity.Procedure ≡ x = cc e in rw (sym is) tt
+inner_lies around n types withs text x None false w e =
+    first_of_two (EntityLies around n types) (predefined text) (unit_named withs text) x (predefined_lies around n types text)
+    (λ y. unit_only (EntityLies around n types) withs text y tt) e
 
 -- what is visible among the declarations of a part
 pub visible_lies : (around : List ℕ) (k : Known) → OpenAround around k → (text : List ℕ) (e : Entity) → visible k text ≡ Some e → EntityLies around k.here.first_type k.types e
 unfolding visible
 visible_lies around k w text e is =
     let n = k.here.first_type in
-    inner_lies around n k.types text e (named_in text (parts k)) (bytes_eq text k.procedure)
+    inner_lies around n k.types k.withs text e (named_in text (parts k)) (bytes_eq text k.procedure)
     (λ x there. first_of_two (EntityLies around n k.types) (named text k.here.names) (named_in text k.outer) x
     (λ y at. own_lies around n k.types y (w.own text y at)) (parts_lie around n k.types k.outer w.outer text) there) is
 

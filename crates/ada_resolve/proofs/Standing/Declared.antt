@@ -7,7 +7,7 @@ use Rattle.ada_program.specs.declared.program.Exception.TheVariants as exception
 use Rattle.ada_program.specs.declared.program.TypeNo.{TypeNo}
 use Rattle.ada_program.specs.declared.program.VariableKind.{VariableKind}
 use Rattle.ada_program.specs.declared.program.VariableKind.TheVariants as variable
-use Rattle.ada_program.specs.Form.{DeclarationForm, collects, declares, declares_record, RightForm, value_of}
+use Rattle.ada_program.specs.Form.{DeclarationForm, ItemForm, collects, declares, declares_record, RightForm, value_of}
 use Rattle.ada_program.specs.ProgramForm.{TypeForm, record_of, access_to, object_of, VariableForm}
 use Rattle.ada_program.specs.WellFormed as fits
 use Rattle.ada_tree.specs.Declarations.{AspectTree}
@@ -21,7 +21,8 @@ use Rattle.ada_resolve.specs.Borrowers.{borrower_remark, borrower_known}
 use Rattle.ada_resolve.specs.Exceptions.{next_exception, with_exception, exception_known}
 use Rattle.ada_resolve.specs.Instances.{freed_found, with_elaborated, instance_of}
 use Rattle.ada_resolve.specs.Known.{Known, Part, parts, no_variable_yet}
-use Rattle.ada_resolve.specs.Objects.{object_type_found, kind_of, initial_found, initial_source, missing_collections, ends_types, after_types, next_variable, with_variable, variable_created, object_created, next_record, with_record_object, record_created, created_of, object_known}
+use Rattle.ada_resolve.specs.Rights.{Assigned}
+use Rattle.ada_resolve.specs.Objects.{object_type_found, held_of, kind_of, initial_items_in, initial_value_in, initial_found, initial_source, missing_collections, ends_types, after_types, next_variable, with_variable, variable_created, object_created, next_record, with_record_object, record_created, created_of, object_known}
 use Rattle.ada_resolve.specs.Records.{composition_of, components_written, record_type_known, record_type_remark}
 use Rattle.ada_resolve.specs.Resolution.{known_at, declaration_remark, declaration_known}
 use Rattle.ada_resolve.specs.Statics.{static_value}
@@ -48,8 +49,8 @@ elaborated_sound es k w = record {
 
 -- one more variable
 entity_stays : (types : List TypeForm) (variables : List VariableForm) (v : VariableForm) (text : List ℕ) (e : Entity) → EntityFits types variables text e → EntityFits types (variables ++ v ∷ []) text e
-entity_stays types variables v text (entity.Variable x kind) f = ((f.0.0, get_more variables v x.0 _ f.0.1), f.1)
-entity_stays types variables v text (entity.Parameter x) f = get_more variables v x.0 _ f
+entity_stays types variables v text (entity.Variable x kind) f = ((f.0.0, f.0.1, get_more variables v x.0 _ f.0.2), f.1)
+entity_stays types variables v text (entity.Parameter x) f = (f.0, get_more variables v x.0 _ f.1)
 entity_stays types variables v text e f = f
 
 parts_stay : (types : List TypeForm) (variables : List VariableForm) (v : VariableForm) (ps : List Part) → PartsFit types variables ps → PartsFit types (variables ++ v ∷ []) ps
@@ -130,16 +131,16 @@ exception_keeps k name slot =
 -- a variable that is declared: what borrows holds access values
 made_sound : (k : Known) (name : Ident) (borrows : Bool) (kind : VariableKind) (value : RightForm) → Sound k → fits.variable_kind_fits k.types kind ≡ true → (not borrows || fits.is_access_kind kind) ≡ true → Sound (variable_created k name borrows kind value)
 made_sound k name borrows kind value w f g =
-    let v : VariableForm = record { name = name.text; kind = kind; borrows = borrows } in
+    let v : VariableForm = record { name = name.text; spot = name.spot; kind = kind; borrows = borrows } in
     let es : List DeclarationForm = declares (length k.variables) value ∷ [] in
     let m = with_elaborated es (with_variable v k) in
     let fit = both_parts (fits.variable_kind_fits k.types kind) (not borrows || fits.is_access_kind kind) f g in
     name_sound m name.text (entity.Variable (next_variable k) kind) (elaborated_sound es (with_variable v k) (variable_sound v k w fit))
-    ((borrows, get_last k.variables v), f) tt tt
+    ((name.spot, borrows, get_last k.variables v), f) tt tt
 
 made_keeps : (k : Known) (name : Ident) (borrows : Bool) (kind : VariableKind) (value : RightForm) → IsSlot k name.text None → Keeps k (variable_created k name borrows kind value)
 made_keeps k name borrows kind value slot =
-    let v : VariableForm = record { name = name.text; kind = kind; borrows = borrows } in
+    let v : VariableForm = record { name = name.text; spot = name.spot; kind = kind; borrows = borrows } in
     let es : List DeclarationForm = declares (length k.variables) value ∷ [] in
     let m = with_elaborated es (with_variable v k) in
     keeps_on k m (variable_created k name borrows kind value)
@@ -156,37 +157,37 @@ created_keeps k name None value slot = keeps_same k
 created_keeps k name (Some kind) value slot = made_keeps k name false kind (initial_source value) slot
 
 -- `R : T;`, where T is a record type that is complete
-record_object_sound : (k : Known) (name : Ident) (t : TypeNo) → Sound k → fits.is_record k.types t.0 ≡ true → IsSettled k t.0 → Sound (record_created k name t)
-record_object_sound k name t w is settled =
+record_object_sound : (k : Known) (name : Ident) (t : TypeNo) (initial : Option (List ItemForm)) → Sound k → fits.is_record k.types t.0 ≡ true → IsSettled k t.0 → Sound (record_created k name t initial)
+record_object_sound k name t initial w is settled =
     let d = with_definition None (object_of t.0) k in
-    let v : VariableForm = record { name = name.text; kind = next_record k; borrows = false } in
-    let es : List DeclarationForm = declares_record (length k.variables) (length k.types) ∷ [] in
+    let v : VariableForm = record { name = name.text; spot = name.spot; kind = next_record k; borrows = false } in
+    let es : List DeclarationForm = declares_record (length k.variables) (length k.types) initial ∷ [] in
     let known : fits.variable_kind_fits d.types (next_record k) ≡ true = rw (get_last k.types (object_of t.0)) refl in
     let fit = both_parts (fits.variable_kind_fits d.types (next_record k)) true known refl in
-    name_sound (with_record_object k name t) name.text (entity.Variable (next_variable k) (next_record k))
+    name_sound (with_record_object k name t initial) name.text (entity.Variable (next_variable k) (next_record k))
     (elaborated_sound es (with_variable v d) (variable_sound v d (object_type_sound k t.0 w is settled) fit))
-    ((false, get_last k.variables v), known) tt tt
+    ((name.spot, false, get_last k.variables v), known) tt tt
 
-record_object_keeps : (k : Known) (name : Ident) (t : TypeNo) → IsSlot k name.text None → Keeps k (record_created k name t)
-record_object_keeps k name t slot =
+record_object_keeps : (k : Known) (name : Ident) (t : TypeNo) (initial : Option (List ItemForm)) → IsSlot k name.text None → Keeps k (record_created k name t initial)
+record_object_keeps k name t initial slot =
     let d = with_definition None (object_of t.0) k in
-    let v : VariableForm = record { name = name.text; kind = next_record k; borrows = false } in
-    let es : List DeclarationForm = declares_record (length k.variables) (length k.types) ∷ [] in
-    let m = with_record_object k name t in
-    keeps_on k m (record_created k name t)
+    let v : VariableForm = record { name = name.text; spot = name.spot; kind = next_record k; borrows = false } in
+    let es : List DeclarationForm = declares_record (length k.variables) (length k.types) initial ∷ [] in
+    let m = with_record_object k name t initial in
+    keeps_on k m (record_created k name t initial)
     (keeps_on k (with_variable v d) m (keeps_on k d (with_variable v d) (keeps_object_type t.0 k) (keeps_variable v d)) (keeps_elaborated es (with_variable v d)))
     (keeps_name m name.text (entity.Variable (next_variable k) (next_record k)) slot tt)
 
 -- an object of whichever type
-object_sound : (k : Known) (name : Ident) (o : Option Entity) (value : Option RightForm) → Sound k → IsKindIn k.types (kind_of o) → ((t : TypeNo) (size : ℕ) → o ≡ Some (entity.Record t size) → (fits.is_record k.types t.0 ≡ true) × IsSettled k t.0) → Sound (created_of k name o value)
+object_sound : (k : Known) (name : Ident) (o : Option Entity) (value : Option Assigned) → Sound k → IsKindIn k.types (kind_of o) → ((t : TypeNo) (size : ℕ) → o ≡ Some (entity.Record t size) → (fits.is_record k.types t.0 ≡ true) × IsSettled k t.0) → Sound (created_of k name o value)
 object_sound k name None value w f full = w
-object_sound k name (Some (entity.Record t size)) value w f full = let r = full t size refl in record_object_sound k name t w r.0 r.1
-object_sound k name (Some e) value w f full = created_sound k name (kind_of (Some e)) value w f
+object_sound k name (Some (entity.Record t size)) value w f full = let r = full t size refl in record_object_sound k name t (initial_items_in value) w r.0 r.1
+object_sound k name (Some e) value w f full = created_sound k name (kind_of (Some e)) (initial_value_in value) w f
 
-object_keeps : (k : Known) (name : Ident) (o : Option Entity) (value : Option RightForm) → IsSlot k name.text None → Keeps k (created_of k name o value)
+object_keeps : (k : Known) (name : Ident) (o : Option Entity) (value : Option Assigned) → IsSlot k name.text None → Keeps k (created_of k name o value)
 object_keeps k name None value slot = keeps_same k
-object_keeps k name (Some (entity.Record t size)) value slot = record_object_keeps k name t slot
-object_keeps k name (Some e) value slot = created_keeps k name (kind_of (Some e)) value slot
+object_keeps k name (Some (entity.Record t size)) value slot = record_object_keeps k name t (initial_items_in value) slot
+object_keeps k name (Some e) value slot = created_keeps k name (kind_of (Some e)) (initial_value_in value) slot
 
 -- `B : access T := P;`
 borrower_sound : (k : Known) (name designated : Ident) (initial : Option RightTree) → Sound k → Quiet (borrower_remark k name designated initial) → Sound (borrower_known k name initial)
@@ -229,7 +230,7 @@ declaration_sound k (exception_declaration name) w q = exception_sound k name w
 declaration_sound k (object_declaration name type_name initial) w q =
     let m = after_types k in
     let s : Sound m = ended_sound k w in
-    object_sound m name (object_type_found m type_name) (initial_found m (kind_of (object_type_found m type_name)) initial) s (found_type m type_name s.names)
+    object_sound m name (object_type_found m type_name) (initial_found m (held_of (object_type_found m type_name)) initial) s (found_type m type_name s.names)
     (λ t size is.
     let there = full_visible m type_name t size is in
     (record_visible m s.names type_name.first.text t size there, visible_settled m type_name.first.text t size s there))
@@ -246,7 +247,7 @@ declaration_keeps k (exception_declaration name) w q = exception_keeps k name (n
 declaration_keeps k (object_declaration name type_name initial) w q =
     let m = after_types k in
     keeps_on k m (object_known m name type_name initial) (ended_keeps k)
-    (object_keeps m name (object_type_found m type_name) (initial_found m (kind_of (object_type_found m type_name)) initial) (new_slot m name name.spot q.1.0))
+    (object_keeps m name (object_type_found m type_name) (initial_found m (held_of (object_type_found m type_name)) initial) (new_slot m name name.spot q.1.0))
 declaration_keeps k (borrower_declaration name designated initial) w q =
     let m = after_types k in
     keeps_on k m (borrower_known m name initial) (ended_keeps k) (borrower_keeps m name designated initial (ended_sound k w) q)

@@ -72,9 +72,9 @@ part_inside k s c = record { sound = part_sound k s c; outer = refl; withs = ref
 -- the part of a loop parameter begins
 pub parameter_sound : (name : Ident) (k : Known) → Sound k → Complete k → Sound (with_parameter name k)
 parameter_sound name k s c =
-    let v : VariableForm = record { name = name.text; kind = variable.Integer; borrows = false } in
+    let v : VariableForm = record { name = name.text; spot = name.spot; kind = variable.Integer; borrows = false } in
     let m = with_variable v (with_part k) in
-    name_sound m name.text (entity.Parameter (next_variable k)) (variable_sound v (with_part k) (part_sound k s c) refl) (get_last k.variables v) tt tt
+    name_sound m name.text (entity.Parameter (next_variable k)) (variable_sound v (with_part k) (part_sound k s c) refl) (name.spot, get_last k.variables v) tt tt
 
 pub parameter_complete : (name : Ident) (k : Known) → Complete (with_parameter name k)
 parameter_complete name k text t is = by_text (bytes_eq text name.text) is
@@ -91,7 +91,7 @@ parameter_inside name k s c = record {
   procedure = refl;
   grows = record {
     types = λ t x is. is;
-    variables = λ x v is. get_more k.variables (record { name = name.text; kind = variable.Integer; borrows = false }) x v is;
+    variables = λ x v is. get_more k.variables (record { name = name.text; spot = name.spot; kind = variable.Integer; borrows = false }) x v is;
     exceptions = λ n x is. is;
     texts = λ n x is. is;
   };

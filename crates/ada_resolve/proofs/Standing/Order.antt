@@ -9,12 +9,11 @@ use Rattle.ada_program.specs.WellFormed as fits
 use Rattle.ada_resolve.specs.declared.library.Withs.{Withs}
 use Rattle.ada_resolve.specs.declared.scope.Entity.{Entity}
 use Rattle.ada_resolve.specs.declared.scope.Entity.TheVariants as entity
-use Rattle.ada_resolve.specs.Known.{Known, Named, Part, named, named_in, inner_first, visible, parts}
-use Rattle.ada_resolve.specs.Library.{predefined}
+use Rattle.ada_resolve.specs.Known.{Known, Named, Part, named, named_in, inner_first, outermost, visible, parts}
 use Rattle.ada_resolve.specs.Paths.{name_of_type}
 use Rattle.ada_resolve.specs.Resolution.{known_first}
 use Rattle.ada_resolve.proofs.WellFormed.Laid.{IsUnused}
-use Rattle.ada_resolve.proofs.WellFormed.Names.{PartsFit, first_of_two, predefined_fits}
+use Rattle.ada_resolve.proofs.WellFormed.Names.{PartsFit, first_of_two, outermost_fits}
 use Rattle.ada_resolve.proofs.WellFormed.Exceptions.{PartsRaised}
 
 -- what a name of a complete part stands for, whose types have lower numbers than this
@@ -217,10 +216,10 @@ visible_settled k text t size s is = by_own (named_in text (parts k)) (bytes_eq 
         (λ y own same. record_settled k text t size s (own ∙ ap (λ z. Some z) same))
         (λ y around same. outer_settled k t.0 s (subst (IsBefore k.here.first_type) same (before_in k.here.first_type k.outer text y s.bounds.outer_before around))) there
 
-    by_own : (own : Option Entity) (b : Bool) → named_in text (parts k) ≡ own → inner_first own b (predefined text) ≡ Some (entity.Record t size) → IsSettled k t.0
+    by_own : (own : Option Entity) (b : Bool) → named_in text (parts k) ≡ own → inner_first own b (outermost k.withs text) ≡ Some (entity.Record t size) → IsSettled k t.0
     by_own (Some x) b there e = let same : x ≡ entity.Record t size = cc e in by_part x there same
     by_own None true there e = absurd (cc e)
-    by_own None false there e = let no = predefined_fits [] [] text (entity.Record t size) e in absurd (cc (no.2))
+    by_own None false there e = let no = outermost_fits [] [] k.withs text (entity.Record t size) e in absurd (cc (no.2))
 
 -- and one that is no record type
 pub known_settled : (k : Known) (t : ℕ) (name : List ℕ) (d : ℕ) → Sound k → slice_get k.types t ≡ Some (access_to name d) → IsSettled k t
@@ -236,7 +235,7 @@ pub first_sound : (withs : Withs) (procedure : List ℕ) → Sound (known_first 
 first_sound withs procedure = record {
   types_fit = refl;
   variables_fit = refl;
-  names = (λ t x e. absurd (cc e), λ t form e. absurd (cc e));
+  names = (λ t x e. absurd (cc e), (λ t form e. absurd (cc e), refl));
   exceptions = (λ t x e. absurd (cc e), tt);
   bounds = record { first = omega arith; first_variable = omega arith; open_own = λ text t e. absurd (cc e); open_unused = λ text t e. absurd (cc e); outer_before = tt };
 }

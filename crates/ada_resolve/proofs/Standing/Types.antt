@@ -20,7 +20,7 @@ use Rattle.ada_resolve.proofs.WellFormed.Tables as tables
 use Rattle.ada_resolve.proofs.WellFormed.Tables.{all_more, all_set, get_more, get_last, get_set, get_other, keeps_more, record_more, keeps_set, record_set, record_other, types_kept, types_without, components_kept, object_kind_kept, variable_kept, all_weaker, both_parts}
 use Rattle.ada_resolve.proofs.WellFormed.Laid.{AreRecordsLaid, IsLaid, IsUnused, Avoids, records_laid_more, records_laid_set, new_unused, unused_more, unused_set}
 use Rattle.ada_resolve.proofs.WellFormed.Exceptions.{RaisedFits, raised_entered}
-use Rattle.ada_resolve.proofs.WellFormed.Names.{EntityFits, PartsFit, all_entered, names_entered, no_text, laid_in}
+use Rattle.ada_resolve.proofs.WellFormed.Names.{EntityFits, TypesFit, PartsFit, all_entered, names_entered, no_text, laid_in}
 use Rattle.ada_resolve.proofs.WellFormed.Types.{record_is, composed_fit, composition_has, composition_laid, IsRecordNamed, found_record}
 use Rattle.ada_resolve.proofs.Standing.Order.{IsBefore, PartsBefore, Sound, IsSettled, visible_settled}
 
@@ -57,7 +57,7 @@ outer_kept n types more variables text other g (entity.Variable x kind) b f = (f
 outer_kept n types more variables text other g e b f = f
 
 outers_kept : (n : ℕ) (types more : List TypeForm) (variables : List VariableForm) (text : List ℕ) → Grown n text types more → (ps : List Part) → PartsBefore n ps → PartsFit types variables ps → PartsFit more variables ps
-outers_kept n types more variables text g [] b f = g.laid
+outers_kept n types more variables text g [] b f = (g.laid, g.types_fit)
 outers_kept n types more variables text g (p ∷ ps) b f =
     (λ t x is. outer_kept n types more variables text t g x (b.0 t x is) (f.0 t x is), outers_kept n types more variables text g ps b.1 f.1)
 
@@ -286,7 +286,7 @@ entity_more types variables form text (entity.Instance t) f = (keeps_more types 
 entity_more types variables form text (entity.Variable x kind) f = (f.0, object_kind_kept types (types ++ form ∷ []) (keeps_more types form) kind f.1)
 entity_more types variables form text e f = f
 
-parts_more : (types : List TypeForm) (variables : List VariableForm) (form : TypeForm) (ps : List Part) → AreRecordsLaid (types ++ form ∷ []) → PartsFit types variables ps → PartsFit (types ++ form ∷ []) variables ps
+parts_more : (types : List TypeForm) (variables : List VariableForm) (form : TypeForm) (ps : List Part) → TypesFit (types ++ form ∷ []) → PartsFit types variables ps → PartsFit (types ++ form ∷ []) variables ps
 parts_more types variables form [] laid f = laid
 parts_more types variables form (p ∷ ps) laid f = (λ text e is. entity_more types variables form text e (f.0 text e is), parts_more types variables form ps laid f.1)
 
@@ -299,7 +299,7 @@ object_type_sound k r w is settled =
     record {
       types_fit = g.types_fit;
       variables_fit = all_weaker (fits.variable_fits k.types) (fits.variable_fits more) (variable_kept k.types more g.kept) k.variables w.variables_fit;
-      names = parts_more k.types k.variables form (parts k) g.laid w.names;
+      names = parts_more k.types k.variables form (parts k) (g.laid, g.types_fit) w.names;
       exceptions = w.exceptions;
       bounds = record {
         first = let a = w.bounds.first in let b = g.longer in omega arith;

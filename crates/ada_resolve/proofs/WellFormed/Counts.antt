@@ -32,7 +32,7 @@ not_collected a (collects t ∷ es) e =
     let rest : count a es ≡ 0 = not_collected a es (right_fails (eqb t a) (is_collected a es) e) in
     count_next a (collects t) es ∙ (rw (first, rest) (omega arith))
 not_collected a (declares x source ∷ es) e = not_collected a es e
-not_collected a (declares_record x object ∷ es) e = not_collected a es e
+not_collected a (declares_record x object initial ∷ es) e = not_collected a es e
 
 some_collected : (b c : Bool) (n : ℕ) → (b || c) ≡ true → (c ≡ true → 0 < n) → 0 < cond b 1 0 + n
 some_collected true c n e w = omega arith
@@ -42,7 +42,7 @@ is_counted : (a : ℕ) (es : List DeclarationForm) → is_collected a es ≡ tru
 is_counted a [] e = absurd (cc e)
 is_counted a (collects t ∷ es) e = rw (count_next a (collects t) es) (some_collected (eqb t a) (is_collected a es) (count a es) e (is_counted a es))
 is_counted a (declares x source ∷ es) e = is_counted a es e
-is_counted a (declares_record x object ∷ es) e = is_counted a es e
+is_counted a (declares_record x object initial ∷ es) e = is_counted a es e
 
 count_known_at : (a : ℕ) (es : List DeclarationForm) (b : Bool) → is_collected a es ≡ b → count a es ≤ 1 → count a es ≡ cond b 1 0
 count_known_at a es true is most = let h = is_counted a es is in omega arith

@@ -24,7 +24,7 @@ use Rattle.ada_resolve.proofs.WellFormed.Created.{accesses, due}
 abbrev pub is_first : DeclarationForm → Bool
 is_first (collects t) = true
 is_first (declares x source) = false
-is_first (declares_record x object) = false
+is_first (declares_record x object initial) = false
 
 -- before the first object of the part: it creates collections of its own access types, none of them twice
 pub record Early (k : Known) : Type 0 where
@@ -70,18 +70,18 @@ only_in_order : (es : List DeclarationForm) (n k : ℕ) (rest : List Creation) �
 only_in_order [] n k rest e = refl
 only_in_order (collects t ∷ es) n k rest e = only_in_order es n k rest e
 only_in_order (declares x source ∷ es) n k rest e = absurd (cc e)
-only_in_order (declares_record x object ∷ es) n k rest e = absurd (cc e)
+only_in_order (declares_record x object initial ∷ es) n k rest e = absurd (cc e)
 
 only_first : (es : List DeclarationForm) → list_all is_first es ≡ true → fits.collections_first es ≡ true
 only_first [] e = refl
 only_first (collects t ∷ es) e = only_first es e
 only_first (declares x source ∷ es) e = absurd (cc e)
-only_first (declares_record x object ∷ es) e = absurd (cc e)
+only_first (declares_record x object initial ∷ es) e = absurd (cc e)
 
 only_fit : (types : List TypeForm) (variables : List VariableForm) (e : DeclarationForm) → is_first e ≡ true → fits.initial_fits types variables e ≡ true
 only_fit types variables (collects t) e = refl
 only_fit types variables (declares x source) e = absurd (cc e)
-only_fit types variables (declares_record x object) e = absurd (cc e)
+only_fit types variables (declares_record x object initial) e = absurd (cc e)
 
 -- the collections that end the types
 made_are_first : (ts : List TypeForm) (t : ℕ) (es : List DeclarationForm) → list_all is_first (collections_of t ts es) ≡ true
@@ -116,7 +116,7 @@ own_type (suc n) (x ∷ types) i = let at : suc n + i ≡ suc (n + i) = omega ar
 collected_is : (types : List TypeForm) (a : ℕ) (es : List DeclarationForm) → list_all (fits.collection_fits types) es ≡ true → is_collected a es ≡ true → fits.is_access types a ≡ true
 collected_is types a [] all is = absurd (cc is)
 collected_is types a (declares x source ∷ es) all is = collected_is types a es all is
-collected_is types a (declares_record x object ∷ es) all is = collected_is types a es all is
+collected_is types a (declares_record x object initial ∷ es) all is = collected_is types a es all is
 collected_is types a (collects t ∷ es) all is =
     first_or (eqb t a) refl is (λ h. collected_is types a es (second_part (fits.is_access types t) (list_all (fits.collection_fits types) es) all) h)
   where

@@ -41,7 +41,7 @@ accesses_kept k m w t e = found (slice_get k.types t) refl e
 collection_kept : (types more : List TypeForm) → KeepsAccesses types more → (e : DeclarationForm) → fits.collection_fits types e ≡ true → fits.collection_fits more e ≡ true
 collection_kept types more w (collects t) e = w t e
 collection_kept types more w (declares x source) e = refl
-collection_kept types more w (declares_record x object) e = refl
+collection_kept types more w (declares_record x object initial) e = refl
 
 -- more types, and one more name
 early_types : (k : Known) (more : List TypeForm) (text : List ℕ) (e : Entity) → Early k → KeepsAccesses k.types more → Early (declared (record k { types = more }) text e)

@@ -11,12 +11,13 @@ use Rattle.ada_program.specs.declared.program.Exception.TheVariants as exception
 use Rattle.ada_program.specs.WellFormed as fits
 use Rattle.ada_resolve.specs.declared.library.LibraryName.{LibraryName}
 use Rattle.ada_resolve.specs.declared.library.LibraryName.TheVariants.{EndError}
+use Rattle.ada_resolve.specs.declared.library.Withs.{Withs}
 use Rattle.ada_resolve.specs.declared.scope.Entity.{Entity}
 use Rattle.ada_resolve.specs.declared.scope.Entity.TheVariants as entity
 use Rattle.ada_resolve.specs.Exceptions.{exception_of_library, exception_in, exception_found, exception_or_others, choice_meant, choices_meant}
-use Rattle.ada_resolve.specs.Known.{Known, Named, Part, named, entered, named_in, inner_first, visible, library_found, is_empty, parts}
+use Rattle.ada_resolve.specs.Known.{Known, Named, Part, named, entered, named_in, inner_first, outermost, unit_named, visible, library_found, is_empty, parts}
 use Rattle.ada_resolve.specs.Library.{predefined, is_library_root}
-use Rattle.ada_resolve.proofs.WellFormed.Names.{all_entered, first_of_two, text_same}
+use Rattle.ada_resolve.proofs.WellFormed.Names.{all_entered, first_of_two, text_same, unit_only}
 use Rattle.ada_resolve.proofs.WellFormed.Tables.{get_more, get_last, get_within, both_parts}
 
 -- an exception has the name: it is predefined, or one of those that are declared
@@ -83,10 +84,12 @@ predefined_raised exceptions text x e =
     (bytes_eq text (codes "CONSTRAINT_ERROR")) (bytes_eq text (codes "PROGRAM_ERROR")) (bytes_eq text (codes "STORAGE_ERROR"))
     (text_same text (codes "CONSTRAINT_ERROR")) (text_same text (codes "PROGRAM_ERROR")) (text_same text (codes "STORAGE_ERROR")) e
 
-inner_raised : (exceptions : List (List ℕ)) (text : List ℕ) (x : Entity) (own : Option Entity) (b : Bool) → ((y : Entity) → own ≡ Some y → RaisedFits exceptions text y) → inner_first own b (predefined text) ≡ Some x → RaisedFits exceptions text x
-inner_raised exceptions text x (Some y) b w e = let is : y ≡ x = cc e in rw (sym is) (w y refl)
-inner_raised exceptions text x None true w e = let is : entity.Procedure ≡ x = cc e in rw (sym is) tt
-inner_raised exceptions text x None false w e = predefined_raised exceptions text x e
+inner_raised : (exceptions : List (List ℕ)) (withs : Withs) (text : List ℕ) (x : Entity) (own : Option Entity) (b : Bool) → ((y : Entity) → own ≡ Some y → RaisedFits exceptions text y) → inner_first own b (outermost withs text) ≡ Some x → RaisedFits exceptions text x
+inner_raised exceptions withs text x (Some y) b w e = let is : y ≡ x = cc e in rw (sym is) (w y refl)
+inner_raised exceptions withs text x None true w e = let is : entity.Procedure ≡ x = cc e in rw (sym is) tt
+inner_raised exceptions withs text x None false w e =
+    first_of_two (RaisedFits exceptions text) (predefined text) (unit_named withs text) x (predefined_raised exceptions text)
+    (λ y. unit_only (RaisedFits exceptions text) withs text y tt) e
 
 parts_raised : (exceptions : List (List ℕ)) (ps : List Part) → PartsRaised exceptions ps → (text : List ℕ) (x : Entity) → named_in text ps ≡ Some x → RaisedFits exceptions text x
 parts_raised exceptions [] w text x e = absurd (cc e)
@@ -95,7 +98,7 @@ parts_raised exceptions (p ∷ ps) w text x e = first_of_two (RaisedFits excepti
 -- what is visible, where it is an exception, has the name
 pub visible_raised : (k : Known) → PartsRaised k.exceptions (parts k) → (text : List ℕ) (x : Entity) → visible k text ≡ Some x → RaisedFits k.exceptions text x
 unfolding visible
-visible_raised k w text x e = inner_raised k.exceptions text x (named_in text (parts k)) (bytes_eq text k.procedure) (parts_raised k.exceptions (parts k) w text) e
+visible_raised k w text x e = inner_raised k.exceptions k.withs text x (named_in text (parts k)) (bytes_eq text k.procedure) (parts_raised k.exceptions (parts k) w text) e
 
 -- an exception of a name is one of the program
 raised_is : (exceptions : List (List ℕ)) (text : List ℕ) (e : Exception) → ExceptionFits exceptions text e → fits.exception_fits exceptions e ≡ true

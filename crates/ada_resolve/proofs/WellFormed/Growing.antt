@@ -1,6 +1,6 @@
 -- What fits stays so as types, variables, exceptions and texts are added behind those that are there.
 
-use Rattle.std.proofs.Common.{◌≡◌, ℕ, ◌<◌, ◌≤◌, Bool, true, cond, List, [], ◌∷◌, length, refl, ap, ◌∙◌, subst, arith, eqb}
+use Rattle.std.proofs.Common.{◌≡◌, ℕ, ◌<◌, ◌≤◌, Bool, true, cond, List, [], ◌∷◌, length, drop, refl, sym, ap, ◌∙◌, subst, arith, eqb}
 use Rattle.std.specs.Prelude.{Option, Some, None, ◌&&◌, ◌||◌, not, is_some}
 use Rattle.std.specs.List.{list_all, slice_get}
 use Rattle.std.proofs.lemmas.Bool.{lt-ltb, ltb-true}
@@ -14,7 +14,7 @@ use Rattle.ada_program.specs.declared.program.VariableKind.{VariableKind}
 use Rattle.ada_program.specs.declared.program.VariableKind.TheVariants as variable
 use Rattle.ada_program.specs.declared.program.ScalarType.{ScalarType}
 use Rattle.ada_program.specs.declared.program.ScalarType.TheVariants.{Integer, Boolean}
-use Rattle.ada_program.specs.Form.{PathForm, ExpressionForm, integer, boolean, reads, is_null, applied_to, chained, LinksForm, no_more_links, a_link, ItemForm, null_item, item_of_path, item_of_value, RightForm, nothing, value_of, allocates, allocates_default, computes, StmtForm, skips, assigns, frees, gets, writes, writes_text, chooses, repeats, counts, exits, returns, raises, encloses, StmtsForm, no_stmts, a_stmt, BranchesForm, otherwise, a_branch, HandlersForm, no_handlers, a_handler, DeclarationForm, collects, declares, declares_record}
+use Rattle.ada_program.specs.Form.{PathForm, RecordPathForm, ExpressionForm, integer, boolean, reads, is_null, applied_to, chained, LinksForm, no_more_links, a_link, ItemForm, null_item, item_of_path, item_of_value, item_of_record, RightForm, nothing, value_of, allocates, allocates_default, computes, StmtForm, skips, assigns, assigns_record, frees, gets, writes, writes_text, chooses, repeats, counts, exits, returns, raises, encloses, StmtsForm, no_stmts, a_stmt, BranchesForm, otherwise, a_branch, HandlersForm, no_handlers, a_handler, DeclarationForm, collects, declares, declares_record}
 use Rattle.ada_program.specs.ProgramForm.{TypeForm, VariableForm}
 use Rattle.ada_program.specs.WellFormed as fits
 use Rattle.ada_resolve.proofs.WellFormed.Tables.{both_parts, first_part, second_part, all_weaker}
@@ -42,7 +42,7 @@ module _ (types more : List TypeForm) (variables others : List VariableForm) (ts
       found_stays None is e = absurd (cc e)
       found_stays (Some x) is e = rw (ts t x is) e
 
-  components_stay : (t : ℕ) (cs : List ComponentKind) → fits.record_components types t ≡ Some cs → fits.record_components more t ≡ Some cs
+  pub components_stay : (t : ℕ) (cs : List ComponentKind) → fits.record_components types t ≡ Some cs → fits.record_components more t ≡ Some cs
   components_stay t cs e = found_stays (slice_get types t) refl e
     where
       found_stays : (o : Option TypeForm) → slice_get types t ≡ o → fits.components_in o ≡ Some cs → fits.record_components more t ≡ Some cs
@@ -142,8 +142,38 @@ module _ (types more : List TypeForm) (variables others : List VariableForm) (ts
       by_kind None is h = absurd (cc h)
       by_kind (Some k) is h = rw (path_stays path k is) h
 
+  -- records, and the paths to them
+  begins_stays : (t : ℕ) (cs : List ComponentKind) → fits.begins_with_record cs (fits.record_components types t) ≡ true → fits.begins_with_record cs (fits.record_components more t) ≡ true
+  begins_stays t cs h = by_components (fits.record_components types t) refl h
+    where
+      by_components : (o : Option (List ComponentKind)) → fits.record_components types t ≡ o → fits.begins_with_record cs o ≡ true → fits.begins_with_record cs (fits.record_components more t) ≡ true
+      by_components None is h = absurd (cc h)
+      by_components (Some ks) is h = rw (components_stay t ks is) h
+
+  width_stays : (t : ℕ) (cs : List ComponentKind) → fits.begins_with_record cs (fits.record_components types t) ≡ true → fits.width_in (fits.record_components more t) ≡ fits.width_in (fits.record_components types t)
+  width_stays t cs h = by_components (fits.record_components types t) refl h
+    where
+      by_components : (o : Option (List ComponentKind)) → fits.record_components types t ≡ o → fits.begins_with_record cs o ≡ true → fits.width_in (fits.record_components more t) ≡ fits.width_in o
+      by_components None is h = absurd (cc h)
+      by_components (Some ks) is h = rw (components_stay t ks is) refl
+
+  record_path_stays : (p : RecordPathForm) → fits.is_record_path types variables p ≡ true → fits.is_record_path more others p ≡ true
+  record_path_stays p h = by_kind (fits.path_kind types variables p.object) refl h
+    where
+      by_object : (t : ℕ) (o : Option (List ComponentKind)) → fits.reached_components types t ≡ o → fits.has_record_at o p.first (fits.record_components types p.record_type) ≡ true → fits.has_record_at (fits.reached_components more t) p.first (fits.record_components more p.record_type) ≡ true
+      by_object t None is h = absurd (cc h)
+      by_object t (Some cs) is h = rw (reached_stay t cs is) (begins_stays p.record_type (drop p.first cs) h)
+
+      by_access : (a : Option ℕ) → fits.has_record_at (fits.object_components types a) p.first (fits.record_components types p.record_type) ≡ true → fits.has_record_at (fits.object_components more a) p.first (fits.record_components more p.record_type) ≡ true
+      by_access None h = absurd (cc h)
+      by_access (Some t) h = by_object t (fits.reached_components types t) refl h
+
+      by_kind : (o : Option VariableKind) → fits.path_kind types variables p.object ≡ o → fits.has_record_at (fits.object_components types (fits.access_of o)) p.first (fits.record_components types p.record_type) ≡ true → fits.is_record_path more others p ≡ true
+      by_kind None is h = absurd (cc h)
+      by_kind (Some k) is h = rw (path_stays p.object k is) (by_access (fits.access_of (Some k)) h)
+
   -- the items of aggregates
-  item_stays : (k : ComponentKind) (i : ItemForm) → fits.item_fits types variables k i ≡ true → fits.item_fits more others k i ≡ true
+  item_stays : (k : ComponentKind) (i : ItemForm) → fits.component_item_fits types variables k i ≡ true → fits.component_item_fits more others k i ≡ true
   item_stays (component.Integer initial) null_item h = absurd (cc h)
   item_stays (component.Integer initial) (item_of_path path) h = absurd (cc h)
   item_stays (component.Integer initial) (item_of_value e) h = has_type_stays Integer e h
@@ -153,15 +183,41 @@ module _ (types more : List TypeForm) (variables others : List VariableForm) (ts
   item_stays (component.Access t) null_item h = refl
   item_stays (component.Access t) (item_of_path path) h = moved_stays path t.0 h
   item_stays (component.Access t) (item_of_value e) h = absurd (cc h)
+  item_stays (component.Integer initial) (item_of_record p) h = absurd (cc h)
+  item_stays (component.Boolean initial) (item_of_record p) h = absurd (cc h)
+  item_stays (component.Access t) (item_of_record p) h = absurd (cc h)
+
+  first_stays : (cs : List ComponentKind) (i : ItemForm) → fits.first_fits types variables cs i ≡ true → fits.first_fits more others cs i ≡ true
+  first_stays [] i h = absurd (cc h)
+  first_stays (c ∷ cs) i h = item_stays c i h
+
+  one_stays : (cs : List ComponentKind) (i : ItemForm) → fits.item_fits types variables cs i ≡ true → (fits.item_fits more others cs i ≡ true) × (fits.item_width more i ≡ fits.item_width types i)
+  one_stays cs null_item h = (first_stays cs null_item h, refl)
+  one_stays cs (item_of_path path) h = (first_stays cs (item_of_path path) h, refl)
+  one_stays cs (item_of_value e) h = (first_stays cs (item_of_value e) h, refl)
+  one_stays cs (item_of_record p) h =
+      let leads = fits.is_record_path types variables p in
+      let begins = fits.begins_with_record cs (fits.record_components types p.record_type) in
+      let there : begins ≡ true = second_part leads begins h in (
+        both_parts (fits.is_record_path more others p) (fits.begins_with_record cs (fits.record_components more p.record_type))
+            (record_path_stays p (first_part leads begins h)) (begins_stays p.record_type cs there),
+        width_stays p.record_type cs there,
+      )
 
   items_stay : (cs : List ComponentKind) (items : List ItemForm) → fits.items_fit types variables cs items ≡ true → fits.items_fit more others cs items ≡ true
-  items_stay [] [] h = refl
-  items_stay [] (i ∷ items) h = absurd (cc h)
-  items_stay (c ∷ cs) [] h = absurd (cc h)
-  items_stay (c ∷ cs) (i ∷ items) h =
-      both_parts (fits.item_fits more others c i) (fits.items_fit more others cs items)
-      (item_stays c i (first_part (fits.item_fits types variables c i) (fits.items_fit types variables cs items) h))
-      (items_stay cs items (second_part (fits.item_fits types variables c i) (fits.items_fit types variables cs items) h))
+  items_stay cs [] h = h
+  items_stay cs (i ∷ items) h =
+      let behind = drop (fits.item_width types i) cs in
+      let own = fits.item_fits types variables cs i in
+      let rest = fits.items_fit types variables behind items in
+      let one = one_stays cs i (first_part own rest h) in
+      both_parts (fits.item_fits more others cs i) (fits.items_fit more others (drop (fits.item_width more i) cs) items) one.0
+      (subst (λ (n : ℕ). fits.items_fit more others (drop n cs) items ≡ true) (sym one.1) (items_stay behind items (second_part own rest h)))
+
+  -- the items of a record
+  found_fit : (o found : Option (List ComponentKind)) (items : List ItemForm) → ((cs : List ComponentKind) → o ≡ Some cs → found ≡ Some cs) → fits.is_filled types variables o items ≡ true → fits.is_filled more others found items ≡ true
+  found_fit None found items w h = absurd (cc h)
+  found_fit (Some cs) found items w h = rw (w cs refl) (items_stay cs items h)
 
   filled_stays : (access : ℕ) (items : List ItemForm) → fits.is_filled types variables (fits.reached_components types access) items ≡ true → fits.is_filled more others (fits.reached_components more access) items ≡ true
   filled_stays access items h = by_components (fits.reached_components types access) refl h
@@ -226,27 +282,36 @@ module _ (types more : List TypeForm) (variables others : List VariableForm) (ts
       by_kind None is h = absurd (cc h)
       by_kind (Some k) is h = named_borrower_stays path k is
 
-  item_owns_stays : (k : ComponentKind) (i : ItemForm) → fits.item_fits types variables k i ≡ true → fits.item_owns variables i ≡ true → fits.item_owns others i ≡ true
-  item_owns_stays k null_item h o = refl
-  item_owns_stays k (item_of_value e) h o = refl
-  item_owns_stays (component.Integer initial) (item_of_path path) h o = absurd (cc h)
-  item_owns_stays (component.Boolean initial) (item_of_path path) h o = absurd (cc h)
-  item_owns_stays (component.Access t) (item_of_path path) h o =
+  item_owns_stays : (cs : List ComponentKind) (i : ItemForm) → fits.item_fits types variables cs i ≡ true → fits.item_owns variables i ≡ true → fits.item_owns others i ≡ true
+  item_owns_stays cs null_item h o = refl
+  item_owns_stays cs (item_of_value e) h o = refl
+  item_owns_stays cs (item_of_record p) h o = refl
+  item_owns_stays [] (item_of_path path) h o = absurd (cc h)
+  item_owns_stays (component.Integer initial ∷ cs) (item_of_path path) h o = absurd (cc h)
+  item_owns_stays (component.Boolean initial ∷ cs) (item_of_path path) h o = absurd (cc h)
+  item_owns_stays (component.Access t ∷ cs) (item_of_path path) h o =
       ap (λ (b : Bool). not b) (moved_owns path t.0 h) ∙ o
 
   items_own_stay : (cs : List ComponentKind) (items : List ItemForm) → fits.items_fit types variables cs items ≡ true → list_all (fits.item_owns variables) items ≡ true → list_all (fits.item_owns others) items ≡ true
   items_own_stay cs [] h o = refl
-  items_own_stay [] (i ∷ items) h o = absurd (cc h)
-  items_own_stay (c ∷ cs) (i ∷ items) h o =
+  items_own_stay cs (i ∷ items) h o =
+      let behind = drop (fits.item_width types i) cs in
+      let own = fits.item_fits types variables cs i in
+      let rest = fits.items_fit types variables behind items in
       both_parts (fits.item_owns others i) (list_all (fits.item_owns others) items)
-      (item_owns_stays c i (first_part (fits.item_fits types variables c i) (fits.items_fit types variables cs items) h)
-      (first_part (fits.item_owns variables i) (list_all (fits.item_owns variables) items) o))
-      (items_own_stay cs items (second_part (fits.item_fits types variables c i) (fits.items_fit types variables cs items) h)
-      (second_part (fits.item_owns variables i) (list_all (fits.item_owns variables) items) o))
+      (item_owns_stays cs i (first_part own rest h) (first_part (fits.item_owns variables i) (list_all (fits.item_owns variables) items) o))
+      (items_own_stay behind items (second_part own rest h) (second_part (fits.item_owns variables i) (list_all (fits.item_owns variables) items) o))
 
   filled_owns : (cs : Option (List ComponentKind)) (items : List ItemForm) → fits.is_filled types variables cs items ≡ true → list_all (fits.item_owns variables) items ≡ true → list_all (fits.item_owns others) items ≡ true
   filled_owns None items h o = absurd (cc h)
   filled_owns (Some cs) items h o = items_own_stay cs items h o
+
+  pub record_stays : (o found : Option (List ComponentKind)) (items : List ItemForm) → ((cs : List ComponentKind) → o ≡ Some cs → found ≡ Some cs) → fits.record_fits types variables o items ≡ true → fits.record_fits more others found items ≡ true
+  record_stays o found items w h =
+      let filled : Bool = fits.is_filled types variables o items in
+      let owned = list_all (fits.item_owns variables) items in
+      both_parts (fits.is_filled more others found items) (list_all (fits.item_owns others) items) (found_fit o found items w (first_part filled owned h))
+      (filled_owns o items (first_part filled owned h) (second_part filled owned h))
 
   pub lent_stays : (kind : VariableKind) (borrows : Bool) (s : RightForm) → fits.kind_takes types variables kind s ≡ true → fits.lends_to variables borrows s ≡ true → fits.lends_to others borrows s ≡ true
   lent_stays kind borrows nothing h l = refl
@@ -286,7 +351,7 @@ module _ (types more : List TypeForm) (variables others : List VariableForm) (ts
   collection_stays : (d : DeclarationForm) → fits.collection_fits types d ≡ true → fits.collection_fits more d ≡ true
   collection_stays (collects access) h = access_stays access h
   collection_stays (declares x s) h = refl
-  collection_stays (declares_record x object) h = refl
+  collection_stays (declares_record x object initial) h = refl
 
   -- the type by which a record object is known stays its own
   known_stays : (x object : ℕ) → fits.is_record_object object (fits.variable_kind variables x) ≡ true → fits.is_record_object object (fits.variable_kind others x) ≡ true
@@ -295,6 +360,14 @@ module _ (types more : List TypeForm) (variables others : List VariableForm) (ts
       by_kind : (o : Option VariableKind) → fits.variable_kind variables x ≡ o → fits.is_record_object object o ≡ true → fits.is_record_object object (fits.variable_kind others x) ≡ true
       by_kind None is h = absurd (cc h)
       by_kind (Some k) is h = rw (kind_stays x k is) h
+
+  pub record_initial_stays : (x object : ℕ) (initial : Option (List ItemForm)) → fits.record_initial_fits types variables x (fits.reached_components types object) initial ≡ true → fits.record_initial_fits more others x (fits.reached_components more object) initial ≡ true
+  record_initial_stays x object None h = refl
+  record_initial_stays x object (Some items) h =
+      let before = list_all (fits.item_before x) items in
+      let fit = fits.record_fits types variables (fits.reached_components types object) items in
+      both_parts before (fits.record_fits more others (fits.reached_components more object) items) (first_part before fit h)
+      (record_stays (fits.reached_components types object) (fits.reached_components more object) items (reached_stay object) (second_part before fit h))
 
   initial_stays : (d : DeclarationForm) → fits.initial_fits types variables d ≡ true → fits.initial_fits more others d ≡ true
   initial_stays (collects access) h = refl
@@ -310,7 +383,11 @@ module _ (types more : List TypeForm) (variables others : List VariableForm) (ts
       (both_parts before (fits.right_fits more others (fits.variable_kind others x) s) (first_part before fit front)
       (first_part (fits.right_fits more others (fits.variable_kind others x) s) (fits.lends_to others (fits.is_borrower others x) s) now))
       (second_part (fits.right_fits more others (fits.variable_kind others x) s) (fits.lends_to others (fits.is_borrower others x) s) now)
-  initial_stays (declares_record x object) h = known_stays x object h
+  initial_stays (declares_record x object initial) h =
+      let known = fits.is_record_object object (fits.variable_kind variables x) in
+      let fit = fits.record_initial_fits types variables x (fits.reached_components types object) initial in
+      both_parts (fits.is_record_object object (fits.variable_kind others x)) (fits.record_initial_fits more others x (fits.reached_components more object) initial)
+      (known_stays x object (first_part known fit h)) (record_initial_stays x object initial (second_part known fit h))
 
   pub collections_stay : (ds : List DeclarationForm) → list_all (fits.collection_fits types) ds ≡ true → list_all (fits.collection_fits more) ds ≡ true
   collections_stay ds h = all_weaker (fits.collection_fits types) (fits.collection_fits more) collection_stays ds h
@@ -383,6 +460,13 @@ module _ (types more : List TypeForm) (variables others : List VariableForm) (ts
       pub statement_stays : (inside : Bool) (f : StmtForm) → fits.statement_fits types variables texts exceptions inside f ≡ true → fits.statement_fits more others longer raised inside f ≡ true
       statement_stays inside skips h = refl
       statement_stays inside (assigns target s) h = assigned_stays target s h
+      statement_stays inside (assigns_record target items) h =
+          let leads = fits.is_record_path types variables target in
+          let fit = fits.record_fits types variables (fits.record_components types target.record_type) items in
+          both_parts (fits.is_record_path more others target) (fits.record_fits more others (fits.record_components more target.record_type) items)
+          (record_path_stays target (first_part leads fit h))
+          (record_stays (fits.record_components types target.record_type) (fits.record_components more target.record_type) items
+          (components_stay target.record_type) (second_part leads fit h))
       statement_stays inside (frees access path) h =
           let freed : Bool = fits.is_freed_by types access (fits.path_access types variables path) in
           let owns = not (fits.names_borrower variables path) in

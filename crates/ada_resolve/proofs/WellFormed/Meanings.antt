@@ -1,19 +1,22 @@
--- An expression with which nothing is wrong means a value, and that has its type.
+-- A path with which nothing is wrong means a value, and that has its type.
 
-use Rattle.std.proofs.Common.{◌≡◌, ◌∙◌, ℕ, Bool, true, false, List, [], ◌∷◌, refl, ap, cond}
-use Rattle.std.specs.Prelude.{Option, Some, None, not}
+use Rattle.std.proofs.Common.{◌≡◌, ◌∙◌, ℕ, Bool, true, false, List, [], ◌∷◌, ◌++◌, drop, refl, sym, ap, cond, eq-eqb}
+use Rattle.std.specs.Prelude.{Option, Some, None, is_some, not}
+use Rattle.std.specs.List.{list_all, slice_get}
+use Rattle.std.proofs.Math.Seq.{drop-append_seam}
 use Rattle.ada_text.specs.declared.spot.Spot.{Spot}
 use Rattle.ada_values.specs.declared.operator.UnaryOperator.{UnaryOperator}
 use Rattle.ada_values.specs.declared.operator.UnaryOperator.TheVariants as unary
 use Rattle.ada_values.specs.declared.operator.BinaryOperator.{BinaryOperator}
 use Rattle.ada_tree.specs.Names.{Ident, SelectorTree, PathTree, is_name}
-use Rattle.ada_tree.specs.Expressions.{ExpressionTree, number_expression, null_expression, path_expression, aggregate_expression, enclosed_expression, unary_expression, binary_expression}
 use Rattle.ada_program.specs.declared.program.VariableKind.{VariableKind}
 use Rattle.ada_program.specs.declared.program.VariableKind.TheVariants as variable
 use Rattle.ada_program.specs.declared.program.VariableNo.{VariableNo}
 use Rattle.ada_program.specs.declared.program.ScalarType.TheVariants.{Integer, Boolean}
 use Rattle.ada_program.specs.Form.{PathForm}
-use Rattle.ada_program.specs.ProgramForm.{TypeForm, VariableForm}
+use Rattle.ada_program.specs.declared.program.ComponentKind.{ComponentKind}
+use Rattle.ada_program.specs.declared.program.ComponentKind.TheVariants as kind
+use Rattle.ada_program.specs.ProgramForm.{TypeForm, record_of, access_to, object_of, VariableForm}
 use Rattle.ada_program.specs.WellFormed as fits
 use Rattle.ada_resolve.specs.declared.fault.NameRule.TheVariants.{UnknownName, NotInProfile}
 use Rattle.ada_resolve.specs.declared.library.LibraryName.{LibraryName}
@@ -25,15 +28,13 @@ use Rattle.ada_resolve.specs.declared.selectors.Reached.{Reached}
 use Rattle.ada_resolve.specs.declared.selectors.Reached.TheVariants as reached
 use Rattle.ada_resolve.specs.Known.{Known, visible, is_with, if_with, library_wrong, library_remark, library_found, library_path_remark, library_path_found, parts_of, parts}
 use Rattle.ada_resolve.specs.Library.{is_library_root, library_name}
-use Rattle.ada_resolve.specs.Paths.{Meant, unknown, null_value, access_value, integer_value, boolean_value, is_record_kind, selected_path, selectors_reached, variable_reached, components_selected, reached_meant, variable_meant, entity_meant, path_meant, no_object, variable_path_remark, value_wanted, library_is_no_value, path_remark}
+use Rattle.ada_resolve.specs.Paths.{Meant, unknown, null_value, access_value, integer_value, boolean_value, record_value, aggregate_value, elementary_of, elementary_in, is_record_kind, selected_path, selectors_reached, variable_reached, components_selected, reached_meant, variable_meant, entity_meant, path_meant, record_type_wanted, variable_path_remark, value_wanted, library_is_no_value, path_remark}
 use Rattle.ada_resolve.specs.Operators.{Signature, arithmetic, ordering, equality, logical, signature_of, integer_in, boolean_in, equality_meant, binary_by, unary_meant, integer_wanted, boolean_wanted, equal_wanted, operands_by, operand_remark}
-use Rattle.ada_resolve.specs.Expressions.{expression_meant, expression_remark}
 use Rattle.ada_resolve.specs.Remark.{wrong, wrong_if, ◌also◌}
-use Rattle.ada_resolve.specs.Spots.{expression_spot}
 use Rattle.ada_resolve.proofs.WellFormed.Remarks.{Quiet}
-use Rattle.ada_resolve.proofs.WellFormed.Laid.{AreRecordsLaid}
-use Rattle.ada_resolve.proofs.WellFormed.Names.{EntityFits, PartsFit, visible_fits, kind_there, laid_in}
-use Rattle.ada_resolve.proofs.WellFormed.Selected.{IsReached, whole_is, selectors_are}
+use Rattle.ada_resolve.proofs.WellFormed.Names.{EntityFits, TypesFit, PartsFit, visible_fits, kind_there, types_in}
+use Rattle.ada_resolve.proofs.WellFormed.Selected.{IsReached, IsWithin, named_record, whole_is, selectors_are}
+use Rattle.ada_resolve.proofs.WellFormed.Tables.{both_parts}
 use Rattle.ada_resolve.proofs.WellFormed.Typing.{typed_by, joined_type}
 
 -- what is meant is known, and has its type
@@ -43,15 +44,48 @@ MeantFits types variables null_value = Unit {0}
 MeantFits types variables (access_value path t) = fits.path_kind types variables path ≡ Some (variable.Access t)
 MeantFits types variables (integer_value e) = fits.type_of types variables e ≡ Some Integer
 MeantFits types variables (boolean_value e) = fits.type_of types variables e ≡ Some Boolean
+MeantFits types variables (record_value path) = fits.is_record_path types variables path ≡ true
+MeantFits types variables (aggregate_value t items) =
+    (fits.is_record types t.0 ≡ true) × (fits.items_fit types variables (elementary_of types t.0) items ≡ true) × (list_all (fits.item_owns variables) items ≡ true)
+
+-- the elementary components of a record type
+pub components_there : (types : List TypeForm) (t : ℕ) → fits.is_record types t ≡ true → fits.record_components types t ≡ Some (elementary_of types t)
+unfolding elementary_of
+components_there types t e = by_form (slice_get types t) e
+  where
+    by_form : (o : Option TypeForm) → is_some (fits.components_in o) ≡ true → fits.components_in o ≡ Some (elementary_in o)
+    by_form None e = absurd (cc e)
+    by_form (Some (record_of name ps cs)) e = refl
+    by_form (Some (access_to name d)) e = absurd (cc e)
+    by_form (Some (object_of r)) e = absurd (cc e)
+
+-- components begin with themselves
+alike_own : (k : ComponentKind) → fits.is_alike k k ≡ true
+alike_own (kind.Integer initial) = refl
+alike_own (kind.Boolean initial) = refl
+alike_own (kind.Access t) = eq-eqb t.0 t.0 refl
+
+pub begins_own : (ks behind : List ComponentKind) → fits.begins_with (ks ++ behind) ks ≡ true
+begins_own [] behind = refl
+begins_own (k ∷ ks) behind = both_parts (fits.is_alike k k) (fits.begins_with (ks ++ behind) ks) (alike_own k) (begins_own ks behind)
+
+-- a record within an object
+within_fits : (types : List TypeForm) (of : Option VariableKind) (t first : ℕ) → TypesFit types → IsWithin types of (elementary_of types t) first → fits.is_record types t ≡ true → fits.has_record_at (fits.object_components types (fits.access_of of)) first (fits.record_components types t) ≡ true
+within_fits types of t first all w r =
+    let whole = components_there types w.1 (named_record types w.0 w.1 all w.5) in
+    let own = components_there types t r in
+    let ks = elementary_of types t in
+    let rest : drop first (elementary_of types w.1) ≡ ks ++ w.3 = ap (λ cs. drop first cs) w.6 ∙ (ap (λ n. drop n (w.2 ++ (ks ++ w.3))) (sym w.7) ∙ drop-append_seam w.2 (ks ++ w.3)) in
+    rw w.4 (rw w.5 (rw whole (rw own (rw rest (begins_own ks w.3)))))
 
 -- what is reached means what it holds
-reached_fits : (types : List TypeForm) (variables : List VariableForm) (path : PathForm) (spot : Spot) (at : Reached) → IsReached types (fits.path_kind types variables path) at → Quiet (no_object at spot) → MeantFits types variables (reached_meant path at)
-reached_fits types variables path spot (reached.Value variable.Integer) is q = rw is refl
-reached_fits types variables path spot (reached.Value variable.Boolean) is q = rw is refl
-reached_fits types variables path spot (reached.Value (variable.Access t)) is q = is
-reached_fits types variables path spot (reached.Value (variable.Record object)) is q = absurd q
-reached_fits types variables path spot (reached.Object t first) is q = absurd q
-reached_fits types variables path spot reached.Nothing is q = absurd is
+reached_fits : (types : List TypeForm) (variables : List VariableForm) (path : PathForm) (spot : Spot) (at : Reached) → TypesFit types → IsReached types (fits.path_kind types variables path) at → Quiet (record_type_wanted at spot) → MeantFits types variables (reached_meant path at)
+reached_fits types variables path spot (reached.Value variable.Integer) all is q = rw is refl
+reached_fits types variables path spot (reached.Value variable.Boolean) all is q = rw is refl
+reached_fits types variables path spot (reached.Value (variable.Access t)) all is q = is
+reached_fits types variables path spot (reached.Value (variable.Record object)) all is q = absurd q
+reached_fits types variables path spot (reached.Object t first) all is q = within_fits types (fits.path_kind types variables path) t.0 first all is.0 is.1
+reached_fits types variables path spot reached.Nothing all is q = absurd is
 
 -- the root of a path is what its variable holds, or the record object that the variable is
 own_root : (of : VariableKind) → fits.root_kind (is_record_kind of) (Some of) ≡ Some of
@@ -60,32 +94,32 @@ own_root variable.Boolean = refl
 own_root (variable.Access t) = refl
 own_root (variable.Record object) = refl
 
-begins : (k : Known) (of : VariableKind) (root : Option VariableKind) → root ≡ Some of → IsReached k.types root (variable_reached k of)
-begins k variable.Integer root is = is
-begins k variable.Boolean root is = is
-begins k (variable.Access t) root is = is
-begins k (variable.Record object) root is = whole_is k k.types root object (λ t form e. e) is
+begins : (k : Known) (of : VariableKind) (root : Option VariableKind) → TypesFit k.types → root ≡ Some of → IsReached k.types root (variable_reached k of)
+begins k variable.Integer root all is = is
+begins k variable.Boolean root all is = is
+begins k (variable.Access t) root all is = is
+begins k (variable.Record object) root all is = whole_is k k.types root object all (λ t form e. e) is
 
 -- a variable, with what is selected from it
-variable_fits : (k : Known) (x : VariableNo) (spot : Spot) (of : VariableKind) (selectors : List SelectorTree) → AreRecordsLaid k.types → fits.variable_kind k.variables x.0 ≡ Some of → Quiet (variable_path_remark k spot of selectors) → MeantFits k.types k.variables (variable_meant k x spot of selectors)
+variable_fits : (k : Known) (x : VariableNo) (spot : Spot) (of : VariableKind) (selectors : List SelectorTree) → TypesFit k.types → fits.variable_kind k.variables x.0 ≡ Some of → Quiet (variable_path_remark k spot of selectors) → MeantFits k.types k.variables (variable_meant k x spot of selectors)
 variable_fits k x spot of selectors laid h q =
     let at = variable_reached k of in
     let root = fits.root_kind (is_record_kind of) (fits.variable_kind k.variables x.0) in
-    reached_fits k.types k.variables (selected_path x (is_record_kind of) spot (components_selected k at selectors)) spot (selectors_reached k at selectors)
-    (selectors_are k k.types root spot at selectors laid (λ t form e. e) (begins k of root (ap (λ (o : Option VariableKind). fits.root_kind (is_record_kind of) o) h ∙ own_root of)) q.0) q.1
+    reached_fits k.types k.variables (selected_path x (is_record_kind of) spot (components_selected k at selectors)) spot (selectors_reached k at selectors) laid
+    (selectors_are k k.types root spot at selectors laid (λ t form e. e) (begins k of root laid (ap (λ (o : Option VariableKind). fits.root_kind (is_record_kind of) o) h ∙ own_root of)) q.0) q.1
 
 -- what a name stands for
-entity_one : (k : Known) (text : List ℕ) (e : Entity) (name : Ident) (selectors : List SelectorTree) → AreRecordsLaid k.types → EntityFits k.types k.variables text e → Quiet (value_wanted k (Some e) name selectors) → MeantFits k.types k.variables (entity_meant k (Some e) name.spot selectors)
+entity_one : (k : Known) (text : List ℕ) (e : Entity) (name : Ident) (selectors : List SelectorTree) → TypesFit k.types → EntityFits k.types k.variables text e → Quiet (value_wanted k (Some e) name selectors) → MeantFits k.types k.variables (entity_meant k (Some e) name.spot selectors)
 entity_one k text (entity.Variable x of) name selectors laid f q = variable_fits k x name.spot of selectors laid (kind_there k.variables x.0 text of f.0) q
 entity_one k text (entity.Parameter x) name selectors laid f q =
-    variable_fits k x name.spot variable.Integer selectors laid (kind_there k.variables x.0 text variable.Integer (false, f)) q
+    variable_fits k x name.spot variable.Integer selectors laid (kind_there k.variables x.0 text variable.Integer (f.0, false, f.1)) q
 entity_one k text (entity.Number n) name [] laid f q = refl
 entity_one k text (entity.Number n) name (s ∷ ss) laid f q = absurd q
 entity_one k text (entity.Truth b) name [] laid f q = refl
 entity_one k text (entity.Truth b) name (s ∷ ss) laid f q = absurd q
 entity_one k text e name selectors laid f q = absurd q
 
-entity_fits : (k : Known) (text : List ℕ) (o : Option Entity) (name : Ident) (selectors : List SelectorTree) → AreRecordsLaid k.types → ((e : Entity) → o ≡ Some e → EntityFits k.types k.variables text e) → Quiet (value_wanted k o name selectors) → MeantFits k.types k.variables (entity_meant k o name.spot selectors)
+entity_fits : (k : Known) (text : List ℕ) (o : Option Entity) (name : Ident) (selectors : List SelectorTree) → TypesFit k.types → ((e : Entity) → o ≡ Some e → EntityFits k.types k.variables text e) → Quiet (value_wanted k o name selectors) → MeantFits k.types k.variables (entity_meant k o name.spot selectors)
 entity_fits k text None name selectors laid v q = absurd q
 entity_fits k text (Some e) name selectors laid v q = entity_one k text e name selectors laid (v e refl) q
 
@@ -115,7 +149,7 @@ path_fits k path w q = path_by (is_library_root path.root.text) q
   where
     path_by : (b : Bool) → Quiet (cond b (library_path_remark k path also library_is_no_value (library_path_found k path) path.root.spot) (value_wanted k (visible k path.root.text) path.root path.selectors)) → MeantFits k.types k.variables (cond b unknown (entity_meant k (visible k path.root.text) path.root.spot path.selectors))
     path_by true q = absurd (no_library_path k path (is_name path.selectors) q.0 q.1)
-    path_by false q = entity_fits k path.root.text (visible k path.root.text) path.root path.selectors (laid_in k.types k.variables (parts k) w) (visible_fits k w path.root.text) q
+    path_by false q = entity_fits k path.root.text (visible k path.root.text) path.root path.selectors (types_in k.types k.variables (parts k) w) (visible_fits k w path.root.text) q
 
 -- what is wanted is there
 pub integer_is : (types : List TypeForm) (variables : List VariableForm) (m : Meant) (spot : Spot) → MeantFits types variables m → Quiet (integer_wanted m spot) → fits.type_of types variables (integer_in m) ≡ Some Integer
@@ -139,12 +173,12 @@ equality_fits types variables o left unknown at to is l r q = absurd r
 equality_fits types variables o left right at to is l r q = absurd q
 
 -- an operator with its operands
-unary_fits : (types : List TypeForm) (variables : List VariableForm) (o : UnaryOperator) (m : Meant) (spot : Spot) → MeantFits types variables m → Quiet (operand_remark o m spot) → MeantFits types variables (unary_meant o m)
+pub unary_fits : (types : List TypeForm) (variables : List VariableForm) (o : UnaryOperator) (m : Meant) (spot : Spot) → MeantFits types variables m → Quiet (operand_remark o m spot) → MeantFits types variables (unary_meant o m)
 unary_fits types variables unary.Plus m spot f q = rw (integer_is types variables m spot f q) refl
 unary_fits types variables unary.Minus m spot f q = rw (integer_is types variables m spot f q) refl
 unary_fits types variables unary.Not m spot f q = rw (boolean_is types variables m spot f q) refl
 
-binary_fits : (types : List TypeForm) (variables : List VariableForm) (o : BinaryOperator) (s : Signature) (left right : Meant) (at to : Spot) → signature_of o ≡ s → MeantFits types variables left → MeantFits types variables right → Quiet (operands_by s left at right to) → MeantFits types variables (binary_by s o left right)
+pub binary_fits : (types : List TypeForm) (variables : List VariableForm) (o : BinaryOperator) (s : Signature) (left right : Meant) (at to : Spot) → signature_of o ≡ s → MeantFits types variables left → MeantFits types variables right → Quiet (operands_by s left at right to) → MeantFits types variables (binary_by s o left right)
 binary_fits types variables o arithmetic left right at to is l r q =
     joined_type types variables (integer_in left) o (integer_in right) ∙ (typed_by o _ _ ∙ (rw (is, integer_is types variables left at l q.0, integer_is types variables right to r q.1) refl))
 binary_fits types variables o ordering left right at to is l r q =
@@ -152,17 +186,3 @@ binary_fits types variables o ordering left right at to is l r q =
 binary_fits types variables o equality left right at to is l r q = equality_fits types variables o left right at to is l r q
 binary_fits types variables o logical left right at to is l r q =
     joined_type types variables (boolean_in left) o (boolean_in right) ∙ (typed_by o _ _ ∙ (rw (is, boolean_is types variables left at l q.0, boolean_is types variables right to r q.1) refl))
-
--- an expression
-pub expression_fits : (k : Known) (e : ExpressionTree) → PartsFit k.types k.variables (parts k) → Quiet (expression_remark k e) → MeantFits k.types k.variables (expression_meant k e)
-unfolding expression_meant expression_remark
-expression_fits k (number_expression spot n) w q = refl
-expression_fits k (null_expression spot) w q = tt
-expression_fits k (path_expression path) w q = path_fits k path w q.1
-expression_fits k (aggregate_expression type_name items) w q = absurd q
-expression_fits k (enclosed_expression spot inner) w q = expression_fits k inner w q
-expression_fits k (unary_expression o spot operand) w q =
-    unary_fits k.types k.variables o (expression_meant k operand) (expression_spot operand) (expression_fits k operand w q.1.0) q.1.1
-expression_fits k (binary_expression o left right) w q =
-    binary_fits k.types k.variables o (signature_of o) (expression_meant k left) (expression_meant k right) (expression_spot left) (expression_spot right) refl
-    (expression_fits k left w q.1.0) (expression_fits k right w q.1.1.0) q.1.1.1

@@ -1,26 +1,28 @@
 -- What names stand for is there.
 
-use Rattle.std.proofs.Common.{◌≡◌, ℕ, Bool, true, false, List, [], ◌∷◌, refl, sym, ◌∙◌, cond}
-use Rattle.std.specs.Prelude.{Option, Some, None, bytes_eq, codes}
-use Rattle.std.specs.List.{slice_get}
+use Rattle.std.proofs.Common.{◌≡◌, ℕ, Bool, true, false, List, [], ◌∷◌, refl, sym, ◌∙◌, cond, subst}
+use Rattle.std.specs.Prelude.{Option, Some, None, ◌&&◌, bytes_eq, codes}
+use Rattle.std.specs.List.{list_all, slice_get}
 use Rattle.std.proofs.lemmas.Bool.{false_from_ne_true}
 use Rattle.std.proofs.lemmas.Slice.Eq.{bytes_eq-Decides}
+use Rattle.ada_text.specs.declared.spot.Spot.{Spot}
 use Rattle.ada_program.specs.ProgramForm.{PartForm, TypeForm, record_of, access_to, VariableForm}
 use Rattle.ada_program.specs.WellFormed as fits
 use Rattle.ada_program.specs.declared.program.ComponentKind.{ComponentKind}
 use Rattle.ada_program.specs.declared.program.Exception.TheVariants.{ConstraintError, ProgramError, StorageError}
 use Rattle.ada_program.specs.declared.program.VariableKind.{VariableKind}
 use Rattle.ada_program.specs.declared.program.VariableKind.TheVariants as variable
+use Rattle.ada_resolve.specs.declared.library.Withs.{Withs}
 use Rattle.ada_resolve.specs.declared.scope.Entity.{Entity}
 use Rattle.ada_resolve.specs.declared.scope.Entity.TheVariants as entity
 use Rattle.ada_resolve.specs.Naming.{truth_name}
-use Rattle.ada_resolve.specs.Known.{Known, Named, Part, named, entered, first_named, named_in, inner_first, visible, parts}
+use Rattle.ada_resolve.specs.Known.{Known, Named, Part, named, entered, first_named, named_in, inner_first, outermost, unit_named, visible, parts}
 use Rattle.ada_resolve.specs.Library.{predefined}
 use Rattle.ada_resolve.proofs.WellFormed.Laid.{AreRecordsLaid}
 
 -- a variable of this name is there, which holds this, a borrower or not
 abbrev pub IsVariableIn : List VariableForm → List ℕ → VariableKind → ℕ → Type 0
-IsVariableIn variables text kind x = (borrows : Bool) × (slice_get variables x ≡ Some (record { name = text; kind = kind; borrows = borrows }))
+IsVariableIn variables text kind x = (spot : Spot) × (borrows : Bool) × (slice_get variables x ≡ Some (record { name = text; spot = spot; kind = kind; borrows = borrows }))
 
 -- what a name stands for is there, and has the name
 abbrev pub EntityFits : List TypeForm → List VariableForm → List ℕ → Entity → Type 0
@@ -30,24 +32,32 @@ EntityFits types variables text (entity.Truth b) = text ≡ truth_name b
 EntityFits types variables text (entity.Number n) = Unit {0}
 EntityFits types variables text (entity.Exception e) = Unit {0}
 EntityFits types variables text entity.Procedure = Unit {0}
+EntityFits types variables text entity.LibraryUnit = Unit {0}
 EntityFits types variables text (entity.Incomplete t) = slice_get types t.0 ≡ Some (record_of text [] [])
 EntityFits types variables text (entity.Record t size) = (ps : List PartForm) × (cs : List ComponentKind) × (slice_get types t.0 ≡ Some (record_of text ps cs))
 EntityFits types variables text (entity.Access t) = (d : ℕ) × (slice_get types t.0 ≡ Some (access_to text d))
 EntityFits types variables text (entity.Instance t) = fits.is_access types t.0 ≡ true
 EntityFits types variables text (entity.Variable x kind) = IsVariableIn variables text kind x.0 × (fits.variable_kind_fits types kind ≡ true)
-EntityFits types variables text (entity.Parameter x) = slice_get variables x.0 ≡ Some (record { name = text; kind = variable.Integer; borrows = false })
+EntityFits types variables text (entity.Parameter x) = (spot : Spot) × (slice_get variables x.0 ≡ Some (record { name = text; spot = spot; kind = variable.Integer; borrows = false }))
 
 abbrev pub NamesFit : List TypeForm → List VariableForm → List Named → Type 0
 NamesFit types variables names = (text : List ℕ) (e : Entity) → named text names ≡ Some e → EntityFits types variables text e
 
--- what the names of each part stand for is there, and the components of all types lie one behind the other
+-- the components of all types lie one behind the other, and each type fits
+abbrev pub TypesFit : List TypeForm → Type 0
+TypesFit types = AreRecordsLaid types × (list_all (fits.type_fits types) types ≡ true)
+
+-- what the names of each part stand for is there, and all types fit
 abbrev pub PartsFit : List TypeForm → List VariableForm → List Part → Type 0
-PartsFit types variables [] = AreRecordsLaid types
+PartsFit types variables [] = TypesFit types
 PartsFit types variables (part ∷ outer) = NamesFit types variables part.names × PartsFit types variables outer
 
+pub types_in : (types : List TypeForm) (variables : List VariableForm) (ps : List Part) → PartsFit types variables ps → TypesFit types
+types_in types variables [] w = w
+types_in types variables (part ∷ outer) w = types_in types variables outer w.1
+
 pub laid_in : (types : List TypeForm) (variables : List VariableForm) (ps : List Part) → PartsFit types variables ps → AreRecordsLaid types
-laid_in types variables [] w = w
-laid_in types variables (part ∷ outer) w = laid_in types variables outer w.1
+laid_in types variables ps w = (types_in types variables ps w).0
 
 -- two texts are the same, or are not
 pub text_same : (a b : List ℕ) → bytes_eq a b ≡ true → a ≡ b
@@ -109,17 +119,30 @@ predefined_fits types variables text x e =
 
 -- a variable of that name holds what it is declared to hold
 pub kind_there : (variables : List VariableForm) (x : ℕ) (text : List ℕ) (kind : VariableKind) → IsVariableIn variables text kind x → fits.variable_kind variables x ≡ Some kind
-kind_there variables x text kind f = rw f.1 refl
-
-inner_fits : (types : List TypeForm) (variables : List VariableForm) (text : List ℕ) (x : Entity) (own : Option Entity) (b : Bool) → ((y : Entity) → own ≡ Some y → EntityFits types variables text y) → inner_first own b (predefined text) ≡ Some x → EntityFits types variables text x
-inner_fits types variables text x (Some y) b w e = let is : y ≡ x = cc e in rw (sym is) (w y refl)
-inner_fits types variables text x None true w e = let is : entity.Procedure ≡ x = cc e in rw (sym is) tt
-inner_fits types variables text x None false w e = predefined_fits types variables text x e
+kind_there variables x text kind f = rw f.2 refl
 
 -- what the first of two stands for is what one of them does
 pub first_of_two : (P : Entity → Type 0) (own outer : Option Entity) (x : Entity) → ((y : Entity) → own ≡ Some y → P y) → ((y : Entity) → outer ≡ Some y → P y) → first_named own outer ≡ Some x → P x
 first_of_two P (Some y) outer x w v e = w x e
 first_of_two P None outer x w v e = v x e
+
+-- a library unit has no number
+pub unit_only : (P : Entity → Type 0) (withs : Withs) (text : List ℕ) (x : Entity) → P entity.LibraryUnit → unit_named withs text ≡ Some x → P x
+unit_only P withs text x own e = by_name (bytes_eq text (codes "RUN_INPUT") && withs.run_input) e
+  where
+    by_name : (b : Bool) → cond b (Some entity.LibraryUnit) None ≡ Some x → P x
+    by_name true e = let is : entity.LibraryUnit ≡ x = cc e in subst P is own
+    by_name false e = absurd (cc e)
+
+pub outermost_fits : (types : List TypeForm) (variables : List VariableForm) (withs : Withs) (text : List ℕ) (x : Entity) → outermost withs text ≡ Some x → EntityFits types variables text x
+outermost_fits types variables withs text x e =
+    first_of_two (EntityFits types variables text) (predefined text) (unit_named withs text) x (predefined_fits types variables text)
+    (λ y. unit_only (EntityFits types variables text) withs text y tt) e
+
+inner_fits : (types : List TypeForm) (variables : List VariableForm) (withs : Withs) (text : List ℕ) (x : Entity) (own : Option Entity) (b : Bool) → ((y : Entity) → own ≡ Some y → EntityFits types variables text y) → inner_first own b (outermost withs text) ≡ Some x → EntityFits types variables text x
+inner_fits types variables withs text x (Some y) b w e = let is : y ≡ x = cc e in rw (sym is) (w y refl)
+inner_fits types variables withs text x None true w e = let is : entity.Procedure ≡ x = cc e in rw (sym is) tt
+inner_fits types variables withs text x None false w e = outermost_fits types variables withs text x e
 
 parts_fit : (types : List TypeForm) (variables : List VariableForm) (ps : List Part) → PartsFit types variables ps → (text : List ℕ) (x : Entity) → named_in text ps ≡ Some x → EntityFits types variables text x
 parts_fit types variables [] w text x e = absurd (cc e)
@@ -128,4 +151,4 @@ parts_fit types variables (p ∷ ps) w text x e = first_of_two (EntityFits types
 -- what is visible fits
 pub visible_fits : (k : Known) → PartsFit k.types k.variables (parts k) → (text : List ℕ) (x : Entity) → visible k text ≡ Some x → EntityFits k.types k.variables text x
 unfolding visible
-visible_fits k w text x e = inner_fits k.types k.variables text x (named_in text (parts k)) (bytes_eq text k.procedure) (parts_fit k.types k.variables (parts k) w text) e
+visible_fits k w text x e = inner_fits k.types k.variables k.withs text x (named_in text (parts k)) (bytes_eq text k.procedure) (parts_fit k.types k.variables (parts k) w text) e

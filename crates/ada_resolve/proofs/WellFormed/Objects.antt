@@ -1,6 +1,6 @@
 -- The declaration of an object or of a borrower leaves what is elaborated in order.
 
-use Rattle.std.proofs.Common.{◌≡◌, ◌∙◌, ℕ, ◌+◌, ◌≤◌, true, false, cond, List, [], ◌∷◌, ◌++◌, length, append_assoc, refl, sym, ap, subst, arith, eqb, eq-eqb}
+use Rattle.std.proofs.Common.{◌≡◌, ◌∙◌, ℕ, ◌+◌, ◌≤◌, true, false, cond, List, [], ◌∷◌, ◌++◌, length, drop, append_assoc, refl, sym, ap, subst, arith, eqb, eq-eqb}
 use Rattle.std.specs.Prelude.{Bool, ◌&&◌, Option, Some, None, nat_lt, nat_le, ◌==◌, map}
 use Rattle.std.specs.List.{list_all}
 use Rattle.std.proofs.lemmas.Bool.{ne_eqb}
@@ -11,7 +11,7 @@ use Rattle.ada_program.specs.declared.program.VariableKind.TheVariants as variab
 use Rattle.ada_program.specs.declared.program.ScalarType.{ScalarType}
 use Rattle.ada_program.specs.declared.program.ScalarType.TheVariants.{Integer, Boolean}
 use Rattle.ada_program.specs.declared.program.TypeNo.{TypeNo}
-use Rattle.ada_program.specs.Form.{PathForm, ExpressionForm, ItemForm, null_item, item_of_path, item_of_value, RightForm, nothing, value_of, allocates, allocates_default, computes, DeclarationForm, collects, declares, declares_record}
+use Rattle.ada_program.specs.Form.{PathForm, RecordPathForm, ExpressionForm, ItemForm, null_item, item_of_path, item_of_value, item_of_record, RightForm, nothing, value_of, allocates, allocates_default, computes, DeclarationForm, collects, declares, declares_record}
 use Rattle.ada_tree.specs.Names.{Ident, NameTree}
 use Rattle.ada_tree.specs.Expressions.{RightTree}
 use Rattle.ada_program.specs.ProgramForm.{TypeForm, object_of, VariableForm}
@@ -21,7 +21,9 @@ use Rattle.ada_resolve.specs.Borrowers.{borrower_remark, borrower_known}
 use Rattle.ada_resolve.specs.declared.scope.Entity.{Entity}
 use Rattle.ada_resolve.specs.declared.scope.Entity.TheVariants as entity
 use Rattle.ada_resolve.specs.Known.{Known, parts}
-use Rattle.ada_resolve.specs.Objects.{initial_remark, initial_found, initial_wanted, object_type_found, kind_of, object_remark, initial_source, variable_created, next_record, record_created, created_of, object_known}
+use Rattle.ada_resolve.specs.declared.rights.Held.TheVariants as held
+use Rattle.ada_resolve.specs.Rights.{Assigned, a_value, a_whole}
+use Rattle.ada_resolve.specs.Objects.{initial_remark, initial_found, initial_items_in, initial_value_in, initial_wanted, object_type_found, held_of, object_remark, initial_source, variable_created, next_record, record_created, created_of, object_known}
 use Rattle.ada_resolve.proofs.Names.{map_append}
 use Rattle.ada_resolve.proofs.WellFormed.Borrowers.{lent_of, borrower_is}
 use Rattle.ada_resolve.proofs.WellFormed.Remarks.{Quiet}
@@ -30,7 +32,7 @@ use Rattle.ada_resolve.proofs.WellFormed.Names.{PartsFit}
 use Rattle.ada_resolve.proofs.WellFormed.Counts.{count_more}
 use Rattle.ada_resolve.proofs.WellFormed.Created.{due, accesses_object}
 use Rattle.ada_resolve.proofs.WellFormed.Elaborated.{Late, InOrder, late}
-use Rattle.ada_resolve.proofs.WellFormed.Growing.{lent_stays, taken_stays, collections_stay, initials_stay}
+use Rattle.ada_resolve.proofs.WellFormed.Growing.{lent_stays, taken_stays, collections_stay, components_stay, initials_stay, record_stays}
 use Rattle.ada_resolve.proofs.WellFormed.Typing.{path_before, typed_before, of_type}
 use Rattle.ada_resolve.proofs.WellFormed.Values.{IsSourceFor, right_fits}
 
@@ -48,23 +50,43 @@ moved_before : (types : List TypeForm) (variables : List VariableForm) (path : P
 moved_before types variables path access None is h = absurd (cc h)
 moved_before types variables path access (Some k) is h = path_before types variables path k is
 
-item_is_before : (types : List TypeForm) (variables : List VariableForm) (k : ComponentKind) (i : ItemForm) → fits.item_fits types variables k i ≡ true → fits.item_before (length variables) i ≡ true
-item_is_before types variables k null_item h = refl
-item_is_before types variables (component.Integer initial) (item_of_path path) h = absurd (cc h)
-item_is_before types variables (component.Integer initial) (item_of_value e) h = type_before types variables Integer e h
-item_is_before types variables (component.Boolean initial) (item_of_path path) h = absurd (cc h)
-item_is_before types variables (component.Boolean initial) (item_of_value e) h = type_before types variables Boolean e h
-item_is_before types variables (component.Access t) (item_of_path path) h =
+component_is_before : (types : List TypeForm) (variables : List VariableForm) (k : ComponentKind) (i : ItemForm) → fits.component_item_fits types variables k i ≡ true → fits.item_before (length variables) i ≡ true
+component_is_before types variables k null_item h = refl
+component_is_before types variables (component.Integer initial) (item_of_path path) h = absurd (cc h)
+component_is_before types variables (component.Integer initial) (item_of_value e) h = type_before types variables Integer e h
+component_is_before types variables (component.Integer initial) (item_of_record p) h = absurd (cc h)
+component_is_before types variables (component.Boolean initial) (item_of_path path) h = absurd (cc h)
+component_is_before types variables (component.Boolean initial) (item_of_value e) h = type_before types variables Boolean e h
+component_is_before types variables (component.Boolean initial) (item_of_record p) h = absurd (cc h)
+component_is_before types variables (component.Access t) (item_of_path path) h =
     moved_before types variables path t.0 (fits.path_kind types variables path) refl h
-item_is_before types variables (component.Access t) (item_of_value e) h = absurd (cc h)
+component_is_before types variables (component.Access t) (item_of_value e) h = absurd (cc h)
+component_is_before types variables (component.Access t) (item_of_record p) h = absurd (cc h)
+
+first_is_before : (types : List TypeForm) (variables : List VariableForm) (cs : List ComponentKind) (i : ItemForm) → fits.first_fits types variables cs i ≡ true → fits.item_before (length variables) i ≡ true
+first_is_before types variables [] i h = absurd (cc h)
+first_is_before types variables (c ∷ cs) i h = component_is_before types variables c i h
+
+copied_before : (types : List TypeForm) (variables : List VariableForm) (p : RecordPathForm) (found : Option VariableKind) → fits.path_kind types variables p.object ≡ found → fits.has_record_at (fits.object_components types (fits.access_of found)) p.first (fits.record_components types p.record_type) ≡ true → nat_lt p.object.root (length variables) ≡ true
+copied_before types variables p None is h = absurd (cc h)
+copied_before types variables p (Some k) is h = path_before types variables p.object k is
+
+item_is_before : (types : List TypeForm) (variables : List VariableForm) (cs : List ComponentKind) (i : ItemForm) → fits.item_fits types variables cs i ≡ true → fits.item_before (length variables) i ≡ true
+item_is_before types variables cs null_item h = refl
+item_is_before types variables cs (item_of_path path) h = first_is_before types variables cs (item_of_path path) h
+item_is_before types variables cs (item_of_value e) h = first_is_before types variables cs (item_of_value e) h
+item_is_before types variables cs (item_of_record p) h =
+    copied_before types variables p (fits.path_kind types variables p.object) refl
+    (first_part (fits.is_record_path types variables p) (fits.begins_with_record cs (fits.record_components types p.record_type)) h)
 
 items_are_before : (types : List TypeForm) (variables : List VariableForm) (cs : List ComponentKind) (items : List ItemForm) → fits.items_fit types variables cs items ≡ true → list_all (fits.item_before (length variables)) items ≡ true
 items_are_before types variables cs [] h = refl
-items_are_before types variables [] (i ∷ items) h = absurd (cc h)
-items_are_before types variables (c ∷ cs) (i ∷ items) h =
+items_are_before types variables cs (i ∷ items) h =
+    let behind = drop (fits.item_width types i) cs in
+    let own = fits.item_fits types variables cs i in
+    let rest = fits.items_fit types variables behind items in
     both_parts (fits.item_before (length variables) i) (list_all (fits.item_before (length variables)) items)
-    (item_is_before types variables c i (first_part (fits.item_fits types variables c i) (fits.items_fit types variables cs items) h))
-    (items_are_before types variables cs items (second_part (fits.item_fits types variables c i) (fits.items_fit types variables cs items) h))
+    (item_is_before types variables cs i (first_part own rest h)) (items_are_before types variables behind items (second_part own rest h))
 
 filled_before : (types : List TypeForm) (variables : List VariableForm) (cs : Option (List ComponentKind)) (items : List ItemForm) → fits.is_filled types variables cs items ≡ true → list_all (fits.item_before (length variables)) items ≡ true
 filled_before types variables None items h = absurd (cc h)
@@ -97,10 +119,10 @@ source_before types variables (variable.Record object) s h = absurd (cc h)
 next_first : (es : List DeclarationForm) (d : DeclarationForm) → fits.is_object d ≡ true → fits.collections_first es ≡ true → fits.collections_first (es ++ d ∷ []) ≡ true
 next_first [] (collects t) o e = absurd (cc o)
 next_first [] (declares x s) o e = refl
-next_first [] (declares_record x object) o e = refl
+next_first [] (declares_record x object initial) o e = refl
 next_first (collects t ∷ es) d o e = next_first es d o e
 next_first (declares x s ∷ es) d o e = all_more fits.is_object es (d ∷ []) e (both_parts (fits.is_object d) true o refl)
-next_first (declares_record x object ∷ es) d o e = all_more fits.is_object es (d ∷ []) e (both_parts (fits.is_object d) true o refl)
+next_first (declares_record x object initial ∷ es) d o e = all_more fits.is_object es (d ∷ []) e (both_parts (fits.is_object d) true o refl)
 
 pub one_longer : {X : Type 0} (xs : List X) (x : X) → length (xs ++ x ∷ []) ≡ length xs + 1
 one_longer [] x = omega arith
@@ -115,7 +137,7 @@ IsCreatedWith k kind borrows s = (fits.kind_takes k.types k.variables kind s ≡
 
 created_late : (k : Known) (name : Ident) (borrows : Bool) (kind : VariableKind) (s : RightForm) → Late k → IsCreatedWith k kind borrows s → Late (variable_created k name borrows kind s)
 created_late k name borrows kind s w f =
-    let o : VariableForm = record { name = name.text; kind = kind; borrows = borrows } in
+    let o : VariableForm = record { name = name.text; spot = name.spot; kind = kind; borrows = borrows } in
     let es = k.here.elaborated in
     record {
       collections_first = next_first es (declares (length k.variables) s) refl w.collections_first;
@@ -145,23 +167,46 @@ created_late k name borrows kind s w f =
 -- one more variable
 made_order : (k : Known) (name : Ident) (borrows : Bool) (kind : VariableKind) (s : RightForm) → k.here.first_variable ≤ length k.variables → Late k → IsCreatedWith k kind borrows s → InOrder (variable_created k name borrows kind s)
 made_order k name borrows kind s first w f =
-    late (created_late k name borrows kind s w f) (not_none k.variables (record { name = name.text; kind = kind; borrows = borrows }) k.here.first_variable first)
+    late (created_late k name borrows kind s w f) (not_none k.variables (record { name = name.text; spot = name.spot; kind = kind; borrows = borrows }) k.here.first_variable first)
+
+-- the items of a record object's initial value are those of its type
+abbrev IsRecordInitial : Known → TypeNo → Option (List ItemForm) → Type 0
+IsRecordInitial k t None = Unit {0}
+IsRecordInitial k t (Some items) = fits.record_fits k.types k.variables (fits.record_components k.types t.0) items ≡ true
+
+items_initial : (k : Known) (t : TypeNo) (o : VariableForm) (initial : Option (List ItemForm)) → IsRecordInitial k t initial → fits.record_initial_fits (k.types ++ object_of t.0 ∷ []) (k.variables ++ o ∷ []) (length k.variables) (fits.reached_components (k.types ++ object_of t.0 ∷ []) (length k.types)) initial ≡ true
+items_initial k t o None h = refl
+items_initial k t o (Some items) h =
+    let more = k.types ++ object_of t.0 ∷ [] in
+    let others = k.variables ++ o ∷ [] in
+    let filled : Bool = fits.is_filled k.types k.variables (fits.record_components k.types t.0) items in
+    let own = list_all (fits.item_owns k.variables) items in
+    let stays : fits.record_fits more others (fits.record_components more t.0) items ≡ true =
+    record_stays k.types more k.variables others (λ i x is. get_more k.types (object_of t.0) i x is) (λ i x is. get_more k.variables o i x is)
+    (fits.record_components k.types t.0) (fits.record_components more t.0) items
+    (components_stay k.types more k.variables others (λ i x is. get_more k.types (object_of t.0) i x is) (λ i x is. get_more k.variables o i x is) t.0) h in
+    both_parts (list_all (fits.item_before (length k.variables)) items) (fits.record_fits more others (fits.reached_components more (length k.types)) items)
+    (filled_before k.types k.variables (fits.record_components k.types t.0) items (first_part filled own h))
+    (rw (get_last k.types (object_of t.0)) stays)
 
 -- one more record object, with the type that it is known by
-record_late : (k : Known) (name : Ident) (t : TypeNo) → Late k → Late (record_created k name t)
-record_late k name t w =
+record_late : (k : Known) (name : Ident) (t : TypeNo) (initial : Option (List ItemForm)) → Late k → IsRecordInitial k t initial → Late (record_created k name t initial)
+record_late k name t initial w f =
     let more = k.types ++ object_of t.0 ∷ [] in
-    let o : VariableForm = record { name = name.text; kind = next_record k; borrows = false } in
+    let o : VariableForm = record { name = name.text; spot = name.spot; kind = next_record k; borrows = false } in
     let others = k.variables ++ o ∷ [] in
     let es = k.here.elaborated in
-    let d = declares_record (length k.variables) (length k.types) in
+    let d = declares_record (length k.variables) (length k.types) initial in
     record {
       collections_first = next_first es d refl w.collections_first;
       collections_fit = all_more (fits.collection_fits more) es (d ∷ [])
           (collections_stay k.types more k.variables others (λ i x is. get_more k.types (object_of t.0) i x is) (λ i x is. get_more k.variables o i x is) es w.collections_fit) refl;
       initials_fit = all_more (fits.initial_fits more others) es (d ∷ [])
           (initials_stay k.types more k.variables others (λ i x is. get_more k.types (object_of t.0) i x is) (λ i x is. get_more k.variables o i x is) es w.initials_fit)
-          (both_parts (fits.initial_fits more others d) true (rw (kind_last k.variables o) (eq-eqb (length k.types) (length k.types) refl)) refl);
+          (both_parts (fits.initial_fits more others d) true
+          (both_parts (fits.is_record_object (length k.types) (fits.variable_kind others (length k.variables)))
+          (fits.record_initial_fits more others (length k.variables) (fits.reached_components more (length k.types)) initial)
+          (rw (kind_last k.variables o) (eq-eqb (length k.types) (length k.types) refl)) (items_initial k t o initial f)) refl);
       one_each = λ a.
           let h = w.one_each a in
           let same : due k.here.first_type more a ≡ due k.here.first_type k.types a = ap (λ (n : ℕ). cond (nat_le k.here.first_type a) n 0) (accesses_object k.types t.0 a) in
@@ -173,31 +218,51 @@ record_late k name t w =
           (rw (one_longer k.variables o, eq-eqb (length k.variables) (length k.variables) refl) refl)));
     }
 
-record_order : (k : Known) (name : Ident) (t : TypeNo) → k.here.first_variable ≤ length k.variables → Late k → InOrder (record_created k name t)
-record_order k name t first w =
-    late (record_late k name t w) (not_none k.variables (record { name = name.text; kind = next_record k; borrows = false }) k.here.first_variable first)
+record_order : (k : Known) (name : Ident) (t : TypeNo) (initial : Option (List ItemForm)) → k.here.first_variable ≤ length k.variables → Late k → IsRecordInitial k t initial → InOrder (record_created k name t initial)
+record_order k name t initial first w f =
+    late (record_late k name t initial w f) (not_none k.variables (record { name = name.text; spot = name.spot; kind = next_record k; borrows = false }) k.here.first_variable first)
 
 -- the initial value, null where none is written
-initial_value : (k : Known) (kind : VariableKind) (o : Option RightForm) → IsSourceFor k.types k.variables kind false o → IsCreatedWith k kind false (initial_source o)
-initial_value k kind None h = absurd h
-initial_value k kind (Some s) h = h
+integer_initial : (k : Known) (o : Option Assigned) → IsSourceFor k.types k.variables held.Integer false o → IsCreatedWith k variable.Integer false (initial_source (initial_value_in o))
+integer_initial k None h = absurd h
+integer_initial k (Some (a_value s)) h = h
+integer_initial k (Some (a_whole items)) h = absurd h
 
-access_initial : (k : Known) (access : TypeNo) (initial : Option RightTree) → PartsFit k.types k.variables (parts k) → Quiet (initial_remark k (Some (variable.Access access)) initial) → IsCreatedWith k (variable.Access access) false (initial_source (initial_found k (Some (variable.Access access)) initial))
+boolean_initial : (k : Known) (o : Option Assigned) → IsSourceFor k.types k.variables held.Boolean false o → IsCreatedWith k variable.Boolean false (initial_source (initial_value_in o))
+boolean_initial k None h = absurd h
+boolean_initial k (Some (a_value s)) h = h
+boolean_initial k (Some (a_whole items)) h = absurd h
+
+access_value_initial : (k : Known) (access : TypeNo) (o : Option Assigned) → IsSourceFor k.types k.variables (held.Access access) false o → IsCreatedWith k (variable.Access access) false (initial_source (initial_value_in o))
+access_value_initial k access None h = absurd h
+access_value_initial k access (Some (a_value s)) h = h
+access_value_initial k access (Some (a_whole items)) h = absurd h
+
+access_initial : (k : Known) (access : TypeNo) (initial : Option RightTree) → PartsFit k.types k.variables (parts k) → Quiet (initial_remark k (Some (held.Access access)) initial) → IsCreatedWith k (variable.Access access) false (initial_source (initial_value_in (initial_found k (Some (held.Access access)) initial)))
 access_initial k access None w q = (refl, refl)
-access_initial k access (Some right) w q = initial_value k (variable.Access access) _ (right_fits k (variable.Access access) false right w q)
+access_initial k access (Some right) w q = access_value_initial k access _ (right_fits k (held.Access access) false right w q)
 
-created_order : (k : Known) (name : Ident) (o : Option Entity) (initial : Option RightTree) → PartsFit k.types k.variables (parts k) → k.here.first_variable ≤ length k.variables → InOrder k → Late k → Quiet (initial_remark k (kind_of o) initial) → Quiet (initial_wanted o name initial) → InOrder (created_of k name o (initial_found k (kind_of o) initial))
+-- the items of a record object's initial value
+record_items : (k : Known) (t : TypeNo) (o : Option Assigned) → IsSourceFor k.types k.variables (held.Record t) false o → IsRecordInitial k t (initial_items_in o)
+record_items k t None h = absurd h
+record_items k t (Some (a_value s)) h = absurd h
+record_items k t (Some (a_whole items)) h = h
+
+record_initial : (k : Known) (t : TypeNo) (initial : Option RightTree) → PartsFit k.types k.variables (parts k) → Quiet (initial_remark k (Some (held.Record t)) initial) → IsRecordInitial k t (initial_items_in (initial_found k (Some (held.Record t)) initial))
+record_initial k t None w q = tt
+record_initial k t (Some right) w q = record_items k t _ (right_fits k (held.Record t) false right w q)
+
+created_order : (k : Known) (name : Ident) (o : Option Entity) (initial : Option RightTree) → PartsFit k.types k.variables (parts k) → k.here.first_variable ≤ length k.variables → InOrder k → Late k → Quiet (initial_remark k (held_of o) initial) → Quiet (initial_wanted o name initial) → InOrder (created_of k name o (initial_found k (held_of o) initial))
 created_order k name None initial p first s w q g = s
 created_order k name (Some entity.Integer) None p first s w q g = absurd g
 created_order k name (Some entity.Boolean) None p first s w q g = absurd g
 created_order k name (Some entity.Integer) (Some right) p first s w q g =
-    made_order k name false variable.Integer _ first w (initial_value k variable.Integer _ (right_fits k variable.Integer false right p q))
+    made_order k name false variable.Integer _ first w (integer_initial k _ (right_fits k held.Integer false right p q))
 created_order k name (Some entity.Boolean) (Some right) p first s w q g =
-    made_order k name false variable.Boolean _ first w (initial_value k variable.Boolean _ (right_fits k variable.Boolean false right p q))
+    made_order k name false variable.Boolean _ first w (boolean_initial k _ (right_fits k held.Boolean false right p q))
 created_order k name (Some (entity.Access access)) initial p first s w q g =
     made_order k name false (variable.Access access) _ first w (access_initial k access initial p q)
-created_order k name (Some (entity.Record t size)) None p first s w q g = record_order k name t first w
-created_order k name (Some (entity.Record t size)) (Some right) p first s w q g = absurd g
+created_order k name (Some (entity.Record t size)) initial p first s w q g = record_order k name t _ first w (record_initial k t initial p q)
 created_order k name (Some other) initial p first s w q g = s
 
 -- `X : T := ..;`, where the types have ended

@@ -23,10 +23,10 @@ use Rattle.ada_resolve.specs.Paths as path
 use Rattle.ada_resolve.specs.Paths.{components_of, elementary_of, elementary_in, known_component, first_behind, held_by, number_by, designated_of, component_named, is_incomplete_type, component_in, component_behind, held_in, object_in, object_behind, selector_reached, selectors_reached, variable_reached, whole_object, record_known_by, record_of_object, number_in, component_selected, components_selected, component_wanted, component_within_remark, component_behind_remark, complete_behind, all_remark, selector_remark, selectors_remark}
 use Rattle.ada_resolve.specs.Records.{kinds_within}
 use Rattle.ada_resolve.specs.Remark.{wrong, wrong_if}
-use Rattle.ada_resolve.proofs.WellFormed.Names.{text_same}
-use Rattle.ada_resolve.proofs.WellFormed.Laid.{AreRecordsLaid, append_none, elementary_is, lies}
+use Rattle.ada_resolve.proofs.WellFormed.Names.{TypesFit, text_same}
+use Rattle.ada_resolve.proofs.WellFormed.Laid.{RecordHas, append_none, elementary_is, lies}
 use Rattle.ada_resolve.proofs.WellFormed.Remarks.{Quiet}
-use Rattle.ada_resolve.proofs.WellFormed.Tables.{designated_named}
+use Rattle.ada_resolve.proofs.WellFormed.Tables.{all_get, designated_named}
 
 -- a component that is found by a name is one of these, by its number, and has the name
 abbrev pub IsNamedOf : List ℕ → List PartForm → ℕ → Option (ℕ × KnownComponent) → Type 0
@@ -86,11 +86,11 @@ IsWithin types of kinds first =
     (access : ℕ) × (d : ℕ) × (before : List ComponentKind) × (behind : List ComponentKind) × (fits.access_of of ≡ Some access) ×
     (fits.named_in (slice_get types access) ≡ Some d) × (elementary_of types d ≡ before ++ (kinds ++ behind)) × (length before ≡ first)
 
--- what is reached is held there, or is an object within the one behind what is held there
+-- what is reached is held there, or is a record within the object behind what is held there
 abbrev pub IsReached : List TypeForm → Option VariableKind → Reached → Type 0
 IsReached types of reached.Nothing = ⊥
 IsReached types of (reached.Value kind) = of ≡ Some kind
-IsReached types of (reached.Object t first) = IsWithin types of (elementary_of types t.0) first
+IsReached types of (reached.Object t first) = IsWithin types of (elementary_of types t.0) first × (fits.is_record types t.0 ≡ true)
 
 -- a component that is found is one of this record type, and has the name
 abbrev pub IsPartOf : List TypeForm → ℕ → List ℕ → (ℕ × KnownComponent) → Type 0
@@ -101,7 +101,9 @@ IsPartOf types t text found =
 -- it lies in the object behind what is held, where the record type begins behind as many elementary components
 abbrev pub IsHeld : List TypeForm → Option VariableKind → ℕ → ℕ → List ℕ → Option (ℕ × KnownComponent) → Type 0
 IsHeld types of t first text None = ⊥
-IsHeld types of t first text (Some found) = IsPartOf types t text found × IsWithin types of (kinds_within types found.1.kind) (first + found.1.first)
+IsHeld types of t first text (Some found) =
+    IsPartOf types t text found × IsWithin types of (kinds_within types found.1.kind) (first + found.1.first) ×
+    RecordHas (λ u. fits.is_record types u ≡ true) found.1.kind
 
 -- where a type has a component, it is a record type with these
 pub has_record : (types : List TypeForm) (t j : ℕ) (c : PartForm) → slice_get (components_of types t) j ≡ Some c → (name : List ℕ) × (parts : List PartForm) × (components : List ComponentKind) × (slice_get types t ≡ Some (record_of name parts components)) × (slice_get parts j ≡ Some c)
@@ -121,9 +123,9 @@ part_within before own middle rest behind =
     sym (append_assoc before own (middle ++ (rest ++ behind)))
 
 -- a component of a record type within the object
-part_is : (types : List TypeForm) (of : Option VariableKind) (t first : ℕ) (name : List ℕ) (ps : List PartForm) (cs : List ComponentKind) (j : ℕ) (c : PartForm) → AreRecordsLaid types → IsWithin types of (elementary_of types t) first → slice_get types t ≡ Some (record_of name ps cs) → slice_get ps j ≡ Some c → IsWithin types of (kinds_within types c.kind) (first + c.first)
+part_is : (types : List TypeForm) (of : Option VariableKind) (t first : ℕ) (name : List ℕ) (ps : List PartForm) (cs : List ComponentKind) (j : ℕ) (c : PartForm) → TypesFit types → IsWithin types of (elementary_of types t) first → slice_get types t ≡ Some (record_of name ps cs) → slice_get ps j ≡ Some c → IsWithin types of (kinds_within types c.kind) (first + c.first)
 part_is types of t first name ps cs j c laid w there at =
-    let own = lies types 0 ps cs j c (laid t (record_of name ps cs) there).0 at in
+    let own = lies types 0 ps cs j c (laid.0 t (record_of name ps cs) there).0 at in
     let kinds = kinds_within types c.kind in
     let whole : elementary_of types t ≡ own.0 ++ (kinds ++ own.1) = elementary_is types t name ps cs there ∙ own.2 in
     let place = own.3 in
@@ -131,7 +133,7 @@ part_is types of t first name ps cs j c laid w there at =
     let long = length-append w.2 own.0 in
     (w.0, w.1, w.2 ++ own.0, own.1 ++ w.3, w.4, w.5, w.6 ∙ (ap (λ ks. w.2 ++ (ks ++ w.3)) whole ∙ part_within w.2 own.0 kinds own.1 w.3), long ∙ omega (arith, place, from))
 
-held_within : (k : Known) (types : List TypeForm) (of : Option VariableKind) (spot : Spot) (t first : ℕ) (c : Ident) → AreRecordsLaid types → Stays k.types types → IsWithin types of (elementary_of types t) first → Quiet (component_within_remark k spot (Some t) c) → IsHeld types of t first c.text (component_in k (Some t) c)
+held_within : (k : Known) (types : List TypeForm) (of : Option VariableKind) (spot : Spot) (t first : ℕ) (c : Ident) → TypesFit types → Stays k.types types → IsWithin types of (elementary_of types t) first → Quiet (component_within_remark k spot (Some t) c) → IsHeld types of t first c.text (component_in k (Some t) c)
 held_within k types of spot t first c laid w is q = complete_or (is_incomplete_type k t) q
   where
     found_or : (o : Option (ℕ × KnownComponent)) → IsNamedOf c.text (components_of k.types t) 0 o → Quiet (component_wanted o c) → IsHeld types of t first c.text o
@@ -140,21 +142,32 @@ held_within k types of spot t first c laid w is q = complete_or (is_incomplete_t
         let at : found.0 ≡ i.0 = i.2 ∙ omega arith in
         let h = has_record k.types t i.0 i.1 i.3 in
         let there : slice_get types t ≡ Some (record_of h.0 h.1 h.2) = w t (record_of h.0 h.1 h.2) h.3 in
-        let so : IsPartOf types t i.1.name (i.0, known_component i.1) × IsWithin types of (kinds_within types i.1.kind) (first + i.1.first) =
-        ((h.0, h.1, h.2, there, h.4), part_is types of t first h.0 h.1 h.2 i.0 i.1 laid is there h.4) in
+        let so : IsPartOf types t i.1.name (i.0, known_component i.1) × IsWithin types of (kinds_within types i.1.kind) (first + i.1.first) × RecordHas (λ u. fits.is_record types u ≡ true) i.1.kind =
+        ((h.0, h.1, h.2, there, h.4), part_is types of t first h.0 h.1 h.2 i.0 i.1 laid is there h.4, (laid.0 t (record_of h.0 h.1 h.2) there).1 i.0 i.1 h.4) in
         subst (λ (text : List ℕ). IsHeld types of t first text (Some found)) i.5
-        (subst (λ (m : KnownComponent). IsPartOf types t i.1.name (found.0, m) × IsWithin types of (kinds_within types m.kind) (first + m.first)) i.4
-        (subst (λ (n : ℕ). IsPartOf types t i.1.name (n, known_component i.1) × IsWithin types of (kinds_within types i.1.kind) (first + i.1.first)) (sym at) so))
+        (subst (λ (m : KnownComponent). IsPartOf types t i.1.name (found.0, m) × IsWithin types of (kinds_within types m.kind) (first + m.first) × RecordHas (λ u. fits.is_record types u ≡ true) m.kind) i.4
+        (subst (λ (n : ℕ). IsPartOf types t i.1.name (n, known_component i.1) × IsWithin types of (kinds_within types i.1.kind) (first + i.1.first) × RecordHas (λ u. fits.is_record types u ≡ true) i.1.kind) (sym at) so))
 
     complete_or : (b : Bool) → Quiet (cond b (wrong spot WrongType) (component_wanted (component_named 0 c.text (components_of k.types t)) c)) → IsHeld types of t first c.text (cond b None (component_named 0 c.text (components_of k.types t)))
     complete_or true q = absurd q
     complete_or false q = found_or (component_named 0 c.text (components_of k.types t)) (name_at 0 c.text (components_of k.types t)) q
 
+-- the objects that values of a type name are records
+pub named_record : (types : List TypeForm) (t d : ℕ) → TypesFit types → fits.named_in (slice_get types t) ≡ Some d → fits.is_record types d ≡ true
+named_record types t d w e = by_form (slice_get types t) refl e
+  where
+    by_form : (o : Option TypeForm) → slice_get types t ≡ o → fits.named_in o ≡ Some d → fits.is_record types d ≡ true
+    by_form None is e = absurd (cc e)
+    by_form (Some (record_of name ps cs)) is e = absurd (cc e)
+    by_form (Some (access_to name u)) is e = let same : u ≡ d = cc e in subst (λ (v : ℕ). fits.is_record types v ≡ true) same (all_get (fits.type_fits types) types t (access_to name u) w.1 is)
+    by_form (Some (object_of u)) is e = let same : u ≡ d = cc e in subst (λ (v : ℕ). fits.is_record types v ≡ true) same (all_get (fits.type_fits types) types t (object_of u) w.1 is)
+
 -- an object behind what is held
-object_behind_is : (k : Known) (types : List TypeForm) (of : Option VariableKind) (t : TypeNo) (d : ℕ) → Stays k.types types → of ≡ Some (variable.Access t) → designated_of k.types t.0 ≡ Some d → IsWithin types of (elementary_of types d) 0
-object_behind_is k types of t d w is e =
+object_behind_is : (k : Known) (types : List TypeForm) (of : Option VariableKind) (t : TypeNo) (d : ℕ) → TypesFit types → Stays k.types types → of ≡ Some (variable.Access t) → designated_of k.types t.0 ≡ Some d → IsWithin types of (elementary_of types d) 0 × (fits.is_record types d ≡ true)
+object_behind_is k types of t d all w is e =
     let there : fits.designated_type types t.0 ≡ Some d = sym (designated_same types t.0) ∙ designated_more k.types types t.0 d w e in
-    (t.0, d, [], [], rw is refl, designated_named (slice_get types t.0) d there, sym (append_none (elementary_of types d)), refl)
+    let named_so = designated_named (slice_get types t.0) d there in
+    ((t.0, d, [], [], rw is refl, named_so, sym (append_none (elementary_of types d)), refl), named_record types t.0 d all named_so)
 
 -- the record type of a record object, by the type that the object is known by
 named_more : (types more : List TypeForm) (object d : ℕ) → Stays types more → record_of_object types object ≡ Some d → fits.named_in (slice_get more object) ≡ Some d
@@ -168,13 +181,14 @@ named_more types more object d w e = by_form (slice_get types object) refl e
     by_form (Some (object_of r)) is e = rw (w object (object_of r) is) e
 
 -- a record object is reached as a whole
-pub whole_is : (k : Known) (types : List TypeForm) (of : Option VariableKind) (object : TypeNo) → Stays k.types types → of ≡ Some (variable.Record object) → IsReached types of (variable_reached k (variable.Record object))
-whole_is k types of object w is = by_type (record_of_object k.types object.0) refl
+pub whole_is : (k : Known) (types : List TypeForm) (of : Option VariableKind) (object : TypeNo) → TypesFit types → Stays k.types types → of ≡ Some (variable.Record object) → IsReached types of (variable_reached k (variable.Record object))
+whole_is k types of object all w is = by_type (record_of_object k.types object.0) refl
   where
     by_type : (o : Option ℕ) → record_of_object k.types object.0 ≡ o → IsReached types of (whole_object o (variable.Record object))
     by_type None e = is
     by_type (Some d) e =
-        (object.0, d, [], [], rw is refl, named_more k.types types object.0 d w e, sym (append_none (elementary_of types d)), refl)
+        let named_so = named_more k.types types object.0 d w e in
+        ((object.0, d, [], [], rw is refl, named_so, sym (append_none (elementary_of types d)), refl), named_record types object.0 d all named_so)
 
 -- the record type whose component is selected
 abbrev pub IsBehind : Known → Reached → ℕ → Type 0
@@ -182,14 +196,14 @@ IsBehind k (reached.Value (variable.Access t)) d = designated_of k.types t.0 ≡
 IsBehind k (reached.Object t first) d = t.0 ≡ d
 IsBehind k other d = ⊥
 
-held_designated : (k : Known) (types : List TypeForm) (of : Option VariableKind) (spot : Spot) (t : TypeNo) (c : Ident) (o : Option ℕ) → AreRecordsLaid types → Stays k.types types → of ≡ Some (variable.Access t) → designated_of k.types t.0 ≡ o → Quiet (component_within_remark k spot o c) → (d : ℕ) × (o ≡ Some d) × IsHeld types of d 0 c.text (component_in k o c)
+held_designated : (k : Known) (types : List TypeForm) (of : Option VariableKind) (spot : Spot) (t : TypeNo) (c : Ident) (o : Option ℕ) → TypesFit types → Stays k.types types → of ≡ Some (variable.Access t) → designated_of k.types t.0 ≡ o → Quiet (component_within_remark k spot o c) → (d : ℕ) × (o ≡ Some d) × IsHeld types of d 0 c.text (component_in k o c)
 held_designated k types of spot t c None laid w is e q = absurd q
-held_designated k types of spot t c (Some d) laid w is e q = (d, refl, held_within k types of spot d 0 c laid w (object_behind_is k types of t d w is e) q)
+held_designated k types of spot t c (Some d) laid w is e q = (d, refl, held_within k types of spot d 0 c laid w (object_behind_is k types of t d laid w is e).0 q)
 
-pub held_behind : (k : Known) (types : List TypeForm) (of : Option VariableKind) (spot : Spot) (at : Reached) (c : Ident) → AreRecordsLaid types → Stays k.types types → IsReached types of at → Quiet (component_behind_remark k spot at c) → (d : ℕ) × IsBehind k at d × IsHeld types of d (first_behind at) c.text (component_behind k at c)
+pub held_behind : (k : Known) (types : List TypeForm) (of : Option VariableKind) (spot : Spot) (at : Reached) (c : Ident) → TypesFit types → Stays k.types types → IsReached types of at → Quiet (component_behind_remark k spot at c) → (d : ℕ) × IsBehind k at d × IsHeld types of d (first_behind at) c.text (component_behind k at c)
 held_behind k types of spot reached.Nothing c laid w is q = absurd is
 held_behind k types of spot (reached.Value (variable.Access t)) c laid w is q = held_designated k types of spot t c (designated_of k.types t.0) laid w is refl q
-held_behind k types of spot (reached.Object t first) c laid w is q = (t.0, refl, held_within k types of spot t.0 first c laid w is q)
+held_behind k types of spot (reached.Object t first) c laid w is q = (t.0, refl, held_within k types of spot t.0 first c laid w is.0 q)
 held_behind k types of spot at c laid w is q = absurd q
 
 -- an elementary component holds what its kind says
@@ -215,37 +229,37 @@ kind_is_behind types of n kind w =
 
 pub held_reached : (types : List TypeForm) (of : Option VariableKind) (d first : ℕ) (text : List ℕ) (o : Option (ℕ × KnownComponent)) → IsHeld types of d first text o → IsReached types (fits.selectors_kind types of (number_in first o)) (held_in first o)
 held_reached types of d first text None h = absurd h
-held_reached types of d first text (Some found) h = by_kind found.1.kind h.1
+held_reached types of d first text (Some found) h = by_kind found.1.kind h.1 h.2
   where
-    by_kind : (kind : PartKind) → IsWithin types of (kinds_within types kind) (first + found.1.first) → IsReached types (fits.selectors_kind types of (number_by kind (first + found.1.first))) (held_by kind (first + found.1.first))
-    by_kind (part.Elementary kind) w = kind_is_behind types of (first + found.1.first) kind w
-    by_kind (part.Record t) w = w
+    by_kind : (kind : PartKind) → IsWithin types of (kinds_within types kind) (first + found.1.first) → RecordHas (λ u. fits.is_record types u ≡ true) kind → IsReached types (fits.selectors_kind types of (number_by kind (first + found.1.first))) (held_by kind (first + found.1.first))
+    by_kind (part.Elementary kind) w r = kind_is_behind types of (first + found.1.first) kind w
+    by_kind (part.Record t) w r = (w, r)
 
 -- `all`
-object_designated : (k : Known) (types : List TypeForm) (of : Option VariableKind) (spot : Spot) (t : TypeNo) (o : Option ℕ) → Stays k.types types → of ≡ Some (variable.Access t) → designated_of k.types t.0 ≡ o → Quiet (complete_behind k spot o) → IsReached types of (object_in k o)
-object_designated k types of spot t None w is e q = absurd q
-object_designated k types of spot t (Some d) w is e q = complete_or (is_incomplete_type k d) q
+object_designated : (k : Known) (types : List TypeForm) (of : Option VariableKind) (spot : Spot) (t : TypeNo) (o : Option ℕ) → TypesFit types → Stays k.types types → of ≡ Some (variable.Access t) → designated_of k.types t.0 ≡ o → Quiet (complete_behind k spot o) → IsReached types of (object_in k o)
+object_designated k types of spot t None all w is e q = absurd q
+object_designated k types of spot t (Some d) all w is e q = complete_or (is_incomplete_type k d) q
   where
     complete_or : (b : Bool) → Quiet (wrong_if b spot WrongType) → IsReached types of (cond b reached.Nothing (reached.Object (record { 0 = d }) 0))
     complete_or true q = absurd q
-    complete_or false q = object_behind_is k types of t d w is e
+    complete_or false q = object_behind_is k types of t d all w is e
 
-pub object_is : (k : Known) (types : List TypeForm) (of : Option VariableKind) (spot : Spot) (at : Reached) → Stays k.types types → IsReached types of at → Quiet (all_remark k spot at) → IsReached types of (object_behind k at)
-object_is k types of spot reached.Nothing w is q = absurd is
-object_is k types of spot (reached.Value (variable.Access t)) w is q = object_designated k types of spot t (designated_of k.types t.0) w is refl q
-object_is k types of spot at w is q = absurd q
+pub object_is : (k : Known) (types : List TypeForm) (of : Option VariableKind) (spot : Spot) (at : Reached) → TypesFit types → Stays k.types types → IsReached types of at → Quiet (all_remark k spot at) → IsReached types of (object_behind k at)
+object_is k types of spot reached.Nothing all w is q = absurd is
+object_is k types of spot (reached.Value (variable.Access t)) all w is q = object_designated k types of spot t (designated_of k.types t.0) all w is refl q
+object_is k types of spot at all w is q = absurd q
 
 -- selectors, one behind the other
-selector_is : (k : Known) (types : List TypeForm) (of : Option VariableKind) (spot : Spot) (at : Reached) (s : SelectorTree) → AreRecordsLaid types → Stays k.types types → IsReached types of at → Quiet (selector_remark k spot at s) → IsReached types (fits.selectors_kind types of (component_selected k at s)) (selector_reached k at s)
+selector_is : (k : Known) (types : List TypeForm) (of : Option VariableKind) (spot : Spot) (at : Reached) (s : SelectorTree) → TypesFit types → Stays k.types types → IsReached types of at → Quiet (selector_remark k spot at s) → IsReached types (fits.selectors_kind types of (component_selected k at s)) (selector_reached k at s)
 selector_is k types of spot at (component c) laid w is q =
     let h = held_behind k types of spot at c laid w is q in held_reached types of h.0 (first_behind at) c.text (component_behind k at c) h.2
-selector_is k types of spot at (dereference all) laid w is q = object_is k types of spot at w is q
+selector_is k types of spot at (dereference all) laid w is q = object_is k types of spot at laid w is q
 
 kind_after : (types : List TypeForm) (of : Option VariableKind) (xs ys : List ℕ) → fits.selectors_kind types of (xs ++ ys) ≡ fits.selectors_kind types (fits.selectors_kind types of xs) ys
 kind_after types of [] ys = refl
 kind_after types of (x ∷ xs) ys = kind_after types (fits.selected_kind types of x) xs ys
 
-pub selectors_are : (k : Known) (types : List TypeForm) (of : Option VariableKind) (spot : Spot) (at : Reached) (ss : List SelectorTree) → AreRecordsLaid types → Stays k.types types → IsReached types of at → Quiet (selectors_remark k spot at ss) → IsReached types (fits.selectors_kind types of (components_selected k at ss)) (selectors_reached k at ss)
+pub selectors_are : (k : Known) (types : List TypeForm) (of : Option VariableKind) (spot : Spot) (at : Reached) (ss : List SelectorTree) → TypesFit types → Stays k.types types → IsReached types of at → Quiet (selectors_remark k spot at ss) → IsReached types (fits.selectors_kind types of (components_selected k at ss)) (selectors_reached k at ss)
 selectors_are k types of spot at [] laid w is q = is
 selectors_are k types of spot at (s ∷ ss) laid w is q =
     let first = component_selected k at s in

@@ -129,7 +129,7 @@ on_condition_fits k z condition own last inside c s h = (
 -- a loop over a range
 parameter_held : (name : Ident) (k z : Known) → Grows (with_parameter name k) z → fits.is_type Integer (fits.scalar_of (fits.variable_kind z.variables (length k.variables))) ≡ true
 parameter_held name k z g =
-    let v : VariableForm = record { name = name.text; kind = variable.Integer; borrows = false } in
+    let v : VariableForm = record { name = name.text; spot = name.spot; kind = variable.Integer; borrows = false } in
     let there = g.variables (length k.variables) v (get_last k.variables v) in
     rw there refl
 
@@ -143,7 +143,7 @@ over_range_fits name k z low high own last inside g l u s h =
           (both_parts (held && low_is && high_is) (has_statement own)
           (both_parts (held && low_is) high_is (both_parts held low_is (parameter_held name k z g) l) u) s) h.0,
       creates_both k (with_parameter name k) z (of_variable x ∷ []) (created_by_all own)
-          (creates_variable k (with_parameter name k) refl (one_longer k.variables (record { name = name.text; kind = variable.Integer; borrows = false }))) h.1,
+          (creates_variable k (with_parameter name k) refl (one_longer k.variables (record { name = name.text; spot = name.spot; kind = variable.Integer; borrows = false }))) h.1,
     )
 
 -- a statement and those behind it, a branch and those behind it, a handler and those behind it

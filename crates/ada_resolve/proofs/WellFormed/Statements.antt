@@ -4,10 +4,9 @@ use Rattle.std.proofs.Common.{◌≡◌, ℕ, ◌+◌, ◌≤◌, Bool, true, fa
 use Rattle.std.specs.Prelude.{not, Option, Some, None, is_some}
 use Rattle.std.proofs.lemmas.Bool.{lt-ltb}
 use Rattle.ada_text.specs.declared.spot.Spot.{Spot}
-use Rattle.ada_program.specs.declared.program.VariableKind.{VariableKind}
 use Rattle.ada_program.specs.declared.program.ScalarType.TheVariants.{Integer, Boolean}
 use Rattle.ada_program.specs.declared.program.TypeNo.{TypeNo}
-use Rattle.ada_program.specs.Form.{PathForm, RightForm, StmtForm, reads}
+use Rattle.ada_program.specs.Form.{PathForm, RecordPathForm, StmtForm, reads}
 use Rattle.ada_program.specs.declared.program.Exception.{Exception}
 use Rattle.ada_tree.specs.Names.{Ident, PathTree}
 use Rattle.ada_tree.specs.Expressions.{ExpressionTree, path_expression, RightTree, ArgumentTree, expression_argument, text_argument, attribute_argument}
@@ -20,18 +19,20 @@ use Rattle.ada_resolve.specs.declared.library.LibraryName.TheVariants.{PutLine, 
 use Rattle.ada_resolve.specs.declared.scope.Entity.{Entity}
 use Rattle.ada_resolve.specs.declared.scope.Entity.TheVariants as entity
 use Rattle.ada_resolve.specs.Arguments.{image_value_remark}
-use Rattle.ada_resolve.specs.Assignments.{target_found, kind_of_target, target_borrows, assignment_remark, assignment_of, assignment_found}
+use Rattle.ada_resolve.specs.Assignments.{Target, value_target, record_target, target_found, held_by_target, target_borrows, assignment_remark, assignment_of, assignment_found}
 use Rattle.ada_resolve.specs.Lines.{line_remark, line_found, put_line_remark, put_line_found}
 use Rattle.ada_resolve.specs.Calls.{freed_wanted, actual_wanted, actual_remark, freeing, getting, taking, actual_found, taker_remark, taker_found, library_call_remark, library_call_found, own_call_remark, own_call_found}
 use Rattle.ada_resolve.specs.declared.calls.Callee.{Callee}
 use Rattle.ada_resolve.specs.declared.calls.Callee.TheVariants as callee
 use Rattle.ada_resolve.specs.Exceptions.{exception_found, raising}
 use Rattle.ada_resolve.specs.Expressions.{expression_meant, expression_remark}
+use Rattle.ada_resolve.specs.declared.rights.Held.{Held}
+use Rattle.ada_resolve.specs.declared.rights.Held.TheVariants as held
 use Rattle.ada_resolve.specs.Known.{Known, visible, library_path_found, is_empty, parts}
 use Rattle.ada_resolve.specs.Library.{is_library_root}
 use Rattle.ada_resolve.specs.Operators.{integer_in}
 use Rattle.ada_resolve.specs.Paths.{Meant, access_value, integer_value, path_meant}
-use Rattle.ada_resolve.specs.Rights.{right_found, right_remark}
+use Rattle.ada_resolve.specs.Rights.{Assigned, a_value, a_whole, right_found, right_remark}
 use Rattle.ada_resolve.specs.Remark.{Remark, ◌also◌}
 use Rattle.ada_resolve.specs.Spots.{expression_spot}
 use Rattle.ada_resolve.specs.Statements.{bound_remark, bound_meant, condition_remark, condition_meant, optional_condition_remark, optional_condition_meant, exit_remark, exit_found, statement_remark, statement_found, text_in, simple_texts, form_or_null, statement_meant}
@@ -40,7 +41,8 @@ use Rattle.ada_resolve.proofs.WellFormed.Names.{EntityFits, PartsFit, visible_fi
 use Rattle.ada_resolve.proofs.WellFormed.Exceptions.{PartsRaised, FoundIs, found_is}
 use Rattle.ada_resolve.proofs.WellFormed.Tables.{both_parts}
 use Rattle.ada_resolve.proofs.WellFormed.Typing.{is_of_type}
-use Rattle.ada_resolve.proofs.WellFormed.Meanings.{MeantFits, path_fits, expression_fits, integer_is, boolean_is}
+use Rattle.ada_resolve.proofs.WellFormed.Meanings.{MeantFits, path_fits, integer_is, boolean_is}
+use Rattle.ada_resolve.proofs.WellFormed.Items.{expression_fits}
 use Rattle.ada_resolve.proofs.WellFormed.Values.{IsTargetIn, found_target, IsSourceFor, right_fits}
 
 -- what a statement does, where that is known, has the types that it wants, and creates nothing
@@ -49,17 +51,31 @@ FormFits k texts inside None = Unit {0}
 FormFits k texts inside (Some f) = (fits.statement_fits k.types k.variables texts k.exceptions inside f ≡ true) × (fits.created_by f ≡ [])
 
 -- `X := ..;`
-value_fits : (k : Known) (texts : List (List ℕ)) (inside : Bool) (found : PathForm × VariableKind) (s : Option RightForm) → IsTargetIn k.types k.variables (Some found) → IsSourceFor k.types k.variables found.1 (names_borrower k.variables found.0) s → FormFits k texts inside (assignment_of (Some found) s)
-value_fits k texts inside found None h f = tt
-value_fits k texts inside found (Some s) h f = (
-  both_parts (fits.right_fits k.types k.variables (fits.path_kind k.types k.variables found.0) s) (fits.lends_to k.variables (names_borrower k.variables found.0) s)
-      (rw h f.0) f.1,
-  refl,
-)
+value_fits : (k : Known) (texts : List (List ℕ)) (inside : Bool) (path : PathForm) (kind : Held) (s : Option Assigned) → IsTargetIn k.types k.variables (Some (value_target path kind)) → IsSourceFor k.types k.variables kind (names_borrower k.variables path) s → FormFits k texts inside (assignment_of (Some (value_target path kind)) s)
+value_fits k texts inside path held.Integer (Some (a_value s)) h f =
+    (both_parts (fits.right_fits k.types k.variables (fits.path_kind k.types k.variables path) s) (fits.lends_to k.variables (names_borrower k.variables path) s) (rw h f.0) f.1, refl)
+value_fits k texts inside path held.Boolean (Some (a_value s)) h f =
+    (both_parts (fits.right_fits k.types k.variables (fits.path_kind k.types k.variables path) s) (fits.lends_to k.variables (names_borrower k.variables path) s) (rw h f.0) f.1, refl)
+value_fits k texts inside path (held.Access t) (Some (a_value s)) h f =
+    (both_parts (fits.right_fits k.types k.variables (fits.path_kind k.types k.variables path) s) (fits.lends_to k.variables (names_borrower k.variables path) s) (rw h f.0) f.1, refl)
+value_fits k texts inside path (held.Record t) s h f = absurd h
+value_fits k texts inside path kind (Some (a_whole items)) h f = tt
+value_fits k texts inside path kind None h f = tt
 
-assigned_fits : (k : Known) (texts : List (List ℕ)) (inside : Bool) (o : Option (PathForm × VariableKind)) (value : RightTree) → PartsFit k.types k.variables (parts k) → IsTargetIn k.types k.variables o → Quiet (right_remark k (kind_of_target o) (target_borrows k.variables o) value) → FormFits k texts inside (assignment_of o (right_found k (kind_of_target o) value))
+-- `R := ..;`
+record_fits : (k : Known) (texts : List (List ℕ)) (inside : Bool) (path : RecordPathForm) (s : Option Assigned) → fits.is_record_path k.types k.variables path ≡ true → IsSourceFor k.types k.variables (held.Record (record { 0 = path.record_type })) false s → FormFits k texts inside (assignment_of (Some (record_target path)) s)
+record_fits k texts inside path (Some (a_whole items)) h f =
+    (both_parts (fits.is_record_path k.types k.variables path) (fits.record_fits k.types k.variables (fits.record_components k.types path.record_type) items) h f, refl)
+record_fits k texts inside path (Some (a_value s)) h f = tt
+record_fits k texts inside path None h f = tt
+
+assigned_fits : (k : Known) (texts : List (List ℕ)) (inside : Bool) (o : Option Target) (value : RightTree) → PartsFit k.types k.variables (parts k) → IsTargetIn k.types k.variables o → Quiet (right_remark k (held_by_target o) (target_borrows k.variables o) value) → FormFits k texts inside (assignment_of o (right_found k (held_by_target o) value))
 assigned_fits k texts inside None value w h q = tt
-assigned_fits k texts inside (Some found) value w h q = value_fits k texts inside found (right_found k (Some found.1) value) h (right_fits k found.1 (names_borrower k.variables found.0) value w q)
+assigned_fits k texts inside (Some (value_target path kind)) value w h q =
+    value_fits k texts inside path kind (right_found k (Some kind) value) h (right_fits k kind (names_borrower k.variables path) value w q)
+assigned_fits k texts inside (Some (record_target path)) value w h q =
+    let kind = held.Record (record { 0 = path.record_type }) in
+    record_fits k texts inside path (right_found k (Some kind) value) h (right_fits k kind false value w q)
 
 assignment_fits : (k : Known) (texts : List (List ℕ)) (inside : Bool) (target : PathTree) (value : RightTree) → PartsFit k.types k.variables (parts k) → Quiet (assignment_remark k target value) → FormFits k texts inside (assignment_found k target value)
 unfolding assignment_remark assignment_found

@@ -1,10 +1,11 @@
--- By seventeen programs and their runs.
+-- By eighteen programs and their runs.
 use Rattle.ada_sound.proofs.Example as example
 use Rattle.ada_sound.proofs.ExampleBlocks as blocks
 use Rattle.ada_sound.proofs.ExampleTargets as targets
 use Rattle.ada_sound.proofs.ExampleOwners as owners
 use Rattle.ada_sound.proofs.ExampleBorrowers as borrowers
 use Rattle.ada_sound.proofs.ExampleFrees as frees
+use Rattle.ada_sound.proofs.ExampleRecords as records
 use Rattle.ada_sound.proofs.laws.premises_are_met.Goals as goal
 
 pub returns-clause-begins : goal.returns-clause-begins
@@ -60,3 +61,6 @@ returns-clause-inserts c = (frees.insertion, frees.insertion_form, frees.inserti
 
 pub returns-clause-frees_components : goal.returns-clause-frees_components
 returns-clause-frees_components c = (frees.freeing, frees.freeing_form, frees.freeing_accepted, frees.frees_components)
+
+pub returns-clause-copies : goal.returns-clause-copies
+returns-clause-copies c = (records.copying, records.copying_declares, records.copying_form, records.copying_accepted, records.copies)

@@ -1,10 +1,11 @@
--- By seventeen programs and their runs.
+-- By eighteen programs and their runs.
 use Rattle.ada_sound.proofs.Example as example
 use Rattle.ada_sound.proofs.ExampleBlocks as blocks
 use Rattle.ada_sound.proofs.ExampleTargets as targets
 use Rattle.ada_sound.proofs.ExampleOwners as owners
 use Rattle.ada_sound.proofs.ExampleBorrowers as borrowers
 use Rattle.ada_sound.proofs.ExampleFrees as frees
+use Rattle.ada_sound.proofs.ExampleRecords as records
 use Rattle.ada_sound.proofs.laws.rules_are_needed.Goals as goal
 
 pub returns-clause-follows : goal.returns-clause-follows
@@ -70,3 +71,6 @@ returns-clause-doubles c = (frees.doubling, frees.doubling_form, frees.doubling_
 
 pub returns-clause-nests : goal.returns-clause-nests
 returns-clause-nests c = (owners.outlasting, owners.outlasting_form, owners.outlasting_ill_nested, owners.outlasts)
+
+pub returns-clause-copies : goal.returns-clause-copies
+returns-clause-copies c = (records.duplicating, records.duplicating_form, records.duplicating_breaks, records.duplicates)

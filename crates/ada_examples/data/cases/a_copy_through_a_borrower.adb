@@ -1,0 +1,15 @@
+with Ada.Text_IO; with Ada.Unchecked_Deallocation;
+procedure Main is
+type Point is record Line : Integer := 1; Column : Integer := 2; end record;
+type Shape is record Corner : Point; Filled : Boolean := False; Edge : Point; end record;
+type Node; type Link is access Node;
+type Node is record Place : Point; Next : Link; end record;
+type Pointer is access Point;
+procedure Free is new Ada.Unchecked_Deallocation (Node, Link);
+procedure Free_Point is new Ada.Unchecked_Deallocation (Point, Pointer);
+A : Pointer := new Point'(3, 4); B : access Point := A; R : Point := B.all;
+begin
+B.all := Point'(R.Column, 1);
+Ada.Text_IO.Put_Line (Integer'Image (A.Line));
+Free_Point (A); R := B.all;
+end Main;

@@ -1,0 +1,4 @@
+with Run_Input;
+procedure Main is
+type Link is access Run_Input;
+begin null; end Main;

@@ -1,0 +1,3 @@
+with Run_Input;
+procedure Main is
+begin Run_Input := 1; end Main;

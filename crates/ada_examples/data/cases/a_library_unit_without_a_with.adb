@@ -1,0 +1,3 @@
+procedure Main is
+type Link is access Run_Input;
+begin null; end Main;

@@ -1,0 +1,17 @@
+with Ada.Text_IO; with Ada.Unchecked_Deallocation;
+procedure Main is
+type Point is record Line : Integer := 1; Column : Integer := 2; end record;
+type Shape is record Corner : Point; Filled : Boolean := False; Edge : Point; end record;
+type Node; type Link is access Node;
+type Node is record Place : Point; Next : Link; end record;
+type Pointer is access Point;
+procedure Free is new Ada.Unchecked_Deallocation (Node, Link);
+procedure Free_Point is new Ada.Unchecked_Deallocation (Point, Pointer);
+R : Point;
+begin
+for I in 1 .. 3 loop
+declare S : Point := Point'(I, I * I); begin R := S; end;
+end loop;
+Ada.Text_IO.Put_Line (Integer'Image (R.Line));
+Ada.Text_IO.Put_Line (Integer'Image (R.Column));
+end Main;

@@ -1,0 +1,107 @@
+-- What the rules let through: records are copied as wholes only where none of their components is of an access type.
+
+use Rattle.std.proofs.Common.{◌≡◌, ◌≢◌, ℕ, zero, suc, Bool, true, false, ◌||◌, List, [], ◌∷◌, ◌++◌, refl}
+use Rattle.std.specs.Prelude.{Option, Some, None}
+use Rattle.std.specs.List.{list_any, slice_get, slice_set}
+use Rattle.ada_text.specs.declared.spot.Spot.{Spot}
+use Rattle.ada_program.specs.declared.program.ComponentKind.{ComponentKind}
+use Rattle.ada_program.specs.declared.program.ComponentKind.TheVariants as component
+use Rattle.ada_program.specs.declared.program.TypeNo.{TypeNo}
+use Rattle.ada_program.specs.Form.{PathForm, RecordPathForm, ItemForm, item_of_record, allocates}
+use Rattle.ada_program.specs.ProgramForm.{TypeForm}
+use Rattle.ada_program.specs.WellFormed.{record_components, reached_components, names_borrower}
+use Rattle.ada_effects.specs.Effects.{record_path_raises, items_raise}
+use Rattle.ada_flow.specs.declared.rule.Hold.TheVariants as hold
+use Rattle.ada_flow.specs.declared.rule.Region.TheVariants.{Whole}
+use Rattle.ada_flow.specs.Flow.{Holds, goes, ends_with, is_owning, owns_among, is_owning_record, owns_at_first, declared_at, copies_to, reaches_it, named_by_item, uses_in_item, uses_in_items, uses_in_record, gives_record}
+use Rattle.ada_sound.specs.Owners.{HasNoAccess, AssignedRecordsArePlain, DeclaredRecordsArePlain, CopiedItemsArePlain, AssignedItemsArePlain, CopiesMoveNothing, CopiesStayWhereRaised}
+use Rattle.ada_sound.proofs.Invariant.{NoneBroken}
+use Rattle.ada_sound.proofs.Followings.{first_kept, kept_apart}
+use Rattle.ada_sound.proofs.Copied.{copied_plain}
+use Rattle.ada_sound.proofs.Moves.{kept_uses, ended, assigns_by, target_at}
+
+-- No component that owns is among components of which none does.
+neither : (a b : Bool) → (a || b) ≡ false → (a ≡ false) × (b ≡ false)
+neither true b e = absurd (cc e)
+neither false b e = (refl, e)
+
+none_owning : (components : List ComponentKind) (c : ℕ) (access : TypeNo) → list_any is_owning components ≡ false → slice_get components c ≢ Some (component.Access access)
+none_owning [] c access plain is = cc is
+none_owning (kind ∷ components) zero access plain is =
+    let same : kind ≡ component.Access access = cc is in
+    let owns : is_owning kind ≡ true = rw same refl in
+    let none = (neither (is_owning kind) (list_any is_owning components) plain).0 in
+    cc (owns, none)
+none_owning (kind ∷ components) (suc c) access plain is =
+    none_owning components c access (neither (is_owning kind) (list_any is_owning components) plain).1 is
+
+has_no_access : (found : Option (List ComponentKind)) → owns_among found ≡ false → HasNoAccess found
+has_no_access None plain components c access is at = cc is
+has_no_access (Some kinds) plain components c access is at =
+    let same : kinds ≡ components = cc is in
+    none_owning kinds c access plain (rw same at)
+
+-- What an assignment of a record uses, and what it comes to its end with.
+record Gives (types : List TypeForm) (target : RecordPathForm) (items : List ItemForm) (holds : Holds) (normal raising : Option Holds) : Type 0 where
+  kept : NoneBroken holds (reaches_it target.object ∷ uses_in_record types target.object.spot target.record_type items)
+  ends : normal ≡ Some holds
+  raises : (raised : Holds) → raising ≡ Some raised → raised ≡ holds
+
+gives_as : (types : List TypeForm) (target : RecordPathForm) (items : List ItemForm) (holds : Holds) (normal raising : Option Holds) → gives_record types target items holds ≡ goes normal raising → Gives types target items holds normal raising
+gives_as types target items holds normal raising e =
+    let may = record_path_raises target || items_raise items in
+    let uses = kept_uses (reaches_it target.object ∷ uses_in_record types target.object.spot target.record_type items) holds (ends_with may holds holds) normal raising e in
+    let ends = ended may holds holds normal raising uses.1 in
+    record { kept = uses.0; ends = ends.0; raises = ends.1 }
+
+record_kept : (types : List TypeForm) (target : RecordPathForm) (items : List ItemForm) (holds : Holds) → NoneBroken holds (reaches_it target.object ∷ uses_in_record types target.object.spot target.record_type items) → (is_owning_record types target.record_type ≡ false) × NoneBroken holds (uses_in_items types target.object.spot None [] items)
+record_kept types target items holds kept =
+    let spot = target.object.spot in
+    let owning = is_owning_record types target.record_type in
+    let later = (first_kept holds (reaches_it target.object) (uses_in_record types spot target.record_type items) kept).1 in
+    let h = first_kept holds (copies_to owning spot) (uses_in_items types spot None [] items) later in
+    (copied_plain owning spot h.0, h.1)
+
+-- An item that is a record.
+item_plain : (types : List TypeForm) (spot : Spot) (target : Option PathForm) (holds : Holds) (earlier : List PathForm) (items : List ItemForm) (i : ℕ) (p : RecordPathForm) → slice_get items i ≡ Some (item_of_record p) → NoneBroken holds (uses_in_items types spot target earlier items) → is_owning_record types p.record_type ≡ false
+item_plain types spot target holds earlier [] i p found kept = absurd (cc found)
+item_plain types spot target holds earlier (item ∷ items) zero p found kept =
+    let same : item ≡ item_of_record p = cc found in
+    let here = (kept_apart holds (uses_in_item types spot target earlier item) (uses_in_items types spot target (named_by_item item ++ earlier) items) kept).0 in
+    let owning = is_owning_record types p.record_type in
+    copied_plain owning spot (first_kept holds (copies_to owning spot) (reaches_it p.object ∷ []) (rw same at here)).0
+item_plain types spot target holds earlier (item ∷ items) (suc i) p found kept =
+    item_plain types spot target holds (named_by_item item ++ earlier) items i p found
+    (kept_apart holds (uses_in_item types spot target earlier item) (uses_in_items types spot target (named_by_item item ++ earlier) items) kept).1
+
+pub assigned_records_are_plain : AssignedRecordsArePlain
+assigned_records_are_plain types variables target items holds kept =
+    has_no_access (record_components types target.record_type) (record_kept types target items holds (gives_as types target items holds kept.2 kept.3 kept.4).kept).0
+
+pub assigned_items_are_plain : AssignedItemsArePlain
+assigned_items_are_plain types variables target i items p holds found kept =
+    has_no_access (record_components types p.record_type)
+    (item_plain types target.object.spot None holds [] items i p found (record_kept types target items holds (gives_as types target items holds kept.2 kept.3 kept.4).kept).1)
+
+pub copied_items_are_plain : CopiedItemsArePlain
+copied_items_are_plain types variables target access i items p holds found kept =
+    let all = assigns_by types variables (names_borrower variables target) kept.1 target (allocates access items) holds kept.2 kept.3 refl kept.4 in
+    has_no_access (record_components types p.record_type) (item_plain types target.spot (target_at target.selectors target) holds [] items i p found all.kept)
+
+pub declared_records_are_plain : DeclaredRecordsArePlain
+declared_records_are_plain types variables x t items holds normal raising e =
+    let spot = declared_at variables x in
+    let owning = owns_at_first types t in
+    let used = uses_in_items types spot None [] items in
+    let uses = kept_uses (copies_to owning spot ∷ used) holds (ends_with (items_raise items) holds (slice_set holds x (hold.Own Whole))) normal raising e in
+    has_no_access (reached_components types t) (copied_plain owning spot (first_kept holds (copies_to owning spot) used uses.0).0)
+
+pub copies_move_nothing : CopiesMoveNothing
+copies_move_nothing types variables target items holds after ends =
+    let all = gives_as types target items holds (Some after) ends.2 ends.3 in
+    let same : Some after ≡ Some holds = all.ends in
+    cc same
+
+pub copies_stay_where_raised : CopiesStayWhereRaised
+copies_stay_where_raised types variables target items holds raised raises =
+    (gives_as types target items holds raises.2 (Some raised) raises.3).raises raised refl

@@ -1,0 +1,221 @@
+-- Records as wholes: they are copied and assigned to, where their components are Integers and Booleans.
+
+use Rattle.std.proofs.Common.{◌≡◌, ℕ, ◌+◌, Bool, true, false, ◌||◌, ◌&&◌, List, [], ◌∷◌, length, take, drop, reverse, refl, ap, ◌∙◌, inl}
+use Rattle.std.proofs.lemmas.Bool.{eqb-true}
+use Rattle.std.specs.Prelude.{Option, Some, None, ◌==◌, if◌then◌else◌}
+use Rattle.std.specs.List.{list_any}
+use Rattle.ada_program.specs.declared.program.ComponentKind.{ComponentKind}
+use Rattle.ada_program.specs.declared.program.ComponentKind.TheVariants as component
+use Rattle.ada_program.specs.declared.program.Exception.TheVariants.{ConstraintError}
+use Rattle.ada_program.specs.declared.program.TypeDefinition.{TypeDefinition}
+use Rattle.ada_program.specs.declared.program.VariableKind.{VariableKind}
+use Rattle.ada_program.specs.declared.program.VariableKind.TheVariants as variable
+use Rattle.ada_program.specs.Form.{RecordPathForm, ItemForm, StmtsForm, assigns_record}
+use Rattle.ada_program.specs.Handling.{is_same}
+use Rattle.ada_program.specs.Typed.{count_of, width_of}
+use Rattle.ada_program.specs.WellFormed.{record_components, reached_components, is_alike, begins_with, has_record_at}
+use Rattle.ada_effects.specs.Effects.{record_path_raises, items_raise, stmt_raises}
+use Rattle.ada_flow.specs.Flow.{Holds, is_owning, is_owning_record, reaches_it, copies_to, uses_in_items, uses_in_record, gives_record, ends_with}
+use Rattle.ada_meaning.specs.declared.state.Id.{Id}
+use Rattle.ada_meaning.specs.declared.state.Value.{Value}
+use Rattle.ada_meaning.specs.declared.state.Value.TheVariants.{Null, Names, Scalar}
+use Rattle.ada_meaning.specs.declared.state.Mode.TheVariants.{Raising}
+use Rattle.ada_meaning.specs.Event.{Followed}
+use Rattle.ada_meaning.specs.Frame.{Does, Fills, TargetsRecord, StoresRecord}
+use Rattle.ada_meaning.specs.Heap.{finds}
+use Rattle.ada_meaning.specs.State.{Activation, Master}
+use Rattle.ada_meaning.specs.Step.{in_front, if_whole, record_in, path_next, copied_next, copies_next, record_target_next, stored_from, record_stored_next, store_record_next}
+use Rattle.ada_meaning.specs.Named.{Object, State, object_at, filled, store, look, named}
+use Rattle.ada_owners.specs.Keeping.{IsThere}
+use Rattle.ada_owners.proofs.Changes.{store_is}
+use Rattle.ada_typed.specs.Holding.{cells_of}
+use Rattle.ada_typed.proofs.Values.{AreComputed}
+use Rattle.ada_typed.proofs.Control as typed
+use Rattle.ada_sound.proofs.Objects.{set_here}
+use Rattle.ada_sound.proofs.Stored.{Stored, stored_filled}
+use Rattle.ada_sound.proofs.Fits.{Fit, MayFollow, none_spared, place_at, root_follows, store_blank}
+use Rattle.ada_sound.proofs.Alters.{Alters, alters_same, alters_set, alters_then}
+use Rattle.ada_sound.proofs.Invariant.{Known, Control, Goes, Raised, RunsOn, RaisesAt, IsPlainIn, CopiesTo, RecordIn, Working, Fine, ways}
+use Rattle.ada_sound.proofs.Ready.{running, at_work, stays, runs_ready, jumps_less}
+use Rattle.ada_sound.proofs.Outcomes.{using_goes, ends_goes}
+use Rattle.ada_sound.proofs.Followings.{first_kept}
+use Rattle.ada_sound.proofs.Raising.{or_left, or_right}
+use Rattle.ada_sound.proofs.Roots.{root_object, object_there, record_raises}
+use Rattle.ada_sound.proofs.Assigned.{kind_names}
+use Rattle.ada_sound.proofs.Copied.{items_keep, copied_plain, RecordThere}
+use Rattle.ada_sound.proofs.Defaults.{Reaches}
+use Rattle.ada_sound.proofs.Records.{NameNothing, plain_names_nothing}
+use Rattle.ada_sound.proofs.Targets.{followed}
+use Rattle.ada_sound.proofs.Walks.{finds_fine}
+
+-- What typing says of a record in an object: the object has its components, from one on.
+begins_some : (found : Option (List ComponentKind)) (first : ℕ) (kinds : List ComponentKind) → has_record_at found first (Some kinds) ≡ true → (components : List ComponentKind) × (found ≡ Some components) × (begins_with (drop first components) kinds ≡ true)
+begins_some None first kinds e = absurd (cc e)
+begins_some (Some components) first kinds e = (components, refl, e)
+
+both : (a b : Bool) → (a && b) ≡ true → (a ≡ true) × (b ≡ true)
+both true b e = (refl, e)
+both false b e = absurd (cc e)
+
+neither : (a b : Bool) → (a || b) ≡ false → (a ≡ false) × (b ≡ false)
+neither true b e = absurd (cc e)
+neither false b e = (refl, e)
+
+alike_owns : (c kind : ComponentKind) → is_alike c kind ≡ true → is_owning c ≡ is_owning kind
+alike_owns (component.Integer i) (component.Integer j) e = refl
+alike_owns (component.Boolean i) (component.Boolean j) e = refl
+alike_owns (component.Access t) (component.Access u) e = refl
+alike_owns (component.Integer i) (component.Boolean j) e = absurd (cc e)
+alike_owns (component.Integer i) (component.Access u) e = absurd (cc e)
+alike_owns (component.Boolean i) (component.Integer j) e = absurd (cc e)
+alike_owns (component.Boolean i) (component.Access u) e = absurd (cc e)
+alike_owns (component.Access t) (component.Integer j) e = absurd (cc e)
+alike_owns (component.Access t) (component.Boolean j) e = absurd (cc e)
+
+-- Where one of the two lists is plain, the other is.
+to_object : (components kinds : List ComponentKind) → begins_with components kinds ≡ true → list_any is_owning kinds ≡ false → list_any is_owning (take (length kinds) components) ≡ false
+to_object components [] begins plain = refl
+to_object [] (kind ∷ kinds) begins plain = absurd (cc begins)
+to_object (c ∷ components) (kind ∷ kinds) begins plain =
+    let b = both (is_alike c kind) (begins_with components kinds) begins in
+    let p = neither (is_owning kind) (list_any is_owning kinds) plain in
+    rw (alike_owns c kind b.0, p.0) (to_object components kinds b.1 p.1)
+
+from_object : (components kinds : List ComponentKind) → begins_with components kinds ≡ true → list_any is_owning (take (length kinds) components) ≡ false → list_any is_owning kinds ≡ false
+from_object components [] begins plain = refl
+from_object [] (kind ∷ kinds) begins plain = absurd (cc begins)
+from_object (c ∷ components) (kind ∷ kinds) begins plain =
+    let b = both (is_alike c kind) (begins_with components kinds) begins in
+    let p = neither (is_owning c) (list_any is_owning (take (length kinds) components)) plain in
+    rw (← alike_owns c kind b.0, p.0) (from_object components kinds b.1 p.1)
+
+-- As many values as are copied.
+whole_length : (count : ℕ) (values vs : List Value) → if_whole count values ≡ Some vs → length vs ≡ count
+whole_length count values vs e = go (length values == count) refl e
+  where
+    go : (b : Bool) → (length values == count) ≡ b → (if b then Some values else None) ≡ Some vs → length vs ≡ count
+    go true is e' = let one : values ≡ vs = cc e' in rw (← one) (eqb-true (length values) count is)
+    go false is e' = absurd (cc e')
+
+-- An object of which components get values that name nothing is still there, objects are stored, and all places are as they are relied on to be.
+pub record Stores (known : Known) (heap : List Object) (places : List Value) (ms : List Master) (holds : Holds) (o : Id) (after : List Object) : Type 0 where
+  pub stored : Stored None after ms
+  pub fit : Fit known.program.types known.program.variables none_spared after places holds
+  pub alters : Alters heap (Followed (Names o)) after
+
+store_all : (known : Known) (heap : List Object) (places : List Value) (ms : List Master) (holds : Holds) (o : Id) (object : Object) (c : ℕ) (vs : List Value) → object_at heap o ≡ Some object → NameNothing vs → Stored None heap ms → Fit known.program.types known.program.variables none_spared heap places holds → Stores known heap places ms holds o (stored_from named heap (Names o) c vs)
+store_all known heap places ms holds o object c [] found none stored fit = record { stored = stored; fit = fit; alters = alters_same heap (Followed (Names o)) }
+store_all known heap places ms holds o object c (v ∷ vs) found none stored fit =
+    let one = store_is heap o object found c v in
+    let mid = store heap (Names o) c v in
+    let there : object_at mid o ≡ Some (filled c v object) = rw one (set_here heap o.0 object (filled c v object) found) in
+    let stays : Stored None mid ms = rw one (stored_filled o object c v found stored) in
+    let alters : Alters heap (Followed (Names o)) mid = rw one (alters_set heap (Followed (Names o)) o object (filled c v object) found (refl, refl, refl) (λ h. h) (λ h. inl h)) in
+    let later = store_all known mid places ms holds o (filled c v object) (c + 1) vs there none.1 stays (store_blank o object c v found none.0 fit) in
+    record { stored = later.stored; fit = later.fit; alters = alters_then heap mid (stored_from named mid (Names o) (c + 1) vs) (Followed (Names o)) alters later.alters }
+
+module _ (known : Known) (types : List TypeDefinition) (reaches : Reaches known types) (k : Control) (a : Activation Value) (rest : List (Activation Value)) (s : State) where
+  -- As many components as a record type has.
+  width_is : (t : ℕ) (kinds : List ComponentKind) → record_components known.program.types t ≡ Some kinds → width_of types t ≡ length kinds
+  width_is t kinds is = ap count_of (reaches.1 t ∙ is)
+
+  -- A record is copied: null raises Constraint_Error.
+  copied_on : (next : Control) (o : Id) (there : IsThere s.heap o) (t : ℕ) (below : List Value) (found : Option (List Value)) → ((vs : List Value) → found ≡ Some vs → length vs ≡ width_of types t) → Working known s.heap a.places s.masters (CopiesTo known s.heap a.places t below next) → Fine known s.heap s.masters (copied_next named (Names o) found (running next (record a { operands = below }) rest s))
+  copied_on next o there t below None many w = tt
+  copied_on [] o there t below (Some vs) many w = absurd w.rest
+  copied_on (Fills items ∷ k') o there t below (Some vs) many w =
+      stays known (Followed (Names o)) (running (Fills items ∷ k') (record a { operands = in_front vs below }) rest s)
+      (tt, at_work w (w.rest.2 vs (many vs refl ∙ width_is t w.rest.0 w.rest.1))) (followed o there w.stored)
+  copied_on (f ∷ k') o there t below (Some vs) many w = absurd w.rest
+
+  pub copies_fine : (first t : ℕ) (v : Value) (below : List Value) → Working known s.heap a.places s.masters (λ rooms holds. MayFollow s.heap v × RaisesAt known v [] k rooms holds × CopiesTo known s.heap a.places t below k rooms holds) → Fine known s.heap s.masters (copies_next named v first (width_of types t) (look s.heap v) (running k (record a { operands = below }) rest s))
+  copies_fine first t Null below w = jumps_less known k (record a { operands = below }) rest s (Raising ConstraintError) (at_work w (w.rest.1 refl))
+  copies_fine first t (Names o) below w =
+      let there : IsThere s.heap o = w.rest.0 in
+      let looks : look s.heap (Names o) ≡ finds there.0.cell = rw (there.1, (w.stored.sane o there.0 there.1).listed_exists there.2) refl in
+      rw looks (copied_on k o there t below (record_in there.0.cell.values first (width_of types t)) (λ vs is. whole_length (width_of types t) (take (width_of types t) (drop first there.0.cell.values)) vs is) (at_work w w.rest.2))
+  copies_fine first t (Scalar n) below w = tt
+
+  -- The object in which a record lies that is assigned to is found: its items come next.
+  plain_there : (first t : ℕ) (o : Id) (object : Object) (below : List Value) (kinds : List VariableKind) → object_at s.heap o ≡ Some object → object.listed ≡ true → is_owning_record known.program.types t ≡ false → (items : List ItemForm) → typed.Fits known.program (cells_of s.heap) kinds (TargetsRecord first t items ∷ k) → AreComputed (cells_of s.heap) kinds (Names o ∷ below) → IsPlainIn known s.heap (Names o) first (width_of types t)
+  plain_there first t o object below kinds found listed plain items (ks, access, rs, is, components, lies, fits, more) computed =
+      let newest : AreComputed (cells_of s.heap) (variable.Access access ∷ ks) (Names o ∷ below) = rw is at computed in
+      let of : Some access.0 ≡ Some object.cell.access = kind_names s.heap (variable.Access access) o object newest.0 found in
+      let same : access.0 ≡ object.cell.access = cc of in
+      let b = begins_some (reached_components known.program.types object.cell.access) first rs (rw same at lies) in
+      let none : list_any is_owning rs ≡ false = rw components at plain in
+      (object, found, listed, b.0, b.1, rw (width_is t rs components) (to_object (drop first b.0) rs b.2 none))
+
+  pub record_target_fine : (first t : ℕ) (items : List ItemForm) (v : Value) (below : List Value) (kinds : List VariableKind) → typed.Fits known.program (cells_of s.heap) kinds (TargetsRecord first t items ∷ k) → AreComputed (cells_of s.heap) kinds (v ∷ below) → Working known s.heap a.places s.masters (λ rooms holds. MayFollow s.heap v × RaisesAt known v [] k rooms holds × RecordIn known t items k rooms holds) → Fine known s.heap s.masters (record_target_next named v first (width_of types t) items (look s.heap v) (running k (record a { operands = below }) rest s))
+  record_target_fine first t items Null below kinds fits computed w = jumps_less known k (record a { operands = below }) rest s (Raising ConstraintError) (at_work w (w.rest.1 refl))
+  record_target_fine first t items (Names o) below kinds fits computed w =
+      let there : IsThere s.heap o = w.rest.0 in
+      let in_record = w.rest.2 in
+      let plain = plain_there first t o there.0 below kinds there.1 there.2 in_record.0 items fits computed in
+      rw (there.1, (w.stored.sane o there.0 there.1).listed_exists there.2)
+      (stays known (Followed (Names o)) (running (Fills items ∷ StoresRecord (Names o) first (width_of types t) ∷ k) (record a { operands = below }) rest s)
+      (tt, at_work w (in_record.1, (plain, in_record.2))) (followed o there w.stored))
+  record_target_fine first t items (Scalar n) below kinds fits computed w = tt
+
+  -- The values of its items go into its components.
+  named_nothing : (o : Id) (first count : ℕ) (kinds : List VariableKind) → typed.Fits known.program (cells_of s.heap) kinds (StoresRecord (Names o) first count ∷ k) → AreComputed (cells_of s.heap) kinds a.operands → IsPlainIn known s.heap (Names o) first count → NameNothing (reverse (take count a.operands))
+  named_nothing o first count kinds (ks, access, rs, is, counted, name, designates, lies, more) computed (object, found, listed, components, reached, plain) =
+      let have = (typed.split (cells_of s.heap) rs ks a.operands (rw is at computed)).0 in
+      let of : Some access.0 ≡ Some object.cell.access = kind_names s.heap (variable.Access access) o object designates found in
+      let same : access.0 ≡ object.cell.access = cc of in
+      let b = begins_some (reached_components known.program.types object.cell.access) first rs (rw same at lies) in
+      let one : b.0 ≡ components = let at = b.1 in cc (at, reached) in
+      let begins : begins_with (drop first components) rs ≡ true = rw one at b.2 in
+      rw counted (plain_names_nothing (cells_of s.heap) rs (reverse (take (length rs) a.operands)) (from_object (drop first components) rs begins (rw counted at plain)) have)
+
+  stored_whole : (o : Id) (object : Object) (first count : ℕ) (found : Option (List Value)) → object_at s.heap o ≡ Some object → object.listed ≡ true → NameNothing (reverse (take count a.operands)) → Working known s.heap a.places s.masters (RunsOn known k) → Fine known s.heap s.masters (record_stored_next named (Names o) first (reverse (take count a.operands)) found (running k (record a { operands = drop count a.operands }) rest s))
+  stored_whole o object first count None found listed none w = tt
+  stored_whole o object first count (Some before) found listed none w =
+      let vs = reverse (take count a.operands) in
+      let after = stored_from named s.heap (Names o) first vs in
+      let all = store_all known s.heap a.places s.masters w.holds o object first vs found none w.stored w.fit in
+      record {
+        ready = (tt, runs_ready known k after a.places (drop count a.operands) s.masters (record { rooms = w.rooms; holds = w.holds; stored = all.stored; roomed = w.roomed; fit = all.fit; rest = w.rest }));
+        alters = all.alters;
+        says = followed o (object, found, listed) w.stored;
+      }
+
+  pub store_record_fine : (o : Value) (first count : ℕ) (kinds : List VariableKind) → typed.Fits known.program (cells_of s.heap) kinds (StoresRecord o first count ∷ k) → AreComputed (cells_of s.heap) kinds a.operands → Working known s.heap a.places s.masters (λ rooms holds. IsPlainIn known s.heap o first count × RunsOn known k rooms holds) → Fine known s.heap s.masters (store_record_next named o first count (look s.heap o) (running k a rest s))
+  store_record_fine Null first count kinds fits computed w = absurd w.rest.0
+  store_record_fine (Names o) first count kinds fits computed w =
+      let p = w.rest.0 in
+      let none = named_nothing o first count kinds fits computed p in
+      let looks : look s.heap (Names o) ≡ finds p.0.cell = rw (p.1, (w.stored.sane o p.0 p.1).listed_exists p.2) refl in
+      rw looks (stored_whole o p.0 first count (record_in p.0.cell.values first count) p.1 p.2 none (at_work w w.rest.1))
+  store_record_fine (Scalar n) first count kinds fits computed w = absurd w.rest.0
+
+-- A record is assigned to: its object is found first.
+pub record_begins : (known : Known) (a : Activation Value) (rest : List (Activation Value)) (s : State) (target : RecordPathForm) (items : List ItemForm) (fs : StmtsForm) (k : Control) → RecordThere known.program.types known.program.variables target → Working known s.heap a.places s.masters (λ rooms holds. Goes (gives_record known.program.types target items holds) (RunsOn known (Does fs ∷ k) rooms) (Raised (λ e. stmt_raises (is_same e) (assigns_record target items)) (ways known k rooms))) → Fine known s.heap s.masters (path_next named target.object.selectors (place_at a.places target.object.root) (running (TargetsRecord target.first target.record_type items ∷ Does fs ∷ k) a rest s))
+record_begins known a rest s target items fs k there w =
+    let program = known.program in
+    let path = target.object in
+    let v = place_at a.places path.root in
+    let owning = is_owning_record program.types target.record_type in
+    let used = uses_in_items program.types path.spot None [] items in
+    let may = record_path_raises target || items_raise items in
+    let raised' = Raised (λ e. stmt_raises (is_same e) (assigns_record target items)) (ways known k w.rooms) in
+    let u = using_goes (reaches_it path ∷ uses_in_record program.types path.spot target.record_type items) w.holds (ends_with may w.holds w.holds) (RunsOn known (Does fs ∷ k) w.rooms) raised' w.rest in
+    let n = ends_goes may w.holds w.holds (RunsOn known (Does fs ∷ k) w.rooms) raised' u.1 in
+    let reached = first_kept w.holds (reaches_it path) (uses_in_record program.types path.spot target.record_type items) u.0 in
+    let copied = first_kept w.holds (copies_to owning path.spot) used reached.1 in
+    finds_fine known a rest s a.operands (TargetsRecord target.first target.record_type items ∷ Does fs ∷ k) path.selectors v
+    (at_work w (
+      record_raises known v (Does fs ∷ k) w.rooms w.holds path.of_record path.selectors
+          (λ whole. object_there path.root path.spot reached.0 (root_object program.types program.variables path there.to there.leads whole) w.fit)
+          (λ raises. (let either = or_left (record_path_raises target) (items_raise items) raises in n.1 either ConstraintError either)),
+      (
+        copied_plain owning path.spot copied.0,
+        record {
+          spot = path.spot;
+          earlier = [];
+          keeps = items_keep program.types path.spot None w.holds [] items copied.1;
+          raises = λ raises. (let either = or_right (record_path_raises target) (items_raise items) raises in n.1 either ConstraintError either);
+        },
+        n.0,
+      ),
+    )) (root_follows path.root path.spot reached.0 w.fit)
