@@ -74,12 +74,12 @@ one_resolution tokens tree source t u a b = ap resolution (same_tree tokens tree
 -- The flow of a program, from its plain data.
 abbrev pub flow_by : ProgramForm → Outcome
 flow_by p =
-    then_flow (declarations_flow p.variables p.declarations (replicate (length p.variables) Lost))
+    then_flow (declarations_flow p.types p.variables p.declarations (replicate (length p.variables) Lost))
     (λ at. handled (passes p.statements p.handlers) (handlers_flow p.types p.variables outermost p.handlers) (stmts_flow p.types p.variables outermost p.statements at))
 
 flow_is : (p : Program) → program_flow p ≡ flow_by (program_form p)
 flow_is p =
-    ap (λ (n : ℕ). then_flow (declarations_flow (variables_of p) (declaration_forms p) (replicate n Lost))
+    ap (λ (n : ℕ). then_flow (declarations_flow (types_of p) (variables_of p) (declaration_forms p) (replicate n Lost))
     (λ at. handled (passes (stmt_forms p) (handler_forms p)) (handlers_flow (types_of p) (variables_of p) outermost (handler_forms p)) (stmts_flow (types_of p) (variables_of p) outermost (stmt_forms p) at)))
     (sym (length-map p.variables.items variable_form))
 
