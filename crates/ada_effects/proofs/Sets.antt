@@ -7,7 +7,8 @@ use Rattle.std.proofs.Math.Path.{fun_ext}
 use Rattle.std.specs.Global.{Vec}
 use Rattle.ada_effects.specs.declared.taken.Taken.{Taken}
 use Rattle.ada_effects.specs.Effects.{untaken}
-use Rattle.ada_effects.specs.Taken.{set_of, outside, with_one, with_choice, with_choices, with_handlers, is_among, without, is_others, has_others, have_others}
+use Rattle.ada_effects.specs.Found.{left_of}
+use Rattle.ada_effects.specs.Taken.{set_of, with_one, with_choice, with_choices, with_handlers, is_among, without, is_others, has_others, have_others}
 use Rattle.ada_effects.proofs.Sameness.{are_equal}
 use Rattle.ada_program.specs.declared.program.Choice.{Choice}
 use Rattle.ada_program.specs.declared.program.Choice.TheVariants as choice
@@ -50,11 +51,6 @@ holds_nothing v h ProgramError = refl
 holds_nothing v h StorageError = refl
 holds_nothing v h EndError = refl
 holds_nothing v h (Declared n) = ap (λ xs. get_or xs n.0 false) h
-
--- What is outside of a set.
-pub is_outside : (s : Exception → Bool) (e : Exception) → outside s e ≡ not (s e)
-unfolding outside
-is_outside s e = refl
 
 -- An exception joins the set by its flag.
 
@@ -106,6 +102,16 @@ declared_joins t v n h = fun_ext (λ e. elim e as (λ e. set_of (record t { decl
   | ProgramError ↦ sym (or-false t.program_error)
   | StorageError ↦ sym (or-false t.storage_error)
   | EndError ↦ sym (or-false t.end_error)
+  | Declared m ↦ h m.0
+])
+
+pub declared_stay : (t : Taken) (v : Vec Bool) → ((m : ℕ) → get_or v.items m false ≡ get_or t.declared.items m false) → set_of (record t { declared = v }) ≡ set_of t
+unfolding set_of
+declared_stay t v h = fun_ext (λ e. elim e as (λ e. set_of (record t { declared = v }) e ≡ set_of t e) [
+  | ConstraintError ↦ refl
+  | ProgramError ↦ refl
+  | StorageError ↦ refl
+  | EndError ↦ refl
   | Declared m ↦ h m.0
 ])
 
@@ -192,7 +198,7 @@ joins_again e s h = fun_ext (λ f. elim (cases_Bool (is_same f e)) [
   | inr other ↦ sym (ap (λ b. s f || b) other ∙ or-false (s f))
 ])
 
-among_more : (e : Exception) (fs gs : List Exception) → is_among e (fs ++ gs) ≡ (is_among e fs || is_among e gs)
+pub among_more : (e : Exception) (fs gs : List Exception) → is_among e (fs ++ gs) ≡ (is_among e fs || is_among e gs)
 among_more e [] gs = refl
 among_more e (f ∷ fs) gs = ap (λ b. is_same e f || b) (among_more e fs gs) ∙ sym (or_assoc (is_same e f) (is_among e fs) (is_among e gs))
 
@@ -251,25 +257,31 @@ others_take (a_handler cs fs hs) e h = first_or_later e cs fs hs ∙ elim (cases
   | inr not_here ↦ ap (λ b. some_takes e cs || b) (others_take hs e (sym (ap (λ b. b || have_others hs) not_here) ∙ h)) ∙ or-true (some_takes e cs)
 ]
 
-not_either : (a b : Bool) → not (a || b) ≡ (not a && not b)
-not_either true b = refl
-not_either false b = refl
+not_again : (a b c : Bool) → (a && not (b || c)) ≡ ((a && not b) && not c)
+not_again false b c = refl
+not_again true true c = refl
+not_again true false c = refl
 
--- What is outside of the set with the handlers is what they leave of what was outside before.
-pub outside_handled : (hs : HandlersForm) (s : Exception → Bool) → have_others hs ≡ false → outside (with_handlers hs s) ≡ untaken hs (outside s)
-unfolding outside
-outside_handled hs s h = fun_ext (λ e. ap not (all_handled hs s e h) ∙ not_either (s e) (is_taken hs e))
+-- What is left where the handlers take besides is what they leave of what was left before.
+pub left_of_handled : (hs : HandlersForm) (s p : Exception → Bool) → have_others hs ≡ false → left_of (with_handlers hs s) p ≡ untaken hs (left_of s p)
+unfolding left_of
+left_of_handled hs s p h = fun_ext (λ e. ap (λ b. p e && not b) (all_handled hs s e h) ∙ not_again (p e) (s e) (is_taken hs e))
 
 -- With `others` they leave nothing.
 pub nothing_left : (hs : HandlersForm) (s : Exception → Bool) (e : Exception) → have_others hs ≡ true → untaken hs s e ≡ false
 nothing_left hs s e h = ap (λ b. s e && not b) (others_take hs e h) ∙ and-false (s e)
 
--- Outside of the empty set they leave what they do not take.
-pub outside_nothing : (hs : HandlersForm) (s : Exception → Bool) → ((e : Exception) → s e ≡ false) → untaken hs (outside s) ≡ (λ e. not (is_taken hs e))
-unfolding outside
-outside_nothing hs s h = fun_ext (λ e. ap (λ b. not b && not (is_taken hs e)) (h e))
+-- Of what is left where nothing is taken, they leave what they do not take.
+pub left_of_none : (hs : HandlersForm) (s : Exception → Bool) → ((e : Exception) → s e ≡ false) → untaken hs (left_of s (λ e. true)) ≡ (λ e. not (is_taken hs e))
+unfolding left_of
+left_of_none hs s h = fun_ext (λ e. ap (λ b. (true && not b) && not (is_taken hs e)) (h e))
+
+-- Where nothing is taken, all is left.
+pub left_of_all : (s p : Exception → Bool) → ((e : Exception) → s e ≡ false) → left_of s p ≡ p
+unfolding left_of
+left_of_all s p h = fun_ext (λ e. ap (λ b. p e && not b) (h e) ∙ and-true (p e))
 
 -- How the code's steps change a set.
-pub ruleset each_flag = (constraint_error_joins, program_error_joins, storage_error_joins, end_error_joins, declared_joins, constraint_error_leaves, program_error_leaves, storage_error_leaves, end_error_leaves, declared_leaves)
+pub ruleset each_flag = (constraint_error_joins, program_error_joins, storage_error_joins, end_error_joins, declared_joins, declared_stay, constraint_error_leaves, program_error_leaves, storage_error_leaves, end_error_leaves, declared_leaves)
 
 pub ruleset joining = (without_none, without_more, joins_again, joins_and_leaves)

@@ -17,10 +17,6 @@ set_of t StorageError = t.storage_error
 set_of t EndError = t.end_error
 set_of t (Declared e) = slice_index_or t.declared.items e.0 false
 
--- What is not in a set.
-unfoldable pub outside : (Exception → Bool) → Exception → Bool
-outside set e = not (set e)
-
 -- A set with one more exception.
 unfoldable pub with_one : Exception → (Exception → Bool) → Exception → Bool
 with_one f set e = set e || is_same e f

@@ -74,6 +74,18 @@ pub fn record_path_raises(path: &RecordPath) -> bool
     !path.object.of_record || !path.object.selectors.is_empty()
 }
 
+/// Whether one of these expressions may.
+pub fn expressions_raise(expressions: &[Expression]) -> bool
+    ensures { result ≡ rules.expressions_raise (map expression_form expressions.now) }
+{
+    'expressions: for expression in expressions {
+        if expression_raises(expression) {
+            return true;
+        }
+    }
+    false
+}
+
 /// Whether an item of an aggregate may raise an exception.
 fn item_raises(item: &Item) -> bool
     ensures { result ≡ rules.item_raises (item_form item.now) }

@@ -1,16 +1,25 @@
-//! Effects: what a form may do beside its normal end, whatever its variables hold. Here are the exceptions that it may raise.
+//! Effects: what a form may do beside its normal end, whatever its variables hold: which exceptions it may raise, and of
+//! which access types it may free objects.
 //!
-//! `passes` answers whether statements may raise an exception that none of their handlers takes. It goes through each
-//! statement once, and through the choices of each handler no more than twice: what the handlers of a block take joins
-//! one set for the statements of that block, and leaves it again behind them.
+//! `passes` answers whether statements may raise an exception that none of their handlers takes, and `effect_of` what is known
+//! of the calls of a procedure, by its body and by what is known of those before it. Each goes through a statement once for
+//! exceptions, `effect_of` once more for what is freed, and through the choices of each handler no more than twice: what the
+//! handlers of a block take joins one set for the statements of that block, and leaves it again behind them. A call costs
+//! the size of what is known of it.
 #![tactic(auto)]
 
+mod effect;
 mod expressions;
+mod found;
+mod freed;
+mod frees;
 pub mod laws;
 mod raised;
 mod taken;
 
+pub use crate::effect::{Effect, effect_of};
 pub use crate::expressions::{
-    condition_raises, expression_raises, items_raise, path_raises, record_path_raises,
+    condition_raises, expression_raises, expressions_raise, items_raise, path_raises,
+    record_path_raises,
 };
 pub use crate::raised::passes;

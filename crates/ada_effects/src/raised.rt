@@ -1,138 +1,175 @@
-//! Whether statements may raise an exception that no handler takes.
+//! Which exceptions statements may raise that no handler takes.
 
-ghost use Rattle.std.specs.Prelude.{◌≡◌, ◌||◌, map, OnOk, IfOk};
+ghost use Rattle.std.specs.Prelude.{◌≡◌, ◌||◌, Bool, map, OnOk, IfOk};
+ghost use Rattle.std.specs.List.{slice_get};
 ghost use Rattle.ada_effects.specs.Effects as rules;
-ghost use Rattle.ada_effects.specs.Taken.{set_of, outside};
-ghost use Rattle.ada_program.specs.declared.program.Exception.TheVariants.{ConstraintError, StorageError};
+ghost use Rattle.ada_effects.specs.Found.{Finds, effects_in, is_found, left_of};
+ghost use Rattle.ada_effects.specs.Taken.{set_of};
+ghost use Rattle.ada_program.specs.declared.program.Exception.{Exception};
 ghost use Rattle.ada_program.specs.Form.{StmtsForm, right_form, declaration_form, stmt_form, stmts_form, branches_form, handlers_form};
 
+use crate::effect::Effect;
 use crate::expressions::{
-    condition_raises, expression_raises, items_raise, path_raises, record_path_raises,
+    condition_raises, expression_raises, expressions_raise, items_raise, path_raises,
+    record_path_raises,
 };
+use crate::found::Found;
 use crate::taken::{Taken, have_others};
-use ada_program::Stmt;
 use ada_program::program::{Branch, Declaration, Exception, Handler, Right};
+use ada_program::{ProcedureNo, Stmt};
 use std::alloc::{AllocError, Global};
 
-/// Whether the statements of a block may raise an exception that none of its handlers takes (11.4).
+/// Whether the statements of a block may raise an exception that none of its handlers takes (11.4), where this is known of
+/// the calls of procedures.
 ///
 /// # Errors
-/// `AllocError` where memory for the set of the exceptions that are taken was refused.
+/// `AllocError` where memory for the set of the exceptions that are taken, or of those that are raised, was refused.
 #[tactic(auto, using(std::proofs::lemmas::Grind::common_steps, crate::proofs::Raising::passes_steps))]
-pub fn passes(alloc: Global, statements: &[Stmt], handlers: &[Handler]) -> Result<bool, AllocError>
-    ensures { IfOk result
-        (λ answer. answer ≡ rules.passes (stmts_form statements.now) (handlers_form handlers.now)) }
+pub fn passes(
+    alloc: Global,
+    effects: &[Effect],
+    statements: &[Stmt],
+    handlers: &[Handler],
+) -> Result<bool, AllocError>
+    ensures { IfOk result (λ answer. answer
+        ≡ rules.passes (effects_in effects.now) (stmts_form statements.now) (handlers_form handlers.now)) }
 {
     let mut taken = Taken::new(alloc);
-    handled_raise(alloc, statements, handlers, &mut taken)
+    let mut found = Found::nothing(alloc);
+    find_handled(alloc, effects, statements, handlers, &mut taken, &mut found)?;
+    Ok(found.is_some())
 }
 
-/// Whether a right side may raise an exception outside the set: a new object may want storage (4.8).
-#[tactic(auto, using(std::proofs::lemmas::Grind::common_steps, crate::proofs::Sets::is_outside))]
-fn right_raises(right: &Right, taken: &Taken) -> bool
-    ensures { result ≡ rules.right_raises (outside (set_of taken.now)) (right_form right.now) }
+/// What is assigned may raise exceptions: a new object may want storage (4.8).
+fn find_in_right(right: &Right, taken: &Taken, found: &mut Found) -> Result<(), AllocError>
+    ensures { Finds result (set_of taken.now) found.old found.new
+        (λ among. rules.right_raises among (right_form right.now)) }
 {
     match right {
-        Right::Null => false,
-        Right::Path(path) => constraint_error_leaves(taken) && path_raises(path),
+        Right::Null => Ok(()),
+        Right::Path(path) => found.add_if(taken, Exception::ConstraintError, path_raises(path)),
         Right::Allocator { access: _, items } => {
-            storage_error_leaves(taken) || constraint_error_leaves(taken) && items_raise(items)
+            found.add(taken, Exception::StorageError)?;
+            found.add_if(taken, Exception::ConstraintError, items_raise(items))
         }
-        Right::Default(_) => storage_error_leaves(taken),
-        Right::Value(expression) => constraint_error_leaves(taken) && expression_raises(expression),
+        Right::Default(_) => found.add(taken, Exception::StorageError),
+        Right::Value(expression) => found.add_if(
+            taken,
+            Exception::ConstraintError,
+            expression_raises(expression),
+        ),
     }
 }
 
-/// Whether Storage_Error is outside the set.
-#[tactic(auto, using(std::proofs::lemmas::Grind::common_steps, crate::proofs::Sets::is_outside))]
-fn storage_error_leaves(taken: &Taken) -> bool
-    ensures { result ≡ outside (set_of taken.now) StorageError }
-{
-    !taken.contains(Exception::StorageError)
-}
-
-/// Whether Constraint_Error is outside the set.
-#[tactic(auto, using(std::proofs::lemmas::Grind::common_steps, crate::proofs::Sets::is_outside))]
-fn constraint_error_leaves(taken: &Taken) -> bool
-    ensures { result ≡ outside (set_of taken.now) ConstraintError }
-{
-    !taken.contains(Exception::ConstraintError)
-}
-
-/// Whether a declaration may.
-fn declaration_raises(declaration: &Declaration, taken: &Taken) -> bool
-    ensures { result ≡ rules.declaration_raises (outside (set_of taken.now))
-        (declaration_form declaration.now) }
+/// A declaration may.
+fn find_in_declaration(
+    declaration: &Declaration,
+    taken: &Taken,
+    found: &mut Found,
+) -> Result<(), AllocError>
+    ensures { Finds result (set_of taken.now) found.old found.new
+        (λ among. rules.declaration_raises among (declaration_form declaration.now)) }
 {
     match declaration {
         Declaration::Variable {
             variable: _,
             initial: Some(right),
-        } => right_raises(right, taken),
+        } => find_in_right(right, taken, found),
         Declaration::Record {
             variable: _,
             object: _,
             initial: Some(items),
-        } => constraint_error_leaves(taken) && items_raise(items),
-        _ => false,
+        } => found.add_if(taken, Exception::ConstraintError, items_raise(items)),
+        _ => Ok(()),
     }
 }
 
-/// Whether declarations may.
-fn declarations_raise(declarations: &[Declaration], taken: &Taken) -> bool
-    ensures { result ≡ rules.declarations_raise (outside (set_of taken.now))
-        (map declaration_form declarations.now) }
+/// Declarations may.
+pub(crate) fn find_in_declarations(
+    declarations: &[Declaration],
+    taken: &Taken,
+    found: &mut Found,
+) -> Result<(), AllocError>
+    ensures { Finds result (set_of taken.now) found.old found.new
+        (λ among. rules.declarations_raise among (map declaration_form declarations.now)) }
 {
     'declarations: for declaration in declarations {
-        if declaration_raises(declaration, taken) {
-            return true;
-        }
+        find_in_declaration(declaration, taken, found)?;
     }
-    false
+    Ok(())
 }
 
-/// Whether a statement may. The set is the same afterwards.
+/// A call may raise what is known of it (6.4).
+fn find_in_call(
+    effects: &[Effect],
+    procedure: ProcedureNo,
+    taken: &Taken,
+    found: &mut Found,
+) -> Result<(), AllocError>
+    ensures { Finds result (set_of taken.now) found.old found.new
+        (rules.call_raises (slice_get (effects_in effects.now) procedure.0)) }
+{
+    match effects.get(procedure.0) {
+        None => Ok(()),
+        Some(effect) => found.add_all(taken, &effect.raises),
+    }
+}
+
+/// A statement may. What is taken is the same afterwards.
 #[cycle(raising)]
-#[tactic(auto, using(std::proofs::lemmas::Grind::common_steps, ada_program::specs::Form::statement_rules, crate::proofs::Sets::is_outside))]
-fn stmt_raises(alloc: Global, statement: &Stmt, taken: &mut Taken) -> Result<bool, AllocError>
-    ensures answered { IfOk result
-        (λ answer. answer ≡ rules.stmt_raises (outside (set_of taken.old)) (stmt_form statement.now)) }
+#[tactic(auto, using(std::proofs::lemmas::Grind::common_steps, ada_program::specs::Form::statement_rules))]
+fn find_in_statement(
+    alloc: Global,
+    effects: &[Effect],
+    statement: &Stmt,
+    taken: &mut Taken,
+    found: &mut Found,
+) -> Result<(), AllocError>
+    ensures found { Finds result (set_of taken.old) found.old found.new
+        (λ among. rules.stmt_raises (effects_in effects.now) among (stmt_form statement.now)) }
     ensures kept { OnOk result (set_of taken.new ≡ set_of taken.old) }
 {
     match statement {
-        Stmt::Null | Stmt::PutText(_) | Stmt::Return(_) => Ok(false),
-        Stmt::Free { access: _, path } => Ok(constraint_error_leaves(taken) && path_raises(path)),
+        Stmt::Null | Stmt::PutText(_) | Stmt::Return(_) => Ok(()),
+        Stmt::Free { access: _, path } => {
+            found.add_if(taken, Exception::ConstraintError, path_raises(path))
+        }
         Stmt::Assign { target, value } => {
-            Ok(constraint_error_leaves(taken) && path_raises(target) || right_raises(value, taken))
+            found.add_if(taken, Exception::ConstraintError, path_raises(target))?;
+            find_in_right(value, taken, found)
         }
-        Stmt::AssignRecord { target, items } => Ok(
-            constraint_error_leaves(taken) && (record_path_raises(target) || items_raise(items)),
+        Stmt::AssignRecord { target, items } => found.add_if(
+            taken,
+            Exception::ConstraintError,
+            record_path_raises(target) || items_raise(items),
         ),
-        Stmt::Get(target) => Ok(
-            !taken.contains(Exception::EndError)
-                || constraint_error_leaves(taken) && path_raises(target),
-        ),
-        Stmt::PutImage(expression) => {
-            Ok(constraint_error_leaves(taken) && expression_raises(expression))
+        Stmt::Get(target) => {
+            found.add(taken, Exception::EndError)?;
+            found.add_if(taken, Exception::ConstraintError, path_raises(target))
         }
+        Stmt::PutImage(expression) => found.add_if(
+            taken,
+            Exception::ConstraintError,
+            expression_raises(expression),
+        ),
         Stmt::If {
             branches,
             otherwise,
         } => {
-            if branches_raise(alloc, branches, taken)? {
-                return Ok(true);
-            }
-            stmts_raise(alloc, otherwise, taken)
+            find_in_branches(alloc, effects, branches, taken, found)?;
+            find_in_statements(alloc, effects, otherwise, taken, found)
         }
         Stmt::Loop {
             condition,
             statements,
             end: _,
         } => {
-            if constraint_error_leaves(taken) && condition_raises(condition) {
-                return Ok(true);
-            }
-            stmts_raise(alloc, statements, taken)
+            found.add_if(
+                taken,
+                Exception::ConstraintError,
+                condition_raises(condition),
+            )?;
+            find_in_statements(alloc, effects, statements, taken, found)
         }
         Stmt::For {
             parameter: _,
@@ -141,103 +178,122 @@ fn stmt_raises(alloc: Global, statement: &Stmt, taken: &mut Taken) -> Result<boo
             statements,
             end: _,
         } => {
-            if constraint_error_leaves(taken)
-                && (expression_raises(first) || expression_raises(last))
-            {
-                return Ok(true);
-            }
-            stmts_raise(alloc, statements, taken)
+            found.add_if(
+                taken,
+                Exception::ConstraintError,
+                expression_raises(first) || expression_raises(last),
+            )?;
+            find_in_statements(alloc, effects, statements, taken, found)
         }
-        Stmt::Exit { condition, spot: _ } => {
-            Ok(constraint_error_leaves(taken) && condition_raises(condition))
+        Stmt::Exit { condition, spot: _ } => found.add_if(
+            taken,
+            Exception::ConstraintError,
+            condition_raises(condition),
+        ),
+        Stmt::Call { procedure, actuals } => {
+            found.add_if(
+                taken,
+                Exception::ConstraintError,
+                expressions_raise(actuals),
+            )?;
+            find_in_call(effects, *procedure, taken, found)
         }
-        Stmt::Raise(exception) => Ok(!taken.contains(*exception)),
+        Stmt::Raise(exception) => found.add(taken, *exception),
         Stmt::Block {
             declarations,
             statements,
             handlers,
         } => {
-            if declarations_raise(declarations, taken)
-                || handled_raise(alloc, statements, handlers, taken)?
-            {
-                return Ok(true);
-            }
-            handlers_raise(alloc, handlers, taken)
+            find_in_declarations(declarations, taken, found)?;
+            find_handled(alloc, effects, statements, handlers, taken, found)?;
+            find_in_handlers(alloc, effects, handlers, taken, found)
         }
     }
 }
 
-/// Whether statements may. The set is the same afterwards.
+/// Statements may. What is taken is the same afterwards.
 #[cycle(raising)]
-fn stmts_raise(alloc: Global, statements: &[Stmt], taken: &mut Taken) -> Result<bool, AllocError>
-    ensures answered { IfOk result
-        (λ answer. answer ≡ rules.stmts_raise (outside (set_of taken.old)) (stmts_form statements.now)) }
+fn find_in_statements(
+    alloc: Global,
+    effects: &[Effect],
+    statements: &[Stmt],
+    taken: &mut Taken,
+    found: &mut Found,
+) -> Result<(), AllocError>
+    ensures found { Finds result (set_of taken.old) found.old found.new
+        (λ among. rules.stmts_raise (effects_in effects.now) among (stmts_form statements.now)) }
     ensures kept { OnOk result (set_of taken.new ≡ set_of taken.old) }
 {
     'statements: for statement in statements {
-        if stmt_raises(alloc, statement, taken)? {
-            return Ok(true);
-        }
+        find_in_statement(alloc, effects, statement, taken, found)?;
     }
-    Ok(false)
+    Ok(())
 }
 
-/// Whether branches may. The set is the same afterwards.
+/// Branches may. What is taken is the same afterwards.
 #[cycle(raising)]
-fn branches_raise(alloc: Global, branches: &[Branch], taken: &mut Taken) -> Result<bool, AllocError>
-    ensures answered { IfOk result (λ answer. (others : StmtsForm) →
-        rules.branches_raise (outside (set_of taken.old)) (branches_form branches.now others)
-        ≡ (answer || rules.stmts_raise (outside (set_of taken.old)) others)) }
+fn find_in_branches(
+    alloc: Global,
+    effects: &[Effect],
+    branches: &[Branch],
+    taken: &mut Taken,
+    found: &mut Found,
+) -> Result<(), AllocError>
+    ensures found { OnOk result ((others : StmtsForm) (among : Exception → Bool) →
+        (is_found found.old among || rules.branches_raise (effects_in effects.now) (left_of (set_of taken.old) among) (branches_form branches.now others))
+        ≡ (is_found found.new among || rules.stmts_raise (effects_in effects.now) (left_of (set_of taken.old) among) others)) }
     ensures kept { OnOk result (set_of taken.new ≡ set_of taken.old) }
 {
     'branches: for branch in branches {
-        if constraint_error_leaves(taken) && expression_raises(&branch.condition) {
-            return Ok(true);
-        }
-        if stmts_raise(alloc, &branch.statements, taken)? {
-            return Ok(true);
-        }
+        found.add_if(
+            taken,
+            Exception::ConstraintError,
+            expression_raises(&branch.condition),
+        )?;
+        find_in_statements(alloc, effects, &branch.statements, taken, found)?;
     }
-    Ok(false)
+    Ok(())
 }
 
-/// Whether the statements of handlers may. The set is the same afterwards.
+/// The statements of handlers may. What is taken is the same afterwards.
 #[cycle(raising)]
-fn handlers_raise(
+pub(crate) fn find_in_handlers(
     alloc: Global,
+    effects: &[Effect],
     handlers: &[Handler],
     taken: &mut Taken,
-) -> Result<bool, AllocError>
-    ensures answered { IfOk result
-        (λ answer. answer ≡ rules.handlers_raise (outside (set_of taken.old)) (handlers_form handlers.now)) }
+    found: &mut Found,
+) -> Result<(), AllocError>
+    ensures found { Finds result (set_of taken.old) found.old found.new
+        (λ among. rules.handlers_raise (effects_in effects.now) among (handlers_form handlers.now)) }
     ensures kept { OnOk result (set_of taken.new ≡ set_of taken.old) }
 {
     'handlers: for handler in handlers {
-        if stmts_raise(alloc, &handler.statements, taken)? {
-            return Ok(true);
-        }
+        find_in_statements(alloc, effects, &handler.statements, taken, found)?;
     }
-    Ok(false)
+    Ok(())
 }
 
-/// Whether statements with handlers may: what the handlers take joins the set for the statements alone.
+/// Statements with handlers may: what the handlers name is taken besides from the statements alone.
 #[cycle(raising)]
 #[tactic(auto, using(std::proofs::lemmas::Grind::common_steps, crate::proofs::Raising::handled_steps))]
-fn handled_raise(
+pub(crate) fn find_handled(
     alloc: Global,
+    effects: &[Effect],
     statements: &[Stmt],
     handlers: &[Handler],
     taken: &mut Taken,
-) -> Result<bool, AllocError>
-    ensures answered { IfOk result (λ answer.
-        answer ≡ rules.stmts_raise (rules.untaken (handlers_form handlers.now) (outside (set_of taken.old))) (stmts_form statements.now)) }
+    found: &mut Found,
+) -> Result<(), AllocError>
+    ensures found { Finds result (set_of taken.old) found.old found.new
+        (λ among. rules.stmts_raise (effects_in effects.now) (rules.untaken (handlers_form handlers.now) among) (stmts_form statements.now)) }
     ensures kept { OnOk result (set_of taken.new ≡ set_of taken.old) }
 {
     if have_others(handlers) {
-        return Ok(false);
+        return Ok(());
     }
     let joined = taken.join(alloc, handlers)?;
-    let answer = stmts_raise(alloc, statements, taken)?;
+    find_in_statements(alloc, effects, statements, taken, found)?;
     taken.remove_all(&joined);
-    Ok(answer)
+    Ok(())
 }

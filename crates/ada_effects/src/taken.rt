@@ -1,6 +1,6 @@
 //! The set of exceptions that the handlers around a statement take by their names.
 
-ghost use Rattle.std.specs.Prelude.{◌≡◌, ◌==◌, ◌||◌, ◌&&◌, ℕ, false, not, [], ◌∷◌, OnOk, IfOk, slice_index_or};
+ghost use Rattle.std.specs.Prelude.{◌≡◌, ◌==◌, ◌||◌, ◌&&◌, ℕ, false, not, [], ◌∷◌, OnOk, IfOk, MatchResult, slice_index_or};
 ghost use Rattle.ada_effects.specs.Taken.{set_of, with_one, with_choice, with_choices, with_handlers, without};
 ghost use Rattle.ada_effects.specs.Taken as rules;
 ghost use Rattle.ada_program.specs.declared.program.Exception.{Exception};
@@ -117,15 +117,16 @@ impl Taken {
 
     /// An exception joins the set.
     #[tactic(auto, using(std::proofs::lemmas::Grind::common_steps, crate::proofs::Sets::each_flag))]
-    fn insert(&mut self, exception: Exception) -> Result<(), AllocError>
-        ensures { OnOk result (set_of self.new ≡ with_one exception (set_of self.old)) }
+    pub(crate) fn insert(&mut self, exception: Exception) -> Result<(), AllocError>
+        ensures { MatchResult result
+            (λ _. set_of self.new ≡ with_one exception (set_of self.old)) (λ _. set_of self.new ≡ set_of self.old) }
     {
         match exception {
             Exception::ConstraintError => self.constraint_error = true,
             Exception::ProgramError => self.program_error = true,
             Exception::StorageError => self.storage_error = true,
             Exception::EndError => self.end_error = true,
-            Exception::Declared(number) => insert_number(&mut self.declared, number)?,
+            Exception::Declared(number) => insert_number(&mut self.declared, number.0)?,
         }
         Ok(())
     }
@@ -155,16 +156,17 @@ impl Taken {
     }
 }
 
-/// A declared exception joins those that are in the set, which grow as far as its number.
-fn insert_number(declared: &mut Vec<bool>, number: ExceptionNo) -> Result<(), AllocError>
-    ensures { OnOk result ((n : ℕ) →
-        slice_index_or declared.new.items n false ≡ (slice_index_or declared.old.items n false || (n == number.0))) }
+/// A number joins those that are in a set, which grows as far as it.
+pub(crate) fn insert_number(set: &mut Vec<bool>, number: usize) -> Result<(), AllocError>
+    ensures { MatchResult result
+        (λ _. (n : ℕ) → slice_index_or set.new.items n false ≡ (slice_index_or set.old.items n false || (n == number)))
+        (λ _. (n : ℕ) → slice_index_or set.new.items n false ≡ slice_index_or set.old.items n false) }
 {
-    match declared.get_mut(number.0) {
+    match set.get_mut(number) {
         Some(is_in) => *is_in = true,
         None => {
-            declared.resize(number.0, false)?;
-            declared.push(true)?;
+            set.resize(number, false)?;
+            set.push(true)?;
         }
     }
     Ok(())

@@ -14,18 +14,18 @@ use Rattle.ada_flow.specs.declared.rule.Region.TheVariants.{Whole}
 use Rattle.ada_flow.specs.Flow.{Holds, if_own, is_among, join, join_hold, without_alias, without_aliases, without_types}
 
 -- of two that are not, neither is
-first_not : (a b : Bool) → (a || b) ≡ false → a ≡ false
+pub first_not : (a b : Bool) → (a || b) ≡ false → a ≡ false
 first_not false b e = refl
 first_not true b e = cc
 
-second_not : (a b : Bool) → (a || b) ≡ false → b ≡ false
+pub second_not : (a b : Bool) → (a || b) ≡ false → b ≡ false
 second_not false b e = e
 second_not true b e = cc
 
 neither : (a b : Bool) → a ≡ false → b ≡ false → (a || b) ≡ false
 neither a b e f = ap (λ x. x || b) e ∙ f
 
-not_so : (b : Bool) → not b ≡ true → b ≡ false
+pub not_so : (b : Bool) → not b ≡ true → b ≡ false
 not_so false e = refl
 not_so true e = cc
 
@@ -94,7 +94,7 @@ told_of_left true vs types hs told = refl
 told_of_left false vs types hs told = ap not (none_left vs types hs (not_so (list_any is_alias hs) told))
 
 -- what holds no alias loses none
-own_kept : (b : Bool) (h : Hold) → is_alias h ≡ false → h ≡ without_alias b h
+pub own_kept : (b : Bool) (h : Hold) → is_alias h ≡ false → h ≡ without_alias b h
 own_kept false h own = refl
 own_kept true Null own = refl
 own_kept true (Own r) own = refl

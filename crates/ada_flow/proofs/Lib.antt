@@ -12,3 +12,7 @@ pub mod Behind
 pub mod Aliased
 -- what is left behind a Free
 pub mod Freed
+-- what is left behind a call
+pub mod Called
+-- the first fault of bodies
+pub mod FirstFaults

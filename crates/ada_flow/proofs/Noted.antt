@@ -244,36 +244,36 @@ pub declarations_end : (n : Noted) (types : List TypeForm) (variables : List Var
 declarations_end n types variables d ds holds = then_ends n (declaration_flow types variables d holds) (declarations_flow types variables ds)
 
 -- one turn of a loop, where it leads back
-pub turn_returns : (leaves : Bool) (n m k : Noted) (condition : Option ExpressionForm) (spot : Spot) (types : List TypeForm) (variables : List VariableForm) (fs : StmtsForm) (start after : Holds) →
-    ending n (condition_flow condition start) ≡ Ok (Some start, m) → ending m (stmts_flow types variables (in_loop (Some start)) fs start) ≡ Ok (Some after, k) →
+pub turn_returns : (leaves : Bool) (n m k : Noted) (condition : Option ExpressionForm) (spot : Spot) (types : List TypeForm) (variables : List VariableForm) (around : Around) (fs : StmtsForm) (start after : Holds) →
+    ending n (condition_flow condition start) ≡ Ok (Some start, m) → ending m (stmts_flow types variables (in_loop (Some start) around) fs start) ≡ Ok (Some after, k) →
     unless_worse start after spot (goes (Some after) None) ≡ goes (Some after) None →
-    ending n (loop_flow condition leaves spot (λ place hs. stmts_flow types variables (in_loop place) fs hs) start) ≡ Ok ((if leaves then Some start else None), k)
-turn_returns leaves n m k condition spot types variables fs start after tests turns keeps =
-    left_ends n leaves start (then_flow (condition_flow condition start) (λ hs. ends_turn start spot (stmts_flow types variables (in_loop (Some start)) fs hs)))
+    ending n (loop_flow condition leaves spot (λ place hs. stmts_flow types variables (in_loop place around) fs hs) start) ≡ Ok ((if leaves then Some start else None), k)
+turn_returns leaves n m k condition spot types variables around fs start after tests turns keeps =
+    left_ends n leaves start (then_flow (condition_flow condition start) (λ hs. ends_turn start spot (stmts_flow types variables (in_loop (Some start) around) fs hs)))
     ∙ ap (left_over leaves start)
-    (then_ends n (condition_flow condition start) (λ hs. ends_turn start spot (stmts_flow types variables (in_loop (Some start)) fs hs))
-    ∙ ap (λ e. then_end e (λ hs. ends_turn start spot (stmts_flow types variables (in_loop (Some start)) fs hs))) tests
-    ∙ turn_ends m k start spot (stmts_flow types variables (in_loop (Some start)) fs start) after turns keeps)
+    (then_ends n (condition_flow condition start) (λ hs. ends_turn start spot (stmts_flow types variables (in_loop (Some start) around) fs hs))
+    ∙ ap (λ e. then_end e (λ hs. ends_turn start spot (stmts_flow types variables (in_loop (Some start) around) fs hs))) tests
+    ∙ turn_ends m k start spot (stmts_flow types variables (in_loop (Some start) around) fs start) after turns keeps)
 
 -- and where it doesn't
-pub turn_stops : (leaves : Bool) (n m k : Noted) (condition : Option ExpressionForm) (spot : Spot) (types : List TypeForm) (variables : List VariableForm) (fs : StmtsForm) (start : Holds) →
-    ending n (condition_flow condition start) ≡ Ok (Some start, m) → ending m (stmts_flow types variables (in_loop (Some start)) fs start) ≡ Ok (None, k) →
-    ending n (loop_flow condition leaves spot (λ place hs. stmts_flow types variables (in_loop place) fs hs) start) ≡ Ok ((if leaves then Some start else None), k)
-turn_stops leaves n m k condition spot types variables fs start tests turns =
-    left_ends n leaves start (then_flow (condition_flow condition start) (λ hs. ends_turn start spot (stmts_flow types variables (in_loop (Some start)) fs hs)))
+pub turn_stops : (leaves : Bool) (n m k : Noted) (condition : Option ExpressionForm) (spot : Spot) (types : List TypeForm) (variables : List VariableForm) (around : Around) (fs : StmtsForm) (start : Holds) →
+    ending n (condition_flow condition start) ≡ Ok (Some start, m) → ending m (stmts_flow types variables (in_loop (Some start) around) fs start) ≡ Ok (None, k) →
+    ending n (loop_flow condition leaves spot (λ place hs. stmts_flow types variables (in_loop place around) fs hs) start) ≡ Ok ((if leaves then Some start else None), k)
+turn_stops leaves n m k condition spot types variables around fs start tests turns =
+    left_ends n leaves start (then_flow (condition_flow condition start) (λ hs. ends_turn start spot (stmts_flow types variables (in_loop (Some start) around) fs hs)))
     ∙ ap (left_over leaves start)
-    (then_ends n (condition_flow condition start) (λ hs. ends_turn start spot (stmts_flow types variables (in_loop (Some start)) fs hs))
-    ∙ ap (λ e. then_end e (λ hs. ends_turn start spot (stmts_flow types variables (in_loop (Some start)) fs hs))) tests
-    ∙ turn_stays m k start spot (stmts_flow types variables (in_loop (Some start)) fs start) turns)
+    (then_ends n (condition_flow condition start) (λ hs. ends_turn start spot (stmts_flow types variables (in_loop (Some start) around) fs hs))
+    ∙ ap (λ e. then_end e (λ hs. ends_turn start spot (stmts_flow types variables (in_loop (Some start) around) fs hs))) tests
+    ∙ turn_stays m k start spot (stmts_flow types variables (in_loop (Some start) around) fs start) turns)
 
 -- a block ends as its statements do with their handlers, behind its declarations
 enclosed_ends : (n : Noted) (types : List TypeForm) (variables : List VariableForm) (around : Around) (cleared : Bool) (ds : List DeclarationForm) (fs : StmtsForm) (hs : HandlersForm) (holds : Holds) →
     ending n (stmt_flow types variables around cleared (encloses ds fs hs) holds)
     ≡ left_end n variables (gone_with ds)
-    (then_handled types variables (in_block (gone_with ds) around) (passes fs hs) fs hs (ending (emptied n) (declarations_flow types variables ds holds)))
+    (then_handled types variables (in_block (gone_with ds) around) (passes around.effects fs hs) fs hs (ending (emptied n) (declarations_flow types variables ds holds)))
 enclosed_ends n types variables around cleared ds fs hs holds =
-    block_ends n variables (gone_with ds) (then_flow (declarations_flow types variables ds holds) (λ at. handled (passes fs hs) (handlers_flow types variables (in_block (gone_with ds) around) hs) (stmts_flow types variables (in_block (gone_with ds) around) fs at)))
-    ∙ ap (left_end n variables (gone_with ds)) (body_ends (emptied n) types variables (in_block (gone_with ds) around) (passes fs hs) ds fs hs holds)
+    block_ends n variables (gone_with ds) (then_flow (declarations_flow types variables ds holds) (λ at. handled (passes around.effects fs hs) (handlers_flow types variables (in_block (gone_with ds) around) hs) (stmts_flow types variables (in_block (gone_with ds) around) fs at)))
+    ∙ ap (left_end n variables (gone_with ds)) (body_ends (emptied n) types variables (in_block (gone_with ds) around) (passes around.effects fs hs) ds fs hs holds)
 
 -- its declarations break a rule
 pub block_declares_badly : (n : Noted) (types : List TypeForm) (variables : List VariableForm) (around : Around) (cleared : Bool) (ds : List DeclarationForm) (fs : StmtsForm) (hs : HandlersForm) (holds : Holds) (breach : Spot × Rule) →
@@ -281,7 +281,7 @@ pub block_declares_badly : (n : Noted) (types : List TypeForm) (variables : List
     ending n (stmt_flow types variables around cleared (encloses ds fs hs) holds) ≡ Err breach
 block_declares_badly n types variables around cleared ds fs hs holds breach declares =
     enclosed_ends n types variables around cleared ds fs hs holds
-    ∙ ap (λ e. left_end n variables (gone_with ds) (then_handled types variables (in_block (gone_with ds) around) (passes fs hs) fs hs e)) declares
+    ∙ ap (λ e. left_end n variables (gone_with ds) (then_handled types variables (in_block (gone_with ds) around) (passes around.effects fs hs) fs hs e)) declares
 
 -- its statements do
 pub block_breaks : (n m : Noted) (types : List TypeForm) (variables : List VariableForm) (around : Around) (cleared : Bool) (gone : Gone) (ds : List DeclarationForm) (fs : StmtsForm) (hs : HandlersForm) (holds at : Holds) (breach : Spot × Rule) →
@@ -290,21 +290,21 @@ pub block_breaks : (n m : Noted) (types : List TypeForm) (variables : List Varia
     ending n (stmt_flow types variables around cleared (encloses ds fs hs) holds) ≡ Err breach
 block_breaks n m types variables around cleared gone ds fs hs holds at breach same declares breaks =
     enclosed_ends n types variables around cleared ds fs hs holds
-    ∙ ap (λ e. left_end n variables (gone_with ds) (then_handled types variables (in_block (gone_with ds) around) (passes fs hs) fs hs e)) declares
-    ∙ ap (λ g. left_end n variables (gone_with ds) (handled_end m (passes fs hs) (handlers_flow types variables (in_block (gone_with ds) around) hs) (ending (noted_for m hs) (stmts_flow types variables (in_block g around) fs at)))) (sym same)
-    ∙ ap (λ e. left_end n variables (gone_with ds) (handled_end m (passes fs hs) (handlers_flow types variables (in_block (gone_with ds) around) hs) e)) breaks
+    ∙ ap (λ e. left_end n variables (gone_with ds) (then_handled types variables (in_block (gone_with ds) around) (passes around.effects fs hs) fs hs e)) declares
+    ∙ ap (λ g. left_end n variables (gone_with ds) (handled_end m (passes around.effects fs hs) (handlers_flow types variables (in_block (gone_with ds) around) hs) (ending (noted_for m hs) (stmts_flow types variables (in_block g around) fs at)))) (sym same)
+    ∙ ap (λ e. left_end n variables (gone_with ds) (handled_end m (passes around.effects fs hs) (handlers_flow types variables (in_block (gone_with ds) around) hs) e)) breaks
 
 -- its statements end, and its handlers do, or break a rule
 pub block_handles : (n m k : Noted) (types : List TypeForm) (variables : List VariableForm) (around : Around) (cleared : Bool) (gone : Gone) (ds : List DeclarationForm) (fs : StmtsForm) (hs : HandlersForm) (holds at : Holds) (normal : Option Holds) (end : End) →
     gone ≡ gone_with ds → ending (emptied n) (declarations_flow types variables ds holds) ≡ Ok (Some at, m) →
     ending (noted_for m hs) (stmts_flow types variables (in_block gone around) fs at) ≡ Ok (normal, k) →
-    end_handled m (passes fs hs) (handlers_flow types variables (in_block gone around) hs) normal k ≡ end →
+    end_handled m (passes around.effects fs hs) (handlers_flow types variables (in_block gone around) hs) normal k ≡ end →
     ending n (stmt_flow types variables around cleared (encloses ds fs hs) holds) ≡ left_end n variables gone end
 block_handles n m k types variables around cleared gone ds fs hs holds at normal end same declares ends handles =
     enclosed_ends n types variables around cleared ds fs hs holds
-    ∙ ap (λ e. left_end n variables (gone_with ds) (then_handled types variables (in_block (gone_with ds) around) (passes fs hs) fs hs e)) declares
-    ∙ ap (λ g. left_end n variables g (handled_end m (passes fs hs) (handlers_flow types variables (in_block g around) hs) (ending (noted_for m hs) (stmts_flow types variables (in_block g around) fs at)))) (sym same)
-    ∙ ap (λ e. left_end n variables gone (handled_end m (passes fs hs) (handlers_flow types variables (in_block gone around) hs) e)) ends
+    ∙ ap (λ e. left_end n variables (gone_with ds) (then_handled types variables (in_block (gone_with ds) around) (passes around.effects fs hs) fs hs e)) declares
+    ∙ ap (λ g. left_end n variables g (handled_end m (passes around.effects fs hs) (handlers_flow types variables (in_block g around) hs) (ending (noted_for m hs) (stmts_flow types variables (in_block g around) fs at)))) (sym same)
+    ∙ ap (λ e. left_end n variables gone (handled_end m (passes around.effects fs hs) (handlers_flow types variables (in_block gone around) hs) e)) ends
     ∙ ap (left_end n variables gone) handles
 
 -- a program whose declarations, statements and handlers come to an end obeys the rules

@@ -8,10 +8,10 @@ use Rattle.ada_program.specs.declared.program.ComponentKind.{ComponentKind}
 use Rattle.ada_program.specs.declared.program.ComponentKind.TheVariants as component
 use Rattle.ada_program.specs.declared.program.Program.{Program}
 use Rattle.ada_program.specs.declared.program.VariableKind.{VariableKind}
-use Rattle.ada_program.specs.Form.{PathForm, RecordPathForm, ExpressionForm, integer, boolean, reads, is_null, applied_to, chained, LinksForm, no_more_links, a_link, ItemForm, null_item, item_of_path, item_of_value, item_of_record, RightForm, nothing, value_of, allocates, allocates_default, computes, StmtForm, skips, assigns, assigns_record, frees, gets, writes, writes_text, chooses, repeats, counts, exits, returns, raises, encloses, StmtsForm, no_stmts, a_stmt, BranchesForm, otherwise, a_branch, HandlersForm, no_handlers, a_handler, DeclarationForm, collects, declares, declares_record, declaration_forms, stmt_forms, handler_forms}
-use Rattle.ada_program.specs.ProgramForm.{TypeForm, type_form, VariableForm, variable_form}
+use Rattle.ada_program.specs.Form.{PathForm, RecordPathForm, ExpressionForm, integer, boolean, reads, is_null, applied_to, chained, LinksForm, no_more_links, a_link, ItemForm, null_item, item_of_path, item_of_value, item_of_record, RightForm, nothing, value_of, allocates, allocates_default, computes, StmtForm, skips, assigns, assigns_record, frees, gets, writes, writes_text, chooses, repeats, counts, exits, calls, returns, raises, encloses, StmtsForm, no_stmts, a_stmt, BranchesForm, otherwise, a_branch, HandlersForm, no_handlers, a_handler, DeclarationForm, collects, declares, declares_record}
+use Rattle.ada_program.specs.ProgramForm.{TypeForm, type_form, VariableForm, variable_form, BodyForm, ProgramForm, main_body, program_form}
 use Rattle.ada_program.specs.WellFormed.{record_components, reached_components, access_of, variable_kind, selected_kind, path_access, is_this, is_borrower}
-use Rattle.ada_effects.specs.Effects.{expression_raises, path_raises, record_path_raises, items_raise, initial_raises, passes}
+use Rattle.ada_effects.specs.Effects.{expression_raises, path_raises, record_path_raises, expressions_raise, items_raise, initial_raises, Effect, call_raises, passes, effect_of}
 use Rattle.ada_flow.specs.declared.rule.Hold.{Hold}
 use Rattle.ada_flow.specs.declared.rule.Hold.TheVariants.{Null, Own, Alias, Lost}
 use Rattle.ada_flow.specs.declared.rule.Region.TheVariants.{Whole}
@@ -478,6 +478,36 @@ abbrev pub frees_path : List TypeForm → List VariableForm → List ℕ → Pat
 frees_path types variables [] path holds = released variables path.root path.spot holds (hold_at holds path.root)
 frees_path types variables (c ∷ cs) path holds = released_behind types variables path holds (path_access types variables path)
 
+-- Calls (6.4).
+
+-- Is a type one of which an object may be freed, if there is one?
+abbrev pub is_freed : (may : ℕ → Bool) → Option ℕ → Bool
+is_freed may None = false
+is_freed may (Some t) = may t
+
+-- What is left where objects of some access types may be gone: every alias of these types is lost.
+abbrev pub without_freed : List VariableForm → (may : ℕ → Bool) → Holds → Holds
+without_freed [] may holds = []
+without_freed (v ∷ vs) may [] = []
+without_freed (v ∷ vs) may (h ∷ hs) = without_alias (is_freed may (access_of (Some v.kind))) h ∷ without_freed vs may hs
+
+-- What is left behind a call: the procedure has no part in the variables, but whoever borrowed an object of a type that it frees may have borrowed one of
+-- those that are gone.
+abbrev pub left_by_call : List VariableForm → Option Effect → Holds → Holds
+left_by_call variables None holds = holds
+left_by_call variables (Some effect) holds = without_freed variables effect.frees holds
+
+-- The paths in actual parameters, in order.
+abbrev pub uses_in_all : List ExpressionForm → List Use
+uses_in_all [] = []
+uses_in_all (e ∷ es) = uses_in e ++ uses_in_all es
+
+-- After a call with these actual parameters. Where it raises an exception, or its actual parameters do, as little is said as behind it.
+abbrev pub called : List VariableForm → Option Effect → (actuals : List ExpressionForm) → Holds → Outcome
+called variables effect actuals holds =
+    using_paths (uses_in_all actuals) holds
+    (ends_with (expressions_raise actuals || call_raises effect (λ e. true)) (left_by_call variables effect holds) (left_by_call variables effect holds))
+
 -- Two ways that join behind an `if` (5.3): the first fault in text order stands.
 abbrev pub either_of : Outcome → Outcome → Outcome
 either_of (faults spot rule) other = faults spot rule
@@ -542,6 +572,7 @@ abbrev mutual
   opened_by variables (repeats condition fs end_spot) holds = opened_by_all variables fs holds
   opened_by variables (counts x low high fs end_spot) holds = opened_by_all variables fs holds
   opened_by variables (exits condition spot) holds = holds
+  opened_by variables (calls procedure actuals) holds = holds
   opened_by variables (returns spot) holds = holds
   opened_by variables (raises e) holds = holds
   opened_by variables (encloses ds fs hs) holds = opened_by_handlers variables hs (opened_by_all variables fs holds)
@@ -572,6 +603,7 @@ abbrev mutual
   has_exit (repeats condition fs end_spot) = false
   has_exit (counts x low high fs end_spot) = false
   has_exit (exits condition spot) = true
+  has_exit (calls procedure actuals) = false
   has_exit (returns spot) = false
   has_exit (raises e) = false
   has_exit (encloses ds fs hs) = have_exit fs || handlers_have_exit hs
@@ -689,19 +721,20 @@ handled passes handlers (faults spot rule) = faults spot rule
 handled passes handlers (goes normal None) = goes normal None
 handled passes handlers (goes normal (Some raising)) = either_of (goes normal (raising_if passes raising)) (handlers raising)
 
--- Where a statement stands: the start of the innermost loop around it, if there is one, and what goes with the blocks between that loop and the
--- statement.
+-- Where a statement stands: what is known of the calls of procedures, the start of the innermost loop around it, if there is one, and what goes with the
+-- blocks between that loop and the statement.
 pub record Around : Type 0 where
+  pub effects : List Effect
   pub start : Option Holds
   pub inside : Gone
 
 -- In no loop and no block.
-abbrev pub outermost : Around
-outermost = record { start = None; inside = nothing_gone }
+abbrev pub outermost : List Effect → Around
+outermost effects = record { effects = effects; start = None; inside = nothing_gone }
 
 -- Around the statements of a loop: its start, and no block since.
-abbrev pub in_loop : Option Holds → Around
-in_loop start = record { start = start; inside = nothing_gone }
+abbrev pub in_loop : Option Holds → Around → Around
+in_loop start around = record around { start = start; inside = nothing_gone }
 
 -- Around the statements of a block with which this goes.
 abbrev pub in_block : Gone → Around → Around
@@ -768,17 +801,18 @@ abbrev mutual
   stmt_flow types variables around cleared (writes_text text) holds = ends_with false holds holds
   stmt_flow types variables around cleared (chooses branches) holds = branches_flow types variables around branches holds
   stmt_flow types variables around cleared (repeats condition fs end_spot) holds =
-      loop_flow condition (is_left condition fs) end_spot (λ start hs. stmts_flow types variables (in_loop start) fs hs) (opened_by_all variables fs holds)
+      loop_flow condition (is_left condition fs) end_spot (λ start hs. stmts_flow types variables (in_loop start around) fs hs) (opened_by_all variables fs holds)
   stmt_flow types variables around cleared (counts x low high fs end_spot) holds =
       then_flow (bounds_flow low high holds)
-      (λ hs. loop_flow None true end_spot (λ start hs. stmts_flow types variables (in_loop start) fs hs) (counting_start variables x fs hs))
+      (λ hs. loop_flow None true end_spot (λ start hs. stmts_flow types variables (in_loop start around) fs hs) (counting_start variables x fs hs))
   stmt_flow types variables around cleared (exits condition spot) holds = exit_flow variables around.start around.inside condition spot holds
+  stmt_flow types variables around cleared (calls procedure actuals) holds = called variables (slice_get around.effects procedure) actuals holds
   stmt_flow types variables around cleared (returns spot) holds = goes None None
   stmt_flow types variables around cleared (raises e) holds = goes None (Some holds)
   stmt_flow types variables around cleared (encloses ds fs hs) holds =
       leaves_block variables (gone_with ds)
       (then_flow (declarations_flow types variables ds holds)
-      (λ at. handled (passes fs hs) (handlers_flow types variables (in_block (gone_with ds) around) hs)
+      (λ at. handled (passes around.effects fs hs) (handlers_flow types variables (in_block (gone_with ds) around) hs)
       (stmts_flow types variables (in_block (gone_with ds) around) fs at)))
 
   -- After statements, in order.
@@ -798,27 +832,47 @@ abbrev mutual
   handlers_flow types variables around (a_handler choices fs hs) raising =
       either_of (stmts_flow types variables around fs raising) (handlers_flow types variables around hs raising)
 
--- The whole program.
+-- Bodies, and the whole program.
 
--- At first no variable is declared.
-abbrev pub first_holds : Program → Holds
-first_holds program = replicate (length program.variables.items) Lost
+-- At first no variable of a body is declared.
+abbrev pub first_holds : List VariableForm → Holds
+first_holds variables = replicate (length variables) Lost
+
+-- After the declarations, the statements and the handlers of a body (6.3), where this is known of the calls of procedures.
+abbrev pub body_flow : List TypeForm → List Effect → BodyForm → Outcome
+body_flow types effects b =
+    then_flow (declarations_flow types b.variables b.declarations (first_holds b.variables))
+    (λ at. handled (passes effects b.statements b.handlers)
+    (handlers_flow types b.variables (outermost effects) b.handlers)
+    (stmts_flow types b.variables (outermost effects) b.statements at))
+
+-- Each body is examined on its own: the first fault in the text is told.
+abbrev pub first_fault : Outcome → Outcome → Outcome
+first_fault (goes normal raising) other = other
+first_fault (faults spot rule) (goes normal raising) = faults spot rule
+first_fault (faults spot rule) (faults other_spot other_rule) = if is_left_of other_spot spot then faults other_spot other_rule else faults spot rule
+
+-- After the main body, where none of these procedures breaks a rule, of which each calls those before it.
+abbrev pub bodies_flow : List TypeForm → List Effect → List BodyForm → (main : BodyForm) → Outcome
+bodies_flow types effects [] main = body_flow types effects main
+bodies_flow types effects (b ∷ bs) main =
+    first_fault (body_flow types effects b) (bodies_flow types (effects ++ effect_of types effects b ∷ []) bs main)
 
 -- The types of a program, as plain data.
 abbrev pub types_of : Program → List TypeForm
 types_of program = map type_form program.types.items
 
--- Its variables.
+-- The variables of its main procedure.
 abbrev pub variables_of : Program → List VariableForm
 variables_of program = map variable_form program.variables.items
 
--- After the declarations, the statements and the handlers of the main procedure.
+-- The flow through all bodies of a program.
+abbrev pub flow_of : ProgramForm → Outcome
+flow_of p = bodies_flow p.types [] p.bodies (main_body p)
+
+-- The same of a program as it is kept.
 abbrev pub program_flow : Program → Outcome
-program_flow program =
-    then_flow (declarations_flow (types_of program) (variables_of program) (declaration_forms program) (first_holds program))
-    (λ at. handled (passes (stmt_forms program) (handler_forms program))
-    (handlers_flow (types_of program) (variables_of program) outermost (handler_forms program))
-    (stmts_flow (types_of program) (variables_of program) outermost (stmt_forms program) at))
+program_flow program = flow_of (program_form program)
 
 -- No rule is broken.
 abbrev pub ObeysRules : Program → Type 0

@@ -25,17 +25,24 @@ use Rattle.ada_program.specs.declared.program.Path.{Path}
 use Rattle.ada_program.specs.declared.program.Right.{Right}
 use Rattle.ada_program.specs.declared.program.Stmt.{Stmt}
 use Rattle.ada_program.specs.declared.program.TypeNo.{TypeNo}
+use Rattle.ada_program.specs.declared.program.Variable.{Variable}
 use Rattle.ada_program.specs.declared.program.VariableNo.{VariableNo}
 use Rattle.ada_program.specs.Form.{PathForm, ItemForm, ExpressionForm, StmtsForm, branches_form, HandlersForm, no_handlers, a_handler, condition_form, declaration_form, handlers_form, path_form, right_form, stmts_form}
-use Rattle.ada_program.specs.ProgramForm.{TypeForm, type_form, VariableForm, variable_form}
+use Rattle.ada_program.specs.ProgramForm.{TypeForm, type_form, VariableForm, variable_form, BodyForm}
 use Rattle.ada_program.specs.WellFormed.{access_of}
-use Rattle.ada_effects.specs.Effects.{passes}
+use Rattle.ada_effects.specs.Effects.{Effect, passes}
+use Rattle.ada_effects.specs.Found.{effects_in as effects_held}
 use Rattle.ada_flow.specs.Flow.{Outcome, faults, goes, Holds, Gone, Around, are_as_good, if_own, is_among, is_left, join_option, left, left_option, in_loop, loop_flow, named_by_item, opened_by_all, counting_start, exit_flow, gives_path, raising_if, declarations_flow, handlers_flow, stmts_flow, branches_flow, program_flow}
 
 -- The judgement of a whole program: no rule is broken, or this is the first one, and where.
 abbrev pub judgement : Outcome → Result (Unit {0}) (Spot × Rule)
 judgement (faults spot rule) = Err (spot, rule)
 judgement (goes normal raising) = Ok tt
+
+-- The rule that is broken first, and where, if one is.
+abbrev pub fault_in : Outcome → Option (Spot × Rule)
+fault_in (faults spot rule) = Some (spot, rule)
+fault_in (goes normal raising) = None
 
 -- The place and the rule that a fault names; want of memory names none.
 abbrev pub breach_of : FlowFault → Option (Spot × Rule)
@@ -70,13 +77,18 @@ variable_number x = x.0
 abbrev pub gone_of : HeldGone → Gone
 gone_of gone = record { types = map type_number gone.types.items; variables = map variable_number gone.variables.items }
 
--- Where a statement stands: the types and the variables of its program, the start of the innermost loop, and what goes with blocks.
+-- Where a statement stands: the types of its program, the variables of its body, what is known of calls, the start of the innermost loop, and what goes
+-- with blocks.
 abbrev pub types_in : HeldAround → List TypeForm
 types_in around = map type_form around.types.now
 
--- The variables of its program.
+-- The variables of its body.
 abbrev pub variables_in : HeldAround → List VariableForm
 variables_in around = map variable_form around.variables.now
+
+-- What is known of the calls of procedures.
+abbrev pub effects_in : HeldAround → List Effect
+effects_in around = effects_held around.effects.now
 
 -- The start of the loop around a form, as the code keeps it.
 abbrev pub start_in : HeldAround → Option Holds
@@ -84,12 +96,16 @@ start_in around = option_copied around.start
 
 -- What stands around a form, as the code keeps it.
 abbrev pub around_of : HeldAround → Around
-around_of around = record { start = start_in around; inside = gone_of around.inside.now }
+around_of around = record { effects = effects_in around; start = start_in around; inside = gone_of around.inside.now }
 
 -- Is there such a type, and is it marked? One past the last mark is not.
 abbrev pub is_marked : Marks → Option ℕ → Bool
 is_marked marks None = false
 is_marked marks (Some t) = slice_index_or marks.at.items t false
+
+-- The types that are marked.
+abbrev pub marked_types : Marks → ℕ → Bool
+marked_types marks t = is_marked marks (Some t)
 
 -- These types are marked, and no others.
 abbrev pub AreMarks : Marks → (types : List ℕ) → Type 0
@@ -207,12 +223,13 @@ handlers_in around handlers raising = handlers_flow (types_in around) (variables
 abbrev pub handled_in : HeldAround → (before : Noted) → List Stmt → List Handler → (normal : Option Holds) → Noted →
     Result (Option Holds × Noted) (Spot × Rule)
 handled_in around before statements handlers normal inner =
-    end_handled before (passes (stmts_form statements) (handlers_form handlers)) (handlers_in around handlers) normal inner
+    end_handled before (passes (effects_in around) (stmts_form statements) (handlers_form handlers)) (handlers_in around handlers) normal inner
 
 -- A loop that stands here, from its start.
 abbrev pub turns_of : HeldAround → Option Expression → (leaves : Bool) → List Stmt → Spot → (start : Holds) → Outcome
 turns_of around condition leaves body end start =
-    loop_flow (condition_form condition) leaves end (λ place hs. stmts_flow (types_in around) (variables_in around) (in_loop place) (stmts_form body) hs) start
+    loop_flow (condition_form condition) leaves end
+    (λ place hs. stmts_flow (types_in around) (variables_in around) (in_loop place (around_of around)) (stmts_form body) hs) start
 
 -- `loop`, or `while` with a condition.
 abbrev pub loop_of : HeldAround → Option Expression → List Stmt → Spot → Holds → Outcome
@@ -243,3 +260,13 @@ named_by_items (i ∷ is) = named_by_item i ++ named_by_items is
 -- Declarations, in order.
 abbrev pub declarations_of : HeldAround → List Declaration → Holds → Outcome
 declarations_of around declarations holds = declarations_flow (types_in around) (variables_in around) (map declaration_form declarations) holds
+
+-- A body, as the code keeps its parts; how many of its variables are formal parameters plays no part.
+abbrev pub body_in : List Variable → List Declaration → List Stmt → List Handler → BodyForm
+body_in variables declarations statements handlers = record {
+  formals = 0;
+  variables = map variable_form variables;
+  declarations = map declaration_form declarations;
+  statements = stmts_form statements;
+  handlers = handlers_form handlers;
+}

@@ -1,25 +1,21 @@
-//! The flow of values through initial values and assignments, and through a whole program.
+//! The flow of values through initial values and assignments.
 
-ghost use Rattle.ada_flow.specs.Flow.{gives, gives_component, gets_path, declaration_flow, program_flow};
-ghost use Rattle.ada_flow.specs.Told.{Leads, assignment_of, breach_of, declarations_of, judgement, types_in, variables_in};
+ghost use Rattle.ada_flow.specs.Flow.{gives, gives_component, gets_path, declaration_flow};
+ghost use Rattle.ada_flow.specs.Told.{Leads, assignment_of, declarations_of, types_in, variables_in};
 ghost use Rattle.ada_program.specs.Form.{path_form, right_form, declaration_form};
-ghost use Rattle.ada_text.specs.Exactly.{Exactly};
 
 use crate::around::Around;
-use crate::blocks::handled;
 use crate::fault::FlowFault;
 use crate::follow::follow_target;
-use crate::gone::Gone;
 use crate::known::Known;
 use crate::moves::{evaluation_raises, lose_moved, right_hold, use_assignment, use_right};
 use crate::raised::Raised;
 use crate::records::create_record;
 use crate::rule::Hold;
-use crate::statements::statements;
 use ada_effects::path_raises;
 use ada_program::borrowers::is_borrower;
 use ada_program::program::{Declaration, Right};
-use ada_program::{Path, Program, Spot, VariableNo};
+use ada_program::{Path, Spot, VariableNo};
 use std::alloc::Global;
 
 /// A variable that stands at the spot gets a value: it is evaluated first, and what is moved goes there.
@@ -167,38 +163,5 @@ pub(crate) fn declare(
     'declarations: for one in declarations {
         declaration(alloc, around, known, raised, one)?;
     }
-    Ok(())
-}
-
-/// Whether the program obeys the rules of the flow of values.
-///
-/// # Errors
-/// The first rule that is broken, with its spot, or want of memory.
-#[tactic(auto, using(std::proofs::lemmas::Grind::common_steps, crate::proofs::Noted::program_ends, crate::proofs::Noted::program_obeys))]
-pub fn flow(alloc: Global, program: &Program) -> Result<(), FlowFault>
-    ensures { Exactly (λ _. tt) breach_of result (judgement (program_flow program.now)) }
-{
-    let nothing = Gone::nothing(alloc);
-    let around = Around::in_no_loop(&program.types, &program.variables, &nothing);
-    let mut known = Known::of_lost(alloc, program.variables.len())?;
-    let mut raised = Raised::Unwanted;
-    declare(
-        alloc,
-        &around,
-        &mut known,
-        &mut raised,
-        &program.declarations,
-    )?;
-    let mut inner = raised.with_handlers(&program.handlers);
-    let end = statements(alloc, &around, known, &mut inner, &program.statements)?;
-    handled(
-        alloc,
-        &around,
-        inner,
-        end,
-        &mut raised,
-        &program.handlers,
-        &program.statements,
-    )?;
     Ok(())
 }

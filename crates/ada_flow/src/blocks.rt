@@ -31,7 +31,11 @@ pub(crate) fn handled(
         return Ok(end);
     };
     if raised.is_wanted() {
-        raised.note_if(passes(alloc, statements, handlers)?, alloc, &raising)?;
+        raised.note_if(
+            passes(alloc, around.effects, statements, handlers)?,
+            alloc,
+            &raising,
+        )?;
     }
     let other = self::handlers(alloc, around, &raising, raised, handlers)?;
     Ok(join_ends(end, other))

@@ -98,6 +98,7 @@ fn open_by(variables: &[Variable], known: &mut Known, statement: &Stmt)
         | Stmt::PutImage(_)
         | Stmt::PutText(_)
         | Stmt::Exit { .. }
+        | Stmt::Call { .. }
         | Stmt::Return(_)
         | Stmt::Raise(_) => {}
     }
@@ -165,6 +166,7 @@ fn has_exit(statement: &Stmt) -> bool
         | Stmt::PutText(_)
         | Stmt::Loop { .. }
         | Stmt::For { .. }
+        | Stmt::Call { .. }
         | Stmt::Return(_)
         | Stmt::Raise(_) => false,
     }

@@ -24,6 +24,7 @@ pub(crate) fn begins_pair(statement: &Stmt, behind: &[Stmt]) -> bool
         | Stmt::Loop { .. }
         | Stmt::For { .. }
         | Stmt::Exit { .. }
+        | Stmt::Call { .. }
         | Stmt::Return(_)
         | Stmt::Raise(_)
         | Stmt::Block { .. } => false,
@@ -83,6 +84,7 @@ fn sets_to_null(path: &Path, statement: &Stmt) -> bool
         | Stmt::Loop { .. }
         | Stmt::For { .. }
         | Stmt::Exit { .. }
+        | Stmt::Call { .. }
         | Stmt::Return(_)
         | Stmt::Raise(_)
         | Stmt::Block { .. } => false,

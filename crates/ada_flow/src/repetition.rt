@@ -108,7 +108,13 @@ fn turn(
 {
     compute_condition(alloc, &start, raised, condition)?;
     let nothing = Gone::nothing(alloc);
-    let within = Around::in_loop(around.types, around.variables, start.holds(), &nothing);
+    let within = Around::in_loop(
+        around.types,
+        around.variables,
+        around.effects,
+        start.holds(),
+        &nothing,
+    );
     if let Some(after) = statements(alloc, &within, start.copy(alloc)?, raised, body)? {
         unless_worse(after.holds(), start.holds(), end)?;
     }

@@ -8,6 +8,7 @@ ghost use Rattle.ada_program.specs.Form.{condition_form, stmt_form, stmts_form};
 use crate::analysis::{assign, declare, get};
 use crate::around::Around;
 use crate::blocks::handled;
+use crate::calls::call;
 use crate::compute::compute;
 use crate::fault::FlowFault;
 use crate::frees::release;
@@ -111,6 +112,9 @@ fn statement(
         Stmt::Exit { condition, spot } => {
             return exit(alloc, around, known, raised, condition, *spot);
         }
+        Stmt::Call { procedure, actuals } => {
+            call(alloc, around, &mut known, raised, *procedure, actuals)?;
+        }
         Stmt::Return(_) => return Ok(None),
         Stmt::Raise(_) => {
             raised.add(Some(known));
@@ -126,6 +130,7 @@ fn statement(
             let within = Around {
                 types: around.types,
                 variables: around.variables,
+                effects: around.effects,
                 start: around.start,
                 inside: &inside,
             };

@@ -12,3 +12,7 @@ pub mod CommonStepLemmas
 pub mod ComponentLemmas
 -- components of one object that get their values one after another
 pub mod RecordLemmas
+-- activations with the places of all of them behind one another
+pub mod ActivationLemmas
+-- expressions that are evaluated one after another
+pub mod CallLemmas

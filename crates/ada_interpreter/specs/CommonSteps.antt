@@ -3,6 +3,7 @@
 use Rattle.std.specs.Prelude.{◌≡◌, ℕ, Bool, true, false, Result, Ok, Err}
 use Rattle.std.specs.declared.alloc.AllocError.{AllocError}
 use Rattle.ada_program.specs.declared.program.Program.{Program}
+use Rattle.ada_program.specs.ProgramForm.{body_forms}
 use Rattle.ada_meaning.specs.Event.{Quiet}
 use Rattle.ada_meaning.specs.State.{begins}
 use Rattle.ada_meaning.specs.Step.{moves}
@@ -20,4 +21,4 @@ MayMove coming before (Err e) after = Unit {0}
 -- Steps one after another that are quiet and leave nothing open, and how many statements begin in them.
 pub data GoesQuietly (program : Program) (first : State) : (statements : ℕ) → State → Type 0 where
   stays : GoesQuietly program first 0 first
-  goes_on : {statements : ℕ} {last : State} (before_it : ℕ) (mid : State) → GoesQuietly program first before_it mid → next program.types.items mid ≡ moves Quiet last → statements ≡ begun_with (begins mid) before_it → GoesQuietly program first statements last
+  goes_on : {statements : ℕ} {last : State} (before_it : ℕ) (mid : State) → GoesQuietly program first before_it mid → next program.types.items (body_forms program) mid ≡ moves Quiet last → statements ≡ begun_with (begins mid) before_it → GoesQuietly program first statements last

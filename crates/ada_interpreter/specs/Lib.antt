@@ -2,6 +2,8 @@
 
 -- objects by name, and the members of each collection
 pub mod Objects
+-- activations, with their places behind one another
+pub mod Activations
 -- masters, and their items on one stack
 pub mod Masters
 -- the state of a run in progress, and what a turn of it does

@@ -2,6 +2,7 @@
 
 use Rattle.std.specs.Prelude.{◌≡◌, ◌⊎◌, ℕ, Bool, Option}
 use Rattle.ada_program.specs.declared.program.Program.{Program}
+use Rattle.ada_program.specs.ProgramForm.{body_forms}
 use Rattle.ada_meaning.specs.declared.request.Request.{Request}
 use Rattle.ada_meaning.specs.declared.event.Event.{Event as Shown}
 use Rattle.ada_meaning.specs.declared.event.Halt.{Halt}
@@ -65,7 +66,7 @@ Settles may_grant may_pick coming before event after =
 -- A step of a machine: one step of the definition, as who answers has answered.
 abbrev pub MakesStep : {C : Type 0} → MayGrant C → MayPick C → Machine C → Shown → Machine C → Type 0
 MakesStep may_grant may_pick before event after =
-    Settles may_grant may_pick (next (program_of before).types.items (state_in before)) before event after
+    Settles may_grant may_pick (next (program_of before).types.items (body_forms (program_of before)) (state_in before)) before event after
 
 -- The end of a machine's run: where the definition has no step, and then state and choices are as they were; or where memory was refused.
 abbrev pub EndsRun : {C : Type 0} → Machine C → Halt → Machine C → Type 0

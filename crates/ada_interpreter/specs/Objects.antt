@@ -10,7 +10,7 @@ use Rattle.ada_meaning.specs.Named.{Object, object_at, is_member, members_of}
 use Rattle.ada_interpreter.specs.declared.objects.Home.{Home as HeldHome}
 use Rattle.ada_interpreter.specs.declared.objects.Cell.{Cell as HeldCell}
 use Rattle.ada_interpreter.specs.declared.objects.Object.{Object as HeldObject}
-use Rattle.ada_interpreter.specs.declared.objects.Shelf.{Shelf}
+use Rattle.ada_interpreter.specs.declared.shelves.Shelf.{Shelf}
 
 -- The home, the cell and the object that the machine keeps.
 abbrev pub home_form : HeldHome → Home

@@ -3,9 +3,9 @@
 
 ghost use Rattle.std.specs.Prelude.{◌≡◌, map, OnOk};
 ghost use Rattle.ada_program.specs.Form.{item_form, allocates_default};
-ghost use Rattle.ada_meaning.specs.Frame as frame;
+ghost use Rattle.ada_program.specs.Typed.{words_of};
 ghost use Rattle.ada_meaning.specs.Step as step;
-ghost use Rattle.ada_meaning.specs.State.{counted};
+ghost use Rattle.ada_meaning.specs.State.{counted, home_of};
 ghost use Rattle.ada_meaning.specs.Named.{named};
 ghost use Rattle.ada_interpreter.specs.Process.{frame_of, state_of, passed, replaced, Turns, IsTurn};
 
@@ -101,8 +101,9 @@ impl<'a> Process<'a> {
     /// collection, Storage_Error is raised.
     pub(crate) fn ask(&mut self, program: &Program, access: TypeNo, count: usize) -> Turn
         ensures { let s = state_of self.old in
+            let types = program.now.types.items in
             IsTurn
-            (step.frame_next named program.now.types.items (frame.Creates access.0 count) (passed s))
+            (step.new_next named access.0 count (words_of types access.0) (home_of access.0 s.masters) (passed s))
             s result (state_of self.new) }
     {
         self.pass();
@@ -143,7 +144,7 @@ impl<'a> Process<'a> {
             OnOk result (state_of self.new ≡ step.granted named a.access.0 a.count a.item a.words (state_of self.old)) }
     {
         let number = counted(self.allocated);
-        let values = self.operands.take(allocation.count)?;
+        let values = self.activations.take(allocation.count)?;
         let object = self.objects.create(Cell {
             access: allocation.access,
             number,
@@ -155,7 +156,7 @@ impl<'a> Process<'a> {
             values,
         })?;
         self.allocated = number;
-        self.operands.push(Value::Names(object))
+        self.activations.push(Value::Names(object))
     }
 }
 

@@ -4,6 +4,7 @@
 ghost use Rattle.std.specs.Prelude.{◌≡◌, ◌≤◌, ◌-◌, List, pos, ◌+ℤ◌, IfOk};
 ghost use Rattle.std.specs.Option.{option_copied};
 ghost use Rattle.ada_program.specs.declared.program.TypeDefinition.{TypeDefinition};
+ghost use Rattle.ada_program.specs.ProgramForm.{BodyForm};
 ghost use Rattle.ada_program.specs.Form.{expression_form, condition_form, stmt_form, stmts_form, branches_form};
 ghost use Rattle.ada_meaning.specs.Frame as frame;
 ghost use Rattle.ada_meaning.specs.Step as step;
@@ -54,8 +55,8 @@ impl<'a> Process<'a> {
     /// Makes the next step, if it is a common one that begins no statement; else nothing changes.
     #[tactic(auto, unfolding(ada_meaning::specs::Named::next))]
     fn make_common_step(&mut self) -> Result<bool, AllocError>
-        ensures { (types : List TypeDefinition) → MayMove
-            (next types (state_of self.old)) self.old result self.new }
+        ensures { (types : List TypeDefinition) (bodies : List BodyForm) →
+            MayMove (next types bodies (state_of self.old)) self.old result self.new }
     {
         match self.mode {
             Mode::Running => self.go_on_commonly(),
@@ -66,8 +67,8 @@ impl<'a> Process<'a> {
     /// Begins the next statement, if it is a common one; else nothing changes.
     #[tactic(auto, unfolding(ada_meaning::specs::Named::next))]
     fn begin_common_statement(&mut self) -> Result<bool, AllocError>
-        ensures { (types : List TypeDefinition) → MayMove
-            (next types (state_of self.old)) self.old result self.new }
+        ensures { (types : List TypeDefinition) (bodies : List BodyForm) →
+            MayMove (next types bodies (state_of self.old)) self.old result self.new }
     {
         match self.mode {
             Mode::Running => self.begin_commonly(),
@@ -77,8 +78,8 @@ impl<'a> Process<'a> {
 
     /// Makes the step of the statements that are first of what is left to do.
     fn begin_commonly(&mut self) -> Result<bool, AllocError>
-        ensures { let s = state_of self.old in (types : List TypeDefinition) →
-            MayMove (step.running_next named types s.control s) self.old result self.new }
+        ensures { let s = state_of self.old in (types : List TypeDefinition) (bodies : List BodyForm) →
+            MayMove (step.running_next named types bodies s.control s) self.old result self.new }
     {
         match self.frames.top() {
             Some(Frame::Does(statements)) => {
@@ -91,8 +92,8 @@ impl<'a> Process<'a> {
 
     /// Makes the step of the first of what is left to do.
     fn go_on_commonly(&mut self) -> Result<bool, AllocError>
-        ensures { let s = state_of self.old in (types : List TypeDefinition) →
-            MayMove (step.running_next named types s.control s) self.old result self.new }
+        ensures { let s = state_of self.old in (types : List TypeDefinition) (bodies : List BodyForm) →
+            MayMove (step.running_next named types bodies s.control s) self.old result self.new }
     {
         match self.frames.top() {
             None => Ok(false),
@@ -168,8 +169,8 @@ impl<'a> Process<'a> {
 
     /// The statements that are left, where none is (5.1).
     fn pass_done(&mut self, statements: &'a [Stmt]) -> Result<bool, AllocError>
-        ensures { let s = state_of self.old in
-            MayMove (step.stmts_next named (stmts_form statements.now) (passed s)) self.old result self.new }
+        ensures { let s = state_of self.old in (bodies : List BodyForm) →
+            MayMove (step.stmts_next named bodies (stmts_form statements.now) (passed s)) self.old result self.new }
     {
         match statements.first() {
             None => {
@@ -182,8 +183,8 @@ impl<'a> Process<'a> {
 
     /// The statements that are left (5.1).
     fn do_next(&mut self, statements: &'a [Stmt]) -> Result<bool, AllocError>
-        ensures { let s = state_of self.old in
-            MayMove (step.stmts_next named (stmts_form statements.now) (passed s)) self.old result self.new }
+        ensures { let s = state_of self.old in (bodies : List BodyForm) →
+            MayMove (step.stmts_next named bodies (stmts_form statements.now) (passed s)) self.old result self.new }
     {
         match statements.split_first() {
             None => {
@@ -198,7 +199,8 @@ impl<'a> Process<'a> {
     #[tactic(auto, using(std::proofs::lemmas::Grind::common_steps, ada_program::specs::Form::statement_rules))]
     fn execute_next(&mut self, statement: &'a Stmt, rest: &'a [Stmt]) -> Result<bool, AllocError>
         ensures { let s = replaced (frame.Does (stmts_form rest.now)) (state_of self.old) in
-            MayMove (step.stmt_next named (stmt_form statement.now) s) self.old result self.new }
+            (bodies : List BodyForm) →
+            MayMove (step.stmt_next named bodies (stmt_form statement.now) s) self.old result self.new }
     {
         match statement {
             Stmt::Null => {

@@ -1,6 +1,7 @@
 //! Turns: what the first of what is left to do does, and how a jump passes it.
 
 ghost use Rattle.std.specs.Prelude.{◌≡◌};
+ghost use Rattle.ada_program.specs.ProgramForm.{body_forms};
 ghost use Rattle.ada_meaning.specs.Step.{running_next, jump_next, frame_next, pass_next, landed, end_of};
 ghost use Rattle.ada_meaning.specs.Named.{next, named};
 ghost use Rattle.ada_interpreter.specs.Process.{frame_of, landing_of, state_of, passed, Turns};
@@ -16,8 +17,8 @@ use std::alloc::AllocError;
 impl<'a> Process<'a> {
     /// What comes next; the step is made, up to what it asks.
     #[tactic(auto, unfolding(ada_meaning::specs::Named::next))]
-    pub(crate) fn turn(&mut self, program: &Program) -> Result<Turn, AllocError>
-        ensures { Turns (next program.now.types.items (state_of self.old))
+    pub(crate) fn turn(&mut self, program: &'a Program) -> Result<Turn, AllocError>
+        ensures { Turns (next program.now.types.items (body_forms program.now) (state_of self.old))
             (state_of self.old) result (state_of self.new) }
     {
         match self.mode {
@@ -28,9 +29,9 @@ impl<'a> Process<'a> {
     }
 
     /// What comes next where no jump is on its way.
-    fn run(&mut self, program: &Program) -> Result<Turn, AllocError>
+    fn run(&mut self, program: &'a Program) -> Result<Turn, AllocError>
         ensures { let s = state_of self.old in
-            Turns (running_next named program.now.types.items s.control s)
+            Turns (running_next named program.now.types.items (body_forms program.now) s.control s)
             s result (state_of self.new) }
     {
         match self.frames.top() {
@@ -43,9 +44,9 @@ impl<'a> Process<'a> {
     }
 
     /// What the first of what is left to do does.
-    fn advance(&mut self, program: &Program, frame: Frame<'a>) -> Result<Turn, AllocError>
+    fn advance(&mut self, program: &'a Program, frame: Frame<'a>) -> Result<Turn, AllocError>
         ensures { let s = state_of self.old in
-            Turns (frame_next named program.now.types.items (frame_of frame.entry) (passed s))
+            Turns (frame_next named program.now.types.items (body_forms program.now) (frame_of frame.entry) (passed s))
             s result (state_of self.new) }
     {
         match frame {
@@ -54,7 +55,7 @@ impl<'a> Process<'a> {
                 statements,
                 handlers,
             } => self.elaborate(program, declarations, statements, handlers),
-            Frame::Does(statements) => self.begin(statements),
+            Frame::Does(statements) => self.begin(program, statements),
             Frame::Decides {
                 statements,
                 branches,
@@ -85,6 +86,12 @@ impl<'a> Process<'a> {
             }
             Frame::Closes => self.close(),
             Frame::Leaves(mode) => self.leave(mode),
+            Frame::Calls {
+                procedure,
+                body,
+                count,
+            } => self.begin_body(procedure, body, count),
+            Frame::Returns => Ok(self.resume()),
             Frame::Evaluates(right) => self.evaluate(program, right),
             Frame::Computes(expression) => self.compute(expression),
             Frame::Follows(selectors) => self.follow(selectors),
@@ -137,9 +144,13 @@ impl<'a> Process<'a> {
         match self.frames.top() {
             None => Ok(Turn::Halts(end_of(mode))),
             Some(frame) => {
-                let is_master = frame.is_master();
-                let landing = frame.landing(mode);
-                self.discard(mode, is_master, landing)
+                if frame.is_return() {
+                    Ok(self.leave_body(mode))
+                } else {
+                    let is_master = frame.is_master();
+                    let landing = frame.landing(mode);
+                    self.discard(mode, is_master, landing)
+                }
             }
         }
     }

@@ -1,13 +1,14 @@
 //! What is left to do.
 
 ghost use Rattle.std.specs.Prelude.{◌≡◌};
-ghost use Rattle.ada_meaning.specs.Frame.{is_master, exit_landing, exception_landing, landing, begins_by};
+ghost use Rattle.ada_meaning.specs.Frame.{is_master, is_return, exit_landing, return_landing, exception_landing, landing, begins_by};
 ghost use Rattle.ada_interpreter.specs.Process.{frame_of, landing_of};
 
 use crate::handling::{Landing, landing_among};
 use ada_meaning::{Cause, Exception, Mode, Value};
 use ada_program::program::{
-    Branch, ComponentNo, Declaration, Expression, Handler, Item, Link, Right,
+    Branch, ComponentNo, Declaration, Expression, Handler, Item, Link, Procedure, ProcedureNo,
+    Right,
 };
 use ada_program::{Stmt, TypeNo, VariableNo};
 use ada_values::operator::{BinaryOperator, UnaryOperator};
@@ -59,6 +60,14 @@ pub(crate) enum Frame<'a> {
     Closes,
     /// The innermost master is being left, newest item first; then the mode goes on (7.6.1).
     Leaves(Mode),
+    /// The newest operands are the actual parameters of a call, as many as `count`: the procedure's body begins (6.4).
+    Calls {
+        procedure: ProcedureNo,
+        body: &'a Procedure,
+        count: usize,
+    },
+    /// The body of a call is in front of this: its activation ends then, and that of its caller goes on (6.4, 6.5).
+    Returns,
     /// What is assigned is to be evaluated; null where nothing is written (5.2).
     Evaluates(Option<&'a Right>),
     /// An expression is to be evaluated: its value becomes the newest operand (4.4).
@@ -174,6 +183,16 @@ impl<'a> Frame<'a> {
         }
     }
 
+    /// Does the body of a call come to its end here?
+    pub(crate) fn is_return(&self) -> bool
+        ensures { result ≡ is_return (frame_of self.now) }
+    {
+        match self {
+            Frame::Returns => true,
+            _ => false,
+        }
+    }
+
     /// Where a jump lands that comes to this frame.
     pub(crate) fn landing(&self, mode: Mode) -> Landing<'a>
         ensures { landing_of result ≡ landing mode (frame_of self.now) }
@@ -181,7 +200,8 @@ impl<'a> Frame<'a> {
         match mode {
             Mode::Raising(exception) => self.exception_landing(exception),
             Mode::Exiting => self.exit_landing(),
-            Mode::Running | Mode::Returning => Landing::PassesOn,
+            Mode::Returning => self.return_landing(),
+            Mode::Running => Landing::PassesOn,
         }
     }
 
@@ -201,6 +221,17 @@ impl<'a> Frame<'a> {
                 statements: _,
             } => Landing::GoesBehind,
             _ => Landing::PassesOn,
+        }
+    }
+
+    /// A return goes on behind the call of its body (6.5).
+    fn return_landing(&self) -> Landing<'a>
+        ensures { landing_of result ≡ return_landing (frame_of self.now) }
+    {
+        if self.is_return() {
+            Landing::GoesBehind
+        } else {
+            Landing::PassesOn
         }
     }
 

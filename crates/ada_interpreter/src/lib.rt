@@ -6,11 +6,15 @@
 //!
 //! A step costs constant time, whatever the program has allocated and entered: a collection knows its members, an object
 //! its collection, and an access type its newest open collection. An exception looks at the handlers that it comes to,
-//! and the step that copies or fills a record costs as much as the record is long.
+//! the step that copies or fills a record costs as much as the record is long, and the steps in which a call begins cost
+//! as much as it has actual parameters and its procedure has variables. Once the machine's stacks have grown, a call
+//! takes no memory.
 #![tactic(auto)]
 
+mod activations;
 mod allocators;
 mod branches;
+mod calls;
 mod choices;
 mod common_steps;
 mod common_values;
@@ -29,6 +33,7 @@ mod objects;
 mod operators;
 mod process;
 mod records;
+mod shelves;
 mod stack;
 mod steps;
 mod turn;

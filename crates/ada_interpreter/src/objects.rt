@@ -1,12 +1,13 @@
 //! Objects by name, and the members of each collection.
 
-ghost use Rattle.std.specs.Prelude.{◌≡◌, ℕ, ◌<◌, [], ◌∷◌, ◌++◌, length, reverse, map, vec_len, OnOk, OnErr, IfOk, MatchOption};
-ghost use Rattle.std.specs.List.{slice_index_or, slice_set};
+ghost use Rattle.std.specs.Prelude.{◌≡◌, ℕ, [], ◌∷◌, ◌++◌, length, reverse, map, OnOk, IfOk, MatchOption};
+ghost use Rattle.std.specs.List.{slice_index_or};
 ghost use Rattle.ada_meaning.specs.Heap.{on_gone, finds};
 ghost use Rattle.ada_meaning.specs.Step.{initial_value, stored_from};
 ghost use Rattle.ada_meaning.specs.Named.{named, object_at, seen, lent_by, new_object, changed, parted, finished, returned, filled, members};
-ghost use Rattle.ada_interpreter.specs.Objects.{cell_of, declared_cell, object_of, kept_of, kept_at, entered, discounted_at, listed_home, gone, filled_from, is_member_at, members_among, Trims, IsTidied};
+ghost use Rattle.ada_interpreter.specs.Objects.{cell_of, declared_cell, object_of, kept_of, kept_at, listed_home, gone, filled_from, is_member_at, members_among, Trims, IsTidied};
 
+use crate::shelves::{Shelf, discount, enter, entries_at, live_at, make_shelves};
 use crate::values::{initial_values, set_value, set_values};
 use ada_meaning::{Id, Stage, Value};
 use ada_program::TypeNo;
@@ -44,15 +45,6 @@ pub(crate) struct Object {
     listed: bool,
     /// Whether its words are out.
     out: bool,
-}
-
-/// The members of one collection, or the object of one declaration.
-#[derive(Drop)]
-struct Shelf {
-    /// Every member is among these, oldest first. Some of them have left the collection.
-    entries: Vec<Id>,
-    /// How many members there are.
-    live: usize,
 }
 
 /// The objects that were ever created, seen as the list of them by name.
@@ -278,72 +270,6 @@ fn set_components(objects: &mut Vec<Object>, o: Id, first: ComponentNo, values: 
     if o.0 < objects.len() {
         let object = &mut objects[o.0];
         set_values(object.cell.values.as_mut_slice(), first.0, values);
-    }
-}
-
-/// Makes shelves up to that of an item.
-fn make_shelves(alloc: Global, shelves: &mut Vec<Shelf>, item: usize) -> Result<(), AllocError>
-    ensures same { (i : ℕ) →
-        kept_at (map kept_of shelves.new.items) i ≡ kept_at (map kept_of shelves.old.items) i }
-    ensures room { OnOk result (item < vec_len shelves.new) }
-{
-    'shelves: while shelves.len() <= item {
-        shelves.push(Shelf {
-            entries: Vec::new(alloc),
-            live: 0,
-        })?;
-    }
-    Ok(())
-}
-
-/// A new object becomes a member.
-fn enter(shelves: &mut Vec<Shelf>, item: usize, o: Id) -> Result<(), AllocError>
-    requires { item < vec_len shelves.old }
-    ensures ok { let kept = map kept_of shelves.old.items in
-        OnOk result (map kept_of shelves.new.items ≡ slice_set kept item (entered (kept_at kept item) o)) }
-    ensures err { OnErr result (map kept_of shelves.new.items ≡ map kept_of shelves.old.items) }
-{
-    let shelf = &mut shelves[item];
-    let Some(live) = shelf.live.checked_add(1) else {
-        return Err(AllocError);
-    };
-    shelf.entries.reserve(1)?;
-    shelf.entries.push_reserved(o);
-    shelf.live = live;
-    Ok(())
-}
-
-/// A collection has a member less.
-fn discount(shelves: &mut Vec<Shelf>, home: Option<usize>)
-    ensures { map kept_of shelves.new.items ≡ discounted_at home (map kept_of shelves.old.items) }
-{
-    if let Some(item) = home
-        && item < shelves.len()
-    {
-        let shelf = &mut shelves[item];
-        shelf.live = shelf.live.saturating_sub(1);
-    }
-}
-
-/// How many members the collection of an item has.
-fn live_at(shelves: &[Shelf], item: usize) -> usize
-    ensures { result ≡ (kept_at (map kept_of shelves.now) item).live }
-{
-    if item < shelves.len() {
-        shelves[item].live
-    } else {
-        0
-    }
-}
-
-/// The names that the members of the collection of an item are among.
-fn entries_at(shelves: &[Shelf], item: usize) -> &[Id]
-    ensures { result.now ≡ (kept_at (map kept_of shelves.now) item).entries }
-{
-    if item < shelves.len() {
-        shelves[item].entries.as_slice()
-    } else {
-        &[]
     }
 }
 

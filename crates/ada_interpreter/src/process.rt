@@ -1,22 +1,20 @@
 //! A run in progress: what is left to do, what is computed, and what variables hold.
 
-ghost use Rattle.std.specs.Prelude.{◌≡◌, map, IfOk, OnOk};
+ghost use Rattle.std.specs.Prelude.{◌≡◌, IfOk, OnOk};
 ghost use Rattle.ada_meaning.specs.State.{begins};
 ghost use Rattle.ada_meaning.specs.Step.{jumping, raised, computed, popped, put, entered, newest, held};
 ghost use Rattle.ada_meaning.specs.Named.{named};
-ghost use Rattle.ada_meaning.specs.Run.{first_state, blank, blank_of};
+ghost use Rattle.ada_meaning.specs.Run.{first_state};
 ghost use Rattle.ada_interpreter.specs.Process.{frame_of, state_of, passed, replaced, pushed};
 
+use crate::activations::Activations;
 use crate::frame::Frame;
 use crate::input::Input;
 use crate::masters::Masters;
 use crate::objects::Objects;
 use crate::stack::Stack;
-use crate::values::{set_value, value_at};
 use ada_meaning::{Exception, Mode, Value};
-use ada_program::program::{Variable, VariableKind};
 use ada_program::{Program, VariableNo};
-use ada_values::Value as Scalar;
 use std::alloc::{AllocError, Global};
 
 /// The state of a run of a program.
@@ -24,10 +22,8 @@ use std::alloc::{AllocError, Global};
 pub(crate) struct Process<'a> {
     /// What is left to do, the innermost first.
     pub(crate) frames: Stack<Frame<'a>>,
-    /// What each variable holds.
-    pub(crate) places: Vec<Value>,
-    /// What pending forms have computed.
-    pub(crate) operands: Stack<Value>,
+    /// What variables hold, and what pending forms have computed.
+    pub(crate) activations: Activations,
     pub(crate) objects: Objects,
     pub(crate) masters: Masters,
     pub(crate) mode: Mode,
@@ -57,8 +53,7 @@ impl<'a> Process<'a> {
         })?;
         Ok(Process {
             frames,
-            places: blanks(alloc, program.variables.as_slice())?,
-            operands: Stack::new(alloc),
+            activations: Activations::new(alloc, program.variables.as_slice())?,
             objects: Objects::new(alloc),
             masters: Masters::new(alloc)?,
             mode: Mode::Running,
@@ -158,7 +153,7 @@ impl<'a> Process<'a> {
     pub(crate) fn jump(&mut self, mode: Mode)
         ensures { state_of self.new ≡ jumping mode (state_of self.old) }
     {
-        self.operands.clear();
+        self.activations.drop_operands();
         self.mode = mode;
     }
 
@@ -186,7 +181,7 @@ impl<'a> Process<'a> {
     pub(crate) fn keep(&mut self, value: Value) -> Result<(), AllocError>
         ensures { OnOk result (state_of self.new ≡ computed value (state_of self.old)) }
     {
-        self.operands.push(value)
+        self.activations.push(value)
     }
 
     /// The first of what is left to do gives a value.
@@ -201,62 +196,34 @@ impl<'a> Process<'a> {
     pub(crate) fn newest(&self) -> Value
         ensures { result ≡ newest named (state_of self.now) }
     {
-        match self.operands.at(0) {
-            Some(value) => value,
-            None => Value::Null,
-        }
+        self.activations.newest()
     }
 
     /// The operand before the newest; null, if there is none.
     pub(crate) fn second(&self) -> Value
         ensures { result ≡ newest named (popped (state_of self.now)) }
     {
-        match self.operands.at(1) {
-            Some(value) => value,
-            None => Value::Null,
-        }
+        self.activations.second()
     }
 
     /// The newest operand is taken away.
     pub(crate) fn pop(&mut self)
         ensures { state_of self.new ≡ popped (state_of self.old) }
     {
-        self.operands.shorten();
+        self.activations.pop();
     }
 
     /// What a variable holds.
     pub(crate) fn held(&self, variable: VariableNo) -> Value
         ensures { result ≡ held named (state_of self.now) variable.0 }
     {
-        value_at(self.places.as_slice(), variable.0)
+        self.activations.held(variable)
     }
 
     /// A variable gets a value (5.2).
     pub(crate) fn put(&mut self, variable: VariableNo, value: Value)
         ensures { state_of self.new ≡ put variable.0 value (state_of self.old) }
     {
-        set_value(self.places.as_mut_slice(), variable.0, value);
-    }
-}
-
-/// What lies in the place of each variable before its declaration is elaborated.
-fn blanks(alloc: Global, variables: &[Variable]) -> Result<Vec<Value>, AllocError>
-    ensures { IfOk result (λ values. values.items ≡ map blank_of variables.now) }
-{
-    let mut values = Vec::new(alloc);
-    for variable in variables {
-        values.push(blank(variable.kind))?;
-    }
-    Ok(values)
-}
-
-/// A value of a kind: what lies in a variable's place before its declaration is elaborated.
-fn blank(kind: VariableKind) -> Value
-    ensures { result ≡ blank kind }
-{
-    match kind {
-        VariableKind::Integer => Value::Scalar(Scalar::Integer(0)),
-        VariableKind::Boolean => Value::Scalar(Scalar::Boolean(false)),
-        VariableKind::Access(_) | VariableKind::Record(_) => Value::Null,
+        self.activations.put(variable, value);
     }
 }

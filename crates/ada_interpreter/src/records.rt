@@ -2,17 +2,17 @@
 
 ghost use Rattle.std.specs.Prelude.{◌≡◌, List, map, OnOk};
 ghost use Rattle.ada_program.specs.declared.program.TypeDefinition.{TypeDefinition};
-ghost use Rattle.ada_program.specs.Form.{assigns_record, record_path_form, item_form};
+ghost use Rattle.ada_program.specs.Form.{record_path_form, item_form};
 ghost use Rattle.ada_program.specs.Typed.{reached_of, words_of, width_of};
 ghost use Rattle.ada_meaning.specs.Event.{Quiet};
+ghost use Rattle.ada_meaning.specs.Frame as frame;
 ghost use Rattle.ada_meaning.specs.Step as step;
 ghost use Rattle.ada_meaning.specs.Named.{named, look};
-ghost use Rattle.ada_interpreter.specs.Process.{frame_of, state_of, passed, replaced, Turns, IsTurn};
+ghost use Rattle.ada_interpreter.specs.Process.{frame_of, state_of, passed, replaced, pushed, Turns, IsTurn};
 
 use crate::frame::Frame;
 use crate::masters::Owned;
 use crate::process::Process;
-use crate::stack::Stack;
 use crate::turn::{QUIET, Turn};
 use crate::values::record_in;
 use ada_meaning::{Event, Exception, Halt, Id, Value, Why};
@@ -65,8 +65,8 @@ impl<'a> Process<'a> {
             None => Ok(Turn::Halts(Halt::Stuck)),
             Some(values) => {
                 self.frames.shorten();
-                self.operands.shorten();
-                put_on(&mut self.operands, values)?;
+                self.activations.pop();
+                self.activations.push_all(values)?;
                 Ok(Turn::Moves(Event::Followed { object }))
             }
         }
@@ -80,8 +80,10 @@ impl<'a> Process<'a> {
         rest: Frame<'a>,
     ) -> Result<Turn, AllocError>
         ensures { let s = replaced (frame_of rest.entry) (state_of self.old) in
+            let form = record_path_form target.now in
+            let targets = frame.TargetsRecord form.first form.record_type (map item_form items.now) in
             Turns
-            (step.stmt_next named (assigns_record (record_path_form target.now) (map item_form items.now)) s)
+            (step.path_next named form.object.selectors (step.held named s form.object.root) (pushed targets s))
             (state_of self.old) result (state_of self.new) }
     {
         self.find(
@@ -184,8 +186,8 @@ impl<'a> Process<'a> {
             Some(_) => {
                 self.pass();
                 self.objects
-                    .store_from(object, first, self.operands.newest(count));
-                self.operands.shorten_by(count);
+                    .store_from(object, first, self.activations.newest_ones(count));
+                self.activations.shorten_by(count);
                 Turn::Moves(Event::Followed { object })
             }
         }
@@ -207,7 +209,7 @@ impl<'a> Process<'a> {
             (state_of self.old) result (state_of self.new) }
     {
         self.pass();
-        let values = self.operands.take(program.words(object))?;
+        let values = self.activations.take(program.words(object))?;
         self.make(variable, object, values)?;
         Ok(QUIET)
     }
@@ -248,14 +250,4 @@ impl<'a> Process<'a> {
         self.put(variable, Value::Names(name));
         self.masters.own(Owned::Record(object))
     }
-}
-
-/// Values are put on a stack, one after another.
-fn put_on(stack: &mut Stack<Value>, values: &[Value]) -> Result<(), AllocError>
-    ensures { OnOk result (stack.new ≡ step.in_front values.now stack.old) }
-{
-    for value in values {
-        stack.push(*value)?;
-    }
-    Ok(())
 }

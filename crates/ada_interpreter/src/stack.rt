@@ -112,6 +112,7 @@ impl<T: Drop> Stack<T> {
     pub(crate) fn take(&mut self, count: usize) -> Result<Vec<T>, AllocError>
         ensures taken { IfOk result (λ taken. taken.items ≡ reverse (take count self.old)) }
         ensures left { OnOk result (self.new ≡ drop count self.old) }
+        ensures unchanged { OnErr result (self.new ≡ self.old) }
     {
         let kept = self.items.len().saturating_sub(count);
         self.items.split_off(kept)

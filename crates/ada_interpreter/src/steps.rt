@@ -3,6 +3,7 @@
 ghost use Rattle.std.specs.Prelude.{◌≡◌, map};
 ghost use Rattle.std.specs.Option.{option_copied};
 ghost use Rattle.ada_program.specs.Form.{initial_form, right_form, stmt_form, stmts_form, handlers_form, declaration_form};
+ghost use Rattle.ada_program.specs.ProgramForm.{body_forms};
 ghost use Rattle.ada_meaning.specs.Frame as frame;
 ghost use Rattle.ada_meaning.specs.Event.{Quiet};
 ghost use Rattle.ada_meaning.specs.State.{declared};
@@ -110,9 +111,13 @@ impl<'a> Process<'a> {
     }
 
     /// The statements that are left (5.1).
-    pub(crate) fn begin(&mut self, statements: &'a [Stmt]) -> Result<Turn, AllocError>
+    pub(crate) fn begin(
+        &mut self,
+        program: &'a Program,
+        statements: &'a [Stmt],
+    ) -> Result<Turn, AllocError>
         ensures { let s = state_of self.old in
-            Turns (step.stmts_next named (stmts_form statements.now) (passed s))
+            Turns (step.stmts_next named (body_forms program.now) (stmts_form statements.now) (passed s))
             s result (state_of self.new) }
     {
         match statements.split_first() {
@@ -120,16 +125,21 @@ impl<'a> Process<'a> {
                 self.pass();
                 Ok(QUIET)
             }
-            Some((first, rest)) => self.execute(first, Frame::Does(rest)),
+            Some((first, rest)) => self.execute(program, first, Frame::Does(rest)),
         }
     }
 
     /// A statement (5.1).
     #[tactic(auto, using(std::proofs::lemmas::Grind::common_steps, ada_program::specs::Form::statement_rules))]
-    fn execute(&mut self, statement: &'a Stmt, rest: Frame<'a>) -> Result<Turn, AllocError>
+    fn execute(
+        &mut self,
+        program: &'a Program,
+        statement: &'a Stmt,
+        rest: Frame<'a>,
+    ) -> Result<Turn, AllocError>
         ensures { let s = state_of self.old in
             Turns
-            (step.stmt_next named (stmt_form statement.now) (replaced (frame_of rest.entry) s))
+            (step.stmt_next named (body_forms program.now) (stmt_form statement.now) (replaced (frame_of rest.entry) s))
             s result (state_of self.new) }
     {
         match statement {
@@ -190,6 +200,9 @@ impl<'a> Process<'a> {
                 Ok(QUIET)
             }
             Stmt::Exit { condition, spot: _ } => self.exit(condition.as_ref(), rest),
+            Stmt::Call { procedure, actuals } => {
+                self.call(program, *procedure, actuals.as_slice(), rest)
+            }
             Stmt::Return(_) => {
                 self.replace(rest)?;
                 self.jump(Mode::Returning);

@@ -1,6 +1,6 @@
 //! Values by number: total reads and writes.
 
-ghost use Rattle.std.specs.Prelude.{◌≡◌, drop, map, IfOk};
+ghost use Rattle.std.specs.Prelude.{◌≡◌, take, drop, map, IfOk};
 ghost use Rattle.std.specs.List.{slice_index_or, slice_set};
 ghost use Rattle.std.specs.Option.{option_copied};
 ghost use Rattle.ada_meaning.specs.Step.{initial_value, record_in};
@@ -32,6 +32,16 @@ pub(crate) fn set_value(values: &mut [Value], i: usize, value: Value)
     }
 }
 
+/// The value at a number becomes another, counted from the first of those behind some; nothing, if there is none.
+pub(crate) fn set_value_behind(values: &mut [Value], first: usize, i: usize, value: Value)
+    ensures behind { drop first values.new ≡ slice_set (drop first values.old) i value }
+    ensures before { take first values.new ≡ take first values.old }
+{
+    if i < values.len().saturating_sub(first) {
+        values[first + i] = value;
+    }
+}
+
 /// Values become others, from a number on; what would come behind the end is dropped.
 pub(crate) fn set_values(values: &mut [Value], first: usize, others: &[Value])
     ensures { values.new ≡ set_from values.old first others.now }
@@ -59,7 +69,7 @@ pub(crate) fn record_in(values: &[Value], first: usize, count: usize) -> Option<
 }
 
 /// The values from a number on.
-fn values_behind(values: &[Value], first: usize) -> &[Value]
+pub(crate) fn values_behind(values: &[Value], first: usize) -> &[Value]
     ensures { result.now ≡ drop first values.now }
 {
     if first < values.len() {

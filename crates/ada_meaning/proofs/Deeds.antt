@@ -4,8 +4,9 @@ use Rattle.std.proofs.Common.{◌≡◌, ℕ, ℤ, int_le, Bool, true, false, if
 use Rattle.std.specs.List.{slice_get, slice_set, slice_index_or}
 use Rattle.ada_program.specs.declared.program.Program.{Program}
 use Rattle.ada_program.specs.declared.program.TypeDefinition.{TypeDefinition}
-use Rattle.ada_program.specs.Form.{ExpressionForm, integer, boolean, reads, is_null, applied_to, chained, LinksForm, no_more_links, a_link, ItemForm, null_item, item_of_path, item_of_value, item_of_record, RightForm, nothing, value_of, allocates, allocates_default, computes, StmtForm, skips, assigns, assigns_record, frees, gets, writes, writes_text, chooses, repeats, counts, exits, raises, encloses, StmtsForm, no_stmts, a_stmt, BranchesForm, otherwise, a_branch, HandlersForm, DeclarationForm, collects, declares, declares_record}
+use Rattle.ada_program.specs.Form.{ExpressionForm, integer, boolean, reads, is_null, applied_to, chained, LinksForm, no_more_links, a_link, ItemForm, null_item, item_of_path, item_of_value, item_of_record, RightForm, nothing, value_of, allocates, allocates_default, computes, StmtForm, skips, assigns, assigns_record, frees, gets, writes, writes_text, chooses, repeats, counts, exits, calls, raises, encloses, StmtsForm, no_stmts, a_stmt, BranchesForm, otherwise, a_branch, HandlersForm, DeclarationForm, collects, declares, declares_record}
 use Rattle.ada_program.specs.Form as form
+use Rattle.ada_program.specs.ProgramForm.{BodyForm, body_forms}
 use Rattle.ada_program.specs.Typed.{reached_of, words_of, width_of}
 use Rattle.ada_values.specs.declared.operator.BinaryOperator.{BinaryOperator}
 use Rattle.ada_values.specs.declared.fault.OperatorFault.{OperatorFault}
@@ -20,14 +21,15 @@ use Rattle.ada_meaning.specs.declared.event.Cause.TheVariants.{Leaving}
 use Rattle.ada_meaning.specs.declared.event.Halt.TheVariants.{Erroneous}
 use Rattle.ada_meaning.specs.declared.event.Why.TheVariants.{GivesElsewhere}
 use Rattle.ada_meaning.specs.Event.{Back, Quiet}
-use Rattle.ada_meaning.specs.Frame.{Frame, is_master, is_loop, Landing, passes_on, goes_behind, goes_in, landing}
+use Rattle.ada_meaning.specs.Frame.{Frame, is_master, Landing, passes_on, goes_behind, goes_in, landing}
 use Rattle.ada_meaning.specs.Frame as frame
 use Rattle.ada_meaning.specs.State.{Owned, declared, collection, record_object, Item, Master, height, home_of, pool_of}
 use Rattle.ada_meaning.specs.Heap.{Cell, Found, on_null, on_gone, on_other, finds}
-use Rattle.ada_meaning.specs.Step.{same_pool, told_back, record_cell, record_in, stored_from, newest_ones, without_newest, initial_values, copied_next, copies_next, record_target_next, record_stored_next, store_record_next, record_next, halts, moves, tells, asks, picks, at, popped, held, newest, reading, component_next, follow_next, path_next, expression_next, null_test_next, is_decided, link_next, links_next, outcome_next, item_next, items_next, answered, new_next, new_cell, right_next, free_next, end_next, given_back, back_next, before_last, last_of, assign_next, target_next, stored_next, store_next, received_next, receive_next, frees_next, freed_next, free_component_next, free_in_next, branches_next, decided_next, turn_next, repeats_next, turned_next, count_turn_next, counts_next, ranges_next, gets_next, exit_next, exited_next, stmt_next, stmts_next, line_next, declaration_next, declarations_next, members_next, item_leave_next, master_leave_next, leave_next, frame_next, landed, pass_next, running_next, jump_next, mode_next}
+use Rattle.ada_meaning.specs.Step.{same_pool, told_back, record_cell, record_in, stored_from, newest_ones, without_newest, initial_values, copied_next, copies_next, record_target_next, record_stored_next, store_record_next, record_next, halts, moves, tells, asks, picks, at, popped, held, newest, reading, component_next, follow_next, path_next, expression_next, null_test_next, is_decided, link_next, links_next, outcome_next, item_next, items_next, answered, new_next, new_cell, right_next, free_next, end_next, given_back, back_next, before_last, last_of, assign_next, target_next, stored_next, store_next, received_next, receive_next, frees_next, freed_next, free_component_next, free_in_next, branches_next, decided_next, turn_next, repeats_next, turned_next, count_turn_next, counts_next, ranges_next, gets_next, exit_next, exited_next, call_next, stmt_next, stmts_next, line_next, declaration_next, declarations_next, members_next, item_leave_next, master_leave_next, leave_next, frame_next, landed, pass_next, running_next, jump_next, mode_next}
 use Rattle.ada_meaning.specs.Named.{Object, State, Next, next, named, look, lent, lent_by, reads_boolean, reads_null, reads_integer, unary_given, binary_given, members, object_at, changed, on_object, new_object, parted, finished, returned, an_integer}
 use Rattle.ada_meaning.specs.Run.{Event, Choice, settled, grants, takes, Leads, Step}
 use Rattle.ada_meaning.specs.Law.{back_of}
+use Rattle.ada_meaning.proofs.Jumps.{unwound_to, unwound_by}
 
 abbrev Heap : Type 0
 Heap = List Object
@@ -288,26 +290,32 @@ exited_does None s = tt
 exited_does (Some true) s = same refl refl
 exited_does (Some false) s = same refl refl
 
-stmt_does : (f : StmtForm) (s : State) → Does s.heap (stmt_next named f s)
-stmt_does skips s = same refl refl
-stmt_does (assigns target right) s = assign_does target.selectors target.root right s
-stmt_does (assigns_record target items) s =
-    path_does target.object.selectors (held named s target.object.root) (at (frame.TargetsRecord target.first target.record_type items ∷ s.control) s)
-stmt_does (frees access path) s = frees_do path.selectors access path.root s
-stmt_does (gets target) s = gets_do target.selectors target.root s.input s
-stmt_does (writes e) s = same refl refl
-stmt_does (writes_text text) s = same refl refl
-stmt_does (chooses branches) s = branches_do branches s
-stmt_does (repeats condition fs end_spot) s = same refl refl
-stmt_does (counts x low high fs end_spot) s = same refl refl
-stmt_does (exits condition spot) s = exit_does condition s
-stmt_does (form.returns spot) s = same refl refl
-stmt_does (raises e) s = same refl refl
-stmt_does (encloses ds fs hs) s = same refl refl
+-- A call, and the end of one.
+call_does : (procedure : ℕ) (actuals : List ExpressionForm) (body : Option BodyForm) (s : State) → Does s.heap (call_next named procedure actuals body s)
+call_does procedure actuals None s = tt
+call_does procedure actuals (Some b) s = same refl refl
 
-stmts_do : (fs : StmtsForm) (s : State) → Does s.heap (stmts_next named fs s)
-stmts_do no_stmts s = same refl refl
-stmts_do (a_stmt f fs) s = stmt_does f (at (frame.Does fs ∷ s.control) s)
+stmt_does : (bodies : List BodyForm) (f : StmtForm) (s : State) → Does s.heap (stmt_next named bodies f s)
+stmt_does bodies skips s = same refl refl
+stmt_does bodies (assigns target right) s = assign_does target.selectors target.root right s
+stmt_does bodies (assigns_record target items) s =
+    path_does target.object.selectors (held named s target.object.root) (at (frame.TargetsRecord target.first target.record_type items ∷ s.control) s)
+stmt_does bodies (frees access path) s = frees_do path.selectors access path.root s
+stmt_does bodies (gets target) s = gets_do target.selectors target.root s.input s
+stmt_does bodies (writes e) s = same refl refl
+stmt_does bodies (writes_text text) s = same refl refl
+stmt_does bodies (chooses branches) s = branches_do branches s
+stmt_does bodies (repeats condition fs end_spot) s = same refl refl
+stmt_does bodies (counts x low high fs end_spot) s = same refl refl
+stmt_does bodies (exits condition spot) s = exit_does condition s
+stmt_does bodies (calls procedure actuals) s = call_does procedure actuals (slice_get bodies procedure) s
+stmt_does bodies (form.returns spot) s = same refl refl
+stmt_does bodies (raises e) s = same refl refl
+stmt_does bodies (encloses ds fs hs) s = same refl refl
+
+stmts_do : (bodies : List BodyForm) (fs : StmtsForm) (s : State) → Does s.heap (stmts_next named bodies fs s)
+stmts_do bodies no_stmts s = same refl refl
+stmts_do bodies (a_stmt f fs) s = stmt_does bodies f (at (frame.Does fs ∷ s.control) s)
 
 line_does : (read : Option ℤ) (s : State) → Does s.heap (line_next named read s)
 line_does None s = tt
@@ -345,48 +353,51 @@ leave_does mode [] s = tt
 leave_does mode (m ∷ ms) s = master_leave_does mode m.number m.items s
 
 -- Each frame that is taken off.
-frame_does : (types : List TypeDefinition) (f : Frame Value) (s : State) → Does s.heap (frame_next named types f s)
-frame_does types (frame.Elaborates ds fs hs) s = declarations_do types ds fs hs s
-frame_does types (frame.Does fs) s = stmts_do fs s
-frame_does types (frame.Decides fs branches) s = decided_does fs branches (reads_boolean (newest named s)) (popped s)
-frame_does types (frame.Repeats condition fs) s = repeats_do condition fs s
-frame_does types (frame.Turns condition fs) s = turned_does condition fs (reads_boolean (newest named s)) (popped s)
-frame_does types (frame.Ranges x fs) s =
+frame_does : (types : List TypeDefinition) (bodies : List BodyForm) (f : Frame Value) (s : State) → Does s.heap (frame_next named types bodies f s)
+frame_does types bodies (frame.Elaborates ds fs hs) s = declarations_do types ds fs hs s
+frame_does types bodies (frame.Does fs) s = stmts_do bodies fs s
+frame_does types bodies (frame.Decides fs branches) s = decided_does fs branches (reads_boolean (newest named s)) (popped s)
+frame_does types bodies (frame.Repeats condition fs) s = repeats_do condition fs s
+frame_does types bodies (frame.Turns condition fs) s = turned_does condition fs (reads_boolean (newest named s)) (popped s)
+frame_does types bodies (frame.Ranges x fs) s =
     ranges_do x fs (reads_integer (newest named (popped s))) (reads_integer (newest named s)) (popped (popped s))
-frame_does types (frame.Counts x value last fs) s = counts_do x value last fs s
-frame_does types frame.Exits s = exited_does (reads_boolean (newest named s)) (popped s)
-frame_does types (frame.Handles hs) s = same refl refl
-frame_does types frame.Closes s = same refl refl
-frame_does types (frame.Leaves mode) s = leave_does mode s.masters s
-frame_does types (frame.Evaluates right) s = right_does types right s
-frame_does types (frame.Computes e) s = expression_does e s
-frame_does types (frame.Follows cs) s = path_does cs (newest named s) (popped s)
-frame_does types (frame.TestsNull equal) s = null_test_does equal (reads_null (newest named s)) (popped s)
-frame_does types (frame.Continues links) s = links_do links s
-frame_does types (frame.Applies operator) s = outcome_does (binary_given operator (newest named (popped s)) (newest named s)) (popped (popped s))
-frame_does types (frame.AppliesAlone operator) s = outcome_does (unary_given operator (newest named s)) (popped s)
-frame_does types (frame.Fills items) s = items_do items s
-frame_does types (frame.Copies first t) s = copies_do (newest named s) first (width_of types t) (look s.heap (newest named s)) (popped s)
-frame_does types (frame.Creates access count) s = new_does access count (words_of types access) (home_of access s.masters) s
-frame_does types (frame.Stores x) s = same refl refl
-frame_does types (frame.Targets c right) s = target_does (newest named s) c right (look s.heap (newest named s)) (popped s)
-frame_does types (frame.StoresIn object c) s = store_does object c (newest named s) (look s.heap object) (popped s)
-frame_does types (frame.TargetsRecord first t items) s =
+frame_does types bodies (frame.Counts x value last fs) s = counts_do x value last fs s
+frame_does types bodies frame.Exits s = exited_does (reads_boolean (newest named s)) (popped s)
+frame_does types bodies (frame.Handles hs) s = same refl refl
+frame_does types bodies frame.Closes s = same refl refl
+frame_does types bodies (frame.Leaves mode) s = leave_does mode s.masters s
+frame_does types bodies (frame.Calls procedure b count) s = same refl refl
+frame_does types bodies frame.Returns s = same refl refl
+frame_does types bodies (frame.Evaluates right) s = right_does types right s
+frame_does types bodies (frame.Computes e) s = expression_does e s
+frame_does types bodies (frame.Follows cs) s = path_does cs (newest named s) (popped s)
+frame_does types bodies (frame.TestsNull equal) s = null_test_does equal (reads_null (newest named s)) (popped s)
+frame_does types bodies (frame.Continues links) s = links_do links s
+frame_does types bodies (frame.Applies operator) s = outcome_does (binary_given operator (newest named (popped s)) (newest named s)) (popped (popped s))
+frame_does types bodies (frame.AppliesAlone operator) s = outcome_does (unary_given operator (newest named s)) (popped s)
+frame_does types bodies (frame.Fills items) s = items_do items s
+frame_does types bodies (frame.Copies first t) s = copies_do (newest named s) first (width_of types t) (look s.heap (newest named s)) (popped s)
+frame_does types bodies (frame.Creates access count) s = new_does access count (words_of types access) (home_of access s.masters) s
+frame_does types bodies (frame.Stores x) s = same refl refl
+frame_does types bodies (frame.Targets c right) s = target_does (newest named s) c right (look s.heap (newest named s)) (popped s)
+frame_does types bodies (frame.StoresIn object c) s = store_does object c (newest named s) (look s.heap object) (popped s)
+frame_does types bodies (frame.TargetsRecord first t items) s =
     record_target_does (newest named s) first (width_of types t) items (look s.heap (newest named s)) (popped s)
-frame_does types (frame.StoresRecord object first count) s = store_record_does object first count (look s.heap object) s
-frame_does types (frame.Receives c) s = receive_does (newest named s) c (look s.heap (newest named s)) (popped s)
-frame_does types (frame.FreesIn access c) s = free_in_does access (newest named s) c (look s.heap (newest named s)) (popped s)
-frame_does types (frame.Declares x) s = same refl refl
-frame_does types (frame.DeclaresRecord x t) s = adds (new_object (record_cell named t (height s.masters) (newest_ones named (words_of types t) s))) refl refl
-frame_does types frame.Writes s = line_does (reads_integer (newest named s)) (popped s)
-frame_does types (frame.Ends v) s = end_does v (look s.heap v) s
-frame_does types (frame.GivesBack v cause pool) s = back_does v cause pool s
-frame_does types (frame.Clears x) s = same refl refl
-frame_does types (frame.ClearsIn object c) s = store_does object c Null (look s.heap object) s
+frame_does types bodies (frame.StoresRecord object first count) s = store_record_does object first count (look s.heap object) s
+frame_does types bodies (frame.Receives c) s = receive_does (newest named s) c (look s.heap (newest named s)) (popped s)
+frame_does types bodies (frame.FreesIn access c) s = free_in_does access (newest named s) c (look s.heap (newest named s)) (popped s)
+frame_does types bodies (frame.Declares x) s = same refl refl
+frame_does types bodies (frame.DeclaresRecord x t) s =
+    adds (new_object (record_cell named t (height s.masters) (newest_ones named (words_of types t) s))) refl refl
+frame_does types bodies frame.Writes s = line_does (reads_integer (newest named s)) (popped s)
+frame_does types bodies (frame.Ends v) s = end_does v (look s.heap v) s
+frame_does types bodies (frame.GivesBack v cause pool) s = back_does v cause pool s
+frame_does types bodies (frame.Clears x) s = same refl refl
+frame_does types bodies (frame.ClearsIn object c) s = store_does object c Null (look s.heap object) s
 
-running_does : (types : List TypeDefinition) (k : List (Frame Value)) (s : State) → Does s.heap (running_next named types k s)
-running_does types [] s = tt
-running_does types (f ∷ k) s = frame_does types f (at k s)
+running_does : (types : List TypeDefinition) (bodies : List BodyForm) (k : List (Frame Value)) (s : State) → Does s.heap (running_next named types bodies k s)
+running_does types bodies [] s = tt
+running_does types bodies (f ∷ k) s = frame_does types bodies f (at k s)
 
 landed_does : (l : Landing) (s : State) → Does s.heap (landed named l s)
 landed_does passes_on s = same refl refl
@@ -400,17 +411,17 @@ pass_does false l mode s = landed_does l s
 
 jump_does : (mode : Mode) (k : List (Frame Value)) (s : State) → Does s.heap (jump_next named mode k s)
 jump_does mode [] s = tt
-jump_does mode (f ∷ k) s = pass_does (is_master f) (landing mode f) mode (at k s)
+jump_does mode (f ∷ k) s = rw (unwound_by f (at k s)) (pass_does (is_master f) (landing mode f) mode (unwound_to f (at k s)))
 
-mode_does : (types : List TypeDefinition) (mode : Mode) (s : State) → Does s.heap (mode_next named types mode s)
-mode_does types Running s = running_does types s.control s
-mode_does types (Raising e) s = jump_does (Raising e) s.control s
-mode_does types Exiting s = jump_does Exiting s.control s
-mode_does types Returning s = jump_does Returning s.control s
+mode_does : (types : List TypeDefinition) (bodies : List BodyForm) (mode : Mode) (s : State) → Does s.heap (mode_next named types bodies mode s)
+mode_does types bodies Running s = running_does types bodies s.control s
+mode_does types bodies (Raising e) s = jump_does (Raising e) s.control s
+mode_does types bodies Exiting s = jump_does Exiting s.control s
+mode_does types bodies Returning s = jump_does Returning s.control s
 
-next_does : (types : List TypeDefinition) (s : State) → Does s.heap (next types s)
+next_does : (types : List TypeDefinition) (bodies : List BodyForm) (s : State) → Does s.heap (next types bodies s)
 unfolding next
-next_does types s = mode_does types s.mode s
+next_does types bodies s = mode_does types bodies s.mode s
 
 led : (xs : Heap) (coming : Next) (choice : Choice) (e : Event) (after : State) → Does xs coming → Leads coming choice e after → Deed xs e after.heap
 led xs (halts halt) choice e after d l = absurd l
@@ -428,4 +439,5 @@ led xs (picks n taking) (grants granted) e after d l = absurd l
 led xs (picks n taking) (takes i) e after d l = rw (l.1, l.2) (d i)
 
 pub step_deed : (program : Program) (s after : State) (choice : Choice) (e : Event) → Step program s choice e after → Deed s.heap e after.heap
-step_deed program s after choice e l = led s.heap (next program.types.items s) choice e after (next_does program.types.items s) l
+step_deed program s after choice e l =
+    led s.heap (next program.types.items (body_forms program) s) choice e after (next_does program.types.items (body_forms program) s) l

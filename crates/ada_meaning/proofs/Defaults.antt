@@ -9,6 +9,7 @@ use Rattle.ada_program.specs.declared.program.ComponentKind.{ComponentKind}
 use Rattle.ada_program.specs.declared.program.ComponentKind.TheVariants as component
 use Rattle.ada_program.specs.declared.program.TypeDefinition.{TypeDefinition}
 use Rattle.ada_program.specs.Form.{allocates_default, DeclarationForm, declares_record, StmtsForm, HandlersForm}
+use Rattle.ada_program.specs.ProgramForm.{BodyForm, body_forms}
 use Rattle.ada_program.specs.Typed.{reached_of}
 use Rattle.ada_meaning.specs.declared.state.Value.{Value}
 use Rattle.ada_meaning.specs.declared.state.Mode.TheVariants.{Running}
@@ -53,12 +54,16 @@ filled kinds operands =
     let same : reverse (take (length kinds) (in_front vs operands)) ≡ vs = ap (λ n. reverse (take n (in_front vs operands))) (sym (counted kinds)) ∙ taken_back vs operands in
     subst (HoldAtFirst kinds) (sym same) (hold_at_first kinds)
 
-module _ (types : List TypeDefinition) (access : ℕ) (behind : List (Frame Value)) (running : Activation Value) (suspended : List (Activation Value)) where
+module _ (types : List TypeDefinition) (bodies : List BodyForm) (access : ℕ) (behind : List (Frame Value))
+    (running : Activation Value) (suspended : List (Activation Value)) where
   -- The state once the initial values are kept.
   abbrev ready_to_create : List ComponentKind → State → State
   ready_to_create kinds s = at (Creates access (length kinds) ∷ behind) (record s { mode = Running; activations = record running { operands = in_front (map (initial_value named) kinds) running.operands } ∷ suspended })
 
-  first_step : (kinds : List ComponentKind) (s : State) → reached_of types access ≡ Some kinds → s.mode ≡ Running → s.control ≡ Evaluates (allocates_default access) ∷ behind → s.activations ≡ running ∷ suspended → next types s ≡ moves Quiet (ready_to_create kinds s)
+  first_step :
+      (kinds : List ComponentKind) (s : State) → reached_of types access ≡ Some kinds → s.mode ≡ Running
+      → s.control ≡ Evaluates (allocates_default access) ∷ behind → s.activations ≡ running ∷ suspended
+      → next types bodies s ≡ moves Quiet (ready_to_create kinds s)
   unfolding next
   first_step kinds s reached runs is active = rw (runs, is, active, reached) refl
 
@@ -68,25 +73,31 @@ module _ (types : List TypeDefinition) (access : ℕ) (behind : List (Frame Valu
       let cell = new_cell named access (length kinds) item (at behind (ready_to_create kinds s)) in
       (new_object cell, ap (λ (t : State). t.heap) leads.1, refl, filled kinds running.operands)
 
-  second_step : (kinds : List ComponentKind) (s after : State) (e : Event) → reached_of types access ≡ Some kinds → Leads (next types (ready_to_create kinds s)) (grants true) e after → (object : Object) × (after.heap ≡ s.heap ++ object ∷ []) × (object.cell.access ≡ access) × HoldAtFirst kinds object.cell.values
+  second_step :
+      (kinds : List ComponentKind) (s after : State) (e : Event) → reached_of types access ≡ Some kinds
+      → Leads (next types bodies (ready_to_create kinds s)) (grants true) e after
+      → (object : Object) × (after.heap ≡ s.heap ++ object ∷ []) × (object.cell.access ≡ access) × HoldAtFirst kinds object.cell.values
   unfolding next
   second_step kinds s after e reached leads =
       granted_makes kinds s after (home_of access s.masters) e (rw reached at leads)
 
 pub makes_by_default : MakesByDefault
 makes_by_default program access kinds behind before mid after running suspended first second reached runs is active one two =
-    let moved = rw (first_step program.types.items access behind running suspended kinds before reached runs is active) at one in
-    second_step program.types.items access behind running suspended kinds before after second reached
+    let moved = rw (first_step program.types.items (body_forms program) access behind running suspended kinds before reached runs is active) at one in
+    second_step program.types.items (body_forms program) access behind running suspended kinds before after second reached
     (rw moved.1 at two)
 
 -- A record object is made in one step.
-module _ (types : List TypeDefinition) (x t : ℕ) (ds : List DeclarationForm) (fs : StmtsForm) (hs : HandlersForm) (behind : List (Frame Value)) where
-  record_step : (s : State) → s.mode ≡ Running → s.control ≡ Elaborates (declares_record x t None ∷ ds) fs hs ∷ behind → next types s ≡ moves Quiet (made named types x t (initial_values named (reached_of types t)) (at (Elaborates ds fs hs ∷ behind) s))
+module _ (types : List TypeDefinition) (bodies : List BodyForm) (x t : ℕ) (ds : List DeclarationForm)
+    (fs : StmtsForm) (hs : HandlersForm) (behind : List (Frame Value)) where
+  record_step :
+      (s : State) → s.mode ≡ Running → s.control ≡ Elaborates (declares_record x t None ∷ ds) fs hs ∷ behind
+      → next types bodies s ≡ moves Quiet (made named types x t (initial_values named (reached_of types t)) (at (Elaborates ds fs hs ∷ behind) s))
   unfolding next
   record_step s runs is = rw (runs, is) refl
 
 pub makes_records : MakesRecords
 makes_records program x t kinds ds fs hs behind before after running suspended event reached runs is active step =
-    let moved = rw (record_step program.types.items x t ds fs hs behind before runs is) at step in
+    let moved = rw (record_step program.types.items (body_forms program) x t ds fs hs behind before runs is) at step in
     let cell = record_cell named t (height before.masters) (initial_values named (reached_of program.types.items t)) in
     (new_object cell, ap (λ (u : State). u.heap) moved.1, refl, refl, rw (reached) (hold_at_first kinds), ap (λ (u : State). u.activations) moved.1 ∙ rw (active) refl)

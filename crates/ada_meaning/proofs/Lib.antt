@@ -1,11 +1,22 @@
 -- the members of a collection, and what becomes of them
 pub mod Members
+-- what a jump does to activations where it passes a frame
+pub mod Jumps
 -- each step makes a state lighter
 pub mod Weight
 -- what one step does to the heap
 pub mod Deeds
 -- objects over any run
 pub mod Lives
+-- what steps keep of the activations
+pub mod Activations
+pub mod Kept
+-- callers stay
+pub mod Callers
+-- what comes next where a call begins and ends
+pub mod Calls
+-- what the laws of calls refuse, and what they let pass
+pub mod CallsRefused
 -- what objects of allocators without items hold when they come to be
 pub mod Defaults
 -- records that are copied as wholes

@@ -7,6 +7,7 @@ use Rattle.std.proofs.Math.ListN.{length-take, length-drop}
 use Rattle.std.proofs.Math.Seq.{drop-append_seam}
 use Rattle.std.proofs.lemmas.Bool.{eqb-true}
 use Rattle.ada_program.specs.declared.program.TypeDefinition.{TypeDefinition}
+use Rattle.ada_program.specs.ProgramForm.{BodyForm, body_forms}
 use Rattle.ada_program.specs.Typed.{width_of}
 use Rattle.ada_meaning.specs.declared.state.Id.{Id}
 use Rattle.ada_meaning.specs.declared.state.Value.{Value}
@@ -217,22 +218,28 @@ module _ (target : Id) (to count : ℕ) (s after : State) (e : Event) where
   seen_writes (Some object) leads = stage_writes object object.stage leads
 
 -- The three steps.
-module _ (types : List TypeDefinition) (source target : Id) (first to t : ℕ) (behind : List (Frame Value)) (places pending : List Value) (suspended : List (Activation Value)) where
+module _ (types : List TypeDefinition) (bodies : List BodyForm) (source target : Id) (first to t : ℕ)
+    (behind : List (Frame Value)) (procedure : Option ℕ) (places pending : List Value) (suspended : List (Activation Value)) where
   abbrev ready : List Value → List (Frame Value) → State → State
-  ready kept k s = record s { mode = Running; control = k; activations = record { places = places; operands = kept } ∷ suspended }
+  ready kept k s = record s { mode = Running; control = k; activations = record { procedure = procedure; places = places; operands = kept } ∷ suspended }
 
   abbrev storing : List (Frame Value)
   storing = StoresRecord (Names target) to (width_of types t) ∷ behind
 
-  copy_step : (s : State) → s.mode ≡ Running → s.control ≡ Copies first t ∷ Fills [] ∷ storing → s.activations ≡ record { places = places; operands = Names source ∷ pending } ∷ suspended → next types s ≡ copies_next named (Names source) first (width_of types t) (look s.heap (Names source)) (ready pending (Fills [] ∷ storing) s)
+  copy_step :
+      (s : State) → s.mode ≡ Running → s.control ≡ Copies first t ∷ Fills [] ∷ storing
+      → s.activations ≡ record { procedure = procedure; places = places; operands = Names source ∷ pending } ∷ suspended
+      → next types bodies s ≡ copies_next named (Names source) first (width_of types t) (look s.heap (Names source)) (ready pending (Fills [] ∷ storing) s)
   unfolding next
   copy_step s runs is active = rw (runs, is, active) refl
 
-  fill_step : (kept : List Value) (s : State) → next types (ready kept (Fills [] ∷ storing) s) ≡ moves Quiet (ready kept storing s)
+  fill_step : (kept : List Value) (s : State) → next types bodies (ready kept (Fills [] ∷ storing) s) ≡ moves Quiet (ready kept storing s)
   unfolding next
   fill_step kept s = refl
 
-  store_step : (kept : List Value) (s : State) → next types (ready kept storing s) ≡ store_record_next named (Names target) to (width_of types t) (look s.heap (Names target)) (ready kept behind s)
+  store_step :
+      (kept : List Value) (s : State) → next types bodies (ready kept storing s) ≡ store_record_next named (Names target) to (width_of types t)
+      (look s.heap (Names target)) (ready kept behind s)
   unfolding next
   store_step kept s = refl
 
@@ -246,7 +253,9 @@ module _ (types : List TypeDefinition) (source target : Id) (first to t : ℕ) (
       ∙ drop-append_seam (reverse vs) pending
 
   abbrev Ends : State → State → Type 0
-  Ends before after = IsCopied before.heap after.heap source target first to (width_of types t) × (after.mode ≡ Running) × (after.control ≡ behind) × (after.activations ≡ record { places = places; operands = pending } ∷ suspended)
+  Ends before after =
+      IsCopied before.heap after.heap source target first to (width_of types t) × (after.mode ≡ Running) × (after.control ≡ behind) ×
+      (after.activations ≡ record { procedure = procedure; places = places; operands = pending } ∷ suspended)
 
   module _ (before mid after : State) (reads : Reads source first (width_of types t) (object_at before.heap source) (ready pending (Fills [] ∷ storing) before) mid) (writes : Writes target to (width_of types t) (object_at before.heap target) (ready (in_front reads.values pending) behind before) after) where
     heap_after : length reads.values ≡ width_of types t → after.heap ≡ slice_set before.heap target.0 (with_values (set_from writes.object.cell.values to reads.values) writes.object)
@@ -259,26 +268,40 @@ module _ (types : List TypeDefinition) (source target : Id) (first to t : ℕ) (
         let part = part_of reads.object.cell.values first (width_of types t) reads.values reads.read in
         let room = part_of writes.object.cell.values to (width_of types t) writes.values writes.fits in
         let copied = stored_whole before.heap source target reads.object writes.object reads.values writes.values first to (width_of types t) reads.is writes.is part room in
-        let rest = ap (λ (os : List Value). record { places = places; operands = os } ∷ suspended) (rest_are reads.values part.counted) in
+        let rest = ap (λ (os : List Value). record { procedure = procedure; places = places; operands = os } ∷ suspended)
+        (rest_are reads.values part.counted) in
         (subst (λ (heap : Heap). IsCopied before.heap heap source target first to (width_of types t)) (sym (heap_after part.counted)) copied, ap (λ (s : State). s.mode) writes.goes, ap (λ (s : State). s.control) writes.goes, ap (λ (s : State). s.activations) writes.goes ∙ rest)
 
-  module _ (before : State) (runs : before.mode ≡ Running) (is : before.control ≡ Copies first t ∷ Fills [] ∷ storing) (active : before.activations ≡ record { places = places; operands = Names source ∷ pending } ∷ suspended) where
-    first_reads : (mid : State) (one : Event) → Leads (next types before) settled one mid → Reads source first (width_of types t) (object_at before.heap source) (ready pending (Fills [] ∷ storing) before) mid
+  module _ (before : State) (runs : before.mode ≡ Running) (is : before.control ≡ Copies first t ∷ Fills [] ∷ storing) (active : before.activations ≡ record {
+    procedure =
+        procedure;
+    places = places;
+    operands = Names source ∷ pending;
+  } ∷ suspended) where
+    first_reads :
+        (mid : State) (one : Event) → Leads (next types bodies before) settled one mid
+        → Reads source first (width_of types t) (object_at before.heap source) (ready pending (Fills [] ∷ storing) before) mid
     first_reads mid one leads =
         seen_reads source first (width_of types t) (ready pending (Fills [] ∷ storing) before) mid one (object_at before.heap source)
         (subst (λ (coming : Next). Leads coming settled one mid) (copy_step before runs is active) leads)
 
-    second_fills : (kept : List Value) (mid later : State) (two : Event) → mid ≡ ready kept (Fills [] ∷ storing) before → Leads (next types mid) settled two later → later ≡ ready kept storing before
+    second_fills :
+        (kept : List Value) (mid later : State) (two : Event) → mid ≡ ready kept (Fills [] ∷ storing) before → Leads (next types bodies mid) settled two later
+        → later ≡ ready kept storing before
     second_fills kept mid later two goes leads =
-        let moved = subst (λ (coming : Next). Leads coming settled two later) (ap (next types) goes ∙ fill_step kept before) leads in
+        let moved = subst (λ (coming : Next). Leads coming settled two later) (ap (next types bodies) goes ∙ fill_step kept before) leads in
         moved.1
 
-    third_writes : (kept : List Value) (later after : State) (three : Event) → later ≡ ready kept storing before → Leads (next types later) settled three after → Writes target to (width_of types t) (object_at before.heap target) (ready kept behind before) after
+    third_writes :
+        (kept : List Value) (later after : State) (three : Event) → later ≡ ready kept storing before → Leads (next types bodies later) settled three after
+        → Writes target to (width_of types t) (object_at before.heap target) (ready kept behind before) after
     third_writes kept later after three goes leads =
         seen_writes target to (width_of types t) (ready kept behind before) after three (object_at before.heap target)
-        (subst (λ (coming : Next). Leads coming settled three after) (ap (next types) goes ∙ store_step kept before) leads)
+        (subst (λ (coming : Next). Leads coming settled three after) (ap (next types bodies) goes ∙ store_step kept before) leads)
 
-    all_steps : (mid later after : State) (one two three : Event) → Leads (next types before) settled one mid → Leads (next types mid) settled two later → Leads (next types later) settled three after → Ends before after
+    all_steps :
+        (mid later after : State) (one two three : Event) → Leads (next types bodies before) settled one mid → Leads (next types bodies mid) settled two later
+        → Leads (next types bodies later) settled three after → Ends before after
     all_steps mid later after one two three first_leads second_leads third_leads =
         let reads = first_reads mid one first_leads in
         let kept = in_front reads.values pending in
@@ -286,15 +309,21 @@ module _ (types : List TypeDefinition) (source target : Id) (first to t : ℕ) (
         ends before mid after reads (third_writes kept later after three later_is third_leads)
 
     -- There are these steps, where both objects exist and have the components.
-    steps_are_there : (x y : Object) (vs us : List Value) → object_at before.heap source ≡ Some x → x.stage ≡ Existing → record_in x.cell.values first (width_of types t) ≡ Some vs → object_at before.heap target ≡ Some y → y.stage ≡ Existing → record_in y.cell.values to (width_of types t) ≡ Some us → (mid later after : State) × Leads (next types before) settled (Followed (Names source)) mid × Leads (next types mid) settled Quiet later × Leads (next types later) settled (Followed (Names target)) after
+    steps_are_there :
+        (x y : Object) (vs us : List Value) → object_at before.heap source ≡ Some x → x.stage ≡ Existing
+        → record_in x.cell.values first (width_of types t) ≡ Some vs → object_at before.heap target ≡ Some y → y.stage ≡ Existing
+        → record_in y.cell.values to (width_of types t) ≡ Some us → (mid later after : State) × Leads (next types bodies before) settled
+        (Followed (Names source)) mid × Leads (next types bodies mid) settled Quiet later × Leads (next types bodies later) settled
+        (Followed (Names target)) after
     steps_are_there x y vs us at_source source_exists read at_target target_exists fits =
         let kept = in_front vs pending in
         let s = ready kept behind before in
         (ready kept (Fills [] ∷ storing) before, ready kept storing before, record (without_newest named (width_of types t) s) { heap = stored_from named s.heap (Names target) to (newest_ones named (width_of types t) s) }, rw (copy_step before runs is active, at_source, source_exists, read) (refl, refl), rw (fill_step kept before) (refl, refl), rw (store_step kept before, at_target, target_exists, fits) (refl, refl))
 
 pub copies_are_alike : RecordsAreCopied
-copies_are_alike program source target first to t behind before mid later after places pending suspended one two three runs is active =
-    all_steps program.types.items source target first to t behind places pending suspended before runs is active mid later after one two three
+copies_are_alike program source target first to t behind before mid later after procedure places pending suspended one two three runs is active =
+    all_steps program.types.items (body_forms program) source target first to t behind procedure places pending suspended
+    before runs is active mid later after one two three
 
 -- What the law refuses, and what it lets pass: two objects, of which one's first two components are copied to another's first two.
 abbrev two_objects : (vs us : List Value) → Heap

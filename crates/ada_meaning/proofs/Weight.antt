@@ -4,8 +4,9 @@ use Rattle.std.proofs.Common.{◌≡◌, ◌≢◌, ℕ, ℤ, ◌+◌, ◌<◌, 
 use Rattle.std.specs.List.{slice_get, slice_index_or}
 use Rattle.ada_program.specs.declared.program.Program.{Program}
 use Rattle.ada_program.specs.declared.program.TypeDefinition.{TypeDefinition}
-use Rattle.ada_program.specs.Form.{ExpressionForm, integer, boolean, reads, is_null, applied_to, chained, LinksForm, no_more_links, a_link, ItemForm, null_item, item_of_path, item_of_value, item_of_record, RightForm, nothing, value_of, allocates, allocates_default, computes, StmtForm, skips, assigns, assigns_record, frees, gets, writes, writes_text, chooses, repeats, counts, exits, returns, raises, encloses, StmtsForm, no_stmts, a_stmt, BranchesForm, otherwise, a_branch, HandlersForm, DeclarationForm, collects, declares, declares_record}
+use Rattle.ada_program.specs.Form.{ExpressionForm, integer, boolean, reads, is_null, applied_to, chained, LinksForm, no_more_links, a_link, ItemForm, null_item, item_of_path, item_of_value, item_of_record, RightForm, nothing, value_of, allocates, allocates_default, computes, StmtForm, skips, assigns, assigns_record, frees, gets, writes, writes_text, chooses, repeats, counts, exits, calls, returns, raises, encloses, StmtsForm, no_stmts, a_stmt, BranchesForm, otherwise, a_branch, HandlersForm, DeclarationForm, collects, declares, declares_record}
 use Rattle.ada_program.specs.Handling.{handler_of}
+use Rattle.ada_program.specs.ProgramForm.{BodyForm, body_forms}
 use Rattle.ada_program.specs.Typed.{reached_of, words_of, width_of}
 use Rattle.ada_values.specs.declared.operator.BinaryOperator.{BinaryOperator}
 use Rattle.ada_values.specs.declared.fault.OperatorFault.{OperatorFault}
@@ -19,25 +20,26 @@ use Rattle.ada_meaning.specs.declared.event.Cause.TheVariants.{Leaving}
 use Rattle.ada_program.specs.declared.program.Exception.{Exception}
 use Rattle.ada_meaning.specs.declared.event.Halt.TheVariants.{Erroneous, Memory}
 use Rattle.ada_meaning.specs.declared.event.Why.TheVariants.{GivesElsewhere}
-use Rattle.ada_meaning.specs.Frame.{Frame, is_master, is_loop, Landing, passes_on, goes_behind, goes_in, handler_landing, exception_landing, begins_by}
+use Rattle.ada_meaning.specs.Frame.{Frame, is_master, is_loop, is_return, Landing, passes_on, goes_behind, goes_in, handler_landing, exception_landing, begins_by}
 use Rattle.ada_meaning.specs.Frame as frame
 use Rattle.ada_meaning.specs.State.{Owned, declared, collection, record_object, Item, Master, height, home_of, pool_of, begins, begins_in, begins_among}
 use Rattle.ada_meaning.specs.Event.{Back, Quiet}
 use Rattle.ada_meaning.specs.Heap.{Cell, Found, on_null, on_gone, on_other, finds}
-use Rattle.ada_meaning.specs.Step.{same_pool, told_back, record_cell, record_in, newest_ones, without_newest, initial_values, copied_next, copies_next, record_target_next, record_stored_next, store_record_next, record_next, halts, moves, tells, asks, picks, at, older, owning, shorter, popped, held, newest, reading, component_next, follow_next, path_next, expression_next, null_test_next, is_decided, link_next, links_next, outcome_next, item_next, items_next, answered, new_next, new_cell, right_next, free_next, end_next, given_back, back_next, assign_next, frees_next, freed_next, free_component_next, free_in_next, branches_next, decided_next, turn_next, repeats_next, turned_next, count_turn_next, counts_next, ranges_next, gets_next, exit_next, exited_next, stmt_next, line_next, before_last, last_of, target_next, stored_next, store_next, received_next, receive_next, declaration_next, declarations_next, members_next, item_leave_next, master_leave_next, leave_next, frame_next, pass_next, running_next, mode_next}
+use Rattle.ada_meaning.specs.Step.{same_pool, told_back, record_cell, record_in, newest_ones, without_newest, initial_values, copied_next, copies_next, record_target_next, record_stored_next, store_record_next, record_next, halts, moves, tells, asks, picks, at, older, owning, shorter, popped, held, newest, reading, component_next, follow_next, path_next, expression_next, null_test_next, is_decided, link_next, links_next, outcome_next, item_next, items_next, answered, new_next, new_cell, right_next, free_next, end_next, given_back, back_next, assign_next, frees_next, freed_next, free_component_next, free_in_next, branches_next, decided_next, turn_next, repeats_next, turned_next, count_turn_next, counts_next, ranges_next, gets_next, exit_next, exited_next, call_next, stmt_next, line_next, before_last, last_of, target_next, stored_next, store_next, received_next, receive_next, declaration_next, declarations_next, members_next, item_leave_next, master_leave_next, leave_next, frame_next, pass_next, running_next, mode_next}
 use Rattle.ada_meaning.specs.Named.{State, Next, next, named, look, lent, reads_boolean, reads_null, reads_integer, unary_given, binary_given, members, on_object, returned, new_object, an_integer}
 use Rattle.ada_meaning.specs.Run.{Event, Choice, settled, grants, takes, Leads, Step}
 use Rattle.ada_meaning.specs.Beginning.{BeginsStatement}
-use Rattle.ada_meaning.specs.Ending.{expression_weight, links_weight, item_weight, items_weight, right_weight, branches_weight, condition_weight, initial_weight, declaration_weight, declarations_weight, frame_weight, has_handlers, pass_weight, passed_weight, by_mode, behind_weight, run_weight, exit_weight, heap_weight, masters_weight, weight, GoesOn, WithinStatement, here, there}
+use Rattle.ada_meaning.specs.Ending.{expression_weight, links_weight, item_weight, items_weight, right_weight, branches_weight, condition_weight, initial_weight, declaration_weight, declarations_weight, frame_weight, has_handlers, pass_weight, passed_weight, by_mode, behind_weight, run_weight, exit_weight, return_weight, heap_weight, masters_weight, weight, GoesOn, WithinStatement, here, there}
 use Rattle.ada_meaning.proofs.Members.{member_listed, heap_append, finished_lighter, returned_lighter, filled_lighter, stored_lighter, parted_lighter, taken_lighter}
 use Rattle.ada_meaning.proofs.Beginnings.{statements_begin}
+use Rattle.ada_meaning.proofs.Jumps.{unwound_to, unwound_by, master_no_loop, master_no_return}
 
 -- What the objects and the items weigh, and the weight of a state, open.
 abbrev stored : State → ℕ
 stored s = heap_weight s.heap + masters_weight s.masters
 
 abbrev load : State → ℕ
-load s = stored s + by_mode s.mode (passed_weight s.control) (exit_weight s.control) (run_weight s.control)
+load s = stored s + by_mode s.mode (passed_weight s.control) (exit_weight s.control) (return_weight s.control) (run_weight s.control)
 
 -- The state in a mode.
 abbrev in_mode : Mode → State → State
@@ -78,63 +80,72 @@ some_right (allocates access items) = omega arith
 some_right (allocates_default access) = omega arith
 some_right (computes e) = omega arith
 
--- What an exception passes weighs no more than what runs, and than what an exit passes.
-mode_passed : (mode : Mode) (passed exited run : ℕ) → passed ≤ run → passed ≤ exited → passed ≤ by_mode mode passed exited run
-mode_passed Running passed exited run h i = h
-mode_passed (Raising e) passed exited run h i = omega arith
-mode_passed Exiting passed exited run h i = i
-mode_passed Returning passed exited run h i = omega arith
+-- What an exception passes weighs no more than what runs, and than what an exit or a return passes.
+mode_passed :
+    (mode : Mode) (passed exited returned run : ℕ) → passed ≤ run → passed ≤ exited → passed ≤ returned → passed ≤ by_mode mode passed exited returned run
+mode_passed Running passed exited returned run h i j = h
+mode_passed (Raising e) passed exited returned run h i j = omega arith
+mode_passed Exiting passed exited returned run h i j = i
+mode_passed Returning passed exited returned run h i j = j
 
-frame_passed : (f : Frame Value) (passed exited run : ℕ) → passed ≤ run → passed ≤ exited → pass_weight f + passed ≤ frame_weight f + behind_weight f passed exited run
-frame_passed (frame.Elaborates ds fs hs) passed exited run h i = omega (arith, h)
-frame_passed (frame.Does no_stmts) passed exited run h i = omega (arith, h)
-frame_passed (frame.Does (a_stmt f fs)) passed exited run h i = omega arith
-frame_passed (frame.Decides fs branches) passed exited run h i = omega (arith, h)
-frame_passed (frame.Repeats condition fs) passed exited run h i = omega (arith, h)
-frame_passed (frame.Turns condition fs) passed exited run h i = omega (arith, h)
-frame_passed (frame.Ranges x fs) passed exited run h i = omega (arith, h)
-frame_passed (frame.Counts x value last fs) passed exited run h i = omega (arith, h)
-frame_passed frame.Exits passed exited run h i = omega (arith, h)
-frame_passed (frame.Handles hs) passed exited run h i = omega (arith, h)
-frame_passed frame.Closes passed exited run h i = omega (arith, h)
-frame_passed (frame.Leaves mode) passed exited run h i = omega (arith, mode_passed mode passed exited run h i)
-frame_passed (frame.Evaluates right) passed exited run h i = omega (arith, h, some_right right)
-frame_passed (frame.Computes e) passed exited run h i = omega (arith, h, some_expression e)
-frame_passed (frame.Follows cs) passed exited run h i = omega (arith, h)
-frame_passed (frame.TestsNull equal) passed exited run h i = omega (arith, h)
-frame_passed (frame.Continues links) passed exited run h i = omega (arith, h, some_links links)
-frame_passed (frame.Applies operator) passed exited run h i = omega (arith, h)
-frame_passed (frame.AppliesAlone operator) passed exited run h i = omega (arith, h)
-frame_passed (frame.Fills items) passed exited run h i = omega (arith, h, some_items items)
-frame_passed (frame.Copies first t) passed exited run h i = omega (arith, h)
-frame_passed (frame.Creates access count) passed exited run h i = omega (arith, h)
-frame_passed (frame.Stores x) passed exited run h i = omega (arith, h)
-frame_passed (frame.Targets c right) passed exited run h i = omega (arith, h)
-frame_passed (frame.StoresIn object c) passed exited run h i = omega (arith, h)
-frame_passed (frame.TargetsRecord first t items) passed exited run h i = omega (arith, h)
-frame_passed (frame.StoresRecord object first count) passed exited run h i = omega (arith, h)
-frame_passed (frame.Receives c) passed exited run h i = omega (arith, h)
-frame_passed (frame.FreesIn access c) passed exited run h i = omega (arith, h)
-frame_passed (frame.Declares x) passed exited run h i = omega (arith, h)
-frame_passed (frame.DeclaresRecord x t) passed exited run h i = omega (arith, h)
-frame_passed frame.Writes passed exited run h i = omega (arith, h)
-frame_passed (frame.Ends v) passed exited run h i = omega (arith, h)
-frame_passed (frame.GivesBack v cause pool) passed exited run h i = omega (arith, h)
-frame_passed (frame.Clears x) passed exited run h i = omega (arith, h)
-frame_passed (frame.ClearsIn object c) passed exited run h i = omega (arith, h)
+frame_passed :
+    (f : Frame Value) (passed exited returned run : ℕ) → passed ≤ run → passed ≤ exited → passed ≤ returned
+    → pass_weight f + passed ≤ frame_weight f + behind_weight f passed exited returned run
+frame_passed (frame.Elaborates ds fs hs) passed exited returned run h i j = omega (arith, h)
+frame_passed (frame.Does no_stmts) passed exited returned run h i j = omega (arith, h)
+frame_passed (frame.Does (a_stmt f fs)) passed exited returned run h i j = omega arith
+frame_passed (frame.Decides fs branches) passed exited returned run h i j = omega (arith, h)
+frame_passed (frame.Repeats condition fs) passed exited returned run h i j = omega (arith, h)
+frame_passed (frame.Turns condition fs) passed exited returned run h i j = omega (arith, h)
+frame_passed (frame.Ranges x fs) passed exited returned run h i j = omega (arith, h)
+frame_passed (frame.Counts x value last fs) passed exited returned run h i j = omega (arith, h)
+frame_passed frame.Exits passed exited returned run h i j = omega (arith, h)
+frame_passed (frame.Handles hs) passed exited returned run h i j = omega (arith, h)
+frame_passed frame.Closes passed exited returned run h i j = omega (arith, h)
+frame_passed (frame.Leaves mode) passed exited returned run h i j = omega (arith, mode_passed mode passed exited returned run h i j)
+frame_passed (frame.Calls procedure b count) passed exited returned run h i j = omega (arith, h)
+frame_passed frame.Returns passed exited returned run h i j = omega (arith, h)
+frame_passed (frame.Evaluates right) passed exited returned run h i j = omega (arith, h, some_right right)
+frame_passed (frame.Computes e) passed exited returned run h i j = omega (arith, h, some_expression e)
+frame_passed (frame.Follows cs) passed exited returned run h i j = omega (arith, h)
+frame_passed (frame.TestsNull equal) passed exited returned run h i j = omega (arith, h)
+frame_passed (frame.Continues links) passed exited returned run h i j = omega (arith, h, some_links links)
+frame_passed (frame.Applies operator) passed exited returned run h i j = omega (arith, h)
+frame_passed (frame.AppliesAlone operator) passed exited returned run h i j = omega (arith, h)
+frame_passed (frame.Fills items) passed exited returned run h i j = omega (arith, h, some_items items)
+frame_passed (frame.Copies first t) passed exited returned run h i j = omega (arith, h)
+frame_passed (frame.Creates access count) passed exited returned run h i j = omega (arith, h)
+frame_passed (frame.Stores x) passed exited returned run h i j = omega (arith, h)
+frame_passed (frame.Targets c right) passed exited returned run h i j = omega (arith, h)
+frame_passed (frame.StoresIn object c) passed exited returned run h i j = omega (arith, h)
+frame_passed (frame.TargetsRecord first t items) passed exited returned run h i j = omega (arith, h)
+frame_passed (frame.StoresRecord object first count) passed exited returned run h i j = omega (arith, h)
+frame_passed (frame.Receives c) passed exited returned run h i j = omega (arith, h)
+frame_passed (frame.FreesIn access c) passed exited returned run h i j = omega (arith, h)
+frame_passed (frame.Declares x) passed exited returned run h i j = omega (arith, h)
+frame_passed (frame.DeclaresRecord x t) passed exited returned run h i j = omega (arith, h)
+frame_passed frame.Writes passed exited returned run h i j = omega (arith, h)
+frame_passed (frame.Ends v) passed exited returned run h i j = omega (arith, h)
+frame_passed (frame.GivesBack v cause pool) passed exited returned run h i j = omega (arith, h)
+frame_passed (frame.Clears x) passed exited returned run h i j = omega (arith, h)
+frame_passed (frame.ClearsIn object c) passed exited returned run h i j = omega (arith, h)
 
-loop_passed : (loop : Bool) (passed exited run : ℕ) → passed ≤ run → passed ≤ exited → passed ≤ (if loop then run else exited)
-loop_passed true passed exited run h i = h
-loop_passed false passed exited run h i = i
+lands_passed : (lands : Bool) (passed onward run : ℕ) → passed ≤ run → passed ≤ onward → passed ≤ (if lands then run else onward)
+lands_passed true passed onward run h i = h
+lands_passed false passed onward run h i = i
 
 mutual
   passed_run : (k : List (Frame Value)) → passed_weight k ≤ run_weight k
   passed_run [] = omega arith
-  passed_run (f ∷ k) = frame_passed f (passed_weight k) (exit_weight k) (run_weight k) (passed_run k) (passed_exit k)
+  passed_run (f ∷ k) = frame_passed f (passed_weight k) (exit_weight k) (return_weight k) (run_weight k) (passed_run k) (passed_exit k) (passed_return k)
 
   passed_exit : (k : List (Frame Value)) → passed_weight k ≤ exit_weight k
   passed_exit [] = omega arith
-  passed_exit (f ∷ k) = omega (arith, loop_passed (is_loop f) (passed_weight k) (exit_weight k) (run_weight k) (passed_run k) (passed_exit k))
+  passed_exit (f ∷ k) = omega (arith, lands_passed (is_loop f) (passed_weight k) (exit_weight k) (run_weight k) (passed_run k) (passed_exit k))
+
+  passed_return : (k : List (Frame Value)) → passed_weight k ≤ return_weight k
+  passed_return [] = omega arith
+  passed_return (f ∷ k) = omega (arith, lands_passed (is_return f) (passed_weight k) (return_weight k) (run_weight k) (passed_run k) (passed_return k))
 
 -- Statements that are to be done count once, and what is behind them.
 does_once : (fs : StmtsForm) (k : List (Frame Value)) → run_weight (frame.Does fs ∷ k) ≤ 1 + run_weight k
@@ -408,58 +419,65 @@ leave_lightens mode [] s w top h = λ memory. cc
 leave_lightens mode (m ∷ ms) s w top h = master_leaves_lighter mode m ms m.items s w top refl h
 
 -- Each frame that is taken off, unless a statement begins.
-frame_lightens : (types : List TypeDefinition) (f : Frame Value) (s : State) (w : ℕ) → begins_by f ≡ false → stored s + run_weight (f ∷ s.control) ≤ w → Lightens (frame_next named types f (running s)) w
-frame_lightens types (frame.Elaborates ds fs hs) s w b h = declarations_lighten types ds fs hs s w (omega (arith, h))
-frame_lightens types (frame.Does no_stmts) s w b h = omega (arith, h)
-frame_lightens types (frame.Does (a_stmt f fs)) s w b h = absurd (cc)
-frame_lightens types (frame.Decides fs branches) s w b h =
+frame_lightens :
+    (types : List TypeDefinition) (bodies : List BodyForm) (f : Frame Value) (s : State) (w : ℕ) → begins_by f ≡ false
+    → stored s + run_weight (f ∷ s.control) ≤ w → Lightens (frame_next named types bodies f (running s)) w
+frame_lightens types bodies (frame.Elaborates ds fs hs) s w b h = declarations_lighten types ds fs hs s w (omega (arith, h))
+frame_lightens types bodies (frame.Does no_stmts) s w b h = omega (arith, h)
+frame_lightens types bodies (frame.Does (a_stmt f fs)) s w b h = absurd (cc)
+frame_lightens types bodies (frame.Decides fs branches) s w b h =
     decided_lightens fs branches (reads_boolean (newest named s)) (popped s) w (omega (arith, h, some_branches branches)) (omega (arith, h))
-frame_lightens types (frame.Repeats condition fs) s w b h = repeats_lighten condition fs s w (omega (arith, h))
-frame_lightens types (frame.Turns condition fs) s w b h = turned_lightens condition fs (reads_boolean (newest named s)) (popped s) w (omega (arith, h))
-frame_lightens types (frame.Ranges x fs) s w b h =
+frame_lightens types bodies (frame.Repeats condition fs) s w b h = repeats_lighten condition fs s w (omega (arith, h))
+frame_lightens types bodies (frame.Turns condition fs) s w b h = turned_lightens condition fs (reads_boolean (newest named s)) (popped s) w (omega (arith, h))
+frame_lightens types bodies (frame.Ranges x fs) s w b h =
     ranges_lighten x fs (reads_integer (newest named (popped s))) (reads_integer (newest named s)) (popped (popped s)) w (omega (arith, h))
-frame_lightens types (frame.Counts x value last fs) s w b h = counts_lighten x value last fs s w (omega (arith, h))
-frame_lightens types frame.Exits s w b h = exited_lightens (reads_boolean (newest named s)) (popped s) w (omega (arith, h))
-frame_lightens types (frame.Handles hs) s w b h = omega (arith, h)
-frame_lightens types frame.Closes s w b h = omega (arith, h)
-frame_lightens types (frame.Leaves mode) s w b h = leave_lightens mode s.masters s w refl (omega (arith, h))
-frame_lightens types (frame.Evaluates right) s w b h = right_lightens types right s w (omega (arith, h))
-frame_lightens types (frame.Computes e) s w b h = expression_lightens e s w (omega (arith, h))
-frame_lightens types (frame.Follows cs) s w b h = path_lightens cs (newest named s) (popped s) w (omega (arith, h))
-frame_lightens types (frame.TestsNull equal) s w b h = null_test_lightens equal (reads_null (newest named s)) (popped s) w (omega (arith, h))
-frame_lightens types (frame.Continues links) s w b h = links_lighten links s w (omega (arith, h))
-frame_lightens types (frame.Applies operator) s w b h =
+frame_lightens types bodies (frame.Counts x value last fs) s w b h = counts_lighten x value last fs s w (omega (arith, h))
+frame_lightens types bodies frame.Exits s w b h = exited_lightens (reads_boolean (newest named s)) (popped s) w (omega (arith, h))
+frame_lightens types bodies (frame.Handles hs) s w b h = omega (arith, h)
+frame_lightens types bodies frame.Closes s w b h = omega (arith, h)
+frame_lightens types bodies (frame.Leaves mode) s w b h = leave_lightens mode s.masters s w refl (omega (arith, h))
+frame_lightens types bodies (frame.Calls procedure body count) s w b h = omega (arith, h)
+frame_lightens types bodies frame.Returns s w b h = omega (arith, h)
+frame_lightens types bodies (frame.Evaluates right) s w b h = right_lightens types right s w (omega (arith, h))
+frame_lightens types bodies (frame.Computes e) s w b h = expression_lightens e s w (omega (arith, h))
+frame_lightens types bodies (frame.Follows cs) s w b h = path_lightens cs (newest named s) (popped s) w (omega (arith, h))
+frame_lightens types bodies (frame.TestsNull equal) s w b h = null_test_lightens equal (reads_null (newest named s)) (popped s) w (omega (arith, h))
+frame_lightens types bodies (frame.Continues links) s w b h = links_lighten links s w (omega (arith, h))
+frame_lightens types bodies (frame.Applies operator) s w b h =
     outcome_lightens (binary_given operator (newest named (popped s)) (newest named s)) (popped (popped s)) w (omega (arith, h))
-frame_lightens types (frame.AppliesAlone operator) s w b h = outcome_lightens (unary_given operator (newest named s)) (popped s) w (omega (arith, h))
-frame_lightens types (frame.Fills items) s w b h = items_lighten items s w (omega (arith, h))
-frame_lightens types (frame.Copies first t) s w b h =
+frame_lightens types bodies (frame.AppliesAlone operator) s w b h = outcome_lightens (unary_given operator (newest named s)) (popped s) w (omega (arith, h))
+frame_lightens types bodies (frame.Fills items) s w b h = items_lighten items s w (omega (arith, h))
+frame_lightens types bodies (frame.Copies first t) s w b h =
     copies_lighten (newest named s) first (width_of types t) (look s.heap (newest named s)) (popped s) w (omega (arith, h))
-frame_lightens types (frame.Creates access count) s w b h =
+frame_lightens types bodies (frame.Creates access count) s w b h =
     new_lightens access count (words_of types access) (home_of access s.masters) s w (omega (arith, h))
-frame_lightens types (frame.Stores x) s w b h = omega (arith, h)
-frame_lightens types (frame.Targets c right) s w b h =
+frame_lightens types bodies (frame.Stores x) s w b h = omega (arith, h)
+frame_lightens types bodies (frame.Targets c right) s w b h =
     target_lightens (newest named s) c right (look s.heap (newest named s)) (popped s) w (omega (arith, h))
-frame_lightens types (frame.StoresIn object c) s w b h =
+frame_lightens types bodies (frame.StoresIn object c) s w b h =
     store_lightens object c (newest named s) (look s.heap object) (popped s) w (omega (arith, h))
-frame_lightens types (frame.TargetsRecord first t items) s w b h =
+frame_lightens types bodies (frame.TargetsRecord first t items) s w b h =
     record_target_lightens (newest named s) first (width_of types t) items (look s.heap (newest named s)) (popped s) w (omega (arith, h))
-frame_lightens types (frame.StoresRecord object first count) s w b h = store_record_lightens object first count (look s.heap object) s w (omega (arith, h))
-frame_lightens types (frame.Receives c) s w b h =
+frame_lightens types bodies (frame.StoresRecord object first count) s w b h =
+    store_record_lightens object first count (look s.heap object) s w (omega (arith, h))
+frame_lightens types bodies (frame.Receives c) s w b h =
     receive_lightens (newest named s) c (look s.heap (newest named s)) (popped s) w (omega (arith, h))
-frame_lightens types (frame.FreesIn access c) s w b h =
+frame_lightens types bodies (frame.FreesIn access c) s w b h =
     free_in_lightens access (newest named s) c (look s.heap (newest named s)) (popped s) w (omega (arith, h))
-frame_lightens types (frame.Declares x) s w b h = omega (arith, h, masters_owning (record { number = height s.masters; owned = declared x }) s.masters)
-frame_lightens types (frame.DeclaresRecord x t) s w b h =
+frame_lightens types bodies (frame.Declares x) s w b h = omega (arith, h, masters_owning (record { number = height s.masters; owned = declared x }) s.masters)
+frame_lightens types bodies (frame.DeclaresRecord x t) s w b h =
     omega (arith, h, masters_owning (record { number = height s.masters; owned = record_object t }) s.masters, heap_append s.heap (new_object (record_cell named t (height s.masters) (newest_ones named (words_of types t) s)) ∷ []))
-frame_lightens types frame.Writes s w b h = line_lightens (reads_integer (newest named s)) (popped s) w (omega (arith, h))
-frame_lightens types (frame.Ends v) s w b h = end_lightens v (look s.heap v) s w (omega (arith, h))
-frame_lightens types (frame.GivesBack v cause pool) s w b h = back_lightens v cause pool (lent s.heap v) s w (omega (arith, h))
-frame_lightens types (frame.Clears x) s w b h = omega (arith, h)
-frame_lightens types (frame.ClearsIn object c) s w b h = store_lightens object c Null (look s.heap object) s w (omega (arith, h))
+frame_lightens types bodies frame.Writes s w b h = line_lightens (reads_integer (newest named s)) (popped s) w (omega (arith, h))
+frame_lightens types bodies (frame.Ends v) s w b h = end_lightens v (look s.heap v) s w (omega (arith, h))
+frame_lightens types bodies (frame.GivesBack v cause pool) s w b h = back_lightens v cause pool (lent s.heap v) s w (omega (arith, h))
+frame_lightens types bodies (frame.Clears x) s w b h = omega (arith, h)
+frame_lightens types bodies (frame.ClearsIn object c) s w b h = store_lightens object c Null (look s.heap object) s w (omega (arith, h))
 
-running_lightens : (types : List TypeDefinition) (k : List (Frame Value)) (s : State) (w : ℕ) → begins_among k ≡ false → stored s + run_weight k ≤ w → Lightens (running_next named types k (running s)) w
-running_lightens types [] s w b h = λ memory. cc
-running_lightens types (f ∷ k) s w b h = frame_lightens types f (at k s) w b h
+running_lightens :
+    (types : List TypeDefinition) (bodies : List BodyForm) (k : List (Frame Value)) (s : State) (w : ℕ) → begins_among k ≡ false → stored s + run_weight k ≤ w
+    → Lightens (running_next named types bodies k (running s)) w
+running_lightens types bodies [] s w b h = λ memory. cc
+running_lightens types bodies (f ∷ k) s w b h = frame_lightens types bodies f (at k s) w b h
 
 -- A frame that an exception passes: a master is to be left before, and it lands in handlers alone.
 abbrev LandsIn : Bool → Landing → Type 0
@@ -483,6 +501,8 @@ exception_lands e frame.Exits = tt
 exception_lands e (frame.Handles hs) = handler_lands (handler_of e hs)
 exception_lands e frame.Closes = tt
 exception_lands e (frame.Leaves mode) = tt
+exception_lands e (frame.Calls procedure b count) = tt
+exception_lands e frame.Returns = tt
 exception_lands e (frame.Evaluates right) = tt
 exception_lands e (frame.Computes x) = tt
 exception_lands e (frame.Follows cs) = tt
@@ -518,50 +538,7 @@ raise_lightens false false passes_on e s w lands h = omega (arith, h)
 raise_lightens false false goes_behind e s w lands h = absurd lands
 raise_lightens false false (goes_in fs) e s w lands h = absurd (cc)
 
--- A frame that a return passes.
-return_lightens : (master handlers : Bool) (s : State) (w : ℕ) → load (in_mode Returning s) + (if master || handlers then 2 else 1) ≤ w → Lightens (pass_next named master passes_on Returning (in_mode Returning s)) w
-return_lightens true handlers s w h = omega (arith, h)
-return_lightens false true s w h = omega (arith, h)
-return_lightens false false s w h = omega (arith, h)
-
--- A frame that an exit passes: behind a loop it lands. No master is a loop.
-master_no_loop : (f : Frame Value) → is_master f ≡ true → is_loop f ≡ false
-master_no_loop (frame.Elaborates ds fs hs) is = refl
-master_no_loop (frame.Does fs) is = refl
-master_no_loop (frame.Decides fs branches) is = refl
-master_no_loop (frame.Repeats condition fs) is = absurd (cc)
-master_no_loop (frame.Turns condition fs) is = refl
-master_no_loop (frame.Ranges x fs) is = refl
-master_no_loop (frame.Counts x value last fs) is = absurd (cc)
-master_no_loop frame.Exits is = refl
-master_no_loop (frame.Handles hs) is = refl
-master_no_loop frame.Closes is = refl
-master_no_loop (frame.Leaves mode) is = refl
-master_no_loop (frame.Evaluates right) is = refl
-master_no_loop (frame.Computes e) is = refl
-master_no_loop (frame.Follows cs) is = refl
-master_no_loop (frame.TestsNull equal) is = refl
-master_no_loop (frame.Continues links) is = refl
-master_no_loop (frame.Applies operator) is = refl
-master_no_loop (frame.AppliesAlone operator) is = refl
-master_no_loop (frame.Fills items) is = refl
-master_no_loop (frame.Copies first t) is = refl
-master_no_loop (frame.Creates access count) is = refl
-master_no_loop (frame.Stores x) is = refl
-master_no_loop (frame.Targets c right) is = refl
-master_no_loop (frame.StoresIn object c) is = refl
-master_no_loop (frame.TargetsRecord first t items) is = refl
-master_no_loop (frame.StoresRecord object first count) is = refl
-master_no_loop (frame.Receives c) is = refl
-master_no_loop (frame.FreesIn access c) is = refl
-master_no_loop (frame.Declares x) is = refl
-master_no_loop (frame.DeclaresRecord x t) is = refl
-master_no_loop frame.Writes is = refl
-master_no_loop (frame.Ends v) is = refl
-master_no_loop (frame.GivesBack v cause pool) is = refl
-master_no_loop (frame.Clears x) is = refl
-master_no_loop (frame.ClearsIn object c) is = refl
-
+-- A frame that an exit or a return passes: behind a loop, or behind the end of a call's body, it lands.
 exit_lightens : (master handlers loop : Bool) (s : State) (w : ℕ) → (master ≡ true → loop ≡ false) → stored s + (if master || handlers then 2 else 1) + (if loop then run_weight s.control else exit_weight s.control) ≤ w → Lightens (pass_next named master (if loop then goes_behind else passes_on) Exiting (in_mode Exiting s)) w
 exit_lightens true handlers true s w apart h = let never : true ≡ false = apart refl in absurd (cc)
 exit_lightens true handlers false s w apart h = omega (arith, h)
@@ -570,21 +547,38 @@ exit_lightens false true false s w apart h = omega (arith, h)
 exit_lightens false false true s w apart h = omega (arith, h)
 exit_lightens false false false s w apart h = omega (arith, h)
 
--- What is left to do, in each mode.
-control_lightens : (types : List TypeDefinition) (mode : Mode) (k : List (Frame Value)) (s : State) (w : ℕ) → begins_in mode k ≡ false → load (in_mode mode (at k s)) ≤ w → s.control ≡ k → Lightens (mode_next named types mode (in_mode mode s)) w
-control_lightens types Running k s w b h is = rw is (running_lightens types k (at k s) w b h)
-control_lightens types (Raising e) [] s w b h is = rw is (λ memory. cc)
-control_lightens types (Raising e) (f ∷ k) s w b h is =
-    rw is (raise_lightens (is_master f) (has_handlers f) (exception_landing e f) e (at k s) w (exception_lands e f) (omega (arith, h)))
-control_lightens types Exiting [] s w b h is = rw is (λ memory. cc)
-control_lightens types Exiting (f ∷ k) s w b h is =
-    rw is (exit_lightens (is_master f) (has_handlers f) (is_loop f) (at k s) w (master_no_loop f) (omega (arith, h)))
-control_lightens types Returning [] s w b h is = rw is (λ memory. cc)
-control_lightens types Returning (f ∷ k) s w b h is = rw is (return_lightens (is_master f) (has_handlers f) (at k s) w (omega (arith, h)))
+return_lightens :
+    (master handlers ends : Bool) (s : State) (w : ℕ) → (master ≡ true → ends ≡ false)
+    → stored s + (if master || handlers then 2 else 1) + (if ends then run_weight s.control else return_weight s.control) ≤ w
+    → Lightens (pass_next named master (if ends then goes_behind else passes_on) Returning (in_mode Returning s)) w
+return_lightens true handlers true s w apart h = let never : true ≡ false = apart refl in absurd (cc)
+return_lightens true handlers false s w apart h = omega (arith, h)
+return_lightens false true true s w apart h = omega (arith, h)
+return_lightens false true false s w apart h = omega (arith, h)
+return_lightens false false true s w apart h = omega (arith, h)
+return_lightens false false false s w apart h = omega (arith, h)
 
-next_lightens : (types : List TypeDefinition) (s : State) → begins s ≡ false → Lightens (next types s) (load s)
+-- What is left to do, in each mode.
+control_lightens :
+    (types : List TypeDefinition) (bodies : List BodyForm) (mode : Mode) (k : List (Frame Value)) (s : State) (w : ℕ) → begins_in mode k ≡ false
+    → load (in_mode mode (at k s)) ≤ w → s.control ≡ k → Lightens (mode_next named types bodies mode (in_mode mode s)) w
+control_lightens types bodies Running k s w b h is = rw is (running_lightens types bodies k (at k s) w b h)
+control_lightens types bodies (Raising e) [] s w b h is = rw is (λ memory. cc)
+control_lightens types bodies (Raising e) (f ∷ k) s w b h is =
+    rw (is, unwound_by f (in_mode (Raising e) (at k s)))
+    (raise_lightens (is_master f) (has_handlers f) (exception_landing e f) e (unwound_to f (at k s)) w (exception_lands e f) (omega (arith, h)))
+control_lightens types bodies Exiting [] s w b h is = rw is (λ memory. cc)
+control_lightens types bodies Exiting (f ∷ k) s w b h is =
+    rw (is, unwound_by f (in_mode Exiting (at k s)))
+    (exit_lightens (is_master f) (has_handlers f) (is_loop f) (unwound_to f (at k s)) w (master_no_loop f) (omega (arith, h)))
+control_lightens types bodies Returning [] s w b h is = rw is (λ memory. cc)
+control_lightens types bodies Returning (f ∷ k) s w b h is =
+    rw (is, unwound_by f (in_mode Returning (at k s)))
+    (return_lightens (is_master f) (has_handlers f) (is_return f) (unwound_to f (at k s)) w (master_no_return f) (omega (arith, h)))
+
+next_lightens : (types : List TypeDefinition) (bodies : List BodyForm) (s : State) → begins s ≡ false → Lightens (next types bodies s) (load s)
 unfolding next
-next_lightens types s b = control_lightens types s.mode s.control s (load s) b (omega arith) refl
+next_lightens types bodies s b = control_lightens types bodies s.mode s.control s (load s) b (omega arith) refl
 
 leads_lighter : (coming : Next) (choice : Choice) (event : Event) (w : ℕ) (after : State) → Lightens coming w → Leads coming choice event after → load after < w
 leads_lighter (halts halt) choice event w after h l = absurd l
@@ -605,7 +599,8 @@ leads_lighter (picks n taking) (takes i) event w after h l = rw (l.2) (h.1 i l.0
 pub steps_make_lighter : (program : Program) (s : State) (choice : Choice) (event : Event) (after : State) → begins s ≡ false → Step program s choice event after → weight after < weight s
 unfolding weight
 steps_make_lighter program s choice event after b step =
-    leads_lighter (next program.types.items s) choice event (load s) after (next_lightens program.types.items s b) step
+    leads_lighter (next program.types.items (body_forms program) s) choice event (load s) after
+    (next_lightens program.types.items (body_forms program) s b) step
 
 -- So as many steps as the first state's weight follow one another at most before a statement begins.
 pub statements_end : (program : Program) (s last : State) (events : List Event) → WithinStatement program s events last → length events ≤ weight s
@@ -663,32 +658,37 @@ exit_goes_on : (condition : Option ExpressionForm) (s : State) → GoesOn (exit_
 exit_goes_on None s = tt
 exit_goes_on (Some e) s = tt
 
-stmt_goes_on : (f : StmtForm) (s : State) → GoesOn (stmt_next named f s)
-stmt_goes_on skips s = tt
-stmt_goes_on (assigns target right) s = assign_goes_on target.selectors target.root right s
-stmt_goes_on (assigns_record target items) s =
+call_goes_on : (procedure : ℕ) (actuals : List ExpressionForm) (body : Option BodyForm) (s : State) → GoesOn (call_next named procedure actuals body s)
+call_goes_on procedure actuals None s = λ memory. cc
+call_goes_on procedure actuals (Some b) s = tt
+
+stmt_goes_on : (bodies : List BodyForm) (f : StmtForm) (s : State) → GoesOn (stmt_next named bodies f s)
+stmt_goes_on bodies skips s = tt
+stmt_goes_on bodies (assigns target right) s = assign_goes_on target.selectors target.root right s
+stmt_goes_on bodies (assigns_record target items) s =
     path_goes_on target.object.selectors (held named s target.object.root) (at (frame.TargetsRecord target.first target.record_type items ∷ s.control) s)
-stmt_goes_on (frees access path) s = frees_go_on path.selectors access path.root s
-stmt_goes_on (gets target) s = gets_go_on target.selectors target.root s.input s
-stmt_goes_on (writes e) s = tt
-stmt_goes_on (writes_text text) s = tt
-stmt_goes_on (chooses branches) s = branches_go_on branches s
-stmt_goes_on (repeats condition fs end_spot) s = tt
-stmt_goes_on (counts x low high fs end_spot) s = tt
-stmt_goes_on (exits condition spot) s = exit_goes_on condition s
-stmt_goes_on (returns spot) s = tt
-stmt_goes_on (raises e) s = tt
-stmt_goes_on (encloses ds fs hs) s = tt
+stmt_goes_on bodies (frees access path) s = frees_go_on path.selectors access path.root s
+stmt_goes_on bodies (gets target) s = gets_go_on target.selectors target.root s.input s
+stmt_goes_on bodies (writes e) s = tt
+stmt_goes_on bodies (writes_text text) s = tt
+stmt_goes_on bodies (chooses branches) s = branches_go_on branches s
+stmt_goes_on bodies (repeats condition fs end_spot) s = tt
+stmt_goes_on bodies (counts x low high fs end_spot) s = tt
+stmt_goes_on bodies (exits condition spot) s = exit_goes_on condition s
+stmt_goes_on bodies (calls procedure actuals) s = call_goes_on procedure actuals (slice_get bodies procedure) s
+stmt_goes_on bodies (returns spot) s = tt
+stmt_goes_on bodies (raises e) s = tt
+stmt_goes_on bodies (encloses ds fs hs) s = tt
 
-begun_goes_on : (types : List TypeDefinition) (s : State) → BeginsStatement s → GoesOn (next types s)
+begun_goes_on : (types : List TypeDefinition) (bodies : List BodyForm) (s : State) → BeginsStatement s → GoesOn (next types bodies s)
 unfolding next
-begun_goes_on types s b =
-    rw (b.runs, b.first) (stmt_goes_on b.stmt (running (at (frame.Does b.later ∷ b.outer) s)))
+begun_goes_on types bodies s b =
+    rw (b.runs, b.first) (stmt_goes_on bodies b.stmt (running (at (frame.Does b.later ∷ b.outer) s)))
 
-either_goes_on : (types : List TypeDefinition) (s : State) (begun : Bool) → begins s ≡ begun → GoesOn (next types s)
-either_goes_on types s true b = begun_goes_on types s ((statements_begin s).0 b)
-either_goes_on types s false b = lighter_goes_on (next types s) (load s) (next_lightens types s b)
+either_goes_on : (types : List TypeDefinition) (bodies : List BodyForm) (s : State) (begun : Bool) → begins s ≡ begun → GoesOn (next types bodies s)
+either_goes_on types bodies s true b = begun_goes_on types bodies s ((statements_begin s).0 b)
+either_goes_on types bodies s false b = lighter_goes_on (next types bodies s) (load s) (next_lightens types bodies s b)
 
 -- A state has a step for whatever is answered, or halts, and not for want of memory.
-pub states_go_on : (program : Program) (s : State) → GoesOn (next program.types.items s)
-states_go_on program s = either_goes_on program.types.items s (begins s) refl
+pub states_go_on : (program : Program) (s : State) → GoesOn (next program.types.items (body_forms program) s)
+states_go_on program s = either_goes_on program.types.items (body_forms program) s (begins s) refl

@@ -2,6 +2,7 @@
 
 use Rattle.std.specs.Prelude.{◌≡◌, ℕ, ◌+◌, Bool, true, false, List, [], ◌∷◌, ◌++◌}
 use Rattle.ada_program.specs.declared.program.Program.{Program}
+use Rattle.ada_program.specs.ProgramForm.{body_forms}
 use Rattle.ada_meaning.specs.State.{begins}
 use Rattle.ada_meaning.specs.Named.{State, Next, next}
 use Rattle.ada_meaning.specs.Run.{Choice, Event, Step}
@@ -15,4 +16,4 @@ begun_with false n = n
 -- comes next by this choice, and is left in another state.
 pub data ChosenRun {C : Type 0} (answers : C → Next → Choice → C → Type 0) (program : Program) (someone : C) (first : State) : (statements : ℕ) → List Event → C → State → Type 0 where
   begun : ChosenRun answers program someone first 0 [] someone first
-  goes_on : {statements : ℕ} {events : List Event} {after : C} {last : State} (before_it : ℕ) (event : Event) (mid : State) (before : C) (choice : Choice) (so_far : List Event) → ChosenRun answers program someone first before_it so_far before mid → answers before (next program.types.items mid) choice after → Step program mid choice event last → events ≡ so_far ++ event ∷ [] → statements ≡ begun_with (begins mid) before_it → ChosenRun answers program someone first statements events after last
+  goes_on : {statements : ℕ} {events : List Event} {after : C} {last : State} (before_it : ℕ) (event : Event) (mid : State) (before : C) (choice : Choice) (so_far : List Event) → ChosenRun answers program someone first before_it so_far before mid → answers before (next program.types.items (body_forms program) mid) choice after → Step program mid choice event last → events ≡ so_far ++ event ∷ [] → statements ≡ begun_with (begins mid) before_it → ChosenRun answers program someone first statements events after last

@@ -7,7 +7,8 @@ use Rattle.ada_meaning.specs.declared.event.Halt.TheVariants.{Memory}
 use Rattle.ada_meaning.specs.declared.state.Value.{Value}
 use Rattle.ada_meaning.specs.declared.state.Mode.{Mode}
 use Rattle.ada_meaning.specs.declared.state.Mode.TheVariants.{Running, Raising, Exiting, Returning}
-use Rattle.ada_meaning.specs.Frame.{Frame, is_master, is_loop}
+use Rattle.ada_program.specs.ProgramForm.{body_forms}
+use Rattle.ada_meaning.specs.Frame.{Frame, is_master, is_loop, is_return}
 use Rattle.ada_meaning.specs.Frame as frame
 use Rattle.ada_meaning.specs.State.{Master, begins}
 use Rattle.ada_meaning.specs.Step.{halts, moves, tells, asks, picks}
@@ -86,6 +87,8 @@ frame_weight (frame.Does fs) = 1
 frame_weight (frame.Handles hs) = 2
 frame_weight frame.Closes = 2
 frame_weight (frame.Leaves mode) = 1
+frame_weight (frame.Calls procedure b count) = 7 + declarations_weight b.declarations
+frame_weight frame.Returns = 1
 frame_weight (frame.Decides fs branches) = 1 + branches_weight branches
 frame_weight (frame.Repeats condition fs) = 3 + condition_weight condition
 frame_weight (frame.Turns condition fs) = 3
@@ -126,35 +129,40 @@ has_handlers f = false
 abbrev pub pass_weight : {V : Type 0} → Frame V → ℕ
 pass_weight f = if is_master f || has_handlers f then 2 else 1
 
--- All frames, for an exception or a return.
+-- All frames, for an exception.
 abbrev pub passed_weight : {V : Type 0} → List (Frame V) → ℕ
 passed_weight [] = 0
 passed_weight (f ∷ k) = pass_weight f + passed_weight k
 
--- What goes on in a mode: the weight of the frames that a jump passes, that an exit passes and lands behind, or that run.
-abbrev pub by_mode : Mode → (passed exited run : ℕ) → ℕ
-by_mode Running passed exited run = run
-by_mode (Raising e) passed exited run = passed
-by_mode Exiting passed exited run = exited
-by_mode Returning passed exited run = passed
+-- What goes on in a mode: the weight of the frames that an exception passes, that an exit or a return passes and lands behind, or that run.
+abbrev pub by_mode : Mode → (passed exited returned run : ℕ) → ℕ
+by_mode Running passed exited returned run = run
+by_mode (Raising e) passed exited returned run = passed
+by_mode Exiting passed exited returned run = exited
+by_mode Returning passed exited returned run = returned
 
 -- What comes behind a frame: where a statement begins, only an exception counts; a condition of an exit may lead either way.
-abbrev pub behind_weight : {V : Type 0} → Frame V → (passed exited run : ℕ) → ℕ
-behind_weight (frame.Does (a_stmt f fs)) passed exited run = passed
-behind_weight frame.Exits passed exited run = exited + run
-behind_weight (frame.Leaves mode) passed exited run = by_mode mode passed exited run
-behind_weight f passed exited run = run
+abbrev pub behind_weight : {V : Type 0} → Frame V → (passed exited returned run : ℕ) → ℕ
+behind_weight (frame.Does (a_stmt f fs)) passed exited returned run = passed
+behind_weight frame.Exits passed exited returned run = exited + run
+behind_weight (frame.Leaves mode) passed exited returned run = by_mode mode passed exited returned run
+behind_weight f passed exited returned run = run
 
 abbrev mutual
   -- What is left to do before a statement begins.
   pub run_weight : List (Frame Value) → ℕ
   run_weight [] = 0
-  run_weight (f ∷ k) = frame_weight f + behind_weight f (passed_weight k) (exit_weight k) (run_weight k)
+  run_weight (f ∷ k) = frame_weight f + behind_weight f (passed_weight k) (exit_weight k) (return_weight k) (run_weight k)
 
   -- The weight of what is left while an exit is on its way: it lands behind a loop.
   pub exit_weight : List (Frame Value) → ℕ
   exit_weight [] = 0
   exit_weight (f ∷ k) = pass_weight f + (if is_loop f then run_weight k else exit_weight k)
+
+  -- The weight of what is left while a return is on its way: it lands behind the call of its body.
+  pub return_weight : List (Frame Value) → ℕ
+  return_weight [] = 0
+  return_weight (f ∷ k) = pass_weight f + (if is_return f then run_weight k else return_weight k)
 
 -- The objects that are in their collections: each is yet to be ended and given back.
 abbrev pub object_weight : Object → ℕ
@@ -172,7 +180,7 @@ masters_weight (m ∷ ms) = length m.items + masters_weight ms
 
 -- The weight of a state: more than the steps that any run can make from it before a statement begins.
 unfoldable pub weight : State → ℕ
-weight s = heap_weight s.heap + masters_weight s.masters + by_mode s.mode (passed_weight s.control) (exit_weight s.control) (run_weight s.control)
+weight s = heap_weight s.heap + masters_weight s.masters + by_mode s.mode (passed_weight s.control) (exit_weight s.control) (return_weight s.control) (run_weight s.control)
 
 -- Each step that begins no statement makes the state lighter, whatever is granted and picked: a loop over a machine comes to the next
 -- statement, or to the end.
@@ -189,7 +197,7 @@ GoesOn (picks n taken) = 0 < n
 
 -- So every state halts by a halt of the language, or has a step for whatever answer is given.
 abbrev pub StatesGoOn : Type 0
-StatesGoOn = (program : Program) (s : State) → GoesOn (next program.types.items s)
+StatesGoOn = (program : Program) (s : State) → GoesOn (next program.types.items (body_forms program) s)
 
 -- Steps one after another, none of which begins a statement.
 pub data WithinStatement (program : Program) : State → List Event → State → Type 0 where

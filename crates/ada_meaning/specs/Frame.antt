@@ -7,6 +7,7 @@ use Rattle.ada_values.specs.declared.operator.UnaryOperator.{UnaryOperator}
 use Rattle.ada_program.specs.declared.program.Exception.{Exception}
 use Rattle.ada_program.specs.Form.{ExpressionForm, LinksForm, ItemForm, RightForm, StmtsForm, a_stmt, BranchesForm, HandlersForm, DeclarationForm}
 use Rattle.ada_program.specs.Handling.{handler_of}
+use Rattle.ada_program.specs.ProgramForm.{BodyForm}
 use Rattle.ada_meaning.specs.declared.state.Mode.{Mode}
 use Rattle.ada_meaning.specs.declared.state.Mode.TheVariants.{Running, Raising, Exiting, Returning}
 use Rattle.ada_meaning.specs.declared.event.Cause.{Cause}
@@ -35,6 +36,10 @@ pub data Frame (V : Type 0) : Type 0 where
   Closes : Frame V
   -- the innermost master is being left, newest item first; then the mode goes on (7.6.1)
   Leaves : Mode → Frame V
+  -- the newest operands are the actual parameters of a call, as many as `count`: the procedure's body begins (6.4)
+  Calls : (procedure : ℕ) → (body : BodyForm) → (count : ℕ) → Frame V
+  -- the body of a call is in front of this: its activation ends then, and that of its caller goes on (6.4, 6.5)
+  Returns : Frame V
   -- what is assigned is to be evaluated: its value becomes the newest operand (5.2)
   Evaluates : RightForm → Frame V
   -- an expression is to be evaluated: its value becomes the newest operand (4.4)
@@ -98,6 +103,11 @@ is_loop (Repeats condition fs) = true
 is_loop (Counts x value last fs) = true
 is_loop f = false
 
+-- Does the body of a call come to its end here?
+abbrev pub is_return : {V : Type 0} → Frame V → Bool
+is_return Returns = true
+is_return f = false
+
 -- Where a jump lands: it passes this frame; or it ends, and what is behind the frame is next; or it ends in these statements.
 pub data Landing : Type 0 where
   passes_on : Landing
@@ -107,6 +117,10 @@ pub data Landing : Type 0 where
 -- An exit goes on behind the innermost loop (5.7).
 abbrev pub exit_landing : {V : Type 0} → Frame V → Landing
 exit_landing f = if is_loop f then goes_behind else passes_on
+
+-- A return goes on behind the call of its body (6.5).
+abbrev pub return_landing : {V : Type 0} → Frame V → Landing
+return_landing f = if is_return f then goes_behind else passes_on
 
 -- An exception goes on in the first handler that takes it (11.4).
 abbrev pub handler_landing : Option StmtsForm → Landing
@@ -123,7 +137,7 @@ abbrev pub landing : {V : Type 0} → Mode → Frame V → Landing
 landing Running f = passes_on
 landing (Raising e) f = exception_landing e f
 landing Exiting f = exit_landing f
-landing Returning f = passes_on
+landing Returning f = return_landing f
 
 -- Does this frame begin a statement?
 abbrev pub begins_by : {V : Type 0} → Frame V → Bool

@@ -24,6 +24,8 @@ pub mod Life
 pub mod Defaults
 -- records that are copied as wholes (4.3.1, 5.2)
 pub mod Records
+-- calls, and what callers hold (6.4, 6.5)
+pub mod Calls
 -- where a statement begins (5.1)
 pub mod Beginning
 -- every run ends

@@ -10,6 +10,7 @@ use Rattle.ada_values.specs.declared.fault.OperatorFault.{OperatorFault}
 use Rattle.ada_values.specs.declared.fault.OperatorFault.TheVariants.{WrongType}
 use Rattle.ada_values.specs.Outcome.{outcome_of, unary_outcome_of}
 use Rattle.ada_program.specs.declared.program.TypeDefinition.{TypeDefinition}
+use Rattle.ada_program.specs.ProgramForm.{BodyForm}
 use Rattle.ada_meaning.specs.declared.state.Id.{Id}
 use Rattle.ada_meaning.specs.declared.state.Value.{Value}
 use Rattle.ada_meaning.specs.declared.state.Value.TheVariants.{Null, Names, Scalar}
@@ -200,5 +201,5 @@ named = record {
 }
 
 -- What comes next.
-unfoldable pub next : List TypeDefinition → State → Next
-next types s = mode_next named types s.mode s
+unfoldable pub next : List TypeDefinition → List BodyForm → State → Next
+next types bodies s = mode_next named types bodies s.mode s

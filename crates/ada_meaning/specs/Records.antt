@@ -50,11 +50,11 @@ pub record IsCopied (before after : List Object) (source target : Id) (first to 
 abbrev pub RecordsAreCopied : Type 0
 RecordsAreCopied =
     (program : Program) (source target : Id) (first to record_type : ℕ) (behind : List (Frame Value)) (before mid later after : State)
-    (places pending : List Value) (suspended : List (Activation Value)) (one two three : Event)
+    (procedure : Option ℕ) (places pending : List Value) (suspended : List (Activation Value)) (one two three : Event)
     → before.mode ≡ Running
     → before.control
     ≡ frame.Copies first record_type ∷ frame.Fills [] ∷ frame.StoresRecord (Names target) to (width_of program.types.items record_type) ∷ behind
-    → before.activations ≡ record { places = places; operands = Names source ∷ pending } ∷ suspended
+    → before.activations ≡ record { procedure = procedure; places = places; operands = Names source ∷ pending } ∷ suspended
     → Step program before settled one mid → Step program mid settled two later → Step program later settled three after
     → IsCopied before.heap after.heap source target first to (width_of program.types.items record_type)
-    × (after.mode ≡ Running) × (after.control ≡ behind) × (after.activations ≡ record { places = places; operands = pending } ∷ suspended)
+    × (after.mode ≡ Running) × (after.control ≡ behind) × (after.activations ≡ record { procedure = procedure; places = places; operands = pending } ∷ suspended)

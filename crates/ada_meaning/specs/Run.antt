@@ -1,19 +1,16 @@
 -- Runs: lists of steps from the first state, with the answers to what they leave open.
 
-use Rattle.std.specs.Prelude.{◌≡◌, ℕ, ℤ, Bool, ◌<◌, List, [], ◌∷◌, ◌++◌, map, pos, false}
+use Rattle.std.specs.Prelude.{◌≡◌, ℕ, ℤ, Bool, ◌<◌, List, [], ◌∷◌, ◌++◌, map, None}
 use Rattle.ada_program.specs.declared.program.Program.{Program}
-use Rattle.ada_program.specs.declared.program.Variable.{Variable}
-use Rattle.ada_program.specs.declared.program.VariableKind.{VariableKind}
-use Rattle.ada_program.specs.declared.program.VariableKind.TheVariants as variable
 use Rattle.ada_program.specs.Form.{declaration_forms, stmt_forms, handler_forms}
+use Rattle.ada_program.specs.ProgramForm.{variable_form, body_forms}
 use Rattle.ada_meaning.specs.declared.state.Value.{Value}
-use Rattle.ada_meaning.specs.declared.state.Value.TheVariants.{Null}
 use Rattle.ada_meaning.specs.declared.state.Mode.TheVariants.{Running}
 use Rattle.ada_meaning.specs.declared.event.Halt.{Halt}
 use Rattle.ada_meaning.specs.Event.{Event as EventOver, Quiet}
 use Rattle.ada_meaning.specs.Frame as frame
-use Rattle.ada_meaning.specs.Step.{halts, moves, tells, asks, picks}
-use Rattle.ada_meaning.specs.Named.{State, Next, next, an_integer, a_boolean}
+use Rattle.ada_meaning.specs.Step.{halts, moves, tells, asks, picks, blanks}
+use Rattle.ada_meaning.specs.Named.{State, Next, named, next}
 
 -- An event over names.
 abbrev pub Event : Type 0
@@ -43,23 +40,12 @@ Leads (picks n taken) (takes i) event after = (i < n) × (event ≡ Quiet) × (a
 
 -- One step of a program, from a state, by a choice, with an event, to a state.
 abbrev pub Step : Program → State → Choice → Event → State → Type 0
-Step program before choice event after = Leads (next program.types.items before) choice event after
-
--- What lies in a variable's place before its declaration is elaborated: a value of its kind, which no resolved program reads (8.3).
-abbrev pub blank : VariableKind → Value
-blank variable.Integer = an_integer (pos 0)
-blank variable.Boolean = a_boolean false
-blank (variable.Access access) = Null
-blank (variable.Record object) = Null
-
--- What lies in a variable's place before its declaration is elaborated.
-abbrev pub blank_of : Variable → Value
-blank_of x = blank x.kind
+Step program before choice event after = Leads (next program.types.items (body_forms program) before) choice event after
 
 -- The first state (10.2): the main procedure is entered, and all of it is left to do.
 abbrev pub first_state : Program → List ℤ → State
 first_state program input = record {
-  activations = record { places = map blank_of program.variables.items; operands = [] } ∷ [];
+  activations = record { procedure = None; places = blanks named (map variable_form program.variables.items); operands = [] } ∷ [];
   masters = record { number = 0; items = [] } ∷ [];
   control = frame.Elaborates (declaration_forms program) (stmt_forms program) (handler_forms program) ∷ [];
   mode = Running;
@@ -77,7 +63,7 @@ pub data Run (program : Program) : State → List Event → State → Type 0 whe
 
 -- A state that has no step, and how the run ends there.
 abbrev pub Halts : Program → State → Halt → Type 0
-Halts program s halt = next program.types.items s ≡ halts halt
+Halts program s halt = next program.types.items (body_forms program) s ≡ halts halt
 
 -- A run with one step more.
 pub run_more : {program : Program} {s mid : State} {events : List Event} (event : Event) (choice : Choice) (last : State) → Run program s events mid → Step program mid choice event last → Run program s (events ++ event ∷ []) last

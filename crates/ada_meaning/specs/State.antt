@@ -5,8 +5,10 @@ use Rattle.ada_meaning.specs.declared.state.Mode.{Mode}
 use Rattle.ada_meaning.specs.declared.state.Mode.TheVariants.{Running, Raising, Exiting, Returning}
 use Rattle.ada_meaning.specs.Frame.{Frame, begins_by}
 
--- An activation of a body (6.4): what each of its variables holds, by number, and what pending forms have computed, newest first.
+-- An activation of a body (6.4), that of a procedure or the main one: what each of its variables holds, by number, and what pending forms have computed,
+-- newest first.
 pub record Activation (V : Type 0) : Type 0 where
+  pub procedure : Option ℕ
   pub places : List V
   pub operands : List V
 

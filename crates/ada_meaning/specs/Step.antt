@@ -1,6 +1,6 @@
 -- The small steps: what a state does next, form by form in the order of the manual. They are generic in what a value is and in the heap.
 
-use Rattle.std.specs.Prelude.{ℕ, ◌+◌, ◌==◌, ℤ, pos, ◌+ℤ◌, int_le, Bool, true, false, not, if◌then◌else◌, List, [], ◌∷◌, length, map, take, drop, reverse, Option, Some, None, Result, Ok, Err}
+use Rattle.std.specs.Prelude.{ℕ, ◌+◌, ◌==◌, ℤ, pos, ◌+ℤ◌, int_le, Bool, true, false, not, if◌then◌else◌, List, [], ◌∷◌, ◌++◌, length, map, take, drop, reverse, Option, Some, None, Result, Ok, Err}
 use Rattle.std.specs.List.{slice_get, slice_index_or, slice_set}
 use Rattle.ada_values.specs.declared.operator.BinaryOperator.{BinaryOperator}
 use Rattle.ada_values.specs.declared.operator.BinaryOperator.TheVariants as binary
@@ -9,7 +9,10 @@ use Rattle.ada_values.specs.declared.fault.OperatorFault.TheVariants.{Overflow, 
 use Rattle.ada_program.specs.declared.program.ComponentKind.{ComponentKind}
 use Rattle.ada_program.specs.declared.program.ComponentKind.TheVariants as component
 use Rattle.ada_program.specs.declared.program.TypeDefinition.{TypeDefinition}
-use Rattle.ada_program.specs.Form.{ExpressionForm, integer, boolean, reads, is_null, applied_to, chained, LinksForm, no_more_links, a_link, ItemForm, null_item, item_of_path, item_of_value, item_of_record, RightForm, nothing, value_of, allocates, allocates_default, computes, StmtForm, skips, assigns, assigns_record, frees, gets, writes, writes_text, chooses, repeats, counts, exits, returns, raises, encloses, StmtsForm, no_stmts, a_stmt, BranchesForm, otherwise, a_branch, HandlersForm, DeclarationForm, collects, declares, declares_record}
+use Rattle.ada_program.specs.declared.program.VariableKind.{VariableKind}
+use Rattle.ada_program.specs.declared.program.VariableKind.TheVariants as variable
+use Rattle.ada_program.specs.Form.{ExpressionForm, integer, boolean, reads, is_null, applied_to, chained, LinksForm, no_more_links, a_link, ItemForm, null_item, item_of_path, item_of_value, item_of_record, RightForm, nothing, value_of, allocates, allocates_default, computes, StmtForm, skips, assigns, assigns_record, frees, gets, writes, writes_text, chooses, repeats, counts, exits, calls, returns, raises, encloses, StmtsForm, no_stmts, a_stmt, BranchesForm, otherwise, a_branch, HandlersForm, DeclarationForm, collects, declares, declares_record}
+use Rattle.ada_program.specs.ProgramForm.{VariableForm, BodyForm}
 use Rattle.ada_program.specs.Typed.{reached_of, words_of, width_of}
 use Rattle.ada_meaning.specs.declared.state.Mode.{Mode}
 use Rattle.ada_meaning.specs.declared.state.Mode.TheVariants.{Running, Raising, Exiting, Returning}
@@ -69,6 +72,11 @@ abbrev pub operands_of : {V : Type 0} → List (Activation V) → List V
 operands_of [] = []
 operands_of (a ∷ suspended) = a.operands
 
+-- The procedure of which the running activation is one: none, where it is the main body's.
+abbrev pub procedure_of : {V : Type 0} → List (Activation V) → Option ℕ
+procedure_of [] = None
+procedure_of (a ∷ suspended) = a.procedure
+
 -- The running activation's variables, or its operands, become these.
 abbrev pub with_places : {V : Type 0} → List V → List (Activation V) → List (Activation V)
 with_places vs [] = []
@@ -102,6 +110,15 @@ computed v s = set_operands (v ∷ operands s) s
 -- The state without the newest operand.
 abbrev pub popped : {V H : Type 0} → State V H → State V H
 popped s = set_operands (older (operands s)) s
+
+-- The running activation ends (6.5): that of its caller goes on.
+abbrev pub resumed : {V H : Type 0} → State V H → State V H
+resumed s = record s { activations = older s.activations }
+
+-- A jump passes a frame: behind the body of a call the activation of its caller goes on.
+abbrev pub unwound : {V H : Type 0} → Frame V → State V H → State V H
+unwound frame.Returns s = resumed s
+unwound f s = s
 
 -- A jump begins (5.7, 6.5, 11.3): what pending forms have computed is dropped, and the frames are passed that it does not stop at.
 abbrev pub jumping : {V H : Type 0} → Mode → State V H → State V H
@@ -488,27 +505,65 @@ module _ {V H : Type 0} (ops : Ops V H) where
   exited_next (Some true) s = moves Quiet (jumping Exiting s)
   exited_next (Some false) s = moves Quiet s
 
-  abbrev pub stmt_next : StmtForm → State V H → Next V H
-  stmt_next skips s = moves Quiet s
-  stmt_next (assigns target right) s = assign_next target.selectors target.root right s
-  stmt_next (assigns_record target items) s =
-      path_next target.object.selectors (held s target.object.root) (at (frame.TargetsRecord target.first target.record_type items ∷ s.control) s)
-  stmt_next (frees access path) s = frees_next path.selectors access path.root s
-  stmt_next (gets target) s = gets_next target.selectors target.root s.input s
-  stmt_next (writes e) s = moves Quiet (at (frame.Computes e ∷ frame.Writes ∷ s.control) s)
-  stmt_next (writes_text text) s = moves (Line (Literal (record { 0 = text }))) s
-  stmt_next (chooses branches) s = branches_next branches s
-  stmt_next (repeats condition fs end_spot) s = moves Quiet (at (frame.Repeats condition fs ∷ s.control) s)
-  stmt_next (counts x low high fs end_spot) s =
-      moves Quiet (at (frame.Computes low ∷ frame.Computes high ∷ frame.Ranges x fs ∷ s.control) s)
-  stmt_next (exits condition spot) s = exit_next condition s
-  stmt_next (returns spot) s = moves Quiet (jumping Returning s)
-  stmt_next (raises e) s = moves Quiet (raised e s)
-  stmt_next (encloses ds fs hs) s = moves Quiet (entered (at (frame.Elaborates ds fs hs ∷ s.control) s))
+  -- What lies in a variable's place before its declaration is elaborated: a value of its kind, which no resolved program reads (8.3).
+  abbrev pub blank : VariableKind → V
+  blank variable.Integer = ops.integer (pos 0)
+  blank variable.Boolean = ops.boolean false
+  blank (variable.Access access) = ops.null
+  blank (variable.Record object) = ops.null
 
-  abbrev pub stmts_next : StmtsForm → State V H → Next V H
-  stmts_next no_stmts s = moves Quiet s
-  stmts_next (a_stmt f fs) s = stmt_next f (at (frame.Does fs ∷ s.control) s)
+  -- What lies in the places of these variables then.
+  abbrev pub blanks : List VariableForm → List V
+  blanks [] = []
+  blanks (x ∷ xs) = blank x.kind ∷ blanks xs
+
+  -- The places of a body's variables, of which the first ones, the formal parameters, hold these values (6.4.1).
+  abbrev pub given_places : (actuals : List V) → List VariableForm → List V
+  given_places actuals variables = actuals ++ drop (length actuals) (blanks variables)
+
+  -- An activation of a procedure's body begins (6.4). A call is a statement: no form of the caller waits for a value.
+  abbrev pub activated : (procedure : ℕ) → BodyForm → (actuals : List V) → State V H → State V H
+  activated procedure b actuals s = record s {
+    activations = record { procedure = Some procedure; places = given_places actuals b.variables; operands = [] } ∷ with_operands [] s.activations;
+  }
+
+  -- The body is a master of its own (7.6.1), and all of it is left to do before the caller goes on.
+  abbrev pub begun : (procedure : ℕ) → BodyForm → (actuals : List V) → State V H → State V H
+  begun procedure b actuals s =
+      entered (activated procedure b actuals (at (frame.Elaborates b.declarations b.statements b.handlers ∷ frame.Returns ∷ s.control) s))
+
+  -- Expressions are evaluated one after another before what comes behind them.
+  abbrev pub computing : List ExpressionForm → List (Frame V) → List (Frame V)
+  computing [] k = k
+  computing (e ∷ es) k = frame.Computes e ∷ computing es k
+
+  -- A call (6.4): its actual parameters are evaluated, in order.
+  abbrev pub call_next : (procedure : ℕ) → (actuals : List ExpressionForm) → Option BodyForm → State V H → Next V H
+  call_next procedure actuals None s = halts Stuck
+  call_next procedure actuals (Some b) s = moves Quiet (at (computing actuals (frame.Calls procedure b (length actuals) ∷ s.control)) s)
+
+  abbrev pub stmt_next : List BodyForm → StmtForm → State V H → Next V H
+  stmt_next bodies skips s = moves Quiet s
+  stmt_next bodies (assigns target right) s = assign_next target.selectors target.root right s
+  stmt_next bodies (assigns_record target items) s =
+      path_next target.object.selectors (held s target.object.root) (at (frame.TargetsRecord target.first target.record_type items ∷ s.control) s)
+  stmt_next bodies (frees access path) s = frees_next path.selectors access path.root s
+  stmt_next bodies (gets target) s = gets_next target.selectors target.root s.input s
+  stmt_next bodies (writes e) s = moves Quiet (at (frame.Computes e ∷ frame.Writes ∷ s.control) s)
+  stmt_next bodies (writes_text text) s = moves (Line (Literal (record { 0 = text }))) s
+  stmt_next bodies (chooses branches) s = branches_next branches s
+  stmt_next bodies (repeats condition fs end_spot) s = moves Quiet (at (frame.Repeats condition fs ∷ s.control) s)
+  stmt_next bodies (counts x low high fs end_spot) s =
+      moves Quiet (at (frame.Computes low ∷ frame.Computes high ∷ frame.Ranges x fs ∷ s.control) s)
+  stmt_next bodies (exits condition spot) s = exit_next condition s
+  stmt_next bodies (calls procedure actuals) s = call_next procedure actuals (slice_get bodies procedure) s
+  stmt_next bodies (returns spot) s = moves Quiet (jumping Returning s)
+  stmt_next bodies (raises e) s = moves Quiet (raised e s)
+  stmt_next bodies (encloses ds fs hs) s = moves Quiet (entered (at (frame.Elaborates ds fs hs ∷ s.control) s))
+
+  abbrev pub stmts_next : List BodyForm → StmtsForm → State V H → Next V H
+  stmts_next bodies no_stmts s = moves Quiet s
+  stmts_next bodies (a_stmt f fs) s = stmt_next bodies f (at (frame.Does fs ∷ s.control) s)
 
   -- The line of an Integer (3.5, A.10.7).
   abbrev pub line_next : Option ℤ → State V H → Next V H
@@ -572,45 +627,47 @@ module _ {V H : Type 0} (ops : Ops V H) where
   leave_next mode (m ∷ ms) s = master_leave_next mode m.number m.items s
 
   -- What a frame does that has been taken off, where no exception is on its way.
-  abbrev pub frame_next : List TypeDefinition → Frame V → State V H → Next V H
-  frame_next types (frame.Elaborates ds fs hs) s = declarations_next types ds fs hs s
-  frame_next types (frame.Does fs) s = stmts_next fs s
-  frame_next types (frame.Decides fs branches) s = decided_next fs branches (ops.reads_boolean (newest s)) (popped s)
-  frame_next types (frame.Repeats condition fs) s = repeats_next condition fs s
-  frame_next types (frame.Turns condition fs) s = turned_next condition fs (ops.reads_boolean (newest s)) (popped s)
-  frame_next types (frame.Ranges x fs) s =
+  abbrev pub frame_next : List TypeDefinition → List BodyForm → Frame V → State V H → Next V H
+  frame_next types bodies (frame.Elaborates ds fs hs) s = declarations_next types ds fs hs s
+  frame_next types bodies (frame.Does fs) s = stmts_next bodies fs s
+  frame_next types bodies (frame.Decides fs branches) s = decided_next fs branches (ops.reads_boolean (newest s)) (popped s)
+  frame_next types bodies (frame.Repeats condition fs) s = repeats_next condition fs s
+  frame_next types bodies (frame.Turns condition fs) s = turned_next condition fs (ops.reads_boolean (newest s)) (popped s)
+  frame_next types bodies (frame.Ranges x fs) s =
       ranges_next x fs (ops.reads_integer (newest (popped s))) (ops.reads_integer (newest s)) (popped (popped s))
-  frame_next types (frame.Counts x value last fs) s = counts_next x value last fs s
-  frame_next types frame.Exits s = exited_next (ops.reads_boolean (newest s)) (popped s)
-  frame_next types (frame.Handles hs) s = moves Quiet s
-  frame_next types frame.Closes s = moves Quiet (at (frame.Leaves Running ∷ s.control) s)
-  frame_next types (frame.Leaves mode) s = leave_next mode s.masters s
-  frame_next types (frame.Evaluates right) s = right_next types right s
-  frame_next types (frame.Computes e) s = expression_next e s
-  frame_next types (frame.Follows cs) s = path_next cs (newest s) (popped s)
-  frame_next types (frame.TestsNull equal) s = null_test_next equal (ops.reads_null (newest s)) (popped s)
-  frame_next types (frame.Continues links) s = links_next links s
-  frame_next types (frame.Applies operator) s = outcome_next (ops.binary operator (newest (popped s)) (newest s)) (popped (popped s))
-  frame_next types (frame.AppliesAlone operator) s = outcome_next (ops.unary operator (newest s)) (popped s)
-  frame_next types (frame.Fills items) s = items_next items s
-  frame_next types (frame.Copies first t) s = copies_next (newest s) first (width_of types t) (ops.look s.heap (newest s)) (popped s)
-  frame_next types (frame.Creates access count) s = new_next access count (words_of types access) (home_of access s.masters) s
-  frame_next types (frame.Stores x) s = moves Quiet (put x (newest s) (popped s))
-  frame_next types (frame.Targets c right) s = target_next (newest s) c right (ops.look s.heap (newest s)) (popped s)
-  frame_next types (frame.StoresIn o c) s = store_next o c (newest s) (ops.look s.heap o) (popped s)
-  frame_next types (frame.TargetsRecord first t items) s =
+  frame_next types bodies (frame.Counts x value last fs) s = counts_next x value last fs s
+  frame_next types bodies frame.Exits s = exited_next (ops.reads_boolean (newest s)) (popped s)
+  frame_next types bodies (frame.Handles hs) s = moves Quiet s
+  frame_next types bodies frame.Closes s = moves Quiet (at (frame.Leaves Running ∷ s.control) s)
+  frame_next types bodies (frame.Leaves mode) s = leave_next mode s.masters s
+  frame_next types bodies (frame.Calls procedure b count) s = moves Quiet (begun procedure b (newest_ones count s) s)
+  frame_next types bodies frame.Returns s = moves Quiet (resumed s)
+  frame_next types bodies (frame.Evaluates right) s = right_next types right s
+  frame_next types bodies (frame.Computes e) s = expression_next e s
+  frame_next types bodies (frame.Follows cs) s = path_next cs (newest s) (popped s)
+  frame_next types bodies (frame.TestsNull equal) s = null_test_next equal (ops.reads_null (newest s)) (popped s)
+  frame_next types bodies (frame.Continues links) s = links_next links s
+  frame_next types bodies (frame.Applies operator) s = outcome_next (ops.binary operator (newest (popped s)) (newest s)) (popped (popped s))
+  frame_next types bodies (frame.AppliesAlone operator) s = outcome_next (ops.unary operator (newest s)) (popped s)
+  frame_next types bodies (frame.Fills items) s = items_next items s
+  frame_next types bodies (frame.Copies first t) s = copies_next (newest s) first (width_of types t) (ops.look s.heap (newest s)) (popped s)
+  frame_next types bodies (frame.Creates access count) s = new_next access count (words_of types access) (home_of access s.masters) s
+  frame_next types bodies (frame.Stores x) s = moves Quiet (put x (newest s) (popped s))
+  frame_next types bodies (frame.Targets c right) s = target_next (newest s) c right (ops.look s.heap (newest s)) (popped s)
+  frame_next types bodies (frame.StoresIn o c) s = store_next o c (newest s) (ops.look s.heap o) (popped s)
+  frame_next types bodies (frame.TargetsRecord first t items) s =
       record_target_next (newest s) first (width_of types t) items (ops.look s.heap (newest s)) (popped s)
-  frame_next types (frame.StoresRecord o first count) s = store_record_next o first count (ops.look s.heap o) s
-  frame_next types (frame.Receives c) s = receive_next (newest s) c (ops.look s.heap (newest s)) (popped s)
-  frame_next types (frame.FreesIn access c) s = free_in_next access (newest s) c (ops.look s.heap (newest s)) (popped s)
-  frame_next types (frame.Declares x) s = moves Quiet (owned (declared x) (put x (newest s) (popped s)))
-  frame_next types (frame.DeclaresRecord x t) s =
+  frame_next types bodies (frame.StoresRecord o first count) s = store_record_next o first count (ops.look s.heap o) s
+  frame_next types bodies (frame.Receives c) s = receive_next (newest s) c (ops.look s.heap (newest s)) (popped s)
+  frame_next types bodies (frame.FreesIn access c) s = free_in_next access (newest s) c (ops.look s.heap (newest s)) (popped s)
+  frame_next types bodies (frame.Declares x) s = moves Quiet (owned (declared x) (put x (newest s) (popped s)))
+  frame_next types bodies (frame.DeclaresRecord x t) s =
       moves Quiet (made types x t (newest_ones (words_of types t) s) (without_newest (words_of types t) s))
-  frame_next types frame.Writes s = line_next (ops.reads_integer (newest s)) (popped s)
-  frame_next types (frame.Ends v) s = end_next v (ops.look s.heap v) s
-  frame_next types (frame.GivesBack v cause pool) s = back_next v cause pool (ops.lent s.heap v) s
-  frame_next types (frame.Clears x) s = moves Quiet (put x ops.null s)
-  frame_next types (frame.ClearsIn o c) s = store_next o c ops.null (ops.look s.heap o) s
+  frame_next types bodies frame.Writes s = line_next (ops.reads_integer (newest s)) (popped s)
+  frame_next types bodies (frame.Ends v) s = end_next v (ops.look s.heap v) s
+  frame_next types bodies (frame.GivesBack v cause pool) s = back_next v cause pool (ops.lent s.heap v) s
+  frame_next types bodies (frame.Clears x) s = moves Quiet (put x ops.null s)
+  frame_next types bodies (frame.ClearsIn o c) s = store_next o c ops.null (ops.look s.heap o) s
 
   -- While a jump is on its way (5.7, 6.5, 11.4), pending work is discarded frame by frame, up to where it lands. Only a master interrupts it:
   -- the master is left first, and then the jump continues.
@@ -624,16 +681,16 @@ module _ {V H : Type 0} (ops : Ops V H) where
   pass_next true landing mode s = moves Quiet (record s { control = frame.Leaves mode ∷ s.control; mode = Running })
   pass_next false landing mode s = landed landing s
 
-  abbrev pub running_next : List TypeDefinition → List (Frame V) → State V H → Next V H
-  running_next types [] s = halts (end_of Running)
-  running_next types (f ∷ k) s = frame_next types f (at k s)
+  abbrev pub running_next : List TypeDefinition → List BodyForm → List (Frame V) → State V H → Next V H
+  running_next types bodies [] s = halts (end_of Running)
+  running_next types bodies (f ∷ k) s = frame_next types bodies f (at k s)
 
   abbrev pub jump_next : Mode → List (Frame V) → State V H → Next V H
   jump_next mode [] s = halts (end_of mode)
-  jump_next mode (f ∷ k) s = pass_next (is_master f) (landing mode f) mode (at k s)
+  jump_next mode (f ∷ k) s = pass_next (is_master f) (landing mode f) mode (unwound f (at k s))
 
-  abbrev pub mode_next : List TypeDefinition → Mode → State V H → Next V H
-  mode_next types Running s = running_next types s.control s
-  mode_next types (Raising e) s = jump_next (Raising e) s.control s
-  mode_next types Exiting s = jump_next Exiting s.control s
-  mode_next types Returning s = jump_next Returning s.control s
+  abbrev pub mode_next : List TypeDefinition → List BodyForm → Mode → State V H → Next V H
+  mode_next types bodies Running s = running_next types bodies s.control s
+  mode_next types bodies (Raising e) s = jump_next (Raising e) s.control s
+  mode_next types bodies Exiting s = jump_next Exiting s.control s
+  mode_next types bodies Returning s = jump_next Returning s.control s

@@ -1,6 +1,7 @@
 //! Laws of any run of any program, by the definitions alone.
 
 ghost use Rattle.ada_meaning.specs.Beginning.{StatementsBegin};
+ghost use Rattle.ada_meaning.specs.Calls.{StepsKeepCallers, CallersHold, CallsEvaluate, ActualsArrive, CallersResume};
 ghost use Rattle.ada_meaning.specs.Defaults.{MakesByDefault, MakesRecords};
 ghost use Rattle.ada_meaning.specs.Life.{NamesAreUsedOnce, GoneForEver, BackOnce};
 ghost use Rattle.ada_meaning.specs.Ending.{StepsMakeLighter, StatesGoOn, StatementsEnd};
@@ -56,4 +57,35 @@ pub fn makes_records()
 /// object changes, and no other object (4.3.1, 5.2). Copied onto itself it stays as it is.
 pub fn copies_are_alike()
     ensures { RecordsAreCopied }
+{}
+
+/// Whatever step a program makes, the activations behind the running one are those before; or a
+/// call begins, and all those before wait behind the new one; or a body ends, and those that waited
+/// for it are what there is (6.4, 6.5).
+pub fn callers_stay()
+    ensures { StepsKeepCallers }
+{}
+
+/// As long as a call lasts, its callers' variables hold what they held (6.4).
+pub fn callers_hold()
+    ensures { CallersHold }
+{}
+
+/// A call evaluates its actual parameters in order, and then comes the body of the procedure that
+/// it names (6.4).
+pub fn calls_evaluate()
+    ensures { CallsEvaluate }
+{}
+
+/// The first variables of a body that begins, its formal parameters, hold the values of the actual
+/// ones, in order; the body is a master of its own, and all of it is left to do before the call
+/// returns (6.4, 6.4.1, 7.6.1).
+pub fn actuals_arrive()
+    ensures { ActualsArrive }
+{}
+
+/// Behind the body of a call, where it is done or a return has come to its end, the caller runs
+/// with what it held (6.5); an exception that comes there goes on in the caller (11.4).
+pub fn callers_resume()
+    ensures { CallersResume }
 {}

@@ -32,40 +32,40 @@ use Rattle.ada_order.proofs.Choices.{last, run_by, step_goes_on}
 use denote.RawPtr.{null_ptr}
 
 -- So many steps that leave nothing open.
-abbrev steps : ℕ → List Choice
+abbrev pub steps : ℕ → List Choice
 steps n = replicate n settled
 
 abbrev heap : Global
 heap = record { memory = record { seal = tt } }
 
-abbrev vec : {X : Type 0} (items : List X) → length items ≤ 8 → Vec X
+abbrev pub vec : {X : Type 0} (items : List X) → length items ≤ 8 → Vec X
 vec items le = record { ptr = null_ptr; len = length items; cap = length items; alloc = heap; items = items; ok = (refl, omega arith); small = omega (arith, le) }
 
-abbrev no_name : String Global
+abbrev pub no_name : String Global
 no_name = record { bytes = vec [] (omega arith); ok = ∣ ([], (refl, refl)) ∣₁ }
 
-abbrev spot : Spot
+abbrev pub spot : Spot
 spot = record { line = 1; column = 1 }
 
 -- type Cell is record Value : Integer; end record; type A is access Cell; and the same of B and C
-abbrev access_type : TypeDefinition
+abbrev pub access_type : TypeDefinition
 access_type = definition.Access no_name (record { 0 = 0 })
 
-abbrev value : List Part
+abbrev pub value : List Part
 value = record { name = no_name; kind = part.Elementary (component.Integer (pos 0)); first = record { 0 = 0 } } ∷ []
 
 abbrev types : List TypeDefinition
 types = definition.Record no_name (vec value (omega arith)) (vec (component.Integer (pos 0) ∷ []) (omega arith)) ∷ access_type ∷ access_type ∷ access_type ∷ []
 
 -- X : A; Y : B; Z : C;
-abbrev of_type : ℕ → Variable
+abbrev pub of_type : ℕ → Variable
 of_type access = record { name = no_name; spot = spot; kind = variable.Access (record { 0 = access }); borrows = false }
 
-abbrev path : ℕ → Path
+abbrev pub path : ℕ → Path
 path x = record { root = record { 0 = x }; of_record = false; selectors = vec [] (omega arith); spot = spot }
 
 -- A variable becomes a new object of an access type.
-abbrev makes : ℕ → ℕ → Stmt
+abbrev pub makes : ℕ → ℕ → Stmt
 makes x access = stmt.Assign (path x) (right.Allocator (record { 0 = access }) (vec (item.Value (Integer (pos 7)) ∷ []) (omega arith)))
 
 -- An access type's collection, and a variable of it.
@@ -88,6 +88,7 @@ first_block = stmt.Block (vec [] (omega arith)) (vec (stmt.Null ∷ []) (omega a
 abbrev pub program : Program
 program = record {
   types = vec types (omega arith);
+  procedures = vec [] (omega arith);
   variables = vec (of_type 1 ∷ of_type 2 ∷ of_type 3 ∷ []) (omega arith);
   texts = vec [] (omega arith);
   exceptions = vec [] (omega arith);
@@ -105,7 +106,7 @@ to_inner = steps 19 ++ grants true ∷ steps 16 ++ grants true ∷ steps 6 ++ gr
 
 pub finishes : InSomeRun program (λ events last. Halts program last Finished × (filter is_seen events ≡ nested_events))
 unfolding next expression_form stmt_form
-finishes = run_by program nested_stmts form (to_inner ++ steps 5 ++ takes 0 ∷ steps 8) (λ events last. Halts program last Finished × (filter is_seen events ≡ nested_events)) refl (refl, refl)
+finishes = run_by program [] nested_stmts refl form (to_inner ++ steps 5 ++ takes 0 ∷ steps 8) (λ events last. Halts program last Finished × (filter is_seen events ≡ nested_events)) refl (refl, refl)
 
 -- The next step leaves the inner block.
 abbrev LeavesInner : State → Event → Type 0
@@ -114,5 +115,5 @@ LeavesInner before event = (event ≡ Left 3) × (map number_of before.masters �
 pub leaves_inner : InSomeStep program LeavesInner
 unfolding next expression_form stmt_form
 leaves_inner =
-    run_by program nested_stmts form to_inner (λ events before. (choice : Choice) × (event : Event) × (after : State) × Step program before choice event after × LeavesInner before event) refl
-    (let step = step_goes_on program (last program nested_stmts to_inner) (Left 3) refl in (settled, Left 3, step.0, step.1, (refl, refl)))
+    run_by program [] nested_stmts refl form to_inner (λ events before. (choice : Choice) × (event : Event) × (after : State) × Step program before choice event after × LeavesInner before event) refl
+    (let step = step_goes_on program [] refl (last program [] nested_stmts to_inner) (Left 3) refl in (settled, Left 3, step.0, step.1, (refl, refl)))

@@ -3,6 +3,7 @@
 use Rattle.std.proofs.Common.{◌≡◌, ℕ, Bool, true, false, if◌then◌else◌, List, [], ◌∷◌, Option, Some, None, refl, ◌⊎◌, inl, inr}
 use Rattle.ada_program.specs.declared.program.Program.{Program}
 use Rattle.ada_program.specs.declared.program.TypeDefinition.{TypeDefinition}
+use Rattle.ada_program.specs.ProgramForm.{BodyForm, body_forms}
 use Rattle.ada_meaning.specs.declared.state.Value.{Value}
 use Rattle.ada_meaning.specs.declared.state.Mode.{Mode}
 use Rattle.ada_meaning.specs.declared.state.Mode.TheVariants.{Running, Raising, Exiting, Returning}
@@ -113,29 +114,29 @@ leaving_deed s coming d = does_map (Leave s.masters s.next) (Deed s) (λ e after
 working_deed : (s : State) (coming : Next) → (IsLeaving s.mode s.control → ⊥) → Does (Work s.masters s.next) coming → DoesDeed s coming
 working_deed s coming off d = does_map (Work s.masters s.next) (Deed s) (λ e after w. works off w) coming d
 
-plain_deed : (types : List TypeDefinition) (f : Frame Value) (k : Control) (s : State) → IsPlain f → Plain k → DoesDeed (running (f ∷ k) s) (running_next named types (f ∷ k) (running (f ∷ k) s))
-plain_deed types f k s is p = go (leaves_or_works f is)
+plain_deed : (types : List TypeDefinition) (bodies : List BodyForm) (f : Frame Value) (k : Control) (s : State) → IsPlain f → Plain k → DoesDeed (running (f ∷ k) s) (running_next named types bodies (f ∷ k) (running (f ∷ k) s))
+plain_deed types bodies f k s is p = go (leaves_or_works f is)
   where
-    go : ((mode : Mode) × (f ≡ Leaves mode)) ⊎ IsWork f → DoesDeed (running (f ∷ k) s) (running_next named types (f ∷ k) (running (f ∷ k) s))
+    go : ((mode : Mode) × (f ≡ Leaves mode)) ⊎ IsWork f → DoesDeed (running (f ∷ k) s) (running_next named types bodies (f ∷ k) (running (f ∷ k) s))
     go (inl h) = rw h.1 (leaving_deed (running (Leaves h.0 ∷ k) s) _ (leave_leaves h.0 k s.masters s p))
-    go (inr w) = working_deed (running (f ∷ k) s) _ (λ on. not_leaving f k w p on.1) (frame_works types f (running k s) w p)
+    go (inr w) = working_deed (running (f ∷ k) s) _ (λ on. not_leaving f k w p on.1) (frame_works types bodies f (running k s) w p)
 
-running_deed : (types : List TypeDefinition) (k : Control) (s : State) → Plain k → DoesDeed (running k s) (running_next named types k (running k s))
-running_deed types [] s p = tt
-running_deed types (f ∷ k) s p = plain_deed types f k s p.0 p.1
+running_deed : (types : List TypeDefinition) (bodies : List BodyForm) (k : Control) (s : State) → Plain k → DoesDeed (running k s) (running_next named types bodies k (running k s))
+running_deed types bodies [] s p = tt
+running_deed types bodies (f ∷ k) s p = plain_deed types bodies f k s p.0 p.1
 
-mode_deed : (types : List TypeDefinition) (mode : Mode) (k : Control) (s : State) → Stands s.masters mode k → DoesDeed (record s { control = k; mode = mode }) (mode_next named types mode (record s { control = k; mode = mode }))
-mode_deed types Running k s (plainly p) = running_deed types k s p
-mode_deed types (Raising x) k s (plainly p) = working_deed (record s { control = k; mode = Raising x }) _ (λ on. cc (on.0)) (jump_works (Raising x) k (record s { control = k; mode = Raising x }) p)
-mode_deed types Exiting k s (plainly p) = working_deed (record s { control = k; mode = Exiting }) _ (λ on. cc (on.0)) (jump_works Exiting k (record s { control = k; mode = Exiting }) p)
-mode_deed types Returning k s (plainly p) = working_deed (record s { control = k; mode = Returning }) _ (λ on. cc (on.0)) (jump_works Returning k (record s { control = k; mode = Returning }) p)
-mode_deed types Running _ s (ending v m i pool mode k newest p) = leaving_deed (running (Ends v ∷ GivesBack v (Leaving m i) pool ∷ Leaves mode ∷ k) s) _ (end_leaves v m i pool mode k s newest p (look s.heap v))
-mode_deed types Running _ s (backing v m i pool mode k newest p) = leaving_deed (running (GivesBack v (Leaving m i) pool ∷ Leaves mode ∷ k) s) _ (back_leaves v m i pool mode k s newest p (lent s.heap v))
+mode_deed : (types : List TypeDefinition) (bodies : List BodyForm) (mode : Mode) (k : Control) (s : State) → Stands s.masters mode k → DoesDeed (record s { control = k; mode = mode }) (mode_next named types bodies mode (record s { control = k; mode = mode }))
+mode_deed types bodies Running k s (plainly p) = running_deed types bodies k s p
+mode_deed types bodies (Raising x) k s (plainly p) = working_deed (record s { control = k; mode = Raising x }) _ (λ on. cc (on.0)) (jump_works (Raising x) k (record s { control = k; mode = Raising x }) p)
+mode_deed types bodies Exiting k s (plainly p) = working_deed (record s { control = k; mode = Exiting }) _ (λ on. cc (on.0)) (jump_works Exiting k (record s { control = k; mode = Exiting }) p)
+mode_deed types bodies Returning k s (plainly p) = working_deed (record s { control = k; mode = Returning }) _ (λ on. cc (on.0)) (jump_works Returning k (record s { control = k; mode = Returning }) p)
+mode_deed types bodies Running _ s (ending v m i pool mode k newest p) = leaving_deed (running (Ends v ∷ GivesBack v (Leaving m i) pool ∷ Leaves mode ∷ k) s) _ (end_leaves v m i pool mode k s newest p (look s.heap v))
+mode_deed types bodies Running _ s (backing v m i pool mode k newest p) = leaving_deed (running (GivesBack v (Leaving m i) pool ∷ Leaves mode ∷ k) s) _ (back_leaves v m i pool mode k s newest p (lent s.heap v))
 
-next_deed : (types : List TypeDefinition) (s : State) → Stands s.masters s.mode s.control → DoesDeed s (next types s)
+next_deed : (types : List TypeDefinition) (bodies : List BodyForm) (s : State) → Stands s.masters s.mode s.control → DoesDeed s (next types bodies s)
 unfolding next
-next_deed types s stands = mode_deed types s.mode s.control s stands
+next_deed types bodies s stands = mode_deed types bodies s.mode s.control s stands
 
 -- What each step does.
 pub step_deed : (program : Program) (s : State) (choice : Choice) (e : Event) (after : State) → Stands s.masters s.mode s.control → Step program s choice e after → Deed s e after
-step_deed program s choice e after stands step = led (Deed s) (next program.types.items s) choice e after (next_deed program.types.items s stands) step
+step_deed program s choice e after stands step = led (Deed s) (next program.types.items (body_forms program) s) choice e after (next_deed program.types.items (body_forms program) s stands) step

@@ -12,3 +12,5 @@ pub mod Orders
 pub mod Choices
 -- a program whose blocks nest
 pub mod Example
+-- a program that calls a procedure, which returns from a block
+pub mod Calling

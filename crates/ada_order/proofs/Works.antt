@@ -4,8 +4,9 @@ use Rattle.std.proofs.Common.{◌≡◌, ℕ, ℤ, Bool, true, false, if◌then�
 use Rattle.std.specs.Prelude.{int_le}
 use Rattle.std.specs.List.{slice_get}
 use Rattle.ada_program.specs.declared.program.TypeDefinition.{TypeDefinition}
-use Rattle.ada_program.specs.Form.{ExpressionForm, integer, boolean, reads, is_null, applied_to, chained, LinksForm, no_more_links, a_link, ItemForm, null_item, item_of_path, item_of_value, item_of_record, RightForm, nothing, value_of, allocates, allocates_default, computes, StmtForm, skips, assigns, assigns_record, frees, gets, writes, writes_text, chooses, repeats, counts, exits, raises, encloses, StmtsForm, no_stmts, a_stmt, BranchesForm, otherwise, a_branch, HandlersForm, DeclarationForm, collects, declares, declares_record}
+use Rattle.ada_program.specs.Form.{ExpressionForm, integer, boolean, reads, is_null, applied_to, chained, LinksForm, no_more_links, a_link, ItemForm, null_item, item_of_path, item_of_value, item_of_record, RightForm, nothing, value_of, allocates, allocates_default, computes, StmtForm, skips, assigns, assigns_record, frees, gets, writes, writes_text, chooses, repeats, counts, exits, calls, raises, encloses, StmtsForm, no_stmts, a_stmt, BranchesForm, otherwise, a_branch, HandlersForm, DeclarationForm, collects, declares, declares_record}
 use Rattle.ada_program.specs.Form as form
+use Rattle.ada_program.specs.ProgramForm.{BodyForm}
 use Rattle.ada_program.specs.Typed.{words_of, width_of}
 use Rattle.ada_values.specs.declared.operator.BinaryOperator.{BinaryOperator}
 use Rattle.ada_values.specs.declared.fault.OperatorFault.{OperatorFault}
@@ -22,7 +23,7 @@ use Rattle.ada_meaning.specs.Frame.{Frame, is_master, Landing, passes_on, goes_b
 use Rattle.ada_meaning.specs.Frame as frame
 use Rattle.ada_meaning.specs.State.{declared, collection, record_object, home_of}
 use Rattle.ada_meaning.specs.Heap.{Cell, Found, on_null, on_gone, on_other, finds}
-use Rattle.ada_meaning.specs.Step.{record_in, newest_ones, without_newest, copied_next, copies_next, record_target_next, record_stored_next, store_record_next, record_next, halts, at, popped, held, newest, reading, component_next, follow_next, path_next, expression_next, null_test_next, is_decided, link_next, links_next, outcome_next, item_next, items_next, answered, new_next, right_next, free_next, end_next, same_pool, told_back, given_back, back_next, before_last, last_of, assign_next, target_next, stored_next, store_next, received_next, receive_next, frees_next, freed_next, free_component_next, free_in_next, branches_next, decided_next, turn_next, repeats_next, turned_next, count_turn_next, counts_next, ranges_next, gets_next, exit_next, exited_next, stmt_next, stmts_next, line_next, declaration_next, declarations_next, frame_next, landed, pass_next, jump_next}
+use Rattle.ada_meaning.specs.Step.{record_in, newest_ones, without_newest, copied_next, copies_next, record_target_next, record_stored_next, store_record_next, record_next, halts, at, popped, held, newest, reading, component_next, follow_next, path_next, expression_next, null_test_next, is_decided, link_next, links_next, outcome_next, item_next, items_next, answered, new_next, right_next, free_next, end_next, same_pool, told_back, given_back, back_next, before_last, last_of, assign_next, target_next, stored_next, store_next, received_next, receive_next, frees_next, freed_next, free_component_next, free_in_next, branches_next, decided_next, turn_next, repeats_next, turned_next, count_turn_next, counts_next, ranges_next, gets_next, exit_next, exited_next, computing, call_next, stmt_next, stmts_next, line_next, declaration_next, declarations_next, frame_next, landed, resumed, unwound, pass_next, jump_next}
 use Rattle.ada_meaning.specs.Named.{Object, State, Next, named, look, lent, reads_boolean, reads_null, reads_integer, unary_given, binary_given}
 use Rattle.ada_meaning.specs.Run.{Event}
 use Rattle.ada_meaning.specs.Law.{left_by}
@@ -271,26 +272,36 @@ exited_works None s p = tt
 exited_works (Some true) s p = stays refl p refl refl
 exited_works (Some false) s p = stays refl p refl refl
 
-stmt_works : (f : StmtForm) (s : State) → Plain s.control → Works s (stmt_next named f s)
-stmt_works skips s p = stays refl p refl refl
-stmt_works (assigns target right) s p = assign_works target.selectors target.root right s p
-stmt_works (assigns_record target items) s p =
-    path_works target.object.selectors (held named s target.object.root) (at (frame.TargetsRecord target.first target.record_type items ∷ s.control) s) (tt, p)
-stmt_works (frees access path) s p = frees_work path.selectors access path.root s p
-stmt_works (gets target) s p = gets_work target.selectors target.root s.input s p
-stmt_works (writes e) s p = stays refl (tt, (tt, p)) refl refl
-stmt_works (writes_text text) s p = stays refl p refl refl
-stmt_works (chooses branches) s p = branches_work branches s p
-stmt_works (repeats condition fs end_spot) s p = stays refl (tt, p) refl refl
-stmt_works (counts x low high fs end_spot) s p = stays refl (tt, (tt, (tt, p))) refl refl
-stmt_works (exits condition spot) s p = exit_works condition s p
-stmt_works (form.returns spot) s p = stays refl p refl refl
-stmt_works (raises e) s p = stays refl p refl refl
-stmt_works (encloses ds fs hs) s p = enters refl (tt, p) refl refl
+-- A call: its actual parameters are evaluated before its body begins.
+computing_is_plain : (es : List ExpressionForm) (k : List (Frame Value)) → Plain k → Plain (computing named es k)
+computing_is_plain [] k p = p
+computing_is_plain (e ∷ es) k p = (tt, computing_is_plain es k p)
 
-stmts_work : (fs : StmtsForm) (s : State) → Plain s.control → Works s (stmts_next named fs s)
-stmts_work no_stmts s p = stays refl p refl refl
-stmts_work (a_stmt f fs) s p = stmt_works f (at (frame.Does fs ∷ s.control) s) (tt, p)
+call_works : (procedure : ℕ) (actuals : List ExpressionForm) (body : Option BodyForm) (s : State) → Plain s.control → Works s (call_next named procedure actuals body s)
+call_works procedure actuals None s p = tt
+call_works procedure actuals (Some b) s p = stays refl (computing_is_plain actuals _ (tt, p)) refl refl
+
+stmt_works : (bodies : List BodyForm) (f : StmtForm) (s : State) → Plain s.control → Works s (stmt_next named bodies f s)
+stmt_works bodies skips s p = stays refl p refl refl
+stmt_works bodies (assigns target right) s p = assign_works target.selectors target.root right s p
+stmt_works bodies (assigns_record target items) s p =
+    path_works target.object.selectors (held named s target.object.root) (at (frame.TargetsRecord target.first target.record_type items ∷ s.control) s) (tt, p)
+stmt_works bodies (frees access path) s p = frees_work path.selectors access path.root s p
+stmt_works bodies (gets target) s p = gets_work target.selectors target.root s.input s p
+stmt_works bodies (writes e) s p = stays refl (tt, (tt, p)) refl refl
+stmt_works bodies (writes_text text) s p = stays refl p refl refl
+stmt_works bodies (chooses branches) s p = branches_work branches s p
+stmt_works bodies (repeats condition fs end_spot) s p = stays refl (tt, p) refl refl
+stmt_works bodies (counts x low high fs end_spot) s p = stays refl (tt, (tt, (tt, p))) refl refl
+stmt_works bodies (exits condition spot) s p = exit_works condition s p
+stmt_works bodies (calls procedure actuals) s p = call_works procedure actuals (slice_get bodies procedure) s p
+stmt_works bodies (form.returns spot) s p = stays refl p refl refl
+stmt_works bodies (raises e) s p = stays refl p refl refl
+stmt_works bodies (encloses ds fs hs) s p = enters refl (tt, p) refl refl
+
+stmts_work : (bodies : List BodyForm) (fs : StmtsForm) (s : State) → Plain s.control → Works s (stmts_next named bodies fs s)
+stmts_work bodies no_stmts s p = stays refl p refl refl
+stmts_work bodies (a_stmt f fs) s p = stmt_works bodies f (at (frame.Does fs ∷ s.control) s) (tt, p)
 
 line_works : (read : Option ℤ) (s : State) → Plain s.control → Works s (line_next named read s)
 line_works None s p = tt
@@ -322,43 +333,45 @@ back_is_plain v (Assigning number) pool is = tt
 back_is_plain v (Undoing number) pool is = tt
 
 -- Each such frame that is taken off.
-pub frame_works : (types : List TypeDefinition) (f : Frame Value) (s : State) → IsWork f → Plain s.control → Works s (frame_next named types f s)
-frame_works types (frame.Elaborates ds fs hs) s is p = declarations_work types ds fs hs s p
-frame_works types (frame.Does fs) s is p = stmts_work fs s p
-frame_works types (frame.Decides fs branches) s is p = decided_works fs branches (reads_boolean (newest named s)) (popped s) p
-frame_works types (frame.Repeats condition fs) s is p = repeats_work condition fs s p
-frame_works types (frame.Turns condition fs) s is p = turned_works condition fs (reads_boolean (newest named s)) (popped s) p
-frame_works types (frame.Ranges x fs) s is p = ranges_work x fs (reads_integer (newest named (popped s))) (reads_integer (newest named s)) (popped (popped s)) p
-frame_works types (frame.Counts x value last fs) s is p = counts_work x value last fs s p
-frame_works types frame.Exits s is p = exited_works (reads_boolean (newest named s)) (popped s) p
-frame_works types (frame.Handles hs) s is p = stays refl p refl refl
-frame_works types frame.Closes s is p = stays refl (tt, p) refl refl
-frame_works types (frame.Leaves mode) s is p = absurd is
-frame_works types (frame.Evaluates right) s is p = right_works types right s p
-frame_works types (frame.Computes e) s is p = expression_works e s p
-frame_works types (frame.Follows cs) s is p = path_works cs (newest named s) (popped s) p
-frame_works types (frame.TestsNull equal) s is p = null_test_works equal (reads_null (newest named s)) (popped s) p
-frame_works types (frame.Continues links) s is p = links_work links s p
-frame_works types (frame.Applies operator) s is p = outcome_works (binary_given operator (newest named (popped s)) (newest named s)) (popped (popped s)) p
-frame_works types (frame.AppliesAlone operator) s is p = outcome_works (unary_given operator (newest named s)) (popped s) p
-frame_works types (frame.Fills items) s is p = items_work items s p
-frame_works types (frame.Copies first t) s is p = copies_work (newest named s) first (width_of types t) (look s.heap (newest named s)) (popped s) p
-frame_works types (frame.Creates access count) s is p = new_works access count (words_of types access) (home_of access s.masters) s p
-frame_works types (frame.Stores x) s is p = stays refl p refl refl
-frame_works types (frame.Targets c right) s is p = target_works (newest named s) c right (look s.heap (newest named s)) (popped s) p
-frame_works types (frame.StoresIn object c) s is p = store_works object c (newest named s) (look s.heap object) (popped s) p
-frame_works types (frame.TargetsRecord first t items) s is p =
+pub frame_works : (types : List TypeDefinition) (bodies : List BodyForm) (f : Frame Value) (s : State) → IsWork f → Plain s.control → Works s (frame_next named types bodies f s)
+frame_works types bodies (frame.Elaborates ds fs hs) s is p = declarations_work types ds fs hs s p
+frame_works types bodies (frame.Does fs) s is p = stmts_work bodies fs s p
+frame_works types bodies (frame.Decides fs branches) s is p = decided_works fs branches (reads_boolean (newest named s)) (popped s) p
+frame_works types bodies (frame.Repeats condition fs) s is p = repeats_work condition fs s p
+frame_works types bodies (frame.Turns condition fs) s is p = turned_works condition fs (reads_boolean (newest named s)) (popped s) p
+frame_works types bodies (frame.Ranges x fs) s is p = ranges_work x fs (reads_integer (newest named (popped s))) (reads_integer (newest named s)) (popped (popped s)) p
+frame_works types bodies (frame.Counts x value last fs) s is p = counts_work x value last fs s p
+frame_works types bodies frame.Exits s is p = exited_works (reads_boolean (newest named s)) (popped s) p
+frame_works types bodies (frame.Handles hs) s is p = stays refl p refl refl
+frame_works types bodies frame.Closes s is p = stays refl (tt, p) refl refl
+frame_works types bodies (frame.Leaves mode) s is p = absurd is
+frame_works types bodies (frame.Calls procedure b count) s is p = enters refl (tt, (tt, p)) refl refl
+frame_works types bodies frame.Returns s is p = stays refl p refl refl
+frame_works types bodies (frame.Evaluates right) s is p = right_works types right s p
+frame_works types bodies (frame.Computes e) s is p = expression_works e s p
+frame_works types bodies (frame.Follows cs) s is p = path_works cs (newest named s) (popped s) p
+frame_works types bodies (frame.TestsNull equal) s is p = null_test_works equal (reads_null (newest named s)) (popped s) p
+frame_works types bodies (frame.Continues links) s is p = links_work links s p
+frame_works types bodies (frame.Applies operator) s is p = outcome_works (binary_given operator (newest named (popped s)) (newest named s)) (popped (popped s)) p
+frame_works types bodies (frame.AppliesAlone operator) s is p = outcome_works (unary_given operator (newest named s)) (popped s) p
+frame_works types bodies (frame.Fills items) s is p = items_work items s p
+frame_works types bodies (frame.Copies first t) s is p = copies_work (newest named s) first (width_of types t) (look s.heap (newest named s)) (popped s) p
+frame_works types bodies (frame.Creates access count) s is p = new_works access count (words_of types access) (home_of access s.masters) s p
+frame_works types bodies (frame.Stores x) s is p = stays refl p refl refl
+frame_works types bodies (frame.Targets c right) s is p = target_works (newest named s) c right (look s.heap (newest named s)) (popped s) p
+frame_works types bodies (frame.StoresIn object c) s is p = store_works object c (newest named s) (look s.heap object) (popped s) p
+frame_works types bodies (frame.TargetsRecord first t items) s is p =
     record_target_works (newest named s) first (width_of types t) items (look s.heap (newest named s)) (popped s) p
-frame_works types (frame.StoresRecord object first count) s is p = store_record_works object first count (look s.heap object) s p
-frame_works types (frame.Receives c) s is p = receive_works (newest named s) c (look s.heap (newest named s)) (popped s) p
-frame_works types (frame.FreesIn access c) s is p = free_in_works access (newest named s) c (look s.heap (newest named s)) (popped s) p
-frame_works types (frame.Declares x) s is p = owns (declared x) refl p refl refl
-frame_works types (frame.DeclaresRecord x t) s is p = owns (record_object t) refl p refl refl
-frame_works types frame.Writes s is p = line_works (reads_integer (newest named s)) (popped s) p
-frame_works types (frame.Ends v) s is p = end_works v (look s.heap v) s p
-frame_works types (frame.GivesBack v cause pool) s is p = back_works v cause pool (lent s.heap v) s (back_is_plain v cause pool is) p
-frame_works types (frame.Clears x) s is p = stays refl p refl refl
-frame_works types (frame.ClearsIn object c) s is p = store_works object c Null (look s.heap object) s p
+frame_works types bodies (frame.StoresRecord object first count) s is p = store_record_works object first count (look s.heap object) s p
+frame_works types bodies (frame.Receives c) s is p = receive_works (newest named s) c (look s.heap (newest named s)) (popped s) p
+frame_works types bodies (frame.FreesIn access c) s is p = free_in_works access (newest named s) c (look s.heap (newest named s)) (popped s) p
+frame_works types bodies (frame.Declares x) s is p = owns (declared x) refl p refl refl
+frame_works types bodies (frame.DeclaresRecord x t) s is p = owns (record_object t) refl p refl refl
+frame_works types bodies frame.Writes s is p = line_works (reads_integer (newest named s)) (popped s) p
+frame_works types bodies (frame.Ends v) s is p = end_works v (look s.heap v) s p
+frame_works types bodies (frame.GivesBack v cause pool) s is p = back_works v cause pool (lent s.heap v) s (back_is_plain v cause pool is) p
+frame_works types bodies (frame.Clears x) s is p = stays refl p refl refl
+frame_works types bodies (frame.ClearsIn object c) s is p = store_works object c Null (look s.heap object) s p
 
 -- A jump: what it passes, and where it lands.
 landed_works : (l : Landing) (s : State) → Plain s.control → Works s (landed named l s)
@@ -371,6 +384,10 @@ pass_works : (master : Bool) (l : Landing) (mode : Mode) (s : State) → Plain s
 pass_works true l mode s p = stays refl (tt, p) refl refl
 pass_works false l mode s p = landed_works l s p
 
+unwound_works : (f : Frame Value) (mode : Mode) (s : State) → Plain s.control → Works s (pass_next named (is_master f) (landing mode f) mode (unwound f s))
+unwound_works frame.Returns mode s p = pass_works false (landing {V = Value} mode frame.Returns) mode (resumed s) p
+unwound_works f mode s p = pass_works (is_master f) (landing mode f) mode s p
+
 pub jump_works : (mode : Mode) (k : List (Frame Value)) (s : State) → Plain k → Works s (jump_next named mode k s)
 jump_works mode [] s p = tt
-jump_works mode (f ∷ k) s p = pass_works (is_master f) (landing mode f) mode (at k s) p.1
+jump_works mode (f ∷ k) s p = unwound_works f mode (at k s) p.1

@@ -1,13 +1,16 @@
--- A program whose blocks nest, and what its run shows.
+-- Programs whose masters nest, by blocks and by calls, and what their runs show.
 
 use Rattle.std.specs.Prelude.{◌≡◌, ℕ, ℤ, Bool, true, false, List, [], ◌∷◌, map, Some, None, pos}
 use Rattle.std.specs.List.{filter}
 use Rattle.ada_program.specs.declared.program.Program.{Program}
-use Rattle.ada_program.specs.Form.{PathForm, integer, item_of_value, nothing, allocates, StmtForm, skips, assigns, writes, returns, encloses, StmtsForm, no_stmts, a_stmt, no_handlers, collects, declares, stmt_forms}
+use Rattle.ada_program.specs.declared.program.VariableKind.TheVariants as variable
+use Rattle.ada_program.specs.Form.{PathForm, integer, reads, item_of_value, nothing, allocates, computes, StmtForm, skips, assigns, writes, calls, returns, encloses, StmtsForm, no_stmts, a_stmt, no_handlers, collects, declares, stmt_forms}
+use Rattle.ada_program.specs.ProgramForm.{VariableForm, BodyForm, body_forms}
 use Rattle.ada_meaning.specs.declared.state.Value.TheVariants.{Names}
 use Rattle.ada_meaning.specs.declared.event.Cause.TheVariants.{Leaving}
 use Rattle.ada_meaning.specs.declared.event.Halt.TheVariants.{Finished}
-use Rattle.ada_meaning.specs.Event.{Back, Left, Quiet}
+use Rattle.ada_meaning.specs.declared.event.Line.TheVariants.{Image}
+use Rattle.ada_meaning.specs.Event.{Back, Left, Line, Quiet}
 use Rattle.ada_meaning.specs.State.{Master}
 use Rattle.ada_meaning.specs.Named.{State}
 use Rattle.ada_meaning.specs.Run.{Event, Choice, Step, Run, Halts, first_state}
@@ -88,3 +91,61 @@ abbrev pub InnerIsLeft : Type 0
 InnerIsLeft =
     (program : Program) × (stmt_forms program ≡ nested_stmts)
     × InSomeStep program (λ before event. (event ≡ Left 3) × (map number_of before.masters ≡ 3 ∷ 2 ∷ 0 ∷ []))
+
+-- An Integer variable without a name.
+abbrev pub of_integer : VariableForm
+of_integer = record { name = []; spot = record { line = 1; column = 1 }; kind = variable.Integer; borrows = false }
+
+-- declare Z : Integer := N; begin Put_Line (Integer'Image (Z)); return; end;
+abbrev pub returning_block : StmtForm
+returning_block =
+    encloses (declares 1 (computes (reads (variable_at 0))) ∷ [])
+    (a_stmt (writes (reads (variable_at 1)))
+    (a_stmt (returns (record { line = 1; column = 1 })) no_stmts))
+    no_handlers
+
+-- procedure P (N : Integer) is begin declare .. end; Put_Line (Integer'Image (9)); end;
+abbrev pub returning_body : BodyForm
+returning_body = record {
+  formals = 1;
+  variables = of_integer ∷ of_integer ∷ [];
+  declarations = [];
+  statements = a_stmt returning_block (a_stmt (writes (integer (pos 9))) no_stmts);
+  handlers = no_handlers;
+}
+
+-- begin declare X : A; begin X := new Cell'(7); P (3); Put_Line (Integer'Image (0)); end; end;
+abbrev pub calling_stmts : StmtsForm
+calling_stmts =
+    a_stmt
+    (encloses (collects 1 ∷ declares 0 nothing ∷ [])
+    (a_stmt (new_to 0 1)
+    (a_stmt (calls 0 (integer (pos 3) ∷ []))
+    (a_stmt (writes (integer (pos 0))) no_stmts)))
+    no_handlers)
+    no_stmts
+
+-- The return leaves the block in the procedure and then the procedure's body, and ends there: the block of the caller goes on, writes, and is left with
+-- its object (6.5, 7.6.1).
+abbrev pub calling_events : List Event
+calling_events =
+    Line (Image (pos 3))
+    ∷ Left 3
+    ∷ Left 2
+    ∷ Line (Image (pos 0))
+    ∷ Back (Names (record { 0 = 0 })) 1 1 (Some 0) None (Leaving 1 0)
+    ∷ Left 1
+    ∷ Left 0
+    ∷ []
+
+-- A run of a program with these statements and this procedure finishes after these events.
+abbrev pub ReturnLeavesBody : Type 0
+ReturnLeavesBody =
+    (program : Program) × (stmt_forms program ≡ calling_stmts) × (body_forms program ≡ returning_body ∷ [])
+    × InSomeRun program (λ events last. Halts program last Finished × (filter is_seen events ≡ calling_events))
+
+-- It comes to the step that leaves the procedure's body, while the block of the caller and the main procedure are entered.
+abbrev pub BodyIsLeft : Type 0
+BodyIsLeft =
+    (program : Program) × (stmt_forms program ≡ calling_stmts) × (body_forms program ≡ returning_body ∷ [])
+    × InSomeStep program (λ before event. (event ≡ Left 2) × (map number_of before.masters ≡ 2 ∷ 1 ∷ 0 ∷ []))

@@ -1,6 +1,6 @@
 //! The laws of masters. Each is a function that does nothing, and whose contract is the theorem.
 
-ghost use Rattle.ada_order.specs.Example.{BlocksAreLeft, InnerIsLeft};
+ghost use Rattle.ada_order.specs.Example.{BlocksAreLeft, BodyIsLeft, InnerIsLeft, ReturnLeavesBody};
 ghost use Rattle.ada_order.specs.Masters.{LeavesInReverse, InnerFirst, LeftOnce, NothingAfterLeft};
 ghost use Rattle.ada_order.specs.Masters.{ItemNumbersFall, MasterNumbersFall, EnteredBelowNext};
 
@@ -31,8 +31,11 @@ pub fn masters_are_left_once()
 
 /// The laws are not empty: a return leaves two blocks, one in the other, with the objects of three collections, after
 /// another block was left; and of its steps one leaves the inner block while the outer one and the main procedure are
-/// entered.
+/// entered. And a return from a block in a procedure leaves that block and the procedure's body, and no master of the
+/// caller (6.5).
 pub fn premises_are_met()
     ensures run { BlocksAreLeft }
     ensures step { InnerIsLeft }
+    ensures call { ReturnLeavesBody }
+    ensures call_step { BodyIsLeft }
 {}

@@ -41,7 +41,7 @@ node next stage listed = record {
 
 -- A running activation with these variables.
 abbrev pub running : List Value → List (Activation Value)
-running places = record { places = places; operands = [] } ∷ []
+running places = record { procedure = None; places = places; operands = [] } ∷ []
 
 -- The first node's Next is the second one; the third one is gone, and its Next is still the first one.
 abbrev pub nodes : List Object

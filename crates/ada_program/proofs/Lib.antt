@@ -1,3 +1,4 @@
 -- lemmas of this crate
 mod InOrder
+mod Profiles
 mod Viewed

@@ -28,6 +28,7 @@ use Rattle.ada_program.specs.declared.program.VariableNo.{VariableNo}
 use Rattle.ada_program.specs.declared.program.TextNo.{TextNo}
 use Rattle.ada_program.specs.declared.program.Link.{Link}
 use Rattle.ada_program.specs.declared.program.Path.{Path}
+use Rattle.ada_program.specs.declared.program.ProcedureNo.{ProcedureNo}
 use Rattle.ada_program.specs.declared.program.RecordPath.{RecordPath}
 
 -- A path (4.1): the variable that it begins with, whether that is a record object, the components named behind it, each of the object that the
@@ -88,7 +89,7 @@ mutual
   -- A statement (5.1): what it assigns to what, or to which record (5.2), what it frees by the instance for which access type (13.11.2), to what
   -- the next number of the input goes, which value or which text it writes (A.10.7), among which statements it chooses (5.3), which it repeats,
   -- while a condition is true, for each value of a parameter, or for ever (5.5), the exit from the innermost loop, perhaps on a condition (5.7),
-  -- the return from the body (6.5), the exception that it raises (11.3), or a block: a master of its own (5.6).
+  -- which procedure it calls, with which values of its formal parameters (6.4), the return from the body (6.5), the exception that it raises (11.3), or a block: a master of its own (5.6).
   pub data StmtForm : Type 0 where
     skips : StmtForm
     assigns : (target : PathForm) → RightForm → StmtForm
@@ -101,6 +102,7 @@ mutual
     repeats : (condition : Option ExpressionForm) → StmtsForm → (end_spot : Spot) → StmtForm
     counts : (parameter : ℕ) → (low high : ExpressionForm) → StmtsForm → (end_spot : Spot) → StmtForm
     exits : (condition : Option ExpressionForm) → Spot → StmtForm
+    calls : (procedure : ℕ) → (actuals : List ExpressionForm) → StmtForm
     returns : Spot → StmtForm
     raises : Exception → StmtForm
     encloses : List DeclarationForm → StmtsForm → HandlersForm → StmtForm
@@ -203,6 +205,7 @@ unfoldable mutual
   stmt_form (stmt.For' parameter low high shape statements end_spot) =
       counts parameter.0 (expression_form low) (expression_form high) (stmts_row statements) end_spot
   stmt_form (stmt.Exit condition spot) = exits (condition_form condition) spot
+  stmt_form (stmt.Call procedure actuals) = calls procedure.0 (map expression_form actuals.items)
   stmt_form (stmt.Return spot) = returns spot
   stmt_form (stmt.Raise e) = raises e
   stmt_form (stmt.Block' declarations shape statements size handlers) =
@@ -319,6 +322,10 @@ pub exits_form : (condition : Option Expression) (spot : Spot) → stmt_form (st
 unfolding stmt_form
 exits_form condition spot = refl
 
+pub calls_form : (procedure : ProcedureNo) (actuals : Vec Expression) → stmt_form (stmt.Call procedure actuals) ≡ calls procedure.0 (map expression_form actuals.items)
+unfolding stmt_form
+calls_form procedure actuals = refl
+
 pub returns_form : (spot : Spot) → stmt_form (stmt.Return spot) ≡ returns spot
 unfolding stmt_form
 returns_form spot = refl
@@ -384,4 +391,4 @@ encloses_form declarations statements handlers =
     ap (encloses (map declaration_form declarations.items) (stmts_form statements.items)) (handlers_hidden handlers)
 
 -- The view of a statement, step by step.
-pub ruleset statement_rules = (skips_form, assigns_form, assigns_record_form, frees_form, gets_form, writes_form, writes_text_form, chooses_form, repeats_form, counts_form, exits_form, returns_form, raises_form, encloses_form)
+pub ruleset statement_rules = (skips_form, assigns_form, assigns_record_form, frees_form, gets_form, writes_form, writes_text_form, chooses_form, repeats_form, counts_form, exits_form, calls_form, returns_form, raises_form, encloses_form)

@@ -11,6 +11,7 @@ use Rattle.ada_program.specs.declared.program.Handler.{Handler}
 use Rattle.ada_program.specs.declared.program.Item.{Item}
 use Rattle.ada_program.specs.declared.program.Link.{Link}
 use Rattle.ada_program.specs.declared.program.Path.{Path}
+use Rattle.ada_program.specs.declared.program.Procedure.{Procedure}
 use Rattle.ada_program.specs.declared.program.Program.{Program}
 use Rattle.ada_program.specs.declared.program.RecordPath.{RecordPath}
 use Rattle.ada_program.specs.declared.program.Right.{Right}
@@ -20,7 +21,7 @@ use Rattle.ada_program.specs.declared.program.TypeDefinition.{TypeDefinition}
 use Rattle.ada_program.specs.declared.program.Variable.{Variable}
 use Rattle.ada_program.specs.declared.program.VariableKind.{VariableKind}
 use Rattle.ada_program.specs.Form.{path_form, record_path_form, expression_form, links_form, item_form, right_form, condition_form, declaration_form, StmtsForm, stmt_form, stmts_form, branches_form, handlers_form}
-use Rattle.ada_program.specs.ProgramForm.{TypeForm, type_form, VariableForm, variable_form, program_form}
+use Rattle.ada_program.specs.ProgramForm.{TypeForm, type_form, VariableForm, variable_form, body_form, program_form}
 use Rattle.ada_program.specs.WellFormed as fits
 use Rattle.ada_program.specs.WellFormed.{Creation}
 
@@ -35,6 +36,10 @@ variables_in variables = map variable_form variables
 -- Its texts.
 abbrev pub texts_in : List (String Global) → List (List ℕ)
 texts_in texts = map string_bytes texts
+
+-- The profiles of procedures (6.1).
+abbrev pub profiles_in : List Procedure → List (List VariableKind)
+profiles_in procedures = map fits.profile_of (map body_form procedures)
 
 -- What is held where a path leads (4.1).
 abbrev pub path_kind : List TypeDefinition → List Variable → Path → Option VariableKind
@@ -126,9 +131,13 @@ creation d = fits.creation (declaration_form d)
 abbrev pub created : List Declaration → List Creation
 created ds = map fits.creation (map declaration_form ds)
 
--- What a program creates, in the order of the text.
+-- What its main procedure creates, in the order of the text.
 abbrev pub creations : Program → List Creation
 creations program = fits.creations (program_form program)
+
+-- What a program creates.
+abbrev pub all_creations : Program → List Creation
+all_creations program = fits.all_creations (program_form program)
 
 -- Whether each access type has one collection (7.6.1).
 abbrev pub has_collections : List Creation → List TypeDefinition → Bool
@@ -175,26 +184,26 @@ record_fits types variables components items =
     fits.record_fits (types_in types) (variables_in variables) components (map item_form items)
 
 -- Whether a statement names variables and texts of the program, and has the types that it wants.
-abbrev pub statement_fits : List TypeDefinition → List Variable → (texts exceptions : List (String Global)) → (inside_loop : Bool) → Stmt → Bool
-statement_fits types variables texts exceptions inside_loop s =
-    fits.statement_fits (types_in types) (variables_in variables) (texts_in texts) (texts_in exceptions) inside_loop (stmt_form s)
+abbrev pub statement_fits : List TypeDefinition → List Variable → (texts exceptions : List (String Global)) → (callable : List Procedure) → (inside_loop : Bool) → Stmt → Bool
+statement_fits types variables texts exceptions callable inside_loop s =
+    fits.statement_fits (types_in types) (variables_in variables) (texts_in texts) (texts_in exceptions) (profiles_in callable) inside_loop (stmt_form s)
 
 -- Whether statements that stand behind one another all do, whatever they are kept in.
-abbrev pub forms_fit : List TypeDefinition → List Variable → (texts exceptions : List (String Global)) → (inside_loop : Bool) → StmtsForm → Bool
-forms_fit types variables texts exceptions inside_loop fs =
-    fits.stmts_fit (types_in types) (variables_in variables) (texts_in texts) (texts_in exceptions) inside_loop fs
+abbrev pub forms_fit : List TypeDefinition → List Variable → (texts exceptions : List (String Global)) → (callable : List Procedure) → (inside_loop : Bool) → StmtsForm → Bool
+forms_fit types variables texts exceptions callable inside_loop fs =
+    fits.stmts_fit (types_in types) (variables_in variables) (texts_in texts) (texts_in exceptions) (profiles_in callable) inside_loop fs
 
 -- Whether the statements of a list all do.
-abbrev pub stmts_fit : List TypeDefinition → List Variable → (texts exceptions : List (String Global)) → (inside_loop : Bool) → List Stmt → Bool
-stmts_fit types variables texts exceptions inside_loop ss =
-    forms_fit types variables texts exceptions inside_loop (stmts_form ss)
+abbrev pub stmts_fit : List TypeDefinition → List Variable → (texts exceptions : List (String Global)) → (callable : List Procedure) → (inside_loop : Bool) → List Stmt → Bool
+stmts_fit types variables texts exceptions callable inside_loop ss =
+    forms_fit types variables texts exceptions callable inside_loop (stmts_form ss)
 
 -- Whether branches, and the statements after the last of them, do, and each condition is a Boolean (5.3).
-abbrev pub branches_fit : List TypeDefinition → List Variable → (texts exceptions : List (String Global)) → (inside_loop : Bool) → List Branch → StmtsForm → Bool
-branches_fit types variables texts exceptions inside_loop branches others =
-    fits.branches_fit (types_in types) (variables_in variables) (texts_in texts) (texts_in exceptions) inside_loop (branches_form branches others)
+abbrev pub branches_fit : List TypeDefinition → List Variable → (texts exceptions : List (String Global)) → (callable : List Procedure) → (inside_loop : Bool) → List Branch → StmtsForm → Bool
+branches_fit types variables texts exceptions callable inside_loop branches others =
+    fits.branches_fit (types_in types) (variables_in variables) (texts_in texts) (texts_in exceptions) (profiles_in callable) inside_loop (branches_form branches others)
 
 -- Whether handlers name exceptions of the program, and their statements fit (11.2).
-abbrev pub handlers_fit : List TypeDefinition → List Variable → (texts exceptions : List (String Global)) → (inside_loop : Bool) → List Handler → Bool
-handlers_fit types variables texts exceptions inside_loop handlers =
-    fits.handlers_fit (types_in types) (variables_in variables) (texts_in texts) (texts_in exceptions) inside_loop (handlers_form handlers)
+abbrev pub handlers_fit : List TypeDefinition → List Variable → (texts exceptions : List (String Global)) → (callable : List Procedure) → (inside_loop : Bool) → List Handler → Bool
+handlers_fit types variables texts exceptions callable inside_loop handlers =
+    fits.handlers_fit (types_in types) (variables_in variables) (texts_in texts) (texts_in exceptions) (profiles_in callable) inside_loop (handlers_form handlers)

@@ -1,11 +1,11 @@
 -- Where collections are created: the objects that an object's components name belong to a master that lasts at least as long as its own (3.10.2).
 
 use Rattle.std.specs.Prelude.{◌≡◌, ℕ, Bool, true, false, ◌&&◌, ◌||◌, ◌==◌, not, List, [], ◌∷◌, ◌++◌, Option, Some, None}
-use Rattle.std.specs.List.{list_all}
+use Rattle.std.specs.List.{list_all, slice_get}
 use Rattle.ada_program.specs.declared.program.ComponentKind.{ComponentKind}
 use Rattle.ada_program.specs.declared.program.ComponentKind.TheVariants as component
-use Rattle.ada_program.specs.Form.{DeclarationForm, collects, declares, declares_record, StmtForm, skips, assigns, assigns_record, frees, gets, writes, writes_text, chooses, repeats, counts, exits, returns, raises, encloses, StmtsForm, no_stmts, a_stmt, BranchesForm, otherwise, a_branch, HandlersForm, no_handlers, a_handler}
-use Rattle.ada_program.specs.ProgramForm.{TypeForm, ProgramForm}
+use Rattle.ada_program.specs.Form.{DeclarationForm, collects, declares, declares_record, StmtForm, skips, assigns, assigns_record, frees, gets, writes, writes_text, chooses, repeats, counts, exits, calls, returns, raises, encloses, StmtsForm, no_stmts, a_stmt, BranchesForm, otherwise, a_branch, HandlersForm, no_handlers, a_handler}
+use Rattle.ada_program.specs.ProgramForm.{TypeForm, BodyForm, ProgramForm}
 use Rattle.ada_program.specs.WellFormed.{reached_components}
 
 -- The access types whose collections declarations create (7.6.1).
@@ -52,42 +52,67 @@ abbrev pub part_nests : List TypeForm → (around : List ℕ) → List Declarati
 part_nests types around ds =
     list_all (collection_nests types around (collected ds ++ around)) (collected ds) && list_all (record_nests types (collected ds ++ around)) (record_objects ds)
 
+-- Whether what calls create nests, where these are open around a call: of each procedure, by its number.
+abbrev pub Callees : Type 0
+Callees = List ((around : List ℕ) → Bool)
+
+-- So it does of one procedure, if there is one: as if its body stood where it is called (6.4).
+abbrev pub call_nests : Option ((around : List ℕ) → Bool) → (around : List ℕ) → Bool
+call_nests None around = false
+call_nests (Some nests) around = nests around
+
 abbrev mutual
   -- So are the collections of the blocks in a statement (5.6), where these are open around it.
-  pub statement_nests : List TypeForm → (around : List ℕ) → StmtForm → Bool
-  statement_nests types around skips = true
-  statement_nests types around (assigns target right) = true
-  statement_nests types around (assigns_record target items) = true
-  statement_nests types around (frees access path) = true
-  statement_nests types around (gets target) = true
-  statement_nests types around (writes e) = true
-  statement_nests types around (writes_text text) = true
-  statement_nests types around (chooses branches) = branches_nest types around branches
-  statement_nests types around (repeats condition fs end_spot) = statements_nest types around fs
-  statement_nests types around (counts x low high fs end_spot) = statements_nest types around fs
-  statement_nests types around (exits condition spot) = true
-  statement_nests types around (returns spot) = true
-  statement_nests types around (raises e) = true
-  statement_nests types around (encloses ds fs hs) =
-      part_nests types around ds && statements_nest types (collected ds ++ around) fs && handlers_nest types (collected ds ++ around) hs
+  pub statement_nests : List TypeForm → Callees → (around : List ℕ) → StmtForm → Bool
+  statement_nests types callees around skips = true
+  statement_nests types callees around (assigns target right) = true
+  statement_nests types callees around (assigns_record target items) = true
+  statement_nests types callees around (frees access path) = true
+  statement_nests types callees around (gets target) = true
+  statement_nests types callees around (writes e) = true
+  statement_nests types callees around (writes_text text) = true
+  statement_nests types callees around (chooses branches) = branches_nest types callees around branches
+  statement_nests types callees around (repeats condition fs end_spot) = statements_nest types callees around fs
+  statement_nests types callees around (counts x low high fs end_spot) = statements_nest types callees around fs
+  statement_nests types callees around (exits condition spot) = true
+  statement_nests types callees around (calls procedure actuals) = call_nests (slice_get callees procedure) around
+  statement_nests types callees around (returns spot) = true
+  statement_nests types callees around (raises e) = true
+  statement_nests types callees around (encloses ds fs hs) =
+      part_nests types around ds && statements_nest types callees (collected ds ++ around) fs && handlers_nest types callees (collected ds ++ around) hs
 
   -- The collections of the blocks in statements.
-  pub statements_nest : List TypeForm → (around : List ℕ) → StmtsForm → Bool
-  statements_nest types around no_stmts = true
-  statements_nest types around (a_stmt f fs) = statement_nests types around f && statements_nest types around fs
+  pub statements_nest : List TypeForm → Callees → (around : List ℕ) → StmtsForm → Bool
+  statements_nest types callees around no_stmts = true
+  statements_nest types callees around (a_stmt f fs) = statement_nests types callees around f && statements_nest types callees around fs
 
   -- The collections of the blocks in branches.
-  pub branches_nest : List TypeForm → (around : List ℕ) → BranchesForm → Bool
-  branches_nest types around (otherwise fs) = statements_nest types around fs
-  branches_nest types around (a_branch e fs branches) = statements_nest types around fs && branches_nest types around branches
+  pub branches_nest : List TypeForm → Callees → (around : List ℕ) → BranchesForm → Bool
+  branches_nest types callees around (otherwise fs) = statements_nest types callees around fs
+  branches_nest types callees around (a_branch e fs branches) = statements_nest types callees around fs && branches_nest types callees around branches
 
   -- The collections of the blocks in handlers.
-  pub handlers_nest : List TypeForm → (around : List ℕ) → HandlersForm → Bool
-  handlers_nest types around no_handlers = true
-  handlers_nest types around (a_handler choices fs hs) = statements_nest types around fs && handlers_nest types around hs
+  pub handlers_nest : List TypeForm → Callees → (around : List ℕ) → HandlersForm → Bool
+  handlers_nest types callees around no_handlers = true
+  handlers_nest types callees around (a_handler choices fs hs) = statements_nest types callees around fs && handlers_nest types callees around hs
+
+-- All that a body creates.
+abbrev pub body_nests : List TypeForm → Callees → BodyForm → (around : List ℕ) → Bool
+body_nests types callees b around =
+    part_nests types around b.declarations && statements_nest types callees (collected b.declarations ++ around) b.statements &&
+    handlers_nest types callees (collected b.declarations ++ around) b.handlers
+
+-- What calls of these procedures create, behind others: each calls those before it.
+abbrev pub callees_from : List TypeForm → Callees → List BodyForm → Callees
+callees_from types callees [] = callees
+callees_from types callees (b ∷ bs) = callees_from types (callees ++ body_nests types callees b ∷ []) bs
+
+-- What calls of the procedures of a program create.
+abbrev pub callees_of : ProgramForm → Callees
+callees_of p = callees_from p.types [] p.bodies
 
 -- All collections of a program: no object lies in a collection that lasts longer than one in which its components' objects lie (3.10.2, 7.6.1).
 pub record CollectionsNest (p : ProgramForm) : Type 0 where
   pub declarations : part_nests p.types [] p.declarations ≡ true
-  pub statements : statements_nest p.types (collected p.declarations) p.statements ≡ true
-  pub handlers : handlers_nest p.types (collected p.declarations) p.handlers ≡ true
+  pub statements : statements_nest p.types (callees_of p) (collected p.declarations) p.statements ≡ true
+  pub handlers : handlers_nest p.types (callees_of p) (collected p.declarations) p.handlers ≡ true

@@ -1,6 +1,7 @@
 -- A whole program as plain data: its types, its variables, and what it does, whatever the program keeps them in.
 
-use Rattle.std.specs.Prelude.{ℕ, Bool, List, map}
+use Rattle.std.specs.Prelude.{ℕ, Bool, List, map, take, Option, Some, None}
+use Rattle.std.specs.List.{slice_get}
 use Rattle.std.specs.String.{string_bytes}
 use Rattle.ada_text.specs.declared.spot.Spot.{Spot}
 use Rattle.ada_program.specs.declared.program.ComponentKind.{ComponentKind}
@@ -8,10 +9,11 @@ use Rattle.ada_program.specs.declared.program.Part.{Part}
 use Rattle.ada_program.specs.declared.program.PartKind.{PartKind}
 use Rattle.ada_program.specs.declared.program.Variable.{Variable}
 use Rattle.ada_program.specs.declared.program.VariableKind.{VariableKind}
+use Rattle.ada_program.specs.declared.program.Procedure.{Procedure}
 use Rattle.ada_program.specs.declared.program.Program.{Program}
 use Rattle.ada_program.specs.declared.program.TypeDefinition.{TypeDefinition}
 use Rattle.ada_program.specs.declared.program.TypeDefinition.TheVariants as definition
-use Rattle.ada_program.specs.Form.{StmtsForm, HandlersForm, DeclarationForm, declaration_forms, stmt_forms, handler_forms}
+use Rattle.ada_program.specs.Form.{StmtsForm, HandlersForm, DeclarationForm, declaration_form, stmts_form, handlers_form, declaration_forms, stmt_forms, handler_forms}
 
 -- A component of a record type as it is declared: its name, what it is, and the number of its first elementary component in the record type (3.8).
 pub record PartForm : Type 0 where
@@ -33,9 +35,21 @@ pub record VariableForm : Type 0 where
   pub kind : VariableKind
   pub borrows : Bool
 
--- A program: types, variables, texts and exceptions by their numbers, its declarations (3.11), its statements and their handlers (11.2).
+-- A body of a procedure (6.3): how many of its variables are formal parameters, the first ones; its variables, its declarations (3.11), its statements and
+-- their handlers (11.2).
+pub record BodyForm : Type 0 where
+  pub formals : ℕ
+  pub variables : List VariableForm
+  pub declarations : List DeclarationForm
+  pub statements : StmtsForm
+  pub handlers : HandlersForm
+
+-- A program: types, procedures, texts and exceptions by their numbers; and of its main procedure the variables by their numbers, the declarations (3.11),
+-- the statements and their handlers (11.2).
 pub record ProgramForm : Type 0 where
   pub types : List TypeForm
+  -- the bodies of the procedures that it declares
+  pub bodies : List BodyForm
   pub variables : List VariableForm
   pub texts : List (List ℕ)
   pub exceptions : List (List ℕ)
@@ -57,10 +71,25 @@ type_form (definition.Object record_type) = object_of record_type.0
 abbrev pub variable_form : Variable → VariableForm
 variable_form o = record { name = string_bytes o.name; spot = o.spot; kind = o.kind; borrows = o.borrows }
 
+-- A procedure's body, whatever the program keeps its parts in.
+abbrev pub body_form : Procedure → BodyForm
+body_form b = record {
+  formals = b.formals;
+  variables = map variable_form b.variables.items;
+  declarations = map declaration_form b.declarations.items;
+  statements = stmts_form b.statements.items;
+  handlers = handlers_form b.handlers.items;
+}
+
+-- The bodies of the procedures that a program declares.
+abbrev pub body_forms : Program → List BodyForm
+body_forms p = map body_form p.procedures.items
+
 -- A program, whatever it keeps its parts in.
 abbrev pub program_form : Program → ProgramForm
 program_form p = record {
   types = map type_form p.types.items;
+  bodies = body_forms p;
   variables = map variable_form p.variables.items;
   texts = map string_bytes p.texts.items;
   exceptions = map string_bytes p.exceptions.items;
@@ -68,3 +97,27 @@ program_form p = record {
   statements = stmt_forms p;
   handlers = handler_forms p;
 }
+
+-- The main procedure's body.
+abbrev pub main_body : ProgramForm → BodyForm
+main_body p = record { formals = 0; variables = p.variables; declarations = p.declarations; statements = p.statements; handlers = p.handlers }
+
+-- A program as the body of a procedure sees it: that body stands for the main one, and the procedures before it are those that it may call.
+abbrev pub seen_by : (number : ℕ) → BodyForm → ProgramForm → ProgramForm
+seen_by number b p = record p {
+  bodies = take number p.bodies;
+  variables = b.variables;
+  declarations = b.declarations;
+  statements = b.statements;
+  handlers = b.handlers;
+}
+
+-- As the procedure of a number sees it, where there is one.
+abbrev pub seen_at : (number : ℕ) → Option BodyForm → ProgramForm → ProgramForm
+seen_at number None p = p
+seen_at number (Some b) p = seen_by number b p
+
+-- As a body sees it: that of a procedure, or the main one.
+abbrev pub seen_in : (procedure : Option ℕ) → ProgramForm → ProgramForm
+seen_in None p = p
+seen_in (Some number) p = seen_at number (slice_get p.bodies number) p

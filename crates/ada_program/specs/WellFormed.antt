@@ -1,6 +1,6 @@
 -- What a well-formed program is: each number is that of something there, and each form has the types that it wants.
 
-use Rattle.std.specs.Prelude.{◌≡◌, ℕ, ◌+◌, Bool, true, false, ◌&&◌, ◌||◌, not, ◌==◌, nat_lt, if◌then◌else◌, List, [], ◌∷◌, ◌++◌, length, drop, map, count_by, Option, Some, None, is_some}
+use Rattle.std.specs.Prelude.{◌≡◌, ℕ, ◌+◌, Bool, true, false, ◌&&◌, ◌||◌, not, ◌==◌, nat_lt, if◌then◌else◌, List, [], ◌∷◌, ◌++◌, length, take, drop, map, count_by, Option, Some, None, is_some}
 use Rattle.std.specs.List.{list_all, slice_get}
 use Rattle.ada_values.specs.declared.operator.UnaryOperator.{UnaryOperator}
 use Rattle.ada_values.specs.declared.operator.UnaryOperator.TheVariants as unary
@@ -16,8 +16,8 @@ use Rattle.ada_program.specs.declared.program.VariableKind.{VariableKind}
 use Rattle.ada_program.specs.declared.program.VariableKind.TheVariants as variable
 use Rattle.ada_program.specs.declared.program.ScalarType.{ScalarType}
 use Rattle.ada_program.specs.declared.program.ScalarType.TheVariants.{Integer, Boolean}
-use Rattle.ada_program.specs.Form.{PathForm, RecordPathForm, ExpressionForm, integer, boolean, reads, is_null, applied_to, chained, LinksForm, no_more_links, a_link, ItemForm, null_item, item_of_path, item_of_value, item_of_record, RightForm, nothing, value_of, allocates, allocates_default, computes, StmtForm, skips, assigns, assigns_record, frees, gets, writes, writes_text, chooses, repeats, counts, exits, returns, raises, encloses, StmtsForm, no_stmts, a_stmt, BranchesForm, otherwise, a_branch, HandlersForm, no_handlers, a_handler, DeclarationForm, collects, declares, declares_record}
-use Rattle.ada_program.specs.ProgramForm.{TypeForm, record_of, access_to, object_of, VariableForm, ProgramForm}
+use Rattle.ada_program.specs.Form.{PathForm, RecordPathForm, ExpressionForm, integer, boolean, reads, is_null, applied_to, chained, LinksForm, no_more_links, a_link, ItemForm, null_item, item_of_path, item_of_value, item_of_record, RightForm, nothing, value_of, allocates, allocates_default, computes, StmtForm, skips, assigns, assigns_record, frees, gets, writes, writes_text, chooses, repeats, counts, exits, calls, returns, raises, encloses, StmtsForm, no_stmts, a_stmt, BranchesForm, otherwise, a_branch, HandlersForm, no_handlers, a_handler, DeclarationForm, collects, declares, declares_record}
+use Rattle.ada_program.specs.ProgramForm.{TypeForm, record_of, access_to, object_of, VariableForm, BodyForm, ProgramForm, main_body}
 
 -- The type that an access type designates (3.10): none, if it is no access type.
 abbrev pub designated_in : Option TypeForm → Option ℕ
@@ -131,6 +131,7 @@ abbrev mutual
   created_by (repeats condition fs end_spot) = created_by_all fs
   created_by (counts x low high fs end_spot) = of_variable x ∷ created_by_all fs
   created_by (exits condition spot) = []
+  created_by (calls procedure actuals) = []
   created_by (returns spot) = []
   created_by (raises e) = []
   created_by (encloses ds fs hs) = map creation ds ++ created_by_all fs ++ created_by_handlers hs
@@ -150,9 +151,22 @@ abbrev mutual
   created_by_handlers no_handlers = []
   created_by_handlers (a_handler choices fs hs) = created_by_all fs ++ created_by_handlers hs
 
--- All that a program creates, in the order of the text.
+-- All that a body creates, in the order of the text.
+abbrev pub created_in : BodyForm → List Creation
+created_in b = map creation b.declarations ++ created_by_all b.statements ++ created_by_handlers b.handlers
+
+-- All that the main procedure creates.
 abbrev pub creations : ProgramForm → List Creation
-creations p = map creation p.declarations ++ created_by_all p.statements ++ created_by_handlers p.handlers
+creations p = created_in (main_body p)
+
+-- All that these bodies create.
+abbrev pub created_in_all : List BodyForm → List Creation
+created_in_all [] = []
+created_in_all (b ∷ bs) = created_in b ++ created_in_all bs
+
+-- All that a program creates.
+abbrev pub all_creations : ProgramForm → List Creation
+all_creations p = created_in_all p.bodies ++ creations p
 
 -- The variables are created in order from one on, each once, up to their count (3.11).
 abbrev pub creates_from : ℕ → ℕ → List Creation → Bool
@@ -600,6 +614,37 @@ choice_fits exceptions choice.Others = true
 abbrev pub is_integer_target : List TypeForm → List VariableForm → PathForm → Bool
 is_integer_target types variables path = is_type Integer (scalar_of (path_kind types variables path))
 
+-- An actual parameter has the type of its formal one, an Integer or a Boolean (6.4.1): no formal parameter is anything else yet.
+abbrev pub actual_fits : List TypeForm → List VariableForm → VariableKind → ExpressionForm → Bool
+actual_fits types variables variable.Integer e = has_type types variables Integer e
+actual_fits types variables variable.Boolean e = has_type types variables Boolean e
+actual_fits types variables (variable.Access access) e = false
+actual_fits types variables (variable.Record object) e = false
+
+-- There is an actual parameter for each formal one, in order (6.4.1).
+abbrev pub actuals_fit : List TypeForm → List VariableForm → List VariableKind → List ExpressionForm → Bool
+actuals_fit types variables [] [] = true
+actuals_fit types variables [] (e ∷ es) = false
+actuals_fit types variables (kind ∷ kinds) [] = false
+actuals_fit types variables (kind ∷ kinds) (e ∷ es) = actual_fits types variables kind e && actuals_fit types variables kinds es
+
+-- There is a procedure with this profile, and the actual parameters suit it.
+abbrev pub suits_profile : List TypeForm → List VariableForm → Option (List VariableKind) → List ExpressionForm → Bool
+suits_profile types variables None actuals = false
+suits_profile types variables (Some kinds) actuals = actuals_fit types variables kinds actuals
+
+-- What the variable holds.
+abbrev pub kind_held : VariableForm → VariableKind
+kind_held x = x.kind
+
+-- The profile of a procedure (6.1): what its formal parameters hold, in order.
+abbrev pub profile_of : BodyForm → List VariableKind
+profile_of b = map kind_held (take b.formals b.variables)
+
+-- The profiles of the procedures that the main body of a program may call.
+abbrev pub callable_in : ProgramForm → List (List VariableKind)
+callable_in p = map profile_of p.bodies
+
 -- A part creates its collections first, each of an access type, and its variables, whose initial values fit (3.11).
 abbrev pub declarations_fit : List TypeForm → List VariableForm → List DeclarationForm → Bool
 declarations_fit types variables ds =
@@ -608,50 +653,65 @@ declarations_fit types variables ds =
 abbrev mutual
   -- A statement names variables and texts of the program, and has the types that it wants: what is written by Integer'Image is an Integer
   -- (A.10.7, 3.5), a condition is a Boolean (5.3), a loop repeats a statement and counts by an Integer (5.5), an exit stands inside a loop
-  -- (5.7), an exception is one of the program (11.1), and each handler has a statement (11.2).
-  pub statement_fits : List TypeForm → List VariableForm → (texts exceptions : List (List ℕ)) → (inside_loop : Bool) → StmtForm → Bool
-  statement_fits types variables texts exceptions inside_loop skips = true
-  statement_fits types variables texts exceptions inside_loop (assigns target right) =
+  -- (5.7), a call is of one of the procedures that may be called, whose profiles these are, and suits it (6.4), an exception is one of the program (11.1), and
+  -- each handler has a statement (11.2).
+  pub statement_fits : List TypeForm → List VariableForm → (texts exceptions : List (List ℕ)) → (callable : List (List VariableKind)) → (inside_loop : Bool) → StmtForm → Bool
+  statement_fits types variables texts exceptions callable inside_loop skips = true
+  statement_fits types variables texts exceptions callable inside_loop (assigns target right) =
       right_fits types variables (path_kind types variables target) right && lends_to variables (names_borrower variables target) right
-  statement_fits types variables texts exceptions inside_loop (assigns_record target items) =
+  statement_fits types variables texts exceptions callable inside_loop (assigns_record target items) =
       is_record_path types variables target && record_fits types variables (record_components types target.record_type) items
-  statement_fits types variables texts exceptions inside_loop (frees access path) =
+  statement_fits types variables texts exceptions callable inside_loop (frees access path) =
       is_freed_by types access (path_access types variables path) && not (names_borrower variables path)
-  statement_fits types variables texts exceptions inside_loop (gets target) = is_integer_target types variables target
-  statement_fits types variables texts exceptions inside_loop (writes e) = has_type types variables Integer e
-  statement_fits types variables texts exceptions inside_loop (writes_text text) = nat_lt text (length texts)
-  statement_fits types variables texts exceptions inside_loop (chooses branches) = branches_fit types variables texts exceptions inside_loop branches
-  statement_fits types variables texts exceptions inside_loop (repeats condition fs end_spot) =
-      condition_fits types variables condition && has_statement fs && stmts_fit types variables texts exceptions true fs
-  statement_fits types variables texts exceptions inside_loop (counts x low high fs end_spot) =
+  statement_fits types variables texts exceptions callable inside_loop (gets target) = is_integer_target types variables target
+  statement_fits types variables texts exceptions callable inside_loop (writes e) = has_type types variables Integer e
+  statement_fits types variables texts exceptions callable inside_loop (writes_text text) = nat_lt text (length texts)
+  statement_fits types variables texts exceptions callable inside_loop (chooses branches) = branches_fit types variables texts exceptions callable inside_loop branches
+  statement_fits types variables texts exceptions callable inside_loop (repeats condition fs end_spot) =
+      condition_fits types variables condition && has_statement fs && stmts_fit types variables texts exceptions callable true fs
+  statement_fits types variables texts exceptions callable inside_loop (counts x low high fs end_spot) =
       is_type Integer (scalar_of (variable_kind variables x)) && has_type types variables Integer low && has_type types variables Integer high &&
-      has_statement fs && stmts_fit types variables texts exceptions true fs
-  statement_fits types variables texts exceptions inside_loop (exits condition spot) = inside_loop && condition_fits types variables condition
-  statement_fits types variables texts exceptions inside_loop (returns spot) = true
-  statement_fits types variables texts exceptions inside_loop (raises e) = exception_fits exceptions e
-  statement_fits types variables texts exceptions inside_loop (encloses ds fs hs) =
-      declarations_fit types variables ds && stmts_fit types variables texts exceptions inside_loop fs &&
-      handlers_fit types variables texts exceptions inside_loop hs
+      has_statement fs && stmts_fit types variables texts exceptions callable true fs
+  statement_fits types variables texts exceptions callable inside_loop (exits condition spot) = inside_loop && condition_fits types variables condition
+  statement_fits types variables texts exceptions callable inside_loop (calls procedure actuals) = suits_profile types variables (slice_get callable procedure) actuals
+  statement_fits types variables texts exceptions callable inside_loop (returns spot) = true
+  statement_fits types variables texts exceptions callable inside_loop (raises e) = exception_fits exceptions e
+  statement_fits types variables texts exceptions callable inside_loop (encloses ds fs hs) =
+      declarations_fit types variables ds && stmts_fit types variables texts exceptions callable inside_loop fs &&
+      handlers_fit types variables texts exceptions callable inside_loop hs
 
   -- Statements, in order.
-  pub stmts_fit : List TypeForm → List VariableForm → (texts exceptions : List (List ℕ)) → (inside_loop : Bool) → StmtsForm → Bool
-  stmts_fit types variables texts exceptions inside_loop no_stmts = true
-  stmts_fit types variables texts exceptions inside_loop (a_stmt f fs) =
-      statement_fits types variables texts exceptions inside_loop f && stmts_fit types variables texts exceptions inside_loop fs
+  pub stmts_fit : List TypeForm → List VariableForm → (texts exceptions : List (List ℕ)) → (callable : List (List VariableKind)) → (inside_loop : Bool) → StmtsForm → Bool
+  stmts_fit types variables texts exceptions callable inside_loop no_stmts = true
+  stmts_fit types variables texts exceptions callable inside_loop (a_stmt f fs) =
+      statement_fits types variables texts exceptions callable inside_loop f && stmts_fit types variables texts exceptions callable inside_loop fs
 
   -- Branches, each with a condition (5.3).
-  pub branches_fit : List TypeForm → List VariableForm → (texts exceptions : List (List ℕ)) → (inside_loop : Bool) → BranchesForm → Bool
-  branches_fit types variables texts exceptions inside_loop (otherwise fs) = stmts_fit types variables texts exceptions inside_loop fs
-  branches_fit types variables texts exceptions inside_loop (a_branch e fs branches) =
-      has_type types variables Boolean e && stmts_fit types variables texts exceptions inside_loop fs &&
-      branches_fit types variables texts exceptions inside_loop branches
+  pub branches_fit : List TypeForm → List VariableForm → (texts exceptions : List (List ℕ)) → (callable : List (List VariableKind)) → (inside_loop : Bool) → BranchesForm → Bool
+  branches_fit types variables texts exceptions callable inside_loop (otherwise fs) = stmts_fit types variables texts exceptions callable inside_loop fs
+  branches_fit types variables texts exceptions callable inside_loop (a_branch e fs branches) =
+      has_type types variables Boolean e && stmts_fit types variables texts exceptions callable inside_loop fs &&
+      branches_fit types variables texts exceptions callable inside_loop branches
 
   -- Handlers, each of exceptions of the program, and with a statement (11.2).
-  pub handlers_fit : List TypeForm → List VariableForm → (texts exceptions : List (List ℕ)) → (inside_loop : Bool) → HandlersForm → Bool
-  handlers_fit types variables texts exceptions inside_loop no_handlers = true
-  handlers_fit types variables texts exceptions inside_loop (a_handler choices fs hs) =
-      list_all (choice_fits exceptions) choices && has_statement fs && stmts_fit types variables texts exceptions inside_loop fs &&
-      handlers_fit types variables texts exceptions inside_loop hs
+  pub handlers_fit : List TypeForm → List VariableForm → (texts exceptions : List (List ℕ)) → (callable : List (List VariableKind)) → (inside_loop : Bool) → HandlersForm → Bool
+  handlers_fit types variables texts exceptions callable inside_loop no_handlers = true
+  handlers_fit types variables texts exceptions callable inside_loop (a_handler choices fs hs) =
+      list_all (choice_fits exceptions) choices && has_statement fs && stmts_fit types variables texts exceptions callable inside_loop fs &&
+      handlers_fit types variables texts exceptions callable inside_loop hs
+
+-- A procedure's body fits, where procedures with these profiles may be called: its variables behind the formal parameters are created once, in the order of
+-- the text (3.11), its declarations and its statements have the types that they want, and so have those of its handlers (11.2).
+abbrev pub body_fits : List TypeForm → (texts exceptions : List (List ℕ)) → (callable : List (List VariableKind)) → BodyForm → Bool
+body_fits types texts exceptions callable b =
+    list_all (variable_fits types) b.variables && creates_from (length b.variables) b.formals (created_in b) && declarations_fit types b.variables b.declarations &&
+    stmts_fit types b.variables texts exceptions callable false b.statements && handlers_fit types b.variables texts exceptions callable false b.handlers
+
+-- So does each of these, behind procedures with these profiles: a body calls procedures before it alone.
+abbrev pub bodies_fit : List TypeForm → (texts exceptions : List (List ℕ)) → (callable : List (List VariableKind)) → List BodyForm → Bool
+bodies_fit types texts exceptions callable [] = true
+bodies_fit types texts exceptions callable (b ∷ bs) =
+    body_fits types texts exceptions callable b && bodies_fit types texts exceptions (callable ++ profile_of b ∷ []) bs
 
 -- A well-formed program.
 pub record IsWellFormed (p : ProgramForm) : Type 0 where
@@ -666,10 +726,12 @@ pub record IsWellFormed (p : ProgramForm) : Type 0 where
   -- each collection is that of an access type (7.6.1)
   pub collections_fit : list_all (collection_fits p.types) p.declarations ≡ true
   -- each access type has one collection (7.6.1)
-  pub has_one_each : has_collections (creations p) 0 p.types ≡ true
+  pub has_one_each : has_collections (all_creations p) 0 p.types ≡ true
   -- each initial value names earlier variables, and has the variable's type (3.3.1)
   pub initials_fit : list_all (initial_fits p.types p.variables) p.declarations ≡ true
   -- each statement names variables and texts, and has the types that it wants (5.2, 13.11.2, A.10.7)
-  pub statements_fit : stmts_fit p.types p.variables p.texts p.exceptions false p.statements ≡ true
+  pub statements_fit : stmts_fit p.types p.variables p.texts p.exceptions (callable_in p) false p.statements ≡ true
   -- and so does each statement of a handler (11.2)
-  pub handlers_fit : handlers_fit p.types p.variables p.texts p.exceptions false p.handlers ≡ true
+  pub handlers_fit : handlers_fit p.types p.variables p.texts p.exceptions (callable_in p) false p.handlers ≡ true
+  -- each procedure's body fits, and calls procedures before it alone (6.4)
+  pub bodies_fit : bodies_fit p.types p.texts p.exceptions [] p.bodies ≡ true

@@ -1,15 +1,17 @@
-//! What a program creates, in the order of the text: each variable once and in order (3.11), and one collection for each
-//! access type (7.6.1).
+//! What a program creates: in each body each variable once, in the order of the text (3.11), and one
+//! collection for each access type (7.6.1).
 
-ghost use Rattle.std.specs.Prelude.{◌≡◌, ◌==◌, Some, map, length, count_by};
+ghost use Rattle.std.specs.Prelude.{◌≡◌, ◌==◌, ◌++◌, Some, map, length, count_by};
 ghost use Rattle.ada_program.specs.Created.{seen_next, seen_after, is_complete};
 ghost use Rattle.ada_program.specs.Form.{StmtsForm, stmt_form, stmts_form, branches_form, handlers_form};
-ghost use Rattle.ada_program.specs.ProgramForm.{program_form};
+ghost use Rattle.ada_program.specs.ProgramForm.{body_form};
 ghost use Rattle.ada_program.specs.Kept as kept;
 ghost use Rattle.ada_program.specs.WellFormed as fits;
 ghost use Rattle.ada_program.specs.WellFormed.{of_collection, of_variable};
 
-use crate::program::{Branch, Declaration, Handler, Program, Stmt, TypeDefinition};
+use crate::program::{
+    Branch, Declaration, Handler, Procedure, Program, Stmt, TypeDefinition, Variable,
+};
 
 /// What has been seen of the creations so far.
 #[derive(Clone, Copy, Debug, PartialEq, Eq)]
@@ -90,22 +92,60 @@ impl Seen {
     }
 }
 
-/// Whether the program creates each variable once, in the order of the text (3.11).
-#[tactic(auto, using(std::proofs::lemmas::Grind::common_steps, crate::proofs::InOrder::tells))]
+/// Whether the main procedure creates each variable once, in the order of the text (3.11).
 pub(crate) fn creates_in_order(program: &Program) -> bool
     ensures { result ≡ fits.creates_from (length program.now.variables.items) 0 (kept.creations program.now) }
 {
+    creates_from(
+        0,
+        &program.variables,
+        &program.declarations,
+        &program.statements,
+        &program.handlers,
+    )
+}
+
+/// Whether a procedure creates each variable behind its formal parameters once, in the order of the
+/// text (3.11).
+pub(crate) fn creates_locals(procedure: &Procedure) -> bool
+    ensures { let body = body_form procedure.now in
+        result ≡ fits.creates_from (length body.variables) body.formals (fits.created_in body) }
+{
+    creates_from(
+        procedure.formals,
+        &procedure.variables,
+        &procedure.declarations,
+        &procedure.statements,
+        &procedure.handlers,
+    )
+}
+
+/// Whether a body creates each of its variables from the first of these on once, in the order of the
+/// text (3.11).
+#[tactic(auto, using(std::proofs::lemmas::Grind::common_steps, crate::proofs::InOrder::tells))]
+fn creates_from(
+    first: usize,
+    variables: &[Variable],
+    declarations: &[Declaration],
+    statements: &[Stmt],
+    handlers: &[Handler],
+) -> bool
+    ensures { let by_statements = fits.created_by_all (stmts_form statements.now) in
+        let by_handlers = fits.created_by_handlers (handlers_form handlers.now) in
+        let creations = kept.created declarations.now ++ by_statements ++ by_handlers in
+        result ≡ fits.creates_from (length variables.now) first creations }
+{
     let seen = Seen::Variables {
-        next: 0,
-        count: program.variables.len(),
+        next: first,
+        count: variables.len(),
     };
-    is_complete_after(seen, program)
+    is_all_seen(after_body(seen, declarations, statements, handlers))
 }
 
 /// Whether the program creates one collection for each access type (7.6.1).
 #[tactic(auto, using(std::proofs::lemmas::Grind::common_steps, crate::proofs::InOrder::tells))]
 pub(crate) fn has_collections(program: &Program) -> bool
-    ensures { result ≡ kept.has_collections (kept.creations program.now) program.now.types.items }
+    ensures { result ≡ kept.has_collections (kept.all_creations program.now) program.now.types.items }
 {
     let types = &program.types;
     for (access, definition) in types.iter().enumerate() {
@@ -123,20 +163,20 @@ pub(crate) fn has_collections(program: &Program) -> bool
 /// Whether the program creates one collection for this access type.
 #[tactic(auto, using(std::proofs::lemmas::Grind::common_steps, crate::proofs::InOrder::tells))]
 fn has_collection(access: usize, program: &Program) -> bool
-    ensures { result ≡ (count_by (fits.is_collection access) (kept.creations program.now) == 1) }
+    ensures { result ≡ (count_by (fits.is_collection access) (kept.all_creations program.now) == 1) }
 {
     let seen = Seen::Collection {
         access,
         created: false,
     };
-    is_complete_after(seen, program)
+    is_all_seen(after_program(seen, program))
 }
 
-/// Whether what is wanted has been created at the end of the program.
-fn is_complete_after(seen: Seen, program: &Program) -> bool
-    ensures { result ≡ is_complete (seen_after (Some seen) (kept.creations program.now)) }
+/// Whether what is wanted has been created at the end, and nothing was wrong before.
+fn is_all_seen(seen: Option<Seen>) -> bool
+    ensures { result ≡ is_complete seen }
 {
-    match after_program(seen, program) {
+    match seen {
         None => false,
         Some(seen) => seen.is_complete(),
     }
@@ -145,11 +185,50 @@ fn is_complete_after(seen: Seen, program: &Program) -> bool
 /// What is seen after all that a program creates.
 #[tactic(auto, using(std::proofs::lemmas::Grind::common_steps, crate::proofs::InOrder::steps))]
 fn after_program(seen: Seen, program: &Program) -> Option<Seen>
-    ensures { result ≡ seen_after (Some seen) (kept.creations program.now) }
+    ensures { result ≡ seen_after (Some seen) (kept.all_creations program.now) }
 {
-    let seen = after_declarations(seen, &program.declarations)?;
-    let seen = after_statements(seen, &program.statements)?;
-    after_handlers(seen, &program.handlers)
+    let seen = after_procedures(seen, &program.procedures)?;
+    after_body(
+        seen,
+        &program.declarations,
+        &program.statements,
+        &program.handlers,
+    )
+}
+
+/// What is seen after all that procedures create.
+#[tactic(auto, using(std::proofs::lemmas::Grind::common_steps, crate::proofs::InOrder::steps))]
+fn after_procedures(seen: Seen, procedures: &[Procedure]) -> Option<Seen>
+    ensures { result ≡ seen_after (Some seen) (fits.created_in_all (map body_form procedures.now)) }
+{
+    let mut seen = seen;
+    'procedures: for procedure in procedures {
+        seen = after_body(
+            seen,
+            &procedure.declarations,
+            &procedure.statements,
+            &procedure.handlers,
+        )?;
+    }
+    Some(seen)
+}
+
+/// What is seen after all that a body creates.
+#[tactic(auto, using(std::proofs::lemmas::Grind::common_steps, crate::proofs::InOrder::steps))]
+fn after_body(
+    seen: Seen,
+    declarations: &[Declaration],
+    statements: &[Stmt],
+    handlers: &[Handler],
+) -> Option<Seen>
+    ensures { let by_statements = fits.created_by_all (stmts_form statements.now) in
+        let by_handlers = fits.created_by_handlers (handlers_form handlers.now) in
+        let creations = kept.created declarations.now ++ by_statements ++ by_handlers in
+        result ≡ seen_after (Some seen) creations }
+{
+    let seen = after_declarations(seen, declarations)?;
+    let seen = after_statements(seen, statements)?;
+    after_handlers(seen, handlers)
 }
 
 /// What is seen after what declarations create.
@@ -192,6 +271,7 @@ fn after_statement(seen: Seen, statement: &Stmt) -> Option<Seen>
         | Stmt::PutImage(_)
         | Stmt::PutText(_)
         | Stmt::Exit { .. }
+        | Stmt::Call { .. }
         | Stmt::Return(_)
         | Stmt::Raise(_) => Some(seen),
         Stmt::If {

@@ -3,7 +3,7 @@
 ghost use Rattle.std.specs.Prelude.{◌≡◌};
 ghost use Rattle.std.specs.List.{list_all};
 ghost use Rattle.ada_program.specs.ProgramForm.{type_form, variable_form};
-ghost use Rattle.ada_program.specs.Kept.{types_in};
+ghost use Rattle.ada_program.specs.Kept.{types_in, variables_in};
 ghost use Rattle.ada_program.specs.WellFormed as fits;
 
 use crate::lookup::{is_access, is_object_type, is_record};
@@ -54,12 +54,14 @@ fn kind_fits(types: &[TypeDefinition], kind: ComponentKind) -> bool
 
 /// Whether each variable fits.
 pub(crate) fn variables_fit(types: &[TypeDefinition], variables: &[Variable]) -> bool
-    ensures { result
-        ≡ list_all (λ x. fits.variable_fits (types_in types.now) (variable_form x)) variables.now }
+    ensures { result ≡ list_all (fits.variable_fits (types_in types.now)) (variables_in variables.now) }
 {
-    variables
-        .iter()
-        .all(|variable| variable_fits(types, variable))
+    'variables: for variable in variables {
+        if !variable_fits(types, variable) {
+            return false;
+        }
+    }
+    true
 }
 
 /// Whether a variable's kind fits, and only what holds access values borrows.

@@ -5,16 +5,20 @@
 //! well-formed program is.
 #![tactic(auto)]
 
+mod bodies;
 pub mod borrowers;
+mod calls;
 mod creations;
+mod declarations;
 mod kinds;
 pub mod lookup;
 pub mod program;
+mod queries;
 mod records;
 mod targets;
 mod typing;
 mod values;
 mod well_formed;
 
-pub use crate::program::{Path, Program, Stmt, TypeNo, VariableNo};
+pub use crate::program::{Path, ProcedureNo, Program, Stmt, TypeNo, VariableNo};
 pub use ada_text::Spot;

@@ -7,7 +7,7 @@ use ada_values::operator::{BinaryOperator, UnaryOperator};
 #[derive(Clone, Copy, Debug, PartialEq, Eq)]
 pub struct TypeNo(pub usize);
 
-/// The number of a variable in `Program::variables`.
+/// The number of a variable in its body: `Program::variables`, or `Procedure::variables`.
 #[derive(Clone, Copy, Debug, PartialEq, Eq)]
 pub struct VariableNo(pub usize);
 
@@ -19,19 +19,39 @@ pub struct TextNo(pub usize);
 #[derive(Clone, Copy, Debug, PartialEq, Eq)]
 pub struct ExceptionNo(pub usize);
 
+/// The number of a procedure in `Program::procedures`.
+#[derive(Clone, Copy, Debug, PartialEq, Eq)]
+pub struct ProcedureNo(pub usize);
+
 /// The number of an elementary component in its record type, from 0: components that are records count by their own.
 #[derive(Clone, Copy, Debug, PartialEq, Eq)]
 pub struct ComponentNo(pub usize);
 
-/// A whole program: its types, its variables, and what it does.
+/// A whole program: its types, its procedures, the variables of its main procedure, and what that does.
 #[derive(Drop)]
 pub struct Program {
     pub types: Vec<TypeDefinition>,
+    /// The procedures that it declares, in the order in which their bodies end in the text: each stands behind those that
+    /// it may call.
+    pub procedures: Vec<Procedure>,
     pub variables: Vec<Variable>,
     /// The string literals that it writes, in the order of the text (2.6).
     pub texts: Vec<String>,
     /// The names of the exceptions that it declares, in upper case, in the order of the text (11.1).
     pub exceptions: Vec<String>,
+    /// What is elaborated before the statements, in order (3.11).
+    pub declarations: Vec<Declaration>,
+    pub statements: Vec<Stmt>,
+    /// What handles the exceptions that the statements raise (11.2).
+    pub handlers: Vec<Handler>,
+}
+
+/// A procedure that the program declares (6.1, 6.3): its variables, and what its body does.
+#[derive(Drop)]
+pub struct Procedure {
+    /// How many of its variables are formal parameters: the first ones. They are of mode `in`, Integers and Booleans.
+    pub formals: usize,
+    pub variables: Vec<Variable>,
     /// What is elaborated before the statements, in order (3.11).
     pub declarations: Vec<Declaration>,
     pub statements: Vec<Stmt>,
@@ -206,6 +226,11 @@ pub enum Stmt {
         condition: Option<Expression>,
         spot: Spot,
     },
+    /// A call of a procedure, with the values of its formal parameters, in order (6.4).
+    Call {
+        procedure: ProcedureNo,
+        actuals: Vec<Expression>,
+    },
     /// `return` (6.5).
     Return(Spot),
     /// `raise` (11.3).
@@ -317,89 +342,4 @@ pub struct RecordPath {
     pub first: ComponentNo,
     /// Its record type.
     pub record: TypeNo,
-}
-
-impl Program {
-    ghost use Rattle.std.specs.Prelude.{◌≡◌, option_copied, option_map};
-    ghost use Rattle.ada_program.specs.Typed.{designated_of, reached_of, width_of, words_of};
-
-    /// The elementary components of the objects that the type's values name, in order.
-    /// None, if the type is neither an access type to a record type nor that of a record object.
-    pub fn components(&self, access: TypeNo) -> Option<&[ComponentKind]>
-        ensures { option_copied result ≡ reached_of self.now.types.items access.0 }
-    {
-        match self.types.get(self.record_of(access)?.0) {
-            Some(
-                TypeDefinition::Record {
-                    name: _,
-                    parts: _,
-                    components,
-                },
-            ) => Some(components),
-            _ => None,
-        }
-    }
-
-    /// The record type of the objects that the type's values name.
-    fn record_of(&self, access: TypeNo) -> Option<TypeNo>
-        ensures { option_map (λ t. t.0) result ≡ designated_of self.now.types.items access.0 }
-    {
-        match self.types.get(access.0)? {
-            TypeDefinition::Access {
-                name: _,
-                designated,
-            } => Some(*designated),
-            TypeDefinition::Object { record } => Some(*record),
-            TypeDefinition::Record { .. } => None,
-        }
-    }
-
-    /// How many elementary components a record type has: 0, if the type is none.
-    pub fn width(&self, number: TypeNo) -> usize
-        ensures { result ≡ width_of self.now.types.items number.0 }
-    {
-        match self.types.get(number.0) {
-            Some(
-                TypeDefinition::Record {
-                    name: _,
-                    parts: _,
-                    components,
-                },
-            ) => components.len(),
-            _ => 0,
-        }
-    }
-
-    /// How many words an object takes that the access type's values name: one for each of its components.
-    /// 0, if the type is no access type.
-    pub fn words(&self, access: TypeNo) -> usize
-        ensures { result ≡ words_of self.now.types.items access.0 }
-    {
-        match self.components(access) {
-            Some(components) => components.len(),
-            None => 0,
-        }
-    }
-}
-
-impl Exception {
-    ghost use Rattle.std.specs.Prelude.{◌≡◌, map};
-    ghost use Rattle.std.specs.String.{string_bytes};
-    ghost use Rattle.ada_program.specs.Names.{exception_name};
-
-    /// Its name in upper case (11.4.1): the empty text, if the program declares no such exception.
-    pub fn name<'a>(self, program: &'a Program) -> &'a str
-        ensures { result.now ≡ exception_name (map string_bytes program.now.exceptions.items) self }
-    {
-        match self {
-            Exception::ConstraintError => "CONSTRAINT_ERROR",
-            Exception::ProgramError => "PROGRAM_ERROR",
-            Exception::StorageError => "STORAGE_ERROR",
-            Exception::EndError => "END_ERROR",
-            Exception::Declared(exception) => match program.exceptions.get(exception.0) {
-                None => "",
-                Some(name) => name,
-            },
-        }
-    }
 }

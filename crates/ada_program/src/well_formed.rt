@@ -1,28 +1,28 @@
 //! Whether a program is well formed: each number is that of something there, and each form has the types that it wants.
 
-ghost use Rattle.std.specs.Prelude.{◌≡◌, ◌&&◌, true, map};
+ghost use Rattle.std.specs.Prelude.{◌≡◌, ◌&&◌, true};
 ghost use Rattle.std.specs.List.{list_all};
-ghost use Rattle.ada_program.specs.Form.{StmtsForm, declaration_form, stmts_form};
+ghost use Rattle.ada_program.specs.Form.{StmtsForm, stmts_form};
 ghost use Rattle.ada_program.specs.ProgramForm.{program_form};
 ghost use Rattle.ada_program.specs.Kept as kept;
 ghost use Rattle.ada_program.specs.Kept.{texts_in};
 ghost use Rattle.ada_program.specs.WellFormed as fits;
 
-use crate::borrowers::{is_borrower, lends_to, names_borrower};
-use crate::creations::{creates_in_order, has_collections};
-use crate::kinds::{types_fit, variables_fit};
-use crate::lookup::{
-    is_access, path_access, path_kind, reached_components, record_components, scalar_of,
-    variable_kind,
-};
+use crate::bodies::{bodies_fit, main_fits};
+use crate::borrowers::{lends_to, names_borrower};
+use crate::calls::call_fits;
+use crate::creations::has_collections;
+use crate::declarations::declarations_fit;
+use crate::kinds::types_fit;
+use crate::lookup::{path_access, path_kind, record_components, scalar_of, variable_kind};
 use crate::program::{
-    Branch, Choice, Declaration, Exception, Expression, Handler, Program, ScalarType, Stmt,
-    TypeDefinition, TypeNo, Variable, VariableKind,
+    Branch, Choice, Exception, Expression, Handler, Procedure, Program, ScalarType, Stmt,
+    TypeDefinition, Variable,
 };
 use crate::records::{is_record_path, record_fits};
 use crate::targets::{is_freed_by, is_integer_target};
 use crate::typing::{has_type, is_type};
-use crate::values::{items_before, names_before, right_fits};
+use crate::values::right_fits;
 
 impl Program {
     /// Whether the program is well formed; the resolver gives no other.
@@ -31,156 +31,46 @@ impl Program {
         ensures is { result ≡ true → fits.IsWellFormed (program_form self.now) }
         ensures answers { fits.IsWellFormed (program_form self.now) → result ≡ true }
     {
-        let types = &self.types;
-        let variables = &self.variables;
-        let texts = &self.texts;
-        let exceptions = &self.exceptions;
-        types_fit(types)
-            && variables_fit(types, variables)
-            && creates_in_order(self)
+        types_fit(&self.types)
             && has_collections(self)
-            && declarations_fit(types, variables, &self.declarations)
-            && statements_fit(types, variables, texts, exceptions, false, &self.statements)
-            && handlers_fit(types, variables, texts, exceptions, false, &self.handlers)
+            && main_fits(self)
+            && bodies_fit(&self.types, &self.texts, &self.exceptions, &self.procedures)
     }
 }
 
-/// Whether a part creates its collections first, each of an access type, and its variables with values that fit (3.11).
-#[tactic(auto, using(std::proofs::lemmas::Grind::common_steps, crate::proofs::Viewed::views))]
-fn declarations_fit(
-    types: &[TypeDefinition],
-    variables: &[Variable],
-    declarations: &[Declaration],
-) -> bool
-    ensures { result ≡ kept.declarations_fit types.now variables.now declarations.now }
-{
-    collections_first(declarations)
-        && collections_fit(types, declarations)
-        && initials_fit(types, variables, declarations)
-}
-
-/// Whether collections are created before the first variable (3.11).
-fn collections_first(declarations: &[Declaration]) -> bool
-    ensures { result ≡ kept.collections_first declarations.now }
-{
-    let mut in_front = true;
-    for declaration in declarations {
-        match declaration {
-            Declaration::Collection(_) => {
-                if !in_front {
-                    return false;
-                }
-            }
-            Declaration::Variable { .. } | Declaration::Record { .. } => in_front = false,
-        }
-    }
-    true
-}
-
-/// Whether each collection is that of an access type (7.6.1).
-fn collections_fit(types: &[TypeDefinition], declarations: &[Declaration]) -> bool
-    ensures { result ≡ list_all (kept.collection_fits types.now) declarations.now }
-{
-    declarations
-        .iter()
-        .all(|declaration| collection_fits(types, declaration))
-}
-
-/// Whether what is created, if it is a collection, is that of an access type.
-fn collection_fits(types: &[TypeDefinition], declaration: &Declaration) -> bool
-    ensures { result ≡ kept.collection_fits types.now declaration.now }
-{
-    match declaration {
-        Declaration::Collection(access) => is_access(types, access.0),
-        Declaration::Variable { .. } | Declaration::Record { .. } => true,
-    }
-}
-
-/// Whether each initial value names earlier variables, and has the variable's type (3.3.1).
-fn initials_fit(
-    types: &[TypeDefinition],
-    variables: &[Variable],
-    declarations: &[Declaration],
-) -> bool
-    ensures { result ≡ list_all (kept.initial_fits types.now variables.now) declarations.now }
-{
-    declarations
-        .iter()
-        .all(|declaration| initial_fits(types, variables, declaration))
-}
-
-/// Whether an initial value, where one is written, names earlier variables and has the variable's type.
-#[tactic(auto, using(std::proofs::lemmas::Grind::common_steps, crate::proofs::Viewed::views))]
-fn initial_fits(types: &[TypeDefinition], variables: &[Variable], declaration: &Declaration) -> bool
-    ensures { result ≡ kept.initial_fits types.now variables.now declaration.now }
-{
-    match declaration {
-        Declaration::Collection(_) => true,
-        Declaration::Variable {
-            variable,
-            initial: None,
-        } => matches!(
-            variable_kind(variables, variable.0),
-            Some(VariableKind::Access(_))
-        ),
-        Declaration::Variable {
-            variable,
-            initial: Some(value),
-        } => names_before(variable.0, value)
-            && right_fits(
-                types,
-                variables,
-                variable_kind(variables, variable.0),
-                value,
-            )
-            && lends_to(variables, is_borrower(variables, variable.0), value),
-        Declaration::Record {
-            variable,
-            object,
-            initial: None,
-        } => is_record_object(*object, variable_kind(variables, variable.0)),
-        Declaration::Record {
-            variable,
-            object,
-            initial: Some(items),
-        } => is_record_object(*object, variable_kind(variables, variable.0))
-            && items_before(variable.0, items)
-            && record_fits(types, variables, reached_components(types, object.0), items),
-    }
-}
-
-/// Whether a variable is the record object that is known by this type.
-fn is_record_object(object: TypeNo, kind: Option<VariableKind>) -> bool
-    ensures { result ≡ fits.is_record_object object.0 kind }
-{
-    match kind {
-        Some(VariableKind::Record(own)) => own.0 == object.0,
-        _ => false,
-    }
-}
-
-/// Whether each statement names variables and texts, and has the types that it wants.
+/// Whether each statement names variables and texts, has the types that it wants, and calls
+/// procedures that may be called.
 #[cycle(fitting)]
-fn statements_fit(
+pub(crate) fn statements_fit(
     types: &[TypeDefinition],
     variables: &[Variable],
     texts: &[String],
     exceptions: &[String],
+    callable: &[Procedure],
     inside_loop: bool,
     statements: &[Stmt],
 ) -> bool
     ensures { result
-        ≡ kept.stmts_fit types.now variables.now texts.now exceptions.now inside_loop statements.now }
+        ≡ kept.stmts_fit types.now variables.now texts.now exceptions.now callable.now inside_loop statements.now }
 {
     'statements: for statement in statements {
-        if !statement_fits(types, variables, texts, exceptions, inside_loop, statement) {
+        if !statement_fits(
+            types,
+            variables,
+            texts,
+            exceptions,
+            callable,
+            inside_loop,
+            statement,
+        ) {
             return false;
         }
     }
     true
 }
 
-/// Whether a statement names variables and texts, and has the types that it wants.
+/// Whether a statement names variables and texts, has the types that it wants, and calls a procedure
+/// that may be called.
 #[cycle(fitting)]
 #[tactic(auto, using(std::proofs::lemmas::Grind::common_steps, crate::proofs::Viewed::views, crate::specs::Form::statement_rules))]
 fn statement_fits(
@@ -188,11 +78,12 @@ fn statement_fits(
     variables: &[Variable],
     texts: &[String],
     exceptions: &[String],
+    callable: &[Procedure],
     inside_loop: bool,
     statement: &Stmt,
 ) -> bool
     ensures { result
-        ≡ kept.statement_fits types.now variables.now texts.now exceptions.now inside_loop statement.now }
+        ≡ kept.statement_fits types.now variables.now texts.now exceptions.now callable.now inside_loop statement.now }
 {
     match statement {
         Stmt::Null | Stmt::Return(_) => true,
@@ -220,15 +111,32 @@ fn statement_fits(
         Stmt::If {
             branches,
             otherwise,
-        } => branches_fit(types, variables, texts, exceptions, inside_loop, branches)
-            && statements_fit(types, variables, texts, exceptions, inside_loop, otherwise),
+        } => branches_fit(
+            types,
+            variables,
+            texts,
+            exceptions,
+            callable,
+            inside_loop,
+            branches,
+        ) && statements_fit(
+            types,
+            variables,
+            texts,
+            exceptions,
+            callable,
+            inside_loop,
+            otherwise,
+        ),
         Stmt::Loop {
             condition,
             statements,
             end: _,
         } => condition_fits(types, variables, condition)
             && has_statement(statements)
-            && statements_fit(types, variables, texts, exceptions, true, statements),
+            && statements_fit(
+                types, variables, texts, exceptions, callable, true, statements,
+            ),
         Stmt::For {
             parameter,
             first,
@@ -241,17 +149,42 @@ fn statement_fits(
         ) && has_type(types, variables, ScalarType::Integer, first)
             && has_type(types, variables, ScalarType::Integer, last)
             && has_statement(statements)
-            && statements_fit(types, variables, texts, exceptions, true, statements),
+            && statements_fit(
+                types, variables, texts, exceptions, callable, true, statements,
+            ),
         Stmt::Exit { condition, spot: _ } => inside_loop
             && condition_fits(types, variables, condition),
+        Stmt::Call { procedure, actuals } => call_fits(
+            types,
+            variables,
+            callable,
+            procedure.0,
+            actuals,
+        ),
         Stmt::Raise(exception) => exception_fits(exceptions, *exception),
         Stmt::Block {
             declarations,
             statements,
             handlers,
         } => declarations_fit(types, variables, declarations)
-            && statements_fit(types, variables, texts, exceptions, inside_loop, statements)
-            && handlers_fit(types, variables, texts, exceptions, inside_loop, handlers),
+            && statements_fit(
+                types,
+                variables,
+                texts,
+                exceptions,
+                callable,
+                inside_loop,
+                statements,
+            )
+            && handlers_fit(
+                types,
+                variables,
+                texts,
+                exceptions,
+                callable,
+                inside_loop,
+                handlers,
+            ),
     }
 }
 
@@ -262,12 +195,13 @@ fn branches_fit(
     variables: &[Variable],
     texts: &[String],
     exceptions: &[String],
+    callable: &[Procedure],
     inside_loop: bool,
     branches: &[Branch],
 ) -> bool
     ensures { (others : StmtsForm)
-        → kept.branches_fit types.now variables.now texts.now exceptions.now inside_loop branches.now others
-        ≡ (result && kept.forms_fit types.now variables.now texts.now exceptions.now inside_loop others) }
+        → kept.branches_fit types.now variables.now texts.now exceptions.now callable.now inside_loop branches.now others
+        ≡ (result && kept.forms_fit types.now variables.now texts.now exceptions.now callable.now inside_loop others) }
 {
     'branches: for branch in branches {
         if !has_type(types, variables, ScalarType::Boolean, &branch.condition) {
@@ -278,6 +212,7 @@ fn branches_fit(
             variables,
             texts,
             exceptions,
+            callable,
             inside_loop,
             &branch.statements,
         ) {
@@ -290,16 +225,17 @@ fn branches_fit(
 /// Whether each handler is of exceptions of the program, and has statements that fit (11.2).
 #[cycle(fitting)]
 #[tactic(auto, using(std::proofs::lemmas::Grind::common_steps))]
-fn handlers_fit(
+pub(crate) fn handlers_fit(
     types: &[TypeDefinition],
     variables: &[Variable],
     texts: &[String],
     exceptions: &[String],
+    callable: &[Procedure],
     inside_loop: bool,
     handlers: &[Handler],
 ) -> bool
     ensures { result
-        ≡ kept.handlers_fit types.now variables.now texts.now exceptions.now inside_loop handlers.now }
+        ≡ kept.handlers_fit types.now variables.now texts.now exceptions.now callable.now inside_loop handlers.now }
 {
     'handlers: for handler in handlers {
         if !(choices_fit(exceptions, &handler.choices) && has_statement(&handler.statements)) {
@@ -310,6 +246,7 @@ fn handlers_fit(
             variables,
             texts,
             exceptions,
+            callable,
             inside_loop,
             &handler.statements,
         ) {

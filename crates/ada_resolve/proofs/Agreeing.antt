@@ -7,18 +7,18 @@ use Rattle.ada_tree.specs.Names.{Ident}
 use Rattle.ada_program.specs.declared.program.Exception.TheVariants as exception
 use Rattle.ada_program.specs.declared.program.VariableKind.TheVariants as variable
 use Rattle.ada_program.specs.declared.program.VariableNo.{VariableNo}
-use Rattle.ada_program.specs.ProgramForm.{TypeForm, VariableForm}
+use Rattle.ada_program.specs.ProgramForm.{TypeForm, VariableForm, BodyForm}
+use Rattle.ada_program.specs.declared.program.VariableKind.{VariableKind}
 use Rattle.ada_resolve.specs.declared.fault.NameRule.TheVariants.{DeclaredTwice}
 use Rattle.ada_resolve.specs.declared.library.Withs.{Withs}
 use Rattle.ada_resolve.specs.declared.scope.Entity.{Entity}
 use Rattle.ada_resolve.specs.declared.scope.Entity.TheVariants as entity
-use Rattle.ada_resolve.specs.Known.{Known, Named, Part, named, entered, first_named, named_in, inner_first, outermost, unit_named, visible, parts, with_part}
+use Rattle.ada_resolve.specs.Known.{Known, Named, Part, named, entered, first_named, from_part, named_in, inner_first, outermost, unit_named, visible, parts, with_part, next_variable}
 use Rattle.ada_resolve.specs.Library.{predefined, is_library_root, is_taken}
-use Rattle.ada_resolve.specs.Objects.{next_variable}
 use Rattle.ada_resolve.specs.Remark.{wrong_if}
 use Rattle.ada_resolve.specs.Resolution.{with_parameter}
-use Rattle.ada_resolve.specs.Naming.{Context, Place, Binding, Meaning, an_incomplete_type, a_type, a_number, an_exception, an_instance, a_variable, a_parameter, meaning_among, meaning_at, IsBound, truth_name, IsPredefined, the_integers, the_booleans, a_truth_value, the_constraint_error, the_program_error, the_storage_error, under_ada, under_system, the_pools, the_input}
-use Rattle.ada_resolve.specs.Reading.{inside, behind, with_loop_parameter}
+use Rattle.ada_resolve.specs.Naming.{Context, Place, Binding, Meaning, an_incomplete_type, a_type, a_number, an_exception, an_instance, a_variable, a_parameter, a_procedure, a_procedure_around, an_outer_object, meaning_among, meaning_at, IsBound, truth_name, IsPredefined, the_integers, the_booleans, a_truth_value, the_constraint_error, the_program_error, the_storage_error, under_ada, under_system, the_pools, the_input}
+use Rattle.ada_resolve.specs.Reading.{inside, behind, with_new_constant}
 use Rattle.ada_resolve.proofs.WellFormed.Names.{PartsFit, first_of_two, named_entered, text_same, unit_only}
 use Rattle.ada_resolve.proofs.WellFormed.Remarks.{Quiet, quiet_if}
 
@@ -31,7 +31,10 @@ bound_to (entity.Number n) = Some (a_number n)
 bound_to (entity.Exception (exception.Declared n)) = Some (an_exception n.0)
 bound_to (entity.Instance t) = Some (an_instance t.0)
 bound_to (entity.Variable x kind) = Some (a_variable x.0)
-bound_to (entity.Parameter x) = Some (a_parameter x.0)
+bound_to (entity.Parameter x kind) = Some (a_parameter x.0)
+bound_to (entity.Callable n) = Some (a_procedure n.0)
+bound_to entity.Procedure = Some a_procedure_around
+bound_to (entity.Outer kind role) = Some an_outer_object
 bound_to e = None
 
 -- a name is bound to what it stands for
@@ -42,9 +45,10 @@ Stands (Some e) m = (meaning : Meaning) × (bound_to e ≡ Some meaning) × (m �
 -- what is known, and what is bound
 pub record Agrees (k : Known) (place : Place) : Type 0 where
   pub here : (text : List ℕ) → Stands (named text k.here.names) (meaning_among text place.here)
-  pub outer : (text : List ℕ) → Stands (named_in text k.outer) (meaning_among text place.outer)
+  pub outer : (text : List ℕ) → Stands (from_part k.here.around (named_in text k.outer)) (meaning_among text place.outer)
   pub first_type : place.first_type ≡ k.here.first_type
   pub types : place.types ≡ length k.types
+  pub bodies : place.bodies ≡ length k.bodies
   pub variables : place.variables ≡ length k.variables
   pub exceptions : place.exceptions ≡ length k.exceptions
   pub texts : place.texts ≡ length k.texts
@@ -55,6 +59,7 @@ pub record Ahead (k : Known) (p : Context) : Type 0 where
   pub variables : (x : ℕ) (v : VariableForm) → slice_get k.variables x ≡ Some v → slice_get p.variables x ≡ Some v
   pub exceptions : (e : ℕ) (text : List ℕ) → slice_get k.exceptions e ≡ Some text → slice_get p.exceptions e ≡ Some text
   pub texts : (n : ℕ) (text : List ℕ) → slice_get k.texts n ≡ Some text → slice_get p.texts n ≡ Some text
+  pub bodies : (n : ℕ) (b : BodyForm) → slice_get k.bodies n ≡ Some b → slice_get p.bodies n ≡ Some b
 
 -- what names are read by behind the types of a part
 pub record Readable (k : Known) (p : Context) : Type 0 where
@@ -81,10 +86,10 @@ stands_first : (own outer : Option Entity) (m n : Option Meaning) → Stands own
 stands_first None outer m n s t = subst (λ (o : Option Meaning). Stands outer (first_bound o n)) (sym s) t
 stands_first (Some e) outer m n s t = (s.0, s.1, ap (λ (o : Option Meaning). first_bound o n) s.2)
 
-stands_among : (k : Known) (place : Place) → Agrees k place → (text : List ℕ) → Stands (named_in text (parts k)) (meaning_among text (place.here ++ place.outer))
+pub stands_among : (k : Known) (place : Place) → Agrees k place → (text : List ℕ) → Stands (named_in text (parts k)) (meaning_among text (place.here ++ place.outer))
 stands_among k place w text =
     subst (λ (m : Option Meaning). Stands (named_in text (parts k)) m) (sym (among_both text place.here place.outer))
-    (stands_first (named text k.here.names) (named_in text k.outer) (meaning_among text place.here) (meaning_among text place.outer) (w.here text) (w.outer text))
+    (stands_first (named text k.here.names) (from_part k.here.around (named_in text k.outer)) (meaning_among text place.here) (meaning_among text place.outer) (w.here text) (w.outer text))
 
 -- what is read of a name that stands for something
 abbrev pub EntityRead : Context → List ℕ → Entity → Type 0
@@ -104,7 +109,9 @@ EntityRead p text (entity.Record t size) = IsBound p text (a_type t.0)
 EntityRead p text (entity.Access t) = IsBound p text (a_type t.0)
 EntityRead p text (entity.Instance t) = IsBound p text (an_instance t.0)
 EntityRead p text (entity.Variable x kind) = IsBound p text (a_variable x.0)
-EntityRead p text (entity.Parameter x) = IsBound p text (a_parameter x.0)
+EntityRead p text (entity.Parameter x kind) = IsBound p text (a_parameter x.0)
+EntityRead p text (entity.Callable n) = IsBound p text (a_procedure n.0)
+EntityRead p text (entity.Outer kind role) = Unit {0}
 
 -- what is predefined has its own name
 standard_read : (p : Context) (text : List ℕ) (x : Entity) (a b c d f g h : Bool) → (a ≡ true → text ≡ codes "INTEGER") → (b ≡ true → text ≡ codes "BOOLEAN") → (c ≡ true → text ≡ codes "TRUE") → (d ≡ true → text ≡ codes "FALSE") → (f ≡ true → text ≡ codes "CONSTRAINT_ERROR") → (g ≡ true → text ≡ codes "PROGRAM_ERROR") → (h ≡ true → text ≡ codes "STORAGE_ERROR") → cond a (Some entity.Integer) (cond b (Some entity.Boolean) (cond c (Some (entity.Truth true)) (cond d (Some (entity.Truth false)) (cond f (Some (entity.Exception exception.ConstraintError)) (cond g (Some (entity.Exception exception.ProgramError)) (cond h (Some (entity.Exception exception.StorageError)) None)))))) ≡ Some x → EntityRead p text x
@@ -160,11 +167,13 @@ declared_read p text (entity.Exception exception.StorageError) m same is = absur
 declared_read p text (entity.Exception exception.EndError) m same is = absurd (cc same)
 declared_read p text (entity.Instance t) m same is = bound_so p text (an_instance t.0) m same is
 declared_read p text (entity.Variable x kind) m same is = bound_so p text (a_variable x.0) m same is
-declared_read p text (entity.Parameter x) m same is = bound_so p text (a_parameter x.0) m same is
+declared_read p text (entity.Parameter x kind) m same is = bound_so p text (a_parameter x.0) m same is
+declared_read p text (entity.Callable n) m same is = bound_so p text (a_procedure n.0) m same is
+declared_read p text (entity.Outer kind role) m same is = tt
 declared_read p text entity.Integer m same is = absurd (cc same)
 declared_read p text entity.Boolean m same is = absurd (cc same)
 declared_read p text (entity.Truth b) m same is = absurd (cc same)
-declared_read p text entity.Procedure m same is = absurd (cc same)
+declared_read p text entity.Procedure m same is = tt
 declared_read p text entity.LibraryUnit m same is = absurd (cc same)
 
 stands_read : (p : Context) (text : List ℕ) (e : Entity) → Stands (Some e) (meaning_at p.place text) → EntityRead p text e
@@ -182,8 +191,10 @@ unfolding visible
 visible_read k p w text x e = inner_read p k.withs text x (named_in text (parts k)) (bytes_eq text k.procedure) (stands_among k p.place w text) e
 
 -- what is bound to a loop parameter stands for it
-parameter_is : (e : Entity) (x : ℕ) → bound_to e ≡ Some (a_parameter x) → (n : VariableNo) × (e ≡ entity.Parameter n)
-parameter_is (entity.Parameter n) x same = (n, refl)
+parameter_is : (e : Entity) (x : ℕ) → bound_to e ≡ Some (a_parameter x) → (n : VariableNo) × (kind : VariableKind) × (e ≡ entity.Parameter n kind)
+parameter_is (entity.Parameter n kind) x same = (n, kind, refl)
+parameter_is (entity.Callable n) x same = absurd (cc same)
+parameter_is (entity.Outer kind role) x same = absurd (cc same)
 parameter_is (entity.Variable n kind) x same = absurd (cc same)
 parameter_is (entity.Incomplete t) x same = absurd (cc same)
 parameter_is (entity.Record t size) x same = absurd (cc same)
@@ -201,18 +212,18 @@ parameter_is (entity.Truth b) x same = absurd (cc same)
 parameter_is entity.Procedure x same = absurd (cc same)
 parameter_is entity.LibraryUnit x same = absurd (cc same)
 
-parameter_named : (o : Option Entity) (m : Option Meaning) (x : ℕ) → Stands o m → m ≡ Some (a_parameter x) → (n : VariableNo) × (o ≡ Some (entity.Parameter n))
+parameter_named : (o : Option Entity) (m : Option Meaning) (x : ℕ) → Stands o m → m ≡ Some (a_parameter x) → (n : VariableNo) × (kind : VariableKind) × (o ≡ Some (entity.Parameter n kind))
 parameter_named None m x s is = let no : None ≡ Some (a_parameter x) = sym s ∙ is in absurd (cc no)
-parameter_named (Some e) m x s is = let n = parameter_is e x (s.1 ∙ (sym s.2 ∙ is)) in (n.0, ap (λ (v : Entity). Some v) n.1)
+parameter_named (Some e) m x s is = let n = parameter_is e x (s.1 ∙ (sym s.2 ∙ is)) in (n.0, n.1, ap (λ (v : Entity). Some v) n.2)
 
-pub parameter_visible : (k : Known) (p : Context) → Agrees k p.place → (text : List ℕ) (x : ℕ) → IsBound p text (a_parameter x) → (n : VariableNo) × (visible k text ≡ Some (entity.Parameter n))
+pub parameter_visible : (k : Known) (p : Context) → Agrees k p.place → (text : List ℕ) (x : ℕ) → IsBound p text (a_parameter x) → (n : VariableNo) × (kind : VariableKind) × (visible k text ≡ Some (entity.Parameter n kind))
 unfolding visible
 parameter_visible k p w text x is =
     let n = parameter_named (named_in text (parts k)) (meaning_at p.place text) x (stands_among k p.place w text) is in
-    (n.0, ap (λ (o : Option Entity). inner_first o (bytes_eq text k.procedure) (outermost k.withs text)) n.1)
+    (n.0, n.1, ap (λ (o : Option Entity). inner_first o (bytes_eq text k.procedure) (outermost k.withs text)) n.2)
 
 -- one more name
-stands_more : (b : Bool) (e : Entity) (meaning : Meaning) (o : Option Entity) (m : Option Meaning) → bound_to e ≡ Some meaning → Stands o m → Stands (cond b (Some e) o) (cond b (Some meaning) m)
+pub stands_more : (b : Bool) (e : Entity) (meaning : Meaning) (o : Option Entity) (m : Option Meaning) → bound_to e ≡ Some meaning → Stands o m → Stands (cond b (Some e) o) (cond b (Some meaning) m)
 stands_more true e meaning o m own old = (meaning, own, refl)
 stands_more false e meaning o m own old = old
 
@@ -221,11 +232,17 @@ stands_entered ns bs name e meaning own old text =
     subst (λ (o : Option Entity). Stands o (meaning_among text (record { text = name.text; meaning = meaning } ∷ bs))) (sym (named_entered ns name.text text e))
     (stands_more (bytes_eq text name.text) e meaning (named text ns) (meaning_among text bs) own (old text))
 
+outer_same : (k m : Known) (place : Place) → m.here.around ≡ k.here.around → m.outer ≡ k.outer → Agrees k place → (text : List ℕ) → Stands (from_part m.here.around (named_in text m.outer)) (meaning_among text place.outer)
+outer_same k m place around outer w text =
+    subst (λ (a : Option (List VariableForm)). Stands (from_part a (named_in text m.outer)) (meaning_among text place.outer)) (sym around)
+    (subst (λ (ps : List Part). Stands (from_part k.here.around (named_in text ps)) (meaning_among text place.outer)) (sym outer) (w.outer text))
+
 -- what a part elaborates is no name
-pub agrees_same : (k m : Known) (place : Place) → m.here.names ≡ k.here.names → m.here.first_type ≡ k.here.first_type → m.outer ≡ k.outer → length m.types ≡ length k.types → length m.variables ≡ length k.variables → length m.exceptions ≡ length k.exceptions → length m.texts ≡ length k.texts → Agrees k place → Agrees m place
-agrees_same k m place names first outer types variables exceptions texts w = record {
+pub agrees_same : (k m : Known) (place : Place) → m.here.names ≡ k.here.names → m.here.first_type ≡ k.here.first_type → m.here.around ≡ k.here.around → m.outer ≡ k.outer → length m.types ≡ length k.types → length m.bodies ≡ length k.bodies → length m.variables ≡ length k.variables → length m.exceptions ≡ length k.exceptions → length m.texts ≡ length k.texts → Agrees k place → Agrees m place
+agrees_same k m place names first around outer types bodies variables exceptions texts w = record {
   here = λ text. subst (λ (ns : List Named). Stands (named text ns) (meaning_among text place.here)) (sym names) (w.here text);
-  outer = λ text. subst (λ (ps : List Part). Stands (named_in text ps) (meaning_among text place.outer)) (sym outer) (w.outer text);
+  outer = λ text. outer_same k m place around outer w text;
+  bodies = w.bodies ∙ sym bodies;
   first_type = w.first_type ∙ sym first;
   types = w.types ∙ sym types;
   variables = w.variables ∙ sym variables;
@@ -240,28 +257,31 @@ agrees_inside k place w = record {
   outer = stands_among k place w;
   first_type = w.types;
   types = w.types;
+  bodies = w.bodies;
   variables = w.variables;
   exceptions = w.exceptions;
   texts = w.texts;
 }
 
 -- the part of a loop parameter
-pub agrees_parameter : (k : Known) (place : Place) (name : Ident) → Agrees k place → Agrees (with_parameter name k) (with_loop_parameter name (inside place))
+pub agrees_parameter : (k : Known) (place : Place) (name : Ident) → Agrees k place → Agrees (with_parameter name k) (with_new_constant name (inside place))
 agrees_parameter k place name w = record {
-  here = stands_entered [] [] name (entity.Parameter (next_variable k)) (a_parameter place.variables) (ap (λ (n : ℕ). Some (a_parameter n)) (sym w.variables)) (λ text. refl);
+  here = stands_entered [] [] name (entity.Parameter (next_variable k) variable.Integer) (a_parameter place.variables) (ap (λ (n : ℕ). Some (a_parameter n)) (sym w.variables)) (λ text. refl);
   outer = stands_among k place w;
   first_type = w.types;
   types = w.types;
+  bodies = w.bodies;
   variables = ap (λ (n : ℕ). n + 1) w.variables ∙ sym (length-append k.variables (record { name = name.text; spot = name.spot; kind = variable.Integer; borrows = false } ∷ []));
   exceptions = w.exceptions;
   texts = w.texts;
 }
 
 -- an inner part ends
-pub agrees_behind : (k m z : Known) (place end : Place) → z.here.names ≡ k.here.names → z.here.first_type ≡ k.here.first_type → z.outer ≡ k.outer → length z.types ≡ length m.types → length z.variables ≡ length m.variables → length z.exceptions ≡ length m.exceptions → length z.texts ≡ length m.texts → Agrees k place → Agrees m end → Agrees z (behind place end)
-agrees_behind k m z place end names first outer types variables exceptions texts w v = record {
+pub agrees_behind : (k m z : Known) (place end : Place) → z.here.names ≡ k.here.names → z.here.first_type ≡ k.here.first_type → z.here.around ≡ k.here.around → z.outer ≡ k.outer → length z.types ≡ length m.types → length z.bodies ≡ length m.bodies → length z.variables ≡ length m.variables → length z.exceptions ≡ length m.exceptions → length z.texts ≡ length m.texts → Agrees k place → Agrees m end → Agrees z (behind place end)
+agrees_behind k m z place end names first around outer types bodies variables exceptions texts w v = record {
   here = λ text. subst (λ (ns : List Named). Stands (named text ns) (meaning_among text place.here)) (sym names) (w.here text);
-  outer = λ text. subst (λ (ps : List Part). Stands (named_in text ps) (meaning_among text place.outer)) (sym outer) (w.outer text);
+  outer = λ text. outer_same k z place around outer w text;
+  bodies = v.bodies ∙ sym bodies;
   first_type = w.first_type ∙ sym first;
   types = v.types ∙ sym types;
   variables = v.variables ∙ sym variables;

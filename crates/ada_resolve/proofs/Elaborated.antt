@@ -1,16 +1,18 @@
 -- A declarative part is read as it is written: its types, its names and its objects.
 
-use Rattle.std.proofs.Common.{◌≡◌, ◌∙◌, ℕ, ◌+◌, ◌≤◌, Bool, true, false, cond, ◌||◌, List, [], ◌∷◌, ◌++◌, length, length-append, append_assoc, refl, sym, ap, subst, arith, eqb, eq-eqb}
+use Rattle.std.proofs.Common.{◌≡◌, ◌∙◌, ℕ, ◌+◌, ◌≤◌, Bool, true, false, cond, ◌||◌, ◌&&◌, List, [], ◌∷◌, ◌++◌, length, length-append, append_assoc, refl, sym, ap, subst, arith, eqb, eq-eqb}
 use Rattle.std.specs.Prelude.{Option, Some, None, bytes_eq, ◌==◌}
 use Rattle.std.specs.List.{slice_get, slice_set, list_all}
 use Rattle.std.proofs.lemmas.List.{append-nil, length-set}
-use Rattle.std.proofs.lemmas.Bool.{ne_eqb, both_ways}
+use Rattle.std.proofs.lemmas.Bool.{ne_eqb, both_ways, false_from_ne_true}
 use Rattle.ada_text.specs.declared.spot.Spot.{Spot}
 use Rattle.ada_tree.specs.Names.{Ident, NameTree}
 use Rattle.ada_tree.specs.Records.{RecordTree}
-use Rattle.ada_tree.specs.Declarations.{AspectTree}
+use Rattle.ada_tree.specs.Declarations.{AspectTree, HeadTree}
+use Rattle.ada_resolve.specs.Procedures.{body_head_remark}
+use Rattle.ada_resolve.specs.Spots.{first_or}
 use Rattle.ada_tree.specs.Expressions.{RightTree}
-use Rattle.ada_tree.specs.Statements.{DeclarationTree, exception_declaration, constant_declaration, incomplete_type, access_type, record_type, instance, object_declaration, borrower_declaration, DeclarationsTree, no_declarations, a_declaration}
+use Rattle.ada_tree.specs.Statements.{DeclarationTree, exception_declaration, constant_declaration, incomplete_type, access_type, record_type, instance, body_declaration, SequenceTree, object_declaration, borrower_declaration, DeclarationsTree, no_declarations, a_declaration}
 use Rattle.ada_program.specs.declared.program.Exception.TheVariants as exception
 use Rattle.ada_program.specs.declared.program.TypeNo.{TypeNo}
 use Rattle.ada_program.specs.declared.program.VariableKind.{VariableKind}
@@ -24,21 +26,21 @@ use Rattle.ada_resolve.specs.declared.rights.Held.{Held}
 use Rattle.ada_resolve.specs.declared.rights.Held.TheVariants as held
 use Rattle.ada_resolve.specs.declared.scope.Entity.{Entity}
 use Rattle.ada_resolve.specs.declared.scope.Entity.TheVariants as entity
-use Rattle.ada_resolve.specs.Known.{Known, Named, named, declared, new_name_remark, type_begins, no_variable_yet}
+use Rattle.ada_resolve.specs.Known.{Known, Named, named, declared, new_name_remark, type_begins, no_variable_yet, no_body_yet, types_go_on, next_variable}
 use Rattle.ada_resolve.specs.Types.{completed_type, defined, number_of, record_found, access_defined, aspect_remark, new_unless}
 use Rattle.ada_resolve.specs.Exceptions.{next_exception}
 use Rattle.ada_resolve.specs.Statics.{static_value}
 use Rattle.ada_resolve.specs.Records.{components_written, composition_of, record_type_remark, record_type_known}
 use Rattle.ada_resolve.specs.Instances.{freed_found, generic_remark, is_collected, instance_of, with_elaborated}
-use Rattle.ada_resolve.specs.Objects.{missing_collections, ends_types, after_types, next_variable, next_record, object_remark, variable_created, record_created, created_of, object_known, held_of, object_type_found, initial_found, initial_items_in, initial_source, initial_value_in}
-use Rattle.ada_resolve.specs.Resolution.{gives, At, known_at, declaration_remark, declaration_known, declarations_told}
+use Rattle.ada_resolve.specs.Objects.{missing_collections, ends_types, after_types, next_record, object_remark, variable_created, record_created, created_of, object_known, held_of, object_type_found, initial_found, initial_items_in, initial_source, initial_value_in}
+use Rattle.ada_resolve.specs.Resolution.{gives, At, known_at, declaration_remark, declaration_known, single_told, declaration_told, declarations_told}
 use Rattle.ada_resolve.specs.Naming.{Context, Place, Meaning, an_incomplete_type, a_type, a_number, an_exception, an_instance, a_variable, meaning_among, IsTypeRead, IsInstanceRead}
-use Rattle.ada_resolve.specs.Reading.{read_at, IsNew, with_binding, with_incomplete_type, with_new_type, with_new_exception, with_new_variable, with_new_record, AreObjectsRead, is_one_of, AreCompleted, declared_type, IsPartRead, part_incomplete_type, part_completion, part_new_type, part_number, part_exception, part_instance, part_objects}
+use Rattle.ada_resolve.specs.Reading.{read_at, IsNew, with_binding, with_incomplete_type, with_new_type, with_new_exception, with_new_variable, with_new_record, AreObjectsRead, is_one_of, AreCompleted, IsTypeDeclared, by_completion, by_new_type, DoTypesEnd, IsPartRead}
 use Rattle.ada_resolve.proofs.WellFormed.Remarks.{Quiet, quiet_unless}
 use Rattle.ada_resolve.proofs.WellFormed.Borrowers.{lent_of, borrower_is}
 use Rattle.ada_resolve.proofs.WellFormed.Names.{named_entered, same_text}
 use Rattle.ada_resolve.proofs.WellFormed.Tables.{get_last}
-use Rattle.ada_resolve.proofs.Standing.{Sound, Complete, Grows, Keeps, complete_grows, record_settled, longer, declaration_sound, declaration_keeps, ended_sound, declarations_done, declarations_keep, IsSlot, new_slot, slot_of, old_name, defined_there}
+use Rattle.ada_resolve.proofs.Standing.{Sound, Complete, Grows, Keeps, complete_grows, record_settled, longer, ended_sound, declarations_done, single_done, ProcedureDone, procedure_done, told_sound, told_keeps, head_new, body_stays, around_body, around_sound, body_ended_names, body_ended_some, declarations_keep, IsSlot, new_slot, slot_of, old_name, defined_there}
 use Rattle.ada_resolve.proofs.Agreeing.{bound_to, Stands, Agrees, Ahead, Readable, stands_entered, agrees_same, not_predefined}
 use Rattle.ada_resolve.proofs.Keeping.{Lasts, lasts_ahead, lasts_on}
 use Rattle.ada_resolve.proofs.Written.{Legible, static_read, all_read, all_laid, all_apart, FoundRecord, record_read, designated_read, FoundAccess, access_read, generic_read, ObjectRead, RecordRead, TypeRead, object_read, IsObjectType, object_type_is}
@@ -52,50 +54,59 @@ ahead_on k m p g w = record {
   variables = λ t x is. w.variables t x (g.variables t x is);
   exceptions = λ t x is. w.exceptions t x (g.exceptions t x is);
   texts = λ t x is. w.texts t x (g.texts t x is);
+  bodies = λ t x is. w.bodies t x (g.bodies t x is);
 }
 
 -- and at another place
 pub ahead_at : (k : Known) (p : Context) (place : Place) → Ahead k p → Ahead k (read_at place p)
-ahead_at k p place w = record { types = w.types; variables = w.variables; exceptions = w.exceptions; texts = w.texts }
+ahead_at k p place w = record { types = w.types; variables = w.variables; exceptions = w.exceptions; texts = w.texts; bodies = w.bodies }
 
 -- where the types end, the tables stay, and so do the names
 pub after_ahead : (k : Known) (p : Context) → Ahead k p → Ahead (after_types k) p
 unfolding after_types
-after_ahead k p w = by_end (no_variable_yet k)
+after_ahead k p w = by_end (types_go_on k)
   where
     by_end : (b : Bool) → Ahead (ends_types b k) p
-    by_end true = record { types = w.types; variables = w.variables; exceptions = w.exceptions; texts = w.texts }
+    by_end true = record { types = w.types; variables = w.variables; exceptions = w.exceptions; texts = w.texts; bodies = w.bodies }
     by_end false = w
 
 pub ahead_before : (k : Known) (p : Context) → Ahead (after_types k) p → Ahead k p
 unfolding after_types
-ahead_before k p w = by_end (no_variable_yet k) w
+ahead_before k p w = by_end (types_go_on k) w
   where
     by_end : (b : Bool) → Ahead (ends_types b k) p → Ahead k p
-    by_end true w = record { types = w.types; variables = w.variables; exceptions = w.exceptions; texts = w.texts }
+    by_end true w = record { types = w.types; variables = w.variables; exceptions = w.exceptions; texts = w.texts; bodies = w.bodies }
     by_end false w = w
 
 pub after_agrees : (k : Known) (place : Place) → Agrees k place → Agrees (after_types k) place
 unfolding after_types
-after_agrees k place w = by_end (no_variable_yet k)
+after_agrees k place w = by_end (types_go_on k)
   where
     by_end : (b : Bool) → Agrees (ends_types b k) place
-    by_end true = agrees_same k (ends_types true k) place refl refl refl refl refl refl refl w
+    by_end true = agrees_same k (ends_types true k) place refl refl refl refl refl refl refl refl refl w
     by_end false = w
 
-after_full : (k : Known) → no_variable_yet k ≡ false → after_types k ≡ k
+pub after_full : (k : Known) → types_go_on k ≡ false → after_types k ≡ k
 unfolding after_types
 after_full k off = ap (λ (b : Bool). ends_types b k) off
 
-after_none : (k : Known) → no_variable_yet k ≡ true → after_types k ≡ with_elaborated (missing_collections k) k
+pub after_none : (k : Known) → types_go_on k ≡ true → after_types k ≡ with_elaborated (missing_collections k) k
 unfolding after_types
 after_none k on = ap (λ (b : Bool). ends_types b k) on
 
-after_names : (k : Known) → (after_types k).here.names ≡ k.here.names
+pub after_names : (k : Known) → (after_types k).here.names ≡ k.here.names
 unfolding after_types
-after_names k = by_end (no_variable_yet k)
+after_names k = by_end (types_go_on k)
   where
     by_end : (b : Bool) → (ends_types b k).here.names ≡ k.here.names
+    by_end true = refl
+    by_end false = refl
+
+pub after_variables : (k : Known) → no_variable_yet (after_types k) ≡ no_variable_yet k
+unfolding after_types
+after_variables k = by_end (types_go_on k)
+  where
+    by_end : (b : Bool) → no_variable_yet (ends_types b k) ≡ no_variable_yet k
     by_end true = refl
     by_end false = refl
 
@@ -106,6 +117,7 @@ agrees_declared k place name e meaning types variables exceptions elaborated nt 
   outer = w.outer;
   first_type = w.first_type;
   types = t;
+  bodies = w.bodies;
   variables = v;
   exceptions = x;
   texts = w.texts;
@@ -130,7 +142,9 @@ completed_place k place w c text t is = by_name (named text k.here.names) refl (
     by_entity (entity.Exception exception.EndError) there so = cc so
     by_entity (entity.Instance u) there so = cc so
     by_entity (entity.Variable x kind) there so = cc so
-    by_entity (entity.Parameter x) there so = cc so
+    by_entity (entity.Parameter x kind) there so = cc so
+    by_entity (entity.Callable n) there so = cc so
+    by_entity (entity.Outer kind r) there so = cc so
     by_entity entity.Integer there so = cc so
     by_entity entity.Boolean there so = cc so
     by_entity (entity.Truth b) there so = cc so
@@ -150,7 +164,7 @@ bound_here k place text e meaning w there own =
 not_bound : (k : Known) (place : Place) (text : List ℕ) → Agrees k place → named text k.here.names ≡ None → meaning_among text place.here ≡ None
 not_bound k place text w there = subst (λ (o : Option Entity). Stands o (meaning_among text place.here)) there (w.here text)
 
-new_there : (k : Known) (place : Place) (name : Ident) (spot : Spot) → Agrees k place → Quiet (new_name_remark k name spot) → IsNew place name
+pub new_there : (k : Known) (place : Place) (name : Ident) (spot : Spot) → Agrees k place → Quiet (new_name_remark k name spot) → IsNew place name
 new_there k place name spot w q = (not_bound k place name.text w (new_slot k name spot q), not_predefined name q.0)
 
 -- variables that are there stay
@@ -167,9 +181,38 @@ full_on k m s f off =
     apart : length k.variables ≤ length m.variables → k.here.first_variable ≤ length k.variables → m.here.first_variable ≡ k.here.first_variable → length m.variables ≡ m.here.first_variable → ⊥
     apart more least same is = not_equal (omega (arith, more, least, same, is))
 
--- no type follows a variable
-no_types : (k : Known) (spot : Spot) → no_variable_yet k ≡ false → Quiet (type_begins k spot) → ⊥
-no_types k spot e q = both_ways (no_variable_yet k) e (quiet_unless (no_variable_yet k) spot Layout q.1)
+-- where a variable is there, the types have ended
+pub some_variable : (k : Known) → no_variable_yet k ≡ false → types_go_on k ≡ false
+some_variable k off = ap (λ (b : Bool). b && no_body_yet k) off
+
+bodies_on : (k m : Known) → Sound k → Keeps k m → no_body_yet k ≡ false → no_body_yet m ≡ false
+bodies_on k m s f off =
+    let more = longer k.bodies m.bodies f.bodies in
+    let least = s.bounds.first_body in
+    let same = f.first_body in
+    ne_eqb (length m.bodies) m.here.first_body (apart more least same)
+  where
+    not_equal : length k.bodies ≡ k.here.first_body → ⊥
+    not_equal is = let on : (length k.bodies == k.here.first_body) ≡ true = eq-eqb (length k.bodies) k.here.first_body is in cc (on, off)
+
+    apart : length k.bodies ≤ length m.bodies → k.here.first_body ≤ length k.bodies → m.here.first_body ≡ k.here.first_body → length m.bodies ≡ m.here.first_body → ⊥
+    apart more least same is = not_equal (omega (arith, more, least, same, is))
+
+-- where types have ended, they go on no more
+pub late_on : (k m : Known) → Sound k → Keeps k m → types_go_on k ≡ false → types_go_on m ≡ false
+late_on k m s f off = by_variable (no_variable_yet k) refl
+  where
+    right_off : (a b : Bool) → b ≡ false → (a && b) ≡ false
+    right_off true b e = e
+    right_off false b e = refl
+
+    by_variable : (b : Bool) → no_variable_yet k ≡ b → types_go_on m ≡ false
+    by_variable false is = some_variable m (full_on k m s f is)
+    by_variable true is = right_off (no_variable_yet m) (no_body_yet m) (bodies_on k m s f (sym (ap (λ (b : Bool). b && no_body_yet k) is) ∙ off))
+
+-- no type follows a variable or a body
+pub no_types : (k : Known) (spot : Spot) → types_go_on k ≡ false → Quiet (type_begins k spot) → ⊥
+no_types k spot e q = both_ways (types_go_on k) e (quiet_unless (types_go_on k) spot Layout q.1)
 
 -- what is known once a variable is declared, and the part elaborates it so, with these types
 abbrev with_made : Known → Ident → List TypeForm → VariableForm → DeclarationForm → Known
@@ -179,7 +222,7 @@ with_made k name types v form =
 
 -- a declaration that makes a variable, an object or a borrower: what is known behind it, the place there, and how it is read with the objects
 -- behind it
-record Made (d : DeclarationTree) (name : Ident) (k m : Known) : Type 0 where
+pub record Made (d : DeclarationTree) (name : Ident) (k m : Known) : Type 0 where
   v : VariableForm
   types : List TypeForm
   form : DeclarationForm
@@ -266,13 +309,13 @@ object_made_of name type_name initial k m (Some (entity.Access t)) new typed sai
 object_made_of name type_name initial k m (Some (entity.Record t size)) new typed said is = record_made name type_name initial t k m new said is
 object_made_of name type_name initial k m o new typed said is = absurd typed
 
-object_made : (name : Ident) (type_name : NameTree) (initial : Option RightTree) (k m : Known) → Quiet (object_remark k name type_name initial) → m ≡ object_known k name type_name initial → Made (object_declaration name type_name initial) name k m
+pub object_made : (name : Ident) (type_name : NameTree) (initial : Option RightTree) (k m : Known) → Quiet (object_remark k name type_name initial) → m ≡ object_known k name type_name initial → Made (object_declaration name type_name initial) name k m
 object_made name type_name initial k m q is =
     object_made_of name type_name initial k m (object_type_found k type_name) q.1.0 (object_type_is k type_name q.1.1.0)
     (λ p w. object_read k p name type_name initial w q.1.1.0 q.1.1.1.0 q.1.1.1.1) is
 
 -- `B : access T := P;`
-borrower_made : (name designated : Ident) (initial : Option RightTree) (k m : Known) → Sound k → Quiet (borrower_remark k name designated initial) → m ≡ borrower_known k name initial → Made (borrower_declaration name designated initial) name k m
+pub borrower_made : (name designated : Ident) (initial : Option RightTree) (k m : Known) → Sound k → Quiet (borrower_remark k name designated initial) → m ≡ borrower_known k name initial → Made (borrower_declaration name designated initial) name k m
 borrower_made name designated initial k m s q is =
     let r = lent_of k name designated initial s.names q in
     let v : VariableForm = record { name = name.text; spot = name.spot; kind = variable.Access r.access; borrows = true } in
@@ -290,7 +333,7 @@ borrower_made name designated initial k m s q is =
           (sym w.agrees.variables, new, borrower_read k p name designated initial (length k.variables) w q.1.1.0 r (variable_there k m p name k.types v form is_so ahead), rest);
     }
 
-made_full : (d : DeclarationTree) (name : Ident) (k m : Known) → k.here.first_variable ≤ length k.variables → Made d name k m → no_variable_yet m ≡ false
+pub made_full : (d : DeclarationTree) (name : Ident) (k m : Known) → k.here.first_variable ≤ length k.variables → Made d name k m → no_variable_yet m ≡ false
 made_full d name k m le r =
     let more = length-append k.variables (r.v ∷ []) in
     let off : (length (k.variables ++ r.v ∷ []) == k.here.first_variable) ≡ false = ne_eqb (length (k.variables ++ r.v ∷ [])) k.here.first_variable (omega (arith, more, le)) in
@@ -306,7 +349,7 @@ complete_before : (k : Known) → Complete (after_types k) → Complete k
 complete_before k c text u is = c text u (ap (λ (ns : List Named). named text ns) (after_names k) ∙ is)
 
 -- one declaration, and what is known at the rest
-record Next (d : DeclarationTree) (ds : DeclarationsTree) (at after : At) : Type 0 where
+pub record Next (d : DeclarationTree) (ds : DeclarationsTree) (at after : At) : Type 0 where
   quiet : Quiet (declaration_remark (known_at at.0 d) d)
   then : At
   is : then.0 ≡ declaration_known (known_at at.0 d) d
@@ -315,46 +358,84 @@ record Next (d : DeclarationTree) (ds : DeclarationsTree) (at after : At) : Type
   rest : declarations_told ds then ≡ gives after
   to_end : Keeps then.0 after.0
 
-next_of : (d : DeclarationTree) (ds : DeclarationsTree) (at after : At) → Sound at.0 → declarations_told (a_declaration d ds) at ≡ gives after → Next d ds at after
-next_of d ds at after s e =
-    let next = declarations_done d ds at after e in
-    let sound : Sound next.next.0 = subst Sound (sym next.next_known) (declaration_sound at.0 d s next.quiet) in
+-- a declaration with no others in it
+abbrev pub IsSingle : DeclarationTree → Type 0
+IsSingle (body_declaration head ds body end_name) = ⊥
+IsSingle d = Unit {0}
+
+single_so : (d : DeclarationTree) (at : At) → IsSingle d → declaration_told d at ≡ single_told d at
+single_so (body_declaration head ds body end_name) at single = absurd single
+single_so d at single = refl
+
+pub next_of : (d : DeclarationTree) (ds : DeclarationsTree) (at after : At) → IsSingle d → Sound at.0 → declarations_told (a_declaration d ds) at ≡ gives after → Next d ds at after
+next_of d ds at after single s e =
+    let done = declarations_done d ds at after e in
+    let one = single_done d at done.next (sym (single_so d at single) ∙ done.one) in
+    let sound : Sound done.next.0 = told_sound d at done.next s done.one in
     record {
-      quiet = next.quiet;
-      then = next.next;
-      is = next.next_known;
+      quiet = one.quiet;
+      then = done.next;
+      is = one.known;
       sound = sound;
-      keeps = subst (λ m. Keeps at.0 m) (sym next.next_known) (declaration_keeps at.0 d s next.quiet);
-      rest = next.told;
-      to_end = declarations_keep ds next.next after sound next.told;
+      keeps = told_keeps d at done.next s done.one;
+      rest = done.told;
+      to_end = declarations_keep ds done.next after sound done.told;
     }
 
 gives_same : {X : Type 0} (x y : X) → gives x ≡ gives y → x ≡ y
 gives_same x y e = cc e
 
 -- where no type is incomplete behind the objects, none is before them
-made_back : (d : DeclarationTree) (name : Ident) (k m : Known) → Made d name (after_types k) m → Complete m → Complete k
+pub made_back : (d : DeclarationTree) (name : Ident) (k m : Known) → Made d name (after_types k) m → Complete m → Complete k
 made_back d name k m r c = complete_before k (made_open d name (after_types k) m r c)
 
-complete_back : (ds : DeclarationsTree) (at after : At) → Sound at.0 → no_variable_yet at.0 ≡ false → declarations_told ds at ≡ gives after → Complete after.0 → Complete at.0
+-- nor before a body
+pub body_back : (head : HeadTree) (ds : DeclarationsTree) (body : SequenceTree) (end_name : Option Ident) (at next : At) (d : ProcedureDone head ds body end_name at next) → Sound at.0 → Complete next.0 → Complete at.0
+body_back head ds body end_name at next d s c text t is =
+    let stays = body_stays head ds body end_name at next d s in
+    let k = after_types at.0 in
+    let none = new_slot k head.name (first_or head.overriding head.spot) (head_new k head d.quiet) in
+    let there : named text k.here.names ≡ Some (entity.Incomplete t) = ap (λ (ns : List Named). named text ns) (after_names at.0) ∙ is in
+    c text t (ap (λ (v : Known). named text v.here.names) d.known ∙ body_ended_names k d.done.1.0 head d.done.0.0 d.done.0.1 none stays.done_in text (entity.Incomplete t) there)
+
+-- and the types have ended behind it
+pub body_late : (head : HeadTree) (ds : DeclarationsTree) (body : SequenceTree) (end_name : Option Ident) (at next : At) (d : ProcedureDone head ds body end_name at next) → Sound at.0 → types_go_on next.0 ≡ false
+body_late head ds body end_name at next d s = right_off (no_variable_yet next.0) (no_body_yet next.0) (false_from_ne_true (no_body_yet next.0) some)
+  where
+    right_off : (a b : Bool) → b ≡ false → (a && b) ≡ false
+    right_off true b e = e
+    right_off false b e = refl
+
+    some : no_body_yet next.0 ≡ true → ⊥
+    some on =
+        let stays = body_stays head ds body end_name at next d s in
+        body_ended_some (around_body (after_types at.0) head) d.done.1.0 head.name d.done.0.0 d.done.0.1 (around_sound (after_types at.0) head stays.before) stays.done_in
+        (ap (λ (v : Known). no_body_yet v) (sym d.known) ∙ on)
+
+pub complete_back : (ds : DeclarationsTree) (at after : At) → Sound at.0 → types_go_on at.0 ≡ false → declarations_told ds at ≡ gives after → Complete after.0 → Complete at.0
 complete_back no_declarations at after s full e c = subst (λ (v : At). Complete v.0) (sym (gives_same at after e)) c
 complete_back (a_declaration (object_declaration name type_name initial) ds) at after s full e c =
     let d = object_declaration name type_name initial in
-    let next = next_of d ds at after s e in
+    let next = next_of d ds at after tt s e in
     made_back d name at.0 next.then.0 (object_made name type_name initial (after_types at.0) next.then.0 next.quiet next.is)
-    (complete_back ds next.then after next.sound (full_on at.0 next.then.0 s next.keeps full) next.rest c)
+    (complete_back ds next.then after next.sound (late_on at.0 next.then.0 s next.keeps full) next.rest c)
 complete_back (a_declaration (borrower_declaration name designated initial) ds) at after s full e c =
     let d = borrower_declaration name designated initial in
-    let next = next_of d ds at after s e in
+    let next = next_of d ds at after tt s e in
     made_back d name at.0 next.then.0 (borrower_made name designated initial (after_types at.0) next.then.0 (ended_sound at.0 s) next.quiet next.is)
-    (complete_back ds next.then after next.sound (full_on at.0 next.then.0 s next.keeps full) next.rest c)
-complete_back (a_declaration (incomplete_type spot name) ds) at after s full e c = absurd (no_types at.0 spot full (next_of (incomplete_type spot name) ds at after s e).quiet.0)
-complete_back (a_declaration (access_type spot name designated aspect) ds) at after s full e c = absurd (no_types at.0 spot full (next_of (access_type spot name designated aspect) ds at after s e).quiet.0)
-complete_back (a_declaration (record_type spot name definition) ds) at after s full e c = absurd (no_types at.0 spot full (next_of (record_type spot name definition) ds at after s e).quiet.0)
-complete_back (a_declaration (instance spot name generic object access) ds) at after s full e c = absurd (no_types at.0 spot full (next_of (instance spot name generic object access) ds at after s e).quiet.0)
-complete_back (a_declaration (constant_declaration name value) ds) at after s full e c = absurd (no_types at.0 name.spot full (next_of (constant_declaration name value) ds at after s e).quiet.0)
-complete_back (a_declaration (exception_declaration name) ds) at after s full e c = absurd (no_types at.0 name.spot full (next_of (exception_declaration name) ds at after s e).quiet.0)
-complete_back (a_declaration d ds) at after s full e c = absurd (next_of d ds at after s e).quiet
+    (complete_back ds next.then after next.sound (late_on at.0 next.then.0 s next.keeps full) next.rest c)
+complete_back (a_declaration (incomplete_type spot name) ds) at after s full e c = absurd (no_types at.0 spot full (next_of (incomplete_type spot name) ds at after tt s e).quiet.0)
+complete_back (a_declaration (access_type spot name designated aspect) ds) at after s full e c = absurd (no_types at.0 spot full (next_of (access_type spot name designated aspect) ds at after tt s e).quiet.0)
+complete_back (a_declaration (record_type spot name definition) ds) at after s full e c = absurd (no_types at.0 spot full (next_of (record_type spot name definition) ds at after tt s e).quiet.0)
+complete_back (a_declaration (instance spot name generic object access) ds) at after s full e c = absurd (no_types at.0 spot full (next_of (instance spot name generic object access) ds at after tt s e).quiet.0)
+complete_back (a_declaration (constant_declaration name value) ds) at after s full e c = absurd (no_types at.0 name.spot full (next_of (constant_declaration name value) ds at after tt s e).quiet.0)
+complete_back (a_declaration (exception_declaration name) ds) at after s full e c = absurd (no_types at.0 name.spot full (next_of (exception_declaration name) ds at after tt s e).quiet.0)
+complete_back (a_declaration (body_declaration head inner body end_name) ds) at after s full e c =
+    let d = body_declaration head inner body end_name in
+    let done = declarations_done d ds at after e in
+    body_back head inner body end_name at done.next (procedure_done head inner body end_name at done.next done.one) s
+    (complete_back ds done.next after (told_sound d at done.next s done.one) (late_on at.0 done.next.0 s (told_keeps d at done.next s done.one) full) done.told c)
+complete_back (a_declaration d ds) at after s full e c = absurd (next_of d ds at after tt s e).quiet
 
 -- objects behind an object
 record ObjectsRead (p : Context) (ds : DeclarationsTree) (k z : Known) : Type 0 where
@@ -396,7 +477,7 @@ variable_read : (p : Context) (d : DeclarationTree) (name : Ident) (ds : Declara
 variable_read p d name ds at after s w c ahead e next r rest =
     let k = after_types at.0 in
     let filled = made_full d name k next.then.0 (ended_sound at.0 s).bounds.first_variable r in
-    let inner = complete_back ds next.then after next.sound filled next.rest c in
+    let inner = complete_back ds next.then after next.sound (some_variable next.then.0 filled) next.rest c in
     let open_so = made_back d name at.0 next.then.0 r inner in
     let readable = readable_at at.0 p after.0 s w open_so (declarations_keep (a_declaration d ds) at after s e) ahead in
     let last = ahead_on next.then.0 after.0 p (complete_grows next.then.0 after.0 inner next.to_end) ahead in
@@ -404,6 +485,13 @@ variable_read p d name ds at after s w c ahead e next r rest =
       open_so = open_so;
       objects = variable_first k p d name ds next.then.0 after.0 readable r last (rest (r.agrees p.place readable.agrees) filled);
     }
+
+-- no body follows a variable
+no_body : (k : Known) (head : HeadTree) (spot : Spot) → no_variable_yet k ≡ false → Quiet (body_head_remark (after_types k) head) → ⊥
+unfolding body_head_remark
+no_body k head spot off q =
+    let same : no_variable_yet (after_types k) ≡ no_variable_yet k = after_variables k in
+    both_ways (no_variable_yet k) off (sym same ∙ quiet_unless (no_variable_yet (after_types k)) (first_or head.overriding head.spot) Layout q.1.0)
 
 objects_read : (p : Context) (ds : DeclarationsTree) (at after : At) → Sound at.0 → Agrees at.0 p.place → no_variable_yet at.0 ≡ false → Complete after.0 → Ahead after.0 p → declarations_told ds at ≡ gives after → ObjectsRead p ds at.0 after.0
 objects_read p no_declarations at after s w full c ahead e =
@@ -417,68 +505,91 @@ objects_read p no_declarations at after s w full c ahead e =
     })
 objects_read p (a_declaration (object_declaration name type_name initial) ds) at after s w full c ahead e =
     let d = object_declaration name type_name initial in
-    let next = next_of d ds at after s e in
+    let next = next_of d ds at after tt s e in
     let made = object_made name type_name initial (after_types at.0) next.then.0 next.quiet next.is in
     let place = made.place p.place in
     let on = variable_read p d name ds at after s w c ahead e next made
     (λ agrees filled. objects_read (read_at place p) ds next.then after next.sound agrees filled c (ahead_at after.0 p place ahead) next.rest) in
-    subst (λ u. ObjectsRead p (a_declaration d ds) u after.0) (after_full at.0 full) on.objects
+    subst (λ u. ObjectsRead p (a_declaration d ds) u after.0) (after_full at.0 (some_variable at.0 full)) on.objects
 objects_read p (a_declaration (borrower_declaration name designated initial) ds) at after s w full c ahead e =
     let d = borrower_declaration name designated initial in
-    let next = next_of d ds at after s e in
+    let next = next_of d ds at after tt s e in
     let made = borrower_made name designated initial (after_types at.0) next.then.0 (ended_sound at.0 s) next.quiet next.is in
     let place = made.place p.place in
     let on = variable_read p d name ds at after s w c ahead e next made
     (λ agrees filled. objects_read (read_at place p) ds next.then after next.sound agrees filled c (ahead_at after.0 p place ahead) next.rest) in
-    subst (λ u. ObjectsRead p (a_declaration d ds) u after.0) (after_full at.0 full) on.objects
-objects_read p (a_declaration (incomplete_type spot name) ds) at after s w full c ahead e = absurd (no_types at.0 spot full (next_of (incomplete_type spot name) ds at after s e).quiet.0)
-objects_read p (a_declaration (access_type spot name designated aspect) ds) at after s w full c ahead e = absurd (no_types at.0 spot full (next_of (access_type spot name designated aspect) ds at after s e).quiet.0)
-objects_read p (a_declaration (record_type spot name definition) ds) at after s w full c ahead e = absurd (no_types at.0 spot full (next_of (record_type spot name definition) ds at after s e).quiet.0)
-objects_read p (a_declaration (instance spot name generic object access) ds) at after s w full c ahead e = absurd (no_types at.0 spot full (next_of (instance spot name generic object access) ds at after s e).quiet.0)
-objects_read p (a_declaration (constant_declaration name value) ds) at after s w full c ahead e = absurd (no_types at.0 name.spot full (next_of (constant_declaration name value) ds at after s e).quiet.0)
-objects_read p (a_declaration (exception_declaration name) ds) at after s w full c ahead e = absurd (no_types at.0 name.spot full (next_of (exception_declaration name) ds at after s e).quiet.0)
-objects_read p (a_declaration d ds) at after s w full c ahead e = absurd (next_of d ds at after s e).quiet
+    subst (λ u. ObjectsRead p (a_declaration d ds) u after.0) (after_full at.0 (some_variable at.0 full)) on.objects
+objects_read p (a_declaration (incomplete_type spot name) ds) at after s w full c ahead e = absurd (no_types at.0 spot (some_variable at.0 full) (next_of (incomplete_type spot name) ds at after tt s e).quiet.0)
+objects_read p (a_declaration (access_type spot name designated aspect) ds) at after s w full c ahead e = absurd (no_types at.0 spot (some_variable at.0 full) (next_of (access_type spot name designated aspect) ds at after tt s e).quiet.0)
+objects_read p (a_declaration (record_type spot name definition) ds) at after s w full c ahead e = absurd (no_types at.0 spot (some_variable at.0 full) (next_of (record_type spot name definition) ds at after tt s e).quiet.0)
+objects_read p (a_declaration (instance spot name generic object access) ds) at after s w full c ahead e = absurd (no_types at.0 spot (some_variable at.0 full) (next_of (instance spot name generic object access) ds at after tt s e).quiet.0)
+objects_read p (a_declaration (constant_declaration name value) ds) at after s w full c ahead e = absurd (no_types at.0 name.spot (some_variable at.0 full) (next_of (constant_declaration name value) ds at after tt s e).quiet.0)
+objects_read p (a_declaration (exception_declaration name) ds) at after s w full c ahead e = absurd (no_types at.0 name.spot (some_variable at.0 full) (next_of (exception_declaration name) ds at after tt s e).quiet.0)
+objects_read p (a_declaration (body_declaration head inner body end_name) ds) at after s w full c ahead e =
+    let done = declarations_done (body_declaration head inner body end_name) ds at after e in
+    absurd (no_body at.0 head (first_or head.overriding head.spot) full (procedure_done head inner body end_name at done.next done.one).quiet)
+objects_read p (a_declaration d ds) at after s w full c ahead e = absurd (next_of d ds at after tt s e).quiet
 
 -- a declarative part, up to its end
 pub record PartRead (p : Context) (ds : DeclarationsTree) (k z : Known) : Type 0 where
   pub forms : List DeclarationForm
   pub end : Place
   pub elaborated : (after_types z).here.elaborated ≡ k.here.elaborated ++ forms
-  pub read : (made : List ℕ) → ((t : ℕ) → is_one_of t made ≡ is_collected t k.here.elaborated) → IsPartRead p made ds forms end
+  pub read : (made : List ℕ) → ((t : ℕ) → is_one_of t made ≡ is_collected t k.here.elaborated) → IsPartRead p (Some made) ds forms end
   pub agrees : Agrees z end
 
--- the others, and the objects
-ends_read : (k : Known) (p : Context) (ds : DeclarationsTree) (objects : List DeclarationForm) (end : Place) → Agrees k p.place → Complete k → Ahead k p → AreObjectsRead p ds objects end → (made : List ℕ) → ((t : ℕ) → is_one_of t made ≡ is_collected t k.here.elaborated) → IsPartRead p made ds (missing_collections k ++ objects) end
-ends_read k p ds objects end w c ahead r made collected =
-    let o = others_of k p made w.first_type w.types ahead.types collected in
-    subst (λ (forms : List DeclarationForm). IsPartRead p made ds (forms ++ objects) end) (sym o.these) (part_objects o.others objects (completed_place k p.place w c) o.so r)
+-- the rest of a declarative part behind its types
+pub record LateRead (p : Context) (ds : DeclarationsTree) (k z : Known) : Type 0 where
+  pub forms : List DeclarationForm
+  pub end : Place
+  pub elaborated : (after_types z).here.elaborated ≡ k.here.elaborated ++ forms
+  pub read : IsPartRead p None ds forms end
+  pub agrees : Agrees z end
 
-nothing_left : (k : Known) (p : Context) → Agrees k p.place → no_variable_yet k ≡ true → Complete k → Ahead k p → PartRead p no_declarations k k
+-- the collections of the others are created where the types end
+pub ends_read : (k : Known) (p : Context) (rest : List DeclarationForm) → Agrees k p.place → Complete k → Ahead k p → (made : List ℕ) → ((t : ℕ) → is_one_of t made ≡ is_collected t k.here.elaborated) → DoTypesEnd p (Some made) (missing_collections k ++ rest) rest
+ends_read k p rest w c ahead made collected =
+    let o = others_of k p made w.first_type w.types ahead.types collected in
+    (o.others, ap (λ (forms : List DeclarationForm). forms ++ rest) o.these, completed_place k p.place w c, o.so)
+
+pub nothing_left : (k : Known) (p : Context) → Agrees k p.place → types_go_on k ≡ true → Complete k → Ahead k p → PartRead p no_declarations k k
 nothing_left k p w none c ahead = record {
   forms = missing_collections k ++ [];
   end = p.place;
   elaborated = ap (λ (v : Known). v.here.elaborated) (after_none k none) ∙ ap (λ forms. k.here.elaborated ++ forms) (sym (append-nil (missing_collections k)));
-  read = ends_read k p no_declarations [] p.place w c ahead refl;
+  read = λ made collected. ([], ends_read k p [] w c ahead made collected, refl);
   agrees = w;
 }
 
-objects_left : (k z : Known) (p : Context) (ds : DeclarationsTree) → Agrees k p.place → no_variable_yet k ≡ true → Complete k → Ahead k p → ObjectsRead p ds (after_types k) z → PartRead p ds k z
-objects_left k z p ds w none c ahead on = record {
+-- how a part is read whose types end before objects
+abbrev EndsBefore : Context → DeclarationsTree → Place → Type 0
+EndsBefore p ds end = (made : Option (List ℕ)) (forms rest : List DeclarationForm) → DoTypesEnd p made forms rest → AreObjectsRead p ds rest end → IsPartRead p made ds forms end
+
+object_ends : (p : Context) (name : Ident) (type_name : NameTree) (initial : Option RightTree) (ds : DeclarationsTree) (end : Place) → EndsBefore p (a_declaration (object_declaration name type_name initial) ds) end
+object_ends p name type_name initial ds end (Some made) forms rest a b = (rest, a, b)
+object_ends p name type_name initial ds end None forms rest a b = (rest, a, b)
+
+borrower_ends : (p : Context) (name designated : Ident) (initial : Option RightTree) (ds : DeclarationsTree) (end : Place) → EndsBefore p (a_declaration (borrower_declaration name designated initial) ds) end
+borrower_ends p name designated initial ds end (Some made) forms rest a b = (rest, a, b)
+borrower_ends p name designated initial ds end None forms rest a b = (rest, a, b)
+
+objects_left : (k z : Known) (p : Context) (ds : DeclarationsTree) → ((end : Place) → EndsBefore p ds end) → Agrees k p.place → types_go_on k ≡ true → Complete k → Ahead k p → ObjectsRead p ds (after_types k) z → PartRead p ds k z
+objects_left k z p ds ends w none c ahead on = record {
   forms = missing_collections k ++ on.forms;
   end = on.end;
-  elaborated = ap (λ (v : Known). v.here.elaborated) (after_full z on.full) ∙
+  elaborated = ap (λ (v : Known). v.here.elaborated) (after_full z (some_variable z on.full)) ∙
       (on.elaborated ∙ (ap (λ (v : Known). v.here.elaborated ++ on.forms) (after_none k none) ∙ append_assoc k.here.elaborated (missing_collections k) on.forms));
-  read = ends_read k p ds on.forms on.end w c ahead on.read;
+  read = λ made collected. ends on.end (Some made) (missing_collections k ++ on.forms) on.forms (ends_read k p on.forms w c ahead made collected) on.read;
   agrees = on.agrees;
 }
 
-variables_left : (p : Context) (d : DeclarationTree) (ds : DeclarationsTree) (at after : At) → Sound at.0 → Agrees at.0 p.place → no_variable_yet at.0 ≡ true → Ahead after.0 p → declarations_told (a_declaration d ds) at ≡ gives after → VariableRead p d ds at.0 after.0 → PartRead p (a_declaration d ds) at.0 after.0
-variables_left p d ds at after s w none ahead e on =
+variables_left : (p : Context) (d : DeclarationTree) (ds : DeclarationsTree) (at after : At) → ((end : Place) → EndsBefore p (a_declaration d ds) end) → Sound at.0 → Agrees at.0 p.place → types_go_on at.0 ≡ true → Ahead after.0 p → declarations_told (a_declaration d ds) at ≡ gives after → VariableRead p d ds at.0 after.0 → PartRead p (a_declaration d ds) at.0 after.0
+variables_left p d ds at after ends s w none ahead e on =
     let grows = complete_grows at.0 after.0 on.open_so (declarations_keep (a_declaration d ds) at after s e) in
-    objects_left at.0 after.0 p (a_declaration d ds) w none on.open_so (ahead_on at.0 after.0 p grows ahead) on.objects
+    objects_left at.0 after.0 p (a_declaration d ds) ends w none on.open_so (ahead_on at.0 after.0 p grows ahead) on.objects
 
 -- a declaration that elaborates nothing
-plain_first : (k m z : Known) (p q : Context) (d : DeclarationTree) (ds : DeclarationsTree) → m.here.elaborated ≡ k.here.elaborated → (on : PartRead q ds m z) → ((made : List ℕ) → IsPartRead q made ds on.forms on.end → IsPartRead p made (a_declaration d ds) on.forms on.end) → PartRead p (a_declaration d ds) k z
+plain_first : (k m z : Known) (p q : Context) (d : DeclarationTree) (ds : DeclarationsTree) → m.here.elaborated ≡ k.here.elaborated → (on : PartRead q ds m z) → ((made : List ℕ) → IsPartRead q (Some made) ds on.forms on.end → IsPartRead p (Some made) (a_declaration d ds) on.forms on.end) → PartRead p (a_declaration d ds) k z
 plain_first k m z p q d ds same on more = record {
   forms = on.forms;
   end = on.end;
@@ -504,10 +615,10 @@ agrees_type k place name None form e own w =
     (own ∙ ap (λ (n : ℕ). Some (a_type n)) (sym w.types)) (one_longer k.types form place.types w.types) w.variables w.exceptions w
 
 -- a full type declaration completes a type, or declares the next
-type_first : (k : Known) (p : Context) (name : Ident) (c : Option TypeNo) (d : DeclarationTree) (ds : DeclarationsTree) (forms : List DeclarationForm) (end : Place) (made : List ℕ) (spot : Spot) → Agrees k p.place → IsSlot k name.text c → Quiet (new_unless c (new_name_remark k name spot)) → declared_type d ≡ Some name → IsTypeRead p d (number_of c k.types).0 → IsPartRead (read_at (type_place c name p.place) p) made ds forms end → IsPartRead p made (a_declaration d ds) forms end
-type_first k p name (Some t) d ds forms end made spot w slot q is r on = part_completion is (bound_here k p.place name.text (entity.Incomplete t) (an_incomplete_type t.0) w slot refl) r on
-type_first k p name None d ds forms end made spot w slot q is r on =
-    part_new_type is (new_there k p.place name spot w q) (subst (λ (n : ℕ). IsTypeRead p d n) (sym w.types) r) on
+type_first : (k : Known) (p : Context) (name : Ident) (c : Option TypeNo) (d : DeclarationTree) (spot : Spot) → Agrees k p.place → IsSlot k name.text c → Quiet (new_unless c (new_name_remark k name spot)) → IsTypeRead p d (number_of c k.types).0 → IsTypeDeclared p d name (type_place c name p.place)
+type_first k p name (Some t) d spot w slot q r = by_completion (bound_here k p.place name.text (entity.Incomplete t) (an_incomplete_type t.0) w slot refl) r
+type_first k p name None d spot w slot q r =
+    by_new_type (new_there k p.place name spot w q) (subst (λ (n : ℕ). IsTypeRead p d n) (sym w.types) r)
 
 -- what declarations are read by
 legible_at : (k z : Known) (p : Context) → Sound k → Agrees k p.place → Keeps k z → Ahead z p → Legible k p
@@ -579,7 +690,7 @@ instance_first k m z p spot name generic object access ds r new own on = record 
   forms = collects r.t.0 ∷ on.forms;
   end = on.end;
   elaborated = behind_one k.here.elaborated (after_types z).here.elaborated on.forms (collects r.t.0) (on.elaborated ∙ ap (λ (u : Known). u.here.elaborated ++ on.forms) r.is);
-  read = λ made w. part_instance new own (on.read (r.t.0 ∷ made) (λ u. ap (λ b. eqb r.t.0 u || b) (w u) ∙ (sym (collected_more k.here.elaborated r.t.0 u) ∙ ap (λ (v : Known). is_collected u v.here.elaborated) (sym r.is))));
+  read = λ made w. (r.t.0, on.forms, refl, new, own, on.read (r.t.0 ∷ made) (λ u. ap (λ b. eqb r.t.0 u || b) (w u) ∙ (sym (collected_more k.here.elaborated r.t.0 u) ∙ ap (λ (v : Known). is_collected u v.here.elaborated) (sym r.is))));
   agrees = on.agrees;
 }
 
@@ -588,41 +699,44 @@ instance_read k p generic object access t w fit q (named_so, d, there, form, typ
     let last = w.lasts.accesses t.0 access.text d there in
     (generic_read k generic q, (named_so, d, last, designated_read p access.text object.text t.0 d fit last (w.lasts.type_names d object.text form) typed))
 
--- the declarations, from one on where no object stands before it
-pub part_read : (p : Context) (ds : DeclarationsTree) (at after : At) → Sound at.0 → Agrees at.0 p.place → no_variable_yet at.0 ≡ true → Complete after.0 → Ahead after.0 p → list_all (well.type_fits p.types) p.types ≡ true → declarations_told ds at ≡ gives after → PartRead p ds at.0 after.0
-part_read p no_declarations at after s w none c ahead fit e =
-    let same = gives_same at after e in
-    subst (λ (v : At). PartRead p no_declarations at.0 v.0) same
-    (nothing_left at.0 p w none (subst (λ (v : At). Complete v.0) (sym same) c) (subst (λ (v : At). Ahead v.0 p) (sym same) ahead))
-part_read p (a_declaration (incomplete_type spot name) ds) at after s w none c ahead fit e =
-    let next = next_of (incomplete_type spot name) ds at after s e in
+-- how the declarations behind one are read
+abbrev pub ReadsRest : DeclarationsTree → At → Type 0
+ReadsRest ds after =
+    (q : Context) (next : At) → Sound next.0 → Agrees next.0 q.place → types_go_on next.0 ≡ true → Ahead after.0 q → list_all (well.type_fits q.types) q.types ≡ true →
+    declarations_told ds next ≡ gives after → PartRead q ds next.0 after.0
+
+-- a declaration with no others in it, where the types go on
+pub part_first : (p : Context) (d : DeclarationTree) (ds : DeclarationsTree) (at after : At) → IsSingle d → Sound at.0 → Agrees at.0 p.place → types_go_on at.0 ≡ true → Complete after.0 → Ahead after.0 p → list_all (well.type_fits p.types) p.types ≡ true → declarations_told (a_declaration d ds) at ≡ gives after → ReadsRest ds after → PartRead p (a_declaration d ds) at.0 after.0
+part_first p (body_declaration head inner body end_name) ds at after single s w none c ahead fit e rest = absurd single
+part_first p (incomplete_type spot name) ds at after single s w none c ahead fit e rest =
+    let next = next_of (incomplete_type spot name) ds at after tt s e in
     let place = with_incomplete_type name p.place in
     let form = record_of name.text [] [] in
     let agrees : Agrees next.then.0 place = subst (λ u. Agrees u place) (sym next.is)
     (agrees_declared at.0 p.place name (entity.Incomplete (record { 0 = length at.0.types })) (an_incomplete_type p.place.types) (at.0.types ++ form ∷ []) at.0.variables at.0.exceptions at.0.here.elaborated
     (p.place.types + 1) p.place.variables p.place.exceptions (ap (λ (n : ℕ). Some (an_incomplete_type n)) (sym w.types)) (one_longer at.0.types form p.place.types w.types) w.variables w.exceptions w) in
-    let on = part_read (read_at place p) ds next.then after next.sound agrees (ap (λ (v : Known). no_variable_yet v) next.is ∙ none) c (ahead_at after.0 p place ahead) fit next.rest in
-    plain_first at.0 next.then.0 after.0 p (read_at place p) (incomplete_type spot name) ds (ap (λ (v : Known). v.here.elaborated) next.is) on (λ made r. part_incomplete_type (new_there at.0 p.place name spot w next.quiet.1) r)
-part_read p (a_declaration (access_type spot name designated aspect) ds) at after s w none c ahead fit e =
+    let on = rest (read_at place p) next.then next.sound agrees (ap (λ (v : Known). types_go_on v) next.is ∙ none) (ahead_at after.0 p place ahead) fit next.rest in
+    plain_first at.0 next.then.0 after.0 p (read_at place p) (incomplete_type spot name) ds (ap (λ (v : Known). v.here.elaborated) next.is) on (λ made r. (new_there at.0 p.place name spot w next.quiet.1, r))
+part_first p (access_type spot name designated aspect) ds at after single s w none c ahead fit e rest =
     let d = access_type spot name designated aspect in
-    let next = next_of d ds at after s e in
+    let next = next_of d ds at after tt s e in
     let k = at.0 in
     let q = next.quiet in
     let completes = completed_type k name in
-    let r = access_done k next.then.0 p name designated (record_found k designated) (record_read k p designated s.names w q.1.1.1.0) next.is in
-    let slot = slot_of k name spot q.1.1.0 in
+    let r = access_done k next.then.0 p name designated (record_found k designated) (record_read k p designated s.names w q.1.1.1.1.0) next.is in
+    let slot = slot_of k name spot q.1.1.1.0 in
     let place = type_place completes name p.place in
     let agrees : Agrees next.then.0 place = subst (λ u. Agrees u place) (sym r.is)
     (agrees_type k p.place name completes (access_to name.text r.r.0) (entity.Access (number_of completes k.types)) refl w) in
-    let on = part_read (read_at place p) ds next.then after next.sound agrees (ap (λ (v : Known). no_variable_yet v) r.is ∙ none) c (ahead_at after.0 p place ahead) fit next.rest in
+    let on = rest (read_at place p) next.then next.sound agrees (ap (λ (v : Known). types_go_on v) r.is ∙ none) (ahead_at after.0 p place ahead) fit next.rest in
     let legible = legible_at k after.0 p s w (declarations_keep (a_declaration d ds) at after s e) ahead in
     let lasts = lasts_on next.then.0 after.0 p next.sound next.to_end (lasts_ahead after.0 p ahead) in
-    let own = access_type_read k next.then.0 p spot name designated aspect legible lasts slot fit (no_aspect aspect q.1.1.1.1) r in
+    let own = access_type_read k next.then.0 p spot name designated aspect legible lasts slot fit (no_aspect aspect q.1.1.1.1.1) r in
     plain_first k next.then.0 after.0 p (read_at place p) d ds (ap (λ (v : Known). v.here.elaborated) r.is) on
-    (λ made m. type_first k p name completes d ds on.forms on.end made spot w slot q.1.1.0 refl own m)
-part_read p (a_declaration (record_type spot name definition) ds) at after s w none c ahead fit e =
+    (λ made m. (place, type_first k p name completes d spot w slot q.1.1.1.0 own, m))
+part_first p (record_type spot name definition) ds at after single s w none c ahead fit e rest =
     let d = record_type spot name definition in
-    let next = next_of d ds at after s e in
+    let next = next_of d ds at after tt s e in
     let k = at.0 in
     let completes = completed_type k name in
     let made = composition_of k (components_written definition) in
@@ -630,37 +744,37 @@ part_read p (a_declaration (record_type spot name definition) ds) at after s w n
     let place = type_place completes name p.place in
     let agrees : Agrees next.then.0 place = subst (λ u. Agrees u place) (sym next.is)
     (agrees_type k p.place name completes (record_of name.text made.parts made.kinds) (entity.Record (number_of completes k.types) made.size) refl w) in
-    let on = part_read (read_at place p) ds next.then after next.sound agrees (ap (λ (v : Known). no_variable_yet v) next.is ∙ none) c (ahead_at after.0 p place ahead) fit next.rest in
+    let on = rest (read_at place p) next.then next.sound agrees (ap (λ (v : Known). types_go_on v) next.is ∙ none) (ahead_at after.0 p place ahead) fit next.rest in
     let legible = legible_at k after.0 p s w (declarations_keep (a_declaration d ds) at after s e) ahead in
     let lasts = lasts_on next.then.0 after.0 p next.sound next.to_end (lasts_ahead after.0 p ahead) in
     let own = record_type_read k next.then.0 p spot name definition legible next.sound lasts slot next.is next.quiet in
     plain_first k next.then.0 after.0 p (read_at place p) d ds (ap (λ (v : Known). v.here.elaborated) next.is) on
-    (λ made m. type_first k p name completes d ds on.forms on.end made spot w slot next.quiet.1.0 refl own m)
-part_read p (a_declaration (constant_declaration name value) ds) at after s w none c ahead fit e =
-    let next = next_of (constant_declaration name value) ds at after s e in
+    (λ made m. (place, type_first k p name completes d spot w slot next.quiet.1.0 own, m))
+part_first p (constant_declaration name value) ds at after single s w none c ahead fit e rest =
+    let next = next_of (constant_declaration name value) ds at after tt s e in
     let n = static_value at.0 value in
     let place = with_binding name (a_number n) p.place in
     let agrees : Agrees next.then.0 place = subst (λ u. Agrees u place) (sym next.is)
     (agrees_declared at.0 p.place name (entity.Number n) (a_number n) at.0.types at.0.variables at.0.exceptions at.0.here.elaborated p.place.types p.place.variables p.place.exceptions refl w.types w.variables w.exceptions w) in
-    let on = part_read (read_at place p) ds next.then after next.sound agrees (ap (λ (v : Known). no_variable_yet v) next.is ∙ none) c (ahead_at after.0 p place ahead) fit next.rest in
+    let on = rest (read_at place p) next.then next.sound agrees (ap (λ (v : Known). types_go_on v) next.is ∙ none) (ahead_at after.0 p place ahead) fit next.rest in
     let own = static_read at.0 p value w next.quiet.1.1 in
-    plain_first at.0 next.then.0 after.0 p (read_at place p) (constant_declaration name value) ds (ap (λ (v : Known). v.here.elaborated) next.is) on (λ made r. part_number (new_there at.0 p.place name name.spot w next.quiet.1.0) own r)
-part_read p (a_declaration (exception_declaration name) ds) at after s w none c ahead fit e =
-    let next = next_of (exception_declaration name) ds at after s e in
+    plain_first at.0 next.then.0 after.0 p (read_at place p) (constant_declaration name value) ds (ap (λ (v : Known). v.here.elaborated) next.is) on (λ made r. (n, new_there at.0 p.place name name.spot w next.quiet.1.0, own, r))
+part_first p (exception_declaration name) ds at after single s w none c ahead fit e rest =
+    let next = next_of (exception_declaration name) ds at after tt s e in
     let k = at.0 in
     let place = with_new_exception name p.place in
     let agrees : Agrees next.then.0 place = subst (λ u. Agrees u place) (sym next.is)
     (agrees_declared k p.place name (entity.Exception (exception.Declared (next_exception k))) (an_exception p.place.exceptions) k.types k.variables (k.exceptions ++ name.text ∷ []) k.here.elaborated
     p.place.types p.place.variables (p.place.exceptions + 1) (ap (λ (n : ℕ). Some (an_exception n)) (sym w.exceptions)) w.types w.variables (one_longer k.exceptions name.text p.place.exceptions w.exceptions) w) in
-    let on = part_read (read_at place p) ds next.then after next.sound agrees (ap (λ (v : Known). no_variable_yet v) next.is ∙ none) c (ahead_at after.0 p place ahead) fit next.rest in
+    let on = rest (read_at place p) next.then next.sound agrees (ap (λ (v : Known). types_go_on v) next.is ∙ none) (ahead_at after.0 p place ahead) fit next.rest in
     let there : slice_get next.then.0.exceptions (length k.exceptions) ≡ Some name.text =
     ap (λ (v : Known). slice_get v.exceptions (length k.exceptions)) next.is ∙ get_last k.exceptions name.text in
     let last = ahead.exceptions (length k.exceptions) name.text (next.to_end.exceptions (length k.exceptions) name.text there) in
     let own : slice_get p.exceptions p.place.exceptions ≡ Some name.text = ap (λ (n : ℕ). slice_get p.exceptions n) w.exceptions ∙ last in
-    plain_first k next.then.0 after.0 p (read_at place p) (exception_declaration name) ds (ap (λ (v : Known). v.here.elaborated) next.is) on (λ made r. part_exception (new_there k p.place name name.spot w next.quiet.1) own r)
-part_read p (a_declaration (instance spot name generic object access) ds) at after s w none c ahead fit e =
+    plain_first k next.then.0 after.0 p (read_at place p) (exception_declaration name) ds (ap (λ (v : Known). v.here.elaborated) next.is) on (λ made r. (new_there k p.place name name.spot w next.quiet.1, own, r))
+part_first p (instance spot name generic object access) ds at after single s w none c ahead fit e rest =
     let d = instance spot name generic object access in
-    let next = next_of d ds at after s e in
+    let next = next_of d ds at after tt s e in
     let k = at.0 in
     let q = next.quiet in
     let found = access_read k p access object (record_found k object) s.names w (record_read k p object s.names w q.1.1.1.0) q.1.1.1.1.1.0 in
@@ -668,23 +782,70 @@ part_read p (a_declaration (instance spot name generic object access) ds) at aft
     let place = with_binding name (an_instance r.t.0) p.place in
     let agrees : Agrees next.then.0 place = subst (λ u. Agrees u place) (sym r.is)
     (agrees_declared k p.place name (entity.Instance r.t) (an_instance r.t.0) k.types k.variables k.exceptions (k.here.elaborated ++ collects r.t.0 ∷ []) p.place.types p.place.variables p.place.exceptions refl w.types w.variables w.exceptions w) in
-    let on = part_read (read_at place p) ds next.then after next.sound agrees (ap (λ (v : Known). no_variable_yet v) r.is ∙ none) c (ahead_at after.0 p place ahead) fit next.rest in
+    let on = rest (read_at place p) next.then next.sound agrees (ap (λ (v : Known). types_go_on v) r.is ∙ none) (ahead_at after.0 p place ahead) fit next.rest in
     let legible = legible_at k after.0 p s w (declarations_keep (a_declaration d ds) at after s e) ahead in
     instance_first k next.then.0 after.0 p spot name generic object access ds r (new_there k p.place name spot w q.1.0) (instance_read k p generic object access r.t legible fit q.1.1.0 r.found) on
-part_read p (a_declaration (object_declaration name type_name initial) ds) at after s w none c ahead fit e =
+part_first p (object_declaration name type_name initial) ds at after single s w none c ahead fit e rest =
     let d = object_declaration name type_name initial in
-    let next = next_of d ds at after s e in
+    let next = next_of d ds at after tt s e in
     let made = object_made name type_name initial (after_types at.0) next.then.0 next.quiet next.is in
     let place = made.place p.place in
     let on = variable_read p d name ds at after s w c ahead e next made
     (λ agrees filled. objects_read (read_at place p) ds next.then after next.sound agrees filled c (ahead_at after.0 p place ahead) next.rest) in
-    variables_left p d ds at after s w none ahead e on
-part_read p (a_declaration (borrower_declaration name designated initial) ds) at after s w none c ahead fit e =
+    variables_left p d ds at after (object_ends p name type_name initial ds) s w none ahead e on
+part_first p (borrower_declaration name designated initial) ds at after single s w none c ahead fit e rest =
     let d = borrower_declaration name designated initial in
-    let next = next_of d ds at after s e in
+    let next = next_of d ds at after tt s e in
     let made = borrower_made name designated initial (after_types at.0) next.then.0 (ended_sound at.0 s) next.quiet next.is in
     let place = made.place p.place in
     let on = variable_read p d name ds at after s w c ahead e next made
     (λ agrees filled. objects_read (read_at place p) ds next.then after next.sound agrees filled c (ahead_at after.0 p place ahead) next.rest) in
-    variables_left p d ds at after s w none ahead e on
-part_read p (a_declaration d ds) at after s w none c ahead fit e = absurd (next_of d ds at after s e).quiet
+    variables_left p d ds at after (borrower_ends p name designated initial ds) s w none ahead e on
+part_first p d ds at after single s w none c ahead fit e rest = absurd (next_of d ds at after single s e).quiet
+
+-- where the types have ended, nothing is created but objects
+late_full : (k z : Known) (p : Context) (ds : DeclarationsTree) → ((end : Place) → EndsBefore p ds end) → types_go_on k ≡ false → ObjectsRead p ds (after_types k) z → LateRead p ds k z
+late_full k z p ds ends late on = record {
+  forms = on.forms;
+  end = on.end;
+  elaborated = ap (λ (v : Known). v.here.elaborated) (after_full z (some_variable z on.full)) ∙ (on.elaborated ∙ ap (λ (v : Known). v.here.elaborated ++ on.forms) (after_full k late));
+  read = ends on.end None on.forms on.forms refl on.read;
+  agrees = on.agrees;
+}
+
+pub late_none : (p : Context) (at after : At) → Agrees at.0 p.place → types_go_on at.0 ≡ false → declarations_told no_declarations at ≡ gives after → LateRead p no_declarations at.0 after.0
+late_none p at after w late e =
+    subst (λ (v : At). LateRead p no_declarations at.0 v.0) (gives_same at after e) (record {
+      forms = [];
+      end = p.place;
+      elaborated = ap (λ (v : Known). v.here.elaborated) (after_full at.0 late) ∙ sym (append-nil at.0.here.elaborated);
+      read = ([], refl, refl);
+      agrees = w;
+    })
+
+-- a declaration with no others in it, behind the types
+pub late_first : (p : Context) (d : DeclarationTree) (ds : DeclarationsTree) (at after : At) → IsSingle d → Sound at.0 → Agrees at.0 p.place → types_go_on at.0 ≡ false → Complete after.0 → Ahead after.0 p → declarations_told (a_declaration d ds) at ≡ gives after → LateRead p (a_declaration d ds) at.0 after.0
+late_first p (body_declaration head inner body end_name) ds at after single s w late c ahead e = absurd single
+late_first p (object_declaration name type_name initial) ds at after single s w late c ahead e =
+    let d = object_declaration name type_name initial in
+    let next = next_of d ds at after tt s e in
+    let made = object_made name type_name initial (after_types at.0) next.then.0 next.quiet next.is in
+    let place = made.place p.place in
+    let on = variable_read p d name ds at after s w c ahead e next made
+    (λ agrees filled. objects_read (read_at place p) ds next.then after next.sound agrees filled c (ahead_at after.0 p place ahead) next.rest) in
+    late_full at.0 after.0 p (a_declaration d ds) (object_ends p name type_name initial ds) late on.objects
+late_first p (borrower_declaration name designated initial) ds at after single s w late c ahead e =
+    let d = borrower_declaration name designated initial in
+    let next = next_of d ds at after tt s e in
+    let made = borrower_made name designated initial (after_types at.0) next.then.0 (ended_sound at.0 s) next.quiet next.is in
+    let place = made.place p.place in
+    let on = variable_read p d name ds at after s w c ahead e next made
+    (λ agrees filled. objects_read (read_at place p) ds next.then after next.sound agrees filled c (ahead_at after.0 p place ahead) next.rest) in
+    late_full at.0 after.0 p (a_declaration d ds) (borrower_ends p name designated initial ds) late on.objects
+late_first p (incomplete_type spot name) ds at after single s w late c ahead e = absurd (no_types at.0 spot late (next_of (incomplete_type spot name) ds at after tt s e).quiet.0)
+late_first p (access_type spot name designated aspect) ds at after single s w late c ahead e = absurd (no_types at.0 spot late (next_of (access_type spot name designated aspect) ds at after tt s e).quiet.0)
+late_first p (record_type spot name definition) ds at after single s w late c ahead e = absurd (no_types at.0 spot late (next_of (record_type spot name definition) ds at after tt s e).quiet.0)
+late_first p (instance spot name generic object access) ds at after single s w late c ahead e = absurd (no_types at.0 spot late (next_of (instance spot name generic object access) ds at after tt s e).quiet.0)
+late_first p (constant_declaration name value) ds at after single s w late c ahead e = absurd (no_types at.0 name.spot late (next_of (constant_declaration name value) ds at after tt s e).quiet.0)
+late_first p (exception_declaration name) ds at after single s w late c ahead e = absurd (no_types at.0 name.spot late (next_of (exception_declaration name) ds at after tt s e).quiet.0)
+late_first p d ds at after single s w late c ahead e = absurd (next_of d ds at after single s e).quiet

@@ -1,4 +1,8 @@
 pub mod Names
+-- the profiles of procedures, and bodies that end
+pub mod Profiles
+-- declarations with no others in them
+pub mod Single
 pub mod Views
 pub mod Told
 pub mod Handled
@@ -26,4 +30,6 @@ mod Written
 mod Lent
 mod Others
 mod Elaborated
+-- the heads of bodies, as they are written
+mod Heads
 pub mod Whole

@@ -24,7 +24,7 @@ use Rattle.ada_program.specs.declared.program.VariableKind.{VariableKind}
 use Rattle.ada_program.specs.declared.program.VariableKind.TheVariants as variable
 use Rattle.ada_program.specs.declared.program.VariableNo.{VariableNo}
 use Rattle.ada_program.specs.declared.program.TypeNo.{TypeNo}
-use Rattle.ada_program.specs.Form.{PathForm, RecordPathForm, reads, ItemForm, RightForm, allocates, StmtForm}
+use Rattle.ada_program.specs.Form.{PathForm, RecordPathForm, reads, ItemForm, RightForm, allocates, StmtForm, calls, ExpressionForm}
 use Rattle.ada_program.specs.ProgramForm.{PartForm, TypeForm, VariableForm, record_of, access_to, object_of}
 use Rattle.ada_program.specs.WellFormed as fits
 use Rattle.ada_resolve.specs.declared.components.KnownComponent.{KnownComponent}
@@ -37,8 +37,8 @@ use Rattle.ada_resolve.specs.declared.selectors.Reached.TheVariants as reached
 use Rattle.ada_resolve.specs.declared.fault.NameRule.TheVariants.{UnknownName, WrongType, NotInProfile}
 use Rattle.ada_resolve.specs.Known.{Known, parts, visible, is_empty, is_with, if_with, parts_of, library_wrong, library_remark, library_found, library_path_remark, library_path_found}
 use Rattle.ada_resolve.specs.Library.{is_library_root, library_name}
-use Rattle.ada_resolve.specs.Paths.{written_wanted, component_at, component_in, component_named, component_wanted, component_within_remark, complete_behind, held_by, known_component, number_by, Meant, unknown, null_value, access_value, integer_value, boolean_value, record_value, aggregate_value, selected_path, components_of, record_known_by, record_of_object, whole_object, designated_of, is_incomplete_type, held_in, object_in, selectors_reached, number_in, components_selected, reached_meant, variable_meant, entity_meant, path_meant, selectors_remark, record_type_wanted, variable_path_remark, value_wanted, path_remark}
-use Rattle.ada_resolve.specs.Operators.{record_value_wanted, Signature, arithmetic, ordering, equality, logical, signature_of, integer_in, boolean_in, asks_equal, equality_meant, binary_by, unary_meant, integer_wanted, boolean_wanted, equal_wanted, operands_by, operand_remark}
+use Rattle.ada_resolve.specs.Paths.{written_wanted, component_at, component_in, component_named, component_wanted, component_within_remark, complete_behind, held_by, known_component, number_by, Meant, unknown, lent_value, null_value, access_value, integer_value, boolean_value, record_value, aggregate_value, selected_path, components_of, record_known_by, record_of_object, whole_object, designated_of, is_incomplete_type, held_in, object_in, selectors_reached, number_in, components_selected, reached_meant, variable_meant, entity_meant, path_meant, selectors_remark, record_type_wanted, variable_path_remark, value_wanted, path_remark}
+use Rattle.ada_resolve.specs.Operators.{record_value_wanted, Signature, arithmetic, ordering, equality, logical, signature_of, integer_in, boolean_in, scalar_in, asks_equal, equality_meant, binary_by, unary_meant, integer_wanted, boolean_wanted, equal_wanted, operands_by, operand_remark}
 use Rattle.ada_resolve.specs.Expressions.{after_items, all_items_remark, expression_meant, expression_remark, filling_of, items_remark}
 use Rattle.ada_resolve.specs.declared.library.LibraryName.{LibraryName}
 use Rattle.ada_resolve.specs.declared.library.LibraryName.TheVariants.{TextIo, PutLine, UncheckedDeallocation, RunInput, Get, EndError, OtherUnit, Unknown}
@@ -49,8 +49,8 @@ use Rattle.ada_resolve.specs.declared.calls.Callee.TheVariants as callee
 use Rattle.ada_resolve.specs.Exceptions.{exception_of_library, end_error_wanted, exception_in, exception_wanted, exception_name_remark, exception_found, raising, choice_remark, exception_or_others, choice_meant, choices_remark, choices_meant}
 use Rattle.ada_resolve.specs.Lines.{line_remark, line_found, put_line_remark, put_line_found}
 use Rattle.ada_resolve.specs.Arguments.{image_wanted, image_remark, image_value_remark}
-use Rattle.ada_resolve.specs.Naming.{Context, IsFullTypeNamed, IsExceptionNamed, IsInstanceNamed, IsVariableNamed, IsObjectNamed}
-use Rattle.ada_resolve.specs.Reading.{IsPutLine, IsGet, IsImage, type_behind, Way, at_value, at_object, IsBegun, IsWayRead, IsRecordTargetRead, IsCopyRead, IsAggregate, how_many, IsGiven, to_elementary, by_copy, by_aggregate, AreGiven, none_given, one_given, IsWholeRead, IsComponentNamed, AreSelectorsRead, at_end, by_all, by_value, to_value, to_record, IsPathRead, IsTargetRead, IsValueRead, read_path, read_number, read_truth, AsksEqual, null_on_right, null_on_left, IsExpressionRead, IsNull, IsMoveRead, IsConditionRead, IsItemFor, at_place, by_name, further, AreItemsRead, IsAllocationRead, IsRightRead, IsSimpleRead, IsChoiceRead, AreChoicesRead}
+use Rattle.ada_resolve.specs.Naming.{Context, IsFullTypeNamed, IsExceptionNamed, IsInstanceNamed, IsProcedureNamed, IsVariableNamed, IsObjectNamed}
+use Rattle.ada_resolve.specs.Reading.{IsPutLine, IsGet, AreActualsRead, IsExpressionRead, IsCallRead, IsImage, type_behind, Way, at_value, at_object, IsBegun, IsWayRead, IsRecordTargetRead, IsCopyRead, IsAggregate, how_many, IsGiven, to_elementary, by_copy, by_aggregate, AreGiven, none_given, one_given, IsWholeRead, IsComponentNamed, AreSelectorsRead, at_end, by_all, by_value, to_value, to_record, IsPathRead, IsTargetRead, IsValueRead, read_path, read_number, read_truth, AsksEqual, null_on_right, null_on_left, IsNull, IsMoveRead, IsConditionRead, IsItemFor, at_place, by_name, further, AreItemsRead, IsAllocationRead, IsRightRead, IsSimpleRead, IsChoiceRead, AreChoicesRead}
 use Rattle.ada_resolve.specs.Allocators.{allocated_wanted, allocated_remark, aggregate_remark, allocation, aggregate_found, default_allocation, default_found, allocator_remark, allocator_found}
 use Rattle.ada_resolve.specs.Rights.{Assigned, a_value, a_whole, assigned_wanted, assigned, new_assigned, right_remark, right_found}
 use Rattle.ada_resolve.specs.Assignments.{Target, value_target, record_target, target_meant, target_found, target_wanted, target_remark, held_by_target, target_borrows, assignment_remark, assignment_of, assignment_found}
@@ -58,6 +58,7 @@ use Rattle.ada_resolve.specs.Statements.{condition_remark, condition_meant, opti
 use Rattle.ada_resolve.specs.Types.{complete_found, complete_in, complete_remark, complete_type_wanted, designates}
 use Rattle.ada_resolve.specs.Remark.{Remark, wrong, ◌also◌, wrong_if}
 use Rattle.ada_resolve.specs.Spots.{expression_spot}
+use Rattle.ada_resolve.specs.Actuals.{given_all, given_all_remark, kind_wanted, profile}
 use Rattle.ada_resolve.specs.Items.{Filling, component_for, item_meant, fits_remark, for_remark, is_alike, filled_for, filled_components, after_item, aggregate_meant, component_item_remark, first_filling, flattened, names_component, count_remark}
 use Rattle.ada_resolve.proofs.Agreeing.{Agrees, Ahead, EntityRead, Readable, visible_read, parameter_visible}
 use Rattle.ada_resolve.proofs.WellFormed.Remarks.{Quiet, quiet_unless}
@@ -72,10 +73,12 @@ use Rattle.ada_resolve.proofs.ItemCounts.{items_all}
 -- something is meant
 abbrev IsMeant : Meant → Type 0
 IsMeant unknown = ⊥
+IsMeant (lent_value t) = ⊥
 IsMeant m = Unit {0}
 
 meant_is : (types : List TypeForm) (variables : List VariableForm) (m : Meant) → MeantFits types variables m → IsMeant m
 meant_is types variables unknown f = f
+meant_is types variables (lent_value t) f = f
 meant_is types variables null_value f = tt
 meant_is types variables (access_value path t) f = tt
 meant_is types variables (integer_value e) f = tt
@@ -104,6 +107,7 @@ pub record AggregateRead (p : Context) (e : ExpressionTree) (t : ℕ) (forms : L
 -- what an expression means is what it says
 abbrev pub MeantRead : Context → ExpressionTree → Meant → Type 0
 MeantRead p e unknown = Unit {0}
+MeantRead p e (lent_value t) = Unit {0}
 MeantRead p e null_value = IsNull e
 MeantRead p e (access_value path t) = IsMoveRead p e path
 MeantRead p e (integer_value form) = IsExpressionRead p e form
@@ -307,8 +311,9 @@ declared_kind k p x text of w f = kind_there p.variables x.0 text of (f.0, f.1, 
 entity_read : (k : Known) (p : Context) (e : Entity) (name : Ident) (ss : List SelectorTree) → Ahead k p → EntityFits k.types k.variables name.text e → EntityRead p name.text e → Quiet (value_wanted k (Some e) name ss) → MeantRead p (path_expression (record { root = name; selectors = ss })) (entity_meant k (Some e) name.spot ss)
 entity_read k p (entity.Variable x of) name ss w f t q =
     place_read k p x name of ss w (inl t) (declared_kind k p x name.text of w f.0) q
-entity_read k p (entity.Parameter x) name ss w f t q =
-    place_read k p x name variable.Integer ss w (inr t) (kind_there p.variables x.0 name.text variable.Integer (f.0, false, w.variables x.0 (record { name = name.text; spot = f.0; kind = variable.Integer; borrows = false }) f.1)) q
+entity_read k p (entity.Parameter x of) name ss w f t q =
+    place_read k p x name of ss w (inr t) (kind_there p.variables x.0 name.text of (f.0.0, false, w.variables x.0 (record { name = name.text; spot = f.0.0; kind = of; borrows = false }) f.0.1)) q
+entity_read k p (entity.Outer of role) name ss w f t q = absurd q.0
 entity_read k p (entity.Number n) name [] w f t q = read_number refl t
 entity_read k p (entity.Number n) name (s ∷ ss) w f t q = tt
 entity_read k p (entity.Truth b) name [] w f t q = read_truth refl t
@@ -331,11 +336,13 @@ path_read k p tree w q = by_root (is_library_root tree.root.text) _ q
 integer_read : (p : Context) (e : ExpressionTree) (m : Meant) (spot : Spot) → IsMeant m → MeantRead p e m → Quiet (integer_wanted m spot) → IsExpressionRead p e (integer_in m)
 integer_read p e (integer_value form) spot f r q = r
 integer_read p e unknown spot f r q = absurd f
+integer_read p e (lent_value u) spot f r q = absurd f
 integer_read p e m spot f r q = absurd q
 
 boolean_read : (p : Context) (e : ExpressionTree) (m : Meant) (spot : Spot) → IsMeant m → MeantRead p e m → Quiet (boolean_wanted m spot) → IsExpressionRead p e (boolean_in m)
 boolean_read p e (boolean_value form) spot f r q = r
 boolean_read p e unknown spot f r q = absurd f
+boolean_read p e (lent_value u) spot f r q = absurd f
 boolean_read p e m spot f r q = absurd q
 
 asks_read : (o : BinaryOperator) → signature_of o ≡ equality → AsksEqual o (asks_equal o)
@@ -349,7 +356,9 @@ equality_read p o e d (boolean_value a) (boolean_value b) at to is f g r s q = i
 equality_read p o e d (access_value path t) null_value at to is f g r s q = inr (null_on_right (asks_read o is) r s)
 equality_read p o e d null_value (access_value path t) at to is f g r s q = inr (null_on_left (asks_read o is) r s)
 equality_read p o e d unknown right at to is f g r s q = absurd f
+equality_read p o e d (lent_value u) right at to is f g r s q = absurd f
 equality_read p o e d left unknown at to is f g r s q = absurd g
+equality_read p o e d left (lent_value u) at to is f g r s q = absurd g
 equality_read p o e d left right at to is f g r s q = absurd q
 
 -- an operator with its operands
@@ -367,6 +376,7 @@ binary_read p o logical e d left right at to is f g r s q = inl (boolean_in left
 -- parentheses change nothing
 enclosed_read : (p : Context) (spot : Spot) (e : ExpressionTree) (m : Meant) → MeantRead p e m → MeantRead p (enclosed_expression spot e) m
 enclosed_read p spot e unknown r = tt
+enclosed_read p spot e (lent_value u) r = tt
 enclosed_read p spot e null_value r = r
 enclosed_read p spot e (access_value path t) r = r
 enclosed_read p spot e (integer_value form) r = r
@@ -385,6 +395,7 @@ record_given p e t (aggregate_value found forms) spot f r q =
     (subst (λ (u : ℕ). IsFullTypeNamed p r.type_name.text u) (sym same) r.bound)
     (subst (λ (u : ℕ). slice_get p.types u ≡ Some (record_of r.type_name.text r.parts r.components)) (sym same) r.there) r.count r.given
 record_given p e t unknown spot f r q = absurd f
+record_given p e t (lent_value u) spot f r q = absurd f
 record_given p e t m spot f r q = absurd q
 
 item_read : (p : Context) (variables : List VariableForm) (e : ExpressionTree) (k : PartKind) (m : Meant) (spot : Spot) → IsMeant m → MeantRead p e m → Quiet (fits_remark variables k m spot) → IsGiven p k e (item_meant m)
@@ -394,6 +405,7 @@ item_read p variables e (part.Elementary k) (boolean_value form) spot f r q = to
 item_read p variables e (part.Elementary k) (access_value path t) spot f r q = to_elementary r
 item_read p variables e (part.Elementary k) null_value spot f r q = to_elementary r
 item_read p variables e (part.Elementary k) unknown spot f r q = absurd f
+item_read p variables e (part.Elementary k) (lent_value u) spot f r q = absurd f
 item_read p variables e (part.Elementary (kind.Access t)) m spot f r q = absurd q.0
 item_read p variables e (part.Elementary k) m spot f r q = absurd q
 
@@ -571,6 +583,7 @@ assigned_whole : (p : Context) (e : ExpressionTree) (t : TypeNo) (m : Meant) (sp
 assigned_whole p e t (record_value path) spot f r q = record_given p e (record { 0 = t.0 }) (record_value path) spot f r q
 assigned_whole p e t (aggregate_value found forms) spot f r q = record_given p e (record { 0 = t.0 }) (aggregate_value found forms) spot f r q
 assigned_whole p e t unknown spot f r q = absurd f
+assigned_whole p e t (lent_value u) spot f r q = absurd f
 assigned_whole p e t m spot f r q = absurd q
 
 assigned_read : (p : Context) (e : ExpressionTree) (of : Held) (m : Meant) (spot : Spot) → IsMeant m → MeantRead p e m → Quiet (assigned_wanted (Some of) m spot) → FoundRight p of (expression_right e) (assigned m)
@@ -580,6 +593,7 @@ assigned_read p e (held.Access access) null_value spot f r q = r
 assigned_read p e (held.Access access) (access_value path t) spot f r q = r
 assigned_read p e (held.Record t) m spot f r q = assigned_whole p e t m spot f r q
 assigned_read p e of unknown spot f r q = absurd f
+assigned_read p e of (lent_value u) spot f r q = absurd f
 assigned_read p e of m spot f r q = absurd q
 
 -- an allocator with items
@@ -666,15 +680,15 @@ path_of_value : (p : Context) (tree : PathTree) (path : PathForm) → IsValueRea
 path_of_value p tree path (read_path r) = r
 
 -- nothing is written to a loop parameter
-no_parameter : (o : Option Entity) (spot : Spot) (n : VariableNo) → o ≡ Some (entity.Parameter n) → Quiet (written_wanted o spot) → ⊥
-no_parameter None spot n is q = cc is
-no_parameter (Some (entity.Parameter x)) spot n is q = q
-no_parameter (Some e) spot n is q = cc is
+no_parameter : (o : Option Entity) (spot : Spot) (n : VariableNo) (kind : VariableKind) → o ≡ Some (entity.Parameter n kind) → Quiet (written_wanted o spot) → ⊥
+no_parameter None spot n kind is q = cc is
+no_parameter (Some (entity.Parameter x of)) spot n kind is q = q
+no_parameter (Some e) spot n kind is q = cc is
 
 variable_named : (k : Known) (p : Context) (tree : PathTree) (x : ℕ) → Agrees k p.place → Quiet (written_wanted (visible k tree.root.text) tree.root.spot) → IsObjectNamed p tree.root.text x → IsVariableNamed p tree.root.text x
 variable_named k p tree x w q (inl b) = b
 variable_named k p tree x w q (inr b) =
-    let n = parameter_visible k p w tree.root.text x b in absurd (no_parameter (visible k tree.root.text) tree.root.spot n.0 n.1 q)
+    let n = parameter_visible k p w tree.root.text x b in absurd (no_parameter (visible k tree.root.text) tree.root.spot n.0 n.1 n.2 q)
 
 target_read : (k : Known) (p : Context) (tree : PathTree) (path : PathForm) → Agrees k p.place → Quiet (written_wanted (visible k tree.root.text) tree.root.spot) → IsPathRead p tree path → IsTargetRead p tree path
 target_read k p tree path w q r = (r, variable_named k p tree path.root w q r.leads.root)
@@ -692,6 +706,7 @@ target_meant_read k p tree (boolean_value (reads path)) spot w v f r q = target_
 target_meant_read k p tree (access_value path t) spot w v f r q = target_read k p tree path w v r
 target_meant_read k p tree (record_value path) spot w v f r q = (r, variable_named k p tree path.object.root w v r.root)
 target_meant_read k p tree unknown spot w v f r q = absurd f
+target_meant_read k p tree (lent_value u) spot w v f r q = absurd f
 target_meant_read k p tree m spot w v f r q = absurd q
 
 found_target_read : (k : Known) (p : Context) (tree : PathTree) → Readable k p → Quiet (target_remark k tree) → FoundTarget p tree (target_found k tree)
@@ -734,12 +749,14 @@ assignment_read k p target right w q =
 freed_read : (p : Context) (variables : List VariableForm) (procedure tree : PathTree) (access : TypeNo) (m : Meant) (spot : Spot) → procedure.selectors ≡ [] → IsInstanceNamed p procedure.root.text access.0 → IsMeant m → MeantRead p (path_expression tree) m → ((path : PathForm) → IsPathRead p tree path → IsTargetRead p tree path) → Quiet (freed_wanted variables access m spot) → FoundStatement p (call procedure (expression_argument (path_expression tree) ∷ [])) (freeing access m)
 freed_read p variables procedure tree access (access_value path t) spot alone called f r target q = (alone, called, target path r)
 freed_read p variables procedure tree access unknown spot alone called f r target q = absurd f
+freed_read p variables procedure tree access (lent_value u) spot alone called f r target q = absurd f
 freed_read p variables procedure tree access m spot alone called f r target q = absurd q
 
 -- `Run_Input.Get (X);`
 got_read : (p : Context) (procedure tree : PathTree) (m : Meant) (spot : Spot) → IsGet procedure → IsMeant m → MeantRead p (path_expression tree) m → ((path : PathForm) → IsPathRead p tree path → IsTargetRead p tree path) → Quiet (got_wanted m spot) → FoundStatement p (call procedure (expression_argument (path_expression tree) ∷ [])) (getting m)
 got_read p procedure tree (integer_value (reads path)) spot is f r target q = (is, target path (path_of_value p tree path r))
 got_read p procedure tree unknown spot is f r target q = absurd f
+got_read p procedure tree (lent_value u) spot is f r target q = absurd f
 got_read p procedure tree m spot is f r target q = absurd q
 
 -- a procedure that takes a variable is the one that is called
@@ -825,12 +842,49 @@ library_read k p n procedure arguments (Some Get) is w here q r =
     (with_is (is_name procedure.selectors) (is_with k.withs (library_name procedure.root.text (parts_of procedure.selectors))) (library_name procedure.root.text (parts_of procedure.selectors)) Get is) w r
 library_read k p n procedure arguments (Some other) is w here q r = absurd r
 
+-- `P (..);`, where P is a procedure
+scalar_read : (p : Context) (e : ExpressionTree) (kind : VariableKind) (m : Meant) (spot : Spot) → IsMeant m → MeantRead p e m → Quiet (kind_wanted kind m spot) → IsExpressionRead p e (scalar_in m)
+scalar_read p e variable.Integer unknown spot f r q = absurd f
+scalar_read p e variable.Integer (lent_value t) spot f r q = absurd f
+scalar_read p e variable.Integer (integer_value form) spot f r q = r
+scalar_read p e variable.Integer m spot f r q = absurd q
+scalar_read p e variable.Boolean unknown spot f r q = absurd f
+scalar_read p e variable.Boolean (lent_value t) spot f r q = absurd f
+scalar_read p e variable.Boolean (boolean_value form) spot f r q = r
+scalar_read p e variable.Boolean m spot f r q = absurd q
+scalar_read p e (variable.Access t) m spot f r q = absurd q
+scalar_read p e (variable.Record t) m spot f r q = absurd q
+
+actuals_read : (k : Known) (p : Context) (called : Spot) (kinds : List VariableKind) (arguments : List ArgumentTree) → Readable k p → Quiet (given_all_remark k called kinds arguments) → AreActualsRead p arguments (given_all k kinds arguments)
+actuals_read k p called [] [] w q = tt
+actuals_read k p called [] (argument ∷ more) w q = absurd q.0
+actuals_read k p called (kind ∷ kinds) [] w q = absurd q
+actuals_read k p called (kind ∷ kinds) (expression_argument e ∷ more) w q = (
+  scalar_read p e kind (expression_meant k e) (expression_spot e) (expression_known k e w.fits q.0.0) (expression_read k p e w q.0.0) q.0.1,
+  actuals_read k p called kinds more w q.1,
+)
+actuals_read k p called (kind ∷ kinds) (argument ∷ more) w q = absurd q.0.0
+
+called_so : (p : Context) (procedure : PathTree) (arguments : List ArgumentTree) (n : ℕ) (actuals : List ExpressionForm) → procedure.selectors ≡ [] → IsProcedureNamed p procedure.root.text n → AreActualsRead p arguments actuals → IsCallRead p procedure arguments (calls n actuals)
+called_so p procedure [] n actuals alone named_so given = (alone, named_so, given)
+called_so p procedure (expression_argument (path_expression tree) ∷ []) n actuals alone named_so given = (alone, named_so, given)
+called_so p procedure (text_argument spot text ∷ []) n actuals alone named_so given = (alone, named_so, given)
+called_so p procedure (attribute_argument prefix attribute value ∷ []) n actuals alone named_so given = (alone, named_so, given)
+called_so p procedure (expression_argument e ∷ []) n actuals alone named_so given = (alone, named_so, given)
+called_so p procedure (expression_argument (path_expression tree) ∷ (other ∷ more)) n actuals alone named_so given = (alone, named_so, given)
+called_so p procedure (text_argument spot text ∷ (other ∷ more)) n actuals alone named_so given = (alone, named_so, given)
+called_so p procedure (attribute_argument prefix attribute value ∷ (other ∷ more)) n actuals alone named_so given = (alone, named_so, given)
+called_so p procedure (expression_argument e ∷ (other ∷ more)) n actuals alone named_so given = (alone, named_so, given)
+
 -- `P (..);`
 own_read : (k : Known) (p : Context) (procedure : PathTree) (arguments : List ArgumentTree) (o : Option Entity) (alone : Bool) → ((e : Entity) → o ≡ Some e → EntityRead p procedure.root.text e) → (alone ≡ true → procedure.selectors ≡ []) → Readable k p → Quiet (own_call_remark o alone k procedure.root arguments) → FoundStatement p (call procedure arguments) (own_call_found o alone k arguments)
 own_read k p procedure arguments None alone t s w q = absurd q
 own_read k p procedure arguments (Some (entity.Instance access)) true t s w q =
     taker_read k p procedure (callee.Free access) procedure.root.spot arguments (s refl, t (entity.Instance access) refl) w q
 own_read k p procedure arguments (Some (entity.Instance access)) false t s w q = absurd q
+own_read k p procedure arguments (Some (entity.Callable n)) true t s w q =
+    called_so p procedure arguments n.0 (given_all k (profile k n) arguments) (s refl) (t (entity.Callable n) refl) (actuals_read k p procedure.root.spot (profile k n) arguments w q)
+own_read k p procedure arguments (Some (entity.Callable n)) false t s w q = absurd q
 own_read k p procedure arguments (Some entity.Procedure) true t s w q = absurd q
 own_read k p procedure arguments (Some entity.Procedure) false t s w q = absurd q
 own_read k p procedure arguments (Some e) alone t s w q = absurd q

@@ -26,6 +26,8 @@ pub mod Items
 pub mod Values
 -- what a borrower borrows at first
 pub mod Borrowers
+-- calls of procedures
+pub mod Called
 -- statements with no others in them
 pub mod Statements
 -- what is created from one place to another
@@ -38,48 +40,33 @@ pub mod Elaborated
 pub mod Objects
 -- declarations, and what they elaborate
 pub mod Elaborating
+-- the bodies that have ended
+pub mod Lasting
+-- what declarations leave as it was
+pub mod Alike
+-- bodies of procedures
+pub mod Bodies
+-- what each kind of statement does
+pub mod Doing
 -- statements, with those in them
 pub mod Stated
 use Rattle.std.proofs.Common.{◌≡◌, ◌∙◌, ℕ, ◌+◌, Bool, true, false, List, [], ◌∷◌, ◌++◌, length, refl, sym, ap, subst, arith, eq-eqb}
-use Rattle.std.specs.Prelude.{◌&&◌, ◌==◌, map}
-use Rattle.std.specs.List.{list_all}
+use Rattle.std.specs.Prelude.{Some, None, ◌&&◌, ◌==◌}
+use Rattle.std.specs.List.{list_all, slice_get}
 use Rattle.std.proofs.lemmas.List.{append-nil}
-use Rattle.ada_text.specs.declared.spot.Spot.{Spot}
-use Rattle.ada_tree.specs.Statements.{StatementsTree, HandlersTree, SequenceTree, a_sequence, begin_of, UnitTree}
-use Rattle.ada_program.specs.Form.{StmtsForm, HandlersForm}
+use Rattle.ada_tree.specs.Statements.{UnitTree}
 use Rattle.ada_program.specs.ProgramForm.{TypeForm, VariableForm, ProgramForm}
-use Rattle.ada_program.specs.WellFormed.{IsWellFormed, creation, creations, created_by_all, created_by_handlers, Creation, creates_from, has_collections, declarations_fit, collections_first, collection_fits, initial_fits, handlers_fit}
+use Rattle.ada_program.specs.WellFormed.{IsWellFormed, creations, all_creations, created_in_all, Creation, creates_from, has_collections, collections_first, collection_fits, initial_fits}
 use Rattle.ada_resolve.specs.declared.library.Withs.{Withs}
-use Rattle.ada_resolve.specs.Known.{Known, Part}
-use Rattle.ada_resolve.specs.Objects.{after_types}
-use Rattle.ada_resolve.specs.Resolution.{gives, At, known_first, program_of, statements_part, Resolves}
-use Rattle.ada_resolve.proofs.Standing.{Sound, Complete, Grows, grows_on, first_sound, first_complete, declarations_sound, declarations_keep, ended_keeps, BodyDone, body_done, body_sound, body_complete, end_done, statements_stay, handlers_stay}
+use Rattle.ada_resolve.specs.Known.{Known}
+use Rattle.ada_resolve.specs.Resolution.{SequenceForm, known_first, program_of, Resolves}
+use Rattle.ada_resolve.proofs.Standing.{Sound, Complete, first_sound, declarations_keep, sequence_stays, BodyDone, body_done, before_sound, behind_sound}
 use Rattle.ada_resolve.proofs.WellFormed.Tables.{first_part, second_part}
-use Rattle.ada_resolve.proofs.WellFormed.Created.{accesses, Creates, creates_both, has_each}
-use Rattle.ada_resolve.proofs.WellFormed.Elaborated.{Late, InOrder, first_order, after_late}
-use Rattle.ada_resolve.proofs.WellFormed.Elaborating.{declarations_order}
-use Rattle.ada_resolve.proofs.WellFormed.Stated.{AllFit, HandledFit, late_fits, late_creates, declarations_later, stmts_later, statements_fit, handlers_all_fit}
-
--- what is known where the statements of a program begin
-record Ready (k m : Known) : Type 0 where
-  late : Late m
-  creates : Creates k m (map creation m.here.elaborated)
-
--- the declarations of a program
-ready_from : (tree : UnitTree) (program : ProgramForm) (b : BodyDone tree program) → Ready (known_first b.withs tree.name.text) b.ready.0
-ready_from tree program b =
-    let k = known_first b.withs tree.name.text in
-    let first : Sound b.first.0 = subst Sound (sym b.first_known) (first_sound b.withs tree.name.text) in
-    let order : InOrder b.first.0 = subst InOrder (sym b.first_known) (first_order b.withs tree.name.text) in
-    let keeps = declarations_keep tree.declarations b.first b.behind first b.declared in
-    let ended = ended_keeps b.behind.0 in
-    let late = after_late b.behind.0 (declarations_order tree.declarations b.first b.behind first order b.declared) in
-    subst (λ v. Ready k v) (sym b.ready_known) (record {
-      late = late;
-      creates = late_creates k (after_types b.behind.0) late (λ i x none. absurd (cc none))
-          (ended.first_type ∙ (keeps.first_type ∙ ap (λ (v : Known). v.here.first_type) b.first_known))
-          (ended.first_variable ∙ (keeps.first_variable ∙ ap (λ (v : Known). v.here.first_variable) b.first_known));
-    })
+use Rattle.ada_resolve.proofs.WellFormed.Created.{accesses, collected, Creates, has_each}
+use Rattle.ada_resolve.proofs.WellFormed.Elaborated.{InOrder, first_order}
+use Rattle.ada_resolve.proofs.WellFormed.Lasting.{Ended, ended_all, collected_both}
+use Rattle.ada_resolve.proofs.WellFormed.Doing.{SequenceFits}
+use Rattle.ada_resolve.proofs.WellFormed.Stated.{declarations_ordered, sequence_fit}
 
 -- what is created in all, where there are neither types nor variables at first
 all_in_order : (k z : Known) (cs : List Creation) → k.variables ≡ [] → Creates k z cs → creates_from (length z.variables) 0 cs ≡ true
@@ -89,53 +76,60 @@ all_in_order k z cs none c =
     let first : length k.variables ≡ 0 = ap (λ (vs : List VariableForm). length vs) none in
     sym (ap (λ v. creates_from n v cs) first) ∙ (sym (ap (λ es. creates_from n (length k.variables) es) (append-nil cs)) ∙ (all ∙ eq-eqb n n refl))
 
-each_collected : (k z : Known) (cs : List Creation) → k.types ≡ [] → Creates k z cs → has_collections cs 0 z.types ≡ true
-each_collected k z cs none c =
-    has_each cs z.types
-    (λ a. let all = c.collections a in let first : accesses k.types a ≡ 0 = ap (λ (ts : List TypeForm). accesses ts a) none in omega (arith, all, first))
+-- each access type has one collection, and bodies create none
+each_collected : (k z : Known) (cs : List Creation) → k.types ≡ [] → Creates k z cs → Ended z → has_collections (created_in_all z.bodies ++ cs) 0 z.types ≡ true
+each_collected k z cs none c e =
+    has_each (created_in_all z.bodies ++ cs) z.types
+    (λ a.
+    let all = c.collections a in
+    let first : accesses k.types a ≡ 0 = ap (λ (ts : List TypeForm). accesses ts a) none in
+    let bodies = e.none a in
+    let both = collected_both a (created_in_all z.bodies) cs in
+    omega (arith, all, first, bodies, both))
+
+-- no body has ended at first
+pub first_ended : (withs : Withs) (procedure : List ℕ) → Ended (known_first withs procedure)
+first_ended withs procedure = record { fit = λ ts w. refl; none = λ a. refl }
 
 -- a program whose parts fit
-program_fits : (k m o z : Known) (fs : StmtsForm) (hs : HandlersForm) → k.types ≡ [] → k.variables ≡ [] → Ready k m → Grows m o → Grows o z → z.here ≡ m.here → Sound z → AllFit m o false fs → HandledFit o z false hs → IsWellFormed (program_of z fs hs)
-program_fits k m o z fs hs no_types no_variables ready f g here w h i =
-    let ds = m.here.elaborated in
+program_fits : (k m z : Known) (body : SequenceForm) → k.types ≡ [] → k.variables ≡ [] → m.here.first_type ≡ length k.types → m.here.first_variable ≡ length k.variables → Sound z → Complete z → Ended z → SequenceFits m z false body → IsWellFormed (program_of z body.0 body.1)
+program_fits k m z body no_types no_variables first_type first_variable w c e f =
+    let p = program_of z body.0 body.1 in
     let es = z.here.elaborated in
-    let same : es ≡ ds = ap (λ (p : Part). p.elaborated) here in
-    let cs = map creation ds ++ created_by_all fs ++ created_by_handlers hs in
     let front = collections_first es && list_all (collection_fits z.types) es in
     let initials = list_all (initial_fits z.types z.variables) es in
-    let part : declarations_fit z.types z.variables es ≡ true =
-    subst (λ v. declarations_fit z.types z.variables v ≡ true) (sym same) (declarations_later m z (grows_on m o z f g) ds (late_fits m ready.late)) in
-    let both : front ≡ true = first_part front initials part in
-    let own : Creates k z cs =
-    creates_both k o z (map creation ds ++ created_by_all fs) (created_by_handlers hs)
-    (creates_both k m o (map creation ds) (created_by_all fs) ready.creates h.1) i.1 in
-    let all : Creates k z (creations (program_of z fs hs)) =
-    subst (λ v. Creates k z (map creation v ++ created_by_all fs ++ created_by_handlers hs)) (sym same) own in
+    let both : front ≡ true = first_part front initials f.declares in
+    let creates : Creates k z (creations p) =
+    f.creates k (λ i x is. absurd (no_type k.types i x no_types is)) first_type first_variable in
     record {
       types_fit = w.types_fit;
       variables_fit = w.variables_fit;
-      creates_in_order = all_in_order k z (creations (program_of z fs hs)) no_variables all;
+      creates_in_order = all_in_order k z (creations p) no_variables creates;
       collections_first = first_part (collections_first es) (list_all (collection_fits z.types) es) both;
       collections_fit = second_part (collections_first es) (list_all (collection_fits z.types) es) both;
-      has_one_each = each_collected k z (creations (program_of z fs hs)) no_types all;
-      initials_fit = second_part front initials part;
-      statements_fit = stmts_later o z g false fs h.0;
-      handlers_fit = i.0;
+      has_one_each = each_collected k z (creations p) no_types creates e;
+      initials_fit = second_part front initials f.declares;
+      statements_fit = f.own;
+      handlers_fit = f.handled;
+      bodies_fit = ended_all z c e;
     }
+  where
+    no_type : (types : List TypeForm) (i : ℕ) (x : TypeForm) → types ≡ [] → slice_get types i ≡ Some x → ⊥
+    no_type types i x none is = let no : slice_get types i ≡ None = ap (λ (ts : List TypeForm). slice_get ts i) none in cc (no, is)
 
 -- the program that a tree means is well formed
 pub well_formed : (tree : UnitTree) (program : ProgramForm) → Resolves tree program → IsWellFormed program
-well_formed tree program e = let b = body_done tree program e in body_fits tree program b tree.body b.rest
-  where
-    body_fits : (tree : UnitTree) (program : ProgramForm) (b : BodyDone tree program) (body : SequenceTree) → statements_part tree body b.ready ≡ gives program → IsWellFormed program
-    body_fits tree program b (a_sequence start ss hs last) e =
-        let d = end_done tree start ss hs last b.ready program e in
-        let sound = body_sound tree program b in
-        let complete = body_complete tree program b in
-        let own_stays = statements_stay false ss b.ready d.own sound complete d.told in
-        let handled_stays = handlers_stay false hs d.own.1 d.handled own_stays.sound own_stays.complete d.handlers_so in
-        subst IsWellFormed (sym d.form)
-        (program_fits (known_first b.withs tree.name.text) b.ready.0 d.own.1.0 d.handled.1.0 d.own.0 d.handled.0 refl refl (ready_from tree program b)
-        own_stays.grows handled_stays.grows (handled_stays.here ∙ own_stays.here) handled_stays.sound
-        (statements_fit false ss b.ready d.own sound complete d.told)
-        (handlers_all_fit false hs d.own.1 d.handled own_stays.sound own_stays.complete d.handlers_so))
+well_formed tree program e =
+    let b = body_done tree program e in
+    let k = known_first b.withs tree.name.text in
+    let first = before_sound tree program b in
+    let sound = behind_sound tree program b in
+    let order : InOrder b.first.0 = subst InOrder (sym b.first_known) (first_order b.withs tree.name.text) in
+    let keeps = declarations_keep tree.declarations b.first b.behind first b.declared in
+    let o = declarations_ordered tree.declarations b.first b.behind first order b.declared in
+    let f = sequence_fit false tree.body b.behind b.done sound o.order b.told in
+    let stays = (sequence_stays false tree.body b.behind b.done sound b.told).stays in
+    let ended : Ended b.done.1.0 = f.follows.ended (o.follows.ended (subst Ended (sym b.first_known) (first_ended b.withs tree.name.text))) in
+    subst IsWellFormed (sym b.form)
+    (program_fits k b.behind.0 b.done.1.0 b.done.0 refl refl (keeps.first_type ∙ ap (λ (v : Known). v.here.first_type) b.first_known)
+    (keeps.first_variable ∙ ap (λ (v : Known). v.here.first_variable) b.first_known) stays.sound stays.complete ended f)

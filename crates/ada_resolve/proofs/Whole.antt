@@ -1,32 +1,35 @@
 -- The program that a tree means is read back as the tree: its statements, with the declarations in them, and the whole unit.
 
-use Rattle.std.proofs.Common.{◌≡◌, ◌∙◌, ℕ, Bool, true, false, List, [], ◌∷◌, ◌++◌, ◌+◌, length, length-append, refl, sym, ap, subst, eq-eqb}
-use Rattle.std.specs.Prelude.{Some, None}
+use Rattle.std.proofs.Common.{drop, append_assoc, ◌≡◌, ◌∙◌, ℕ, Bool, true, false, List, [], ◌∷◌, ◌++◌, ◌+◌, length, length-append, refl, sym, ap, subst, eq-eqb}
+use Rattle.std.specs.Prelude.{Option, Some, None, ◌==◌}
 use Rattle.std.specs.List.{slice_get, list_all}
 use Rattle.std.proofs.lemmas.List.{append-nil}
 use Rattle.ada_text.specs.declared.spot.Spot.{Spot}
 use Rattle.ada_tree.specs.Names.{Ident, PathTree}
 use Rattle.ada_tree.specs.Expressions.{ExpressionTree, path_expression, ArgumentTree, expression_argument, text_argument, attribute_argument}
-use Rattle.ada_tree.specs.Statements.{DeclarationsTree, no_declarations, endless, while_scheme, for_scheme, StatementTree, null_statement, assignment, call, exit_statement, return_statement, raise_statement, if_statement, loop_statement, block, declare_block, StatementsTree, no_statements, a_statement, BranchesTree, no_branches, a_branch, HandlersTree, no_handlers, a_handler, SequenceTree, a_sequence, begin_of, UnitTree}
+use Rattle.ada_tree.specs.Statements.{body_declaration, a_declaration, DeclarationsTree, no_declarations, endless, while_scheme, for_scheme, StatementTree, null_statement, assignment, call, exit_statement, return_statement, raise_statement, if_statement, loop_statement, block, declare_block, StatementsTree, no_statements, a_statement, BranchesTree, no_branches, a_branch, HandlersTree, no_handlers, a_handler, SequenceTree, a_sequence, begin_of, UnitTree}
 use Rattle.ada_program.specs.declared.program.Choice.{Choice}
 use Rattle.ada_program.specs.declared.program.VariableKind.TheVariants as variable
-use Rattle.ada_program.specs.Form.{DeclarationForm, ExpressionForm, StmtForm, skips, assigns, assigns_record, frees, gets, writes, writes_text, exits, returns, raises, chooses, repeats, counts, encloses, StmtsForm, no_stmts, a_stmt, BranchesForm, otherwise, HandlersForm}
+use Rattle.ada_tree.specs.Declarations.{HeadTree}
+use Rattle.ada_program.specs.Form.{calls, DeclarationForm, ExpressionForm, StmtForm, skips, assigns, assigns_record, frees, gets, writes, writes_text, exits, returns, raises, chooses, repeats, counts, encloses, StmtsForm, no_stmts, a_stmt, BranchesForm, otherwise, HandlersForm}
 use Rattle.ada_program.specs.Form as form
-use Rattle.ada_program.specs.ProgramForm.{VariableForm, ProgramForm}
+use Rattle.ada_program.specs.ProgramForm.{TypeForm, VariableForm, BodyForm, ProgramForm}
 use Rattle.ada_program.specs.WellFormed as well
-use Rattle.ada_resolve.specs.Known.{Known, Part, with_part, left_to, without_part, no_variable_yet}
+use Rattle.ada_resolve.specs.Known.{Known, Part, with_part, left_to, without_part, no_variable_yet, no_body_yet, types_go_on}
 use Rattle.ada_resolve.specs.Instances.{is_collected}
-use Rattle.ada_resolve.specs.Objects.{after_types}
+use Rattle.ada_resolve.specs.Objects.{after_types, ends_types, missing_collections, collections_of}
+use Rattle.ada_resolve.specs.Procedures.{no_formals, with_formals, behind_head, body_of, body_ended}
 use Rattle.ada_resolve.specs.Statements.{bound_meant, condition_meant, text_in, simple_texts, with_texts}
-use Rattle.ada_resolve.specs.Resolution.{gives, At, LoopHead, loop_of, behind_loop, with_parameter, declarations_told, Others, simple_told, statement_told, statements_told, branches_told, handlers_told, program_of, known_first, statements_part, Resolves}
+use Rattle.ada_resolve.specs.Resolution.{gives, At, LoopHead, loop_of, behind_loop, with_parameter, declarations_told, SequenceForm, sequence_told, Others, simple_told, statement_told, statements_told, branches_told, handlers_told, program_of, known_first, Resolves}
 use Rattle.ada_resolve.specs.declared.library.Withs.{Withs}
 use Rattle.ada_resolve.specs.Naming.{Context, Place}
-use Rattle.ada_resolve.specs.Reading.{read_at, inside, behind, with_loop_parameter, IsPartRead, IsExpressionRead, IsCallRead, IsSimpleRead, behind_simple, AreChoicesRead, IsStatementRead, AreStatementsRead, AreBranchesRead, AreHandlersRead, first_place, first_context, statements_in, handlers_in, IsReadAs}
-use Rattle.ada_resolve.proofs.WellFormed.Tables.{get_last}
-use Rattle.ada_resolve.proofs.Standing.{Sound, Complete, Stays, OthersStay, made_from, first_sound, first_complete, if_done, loop_done, LoopDone, HeadIs, block_done, declare_done, SequenceDone, sequence_done, statements_done, branch_done, handler_done, simple_done, ended_sound, declarations_sound, begin_open, begin_complete, part_sound, part_complete, parameter_sound, parameter_complete, texts_stay, statement_stays, statements_stay, branches_stay, handlers_stay, body_done, BodyDone, body_sound, body_complete, EndDone, end_done}
+use Rattle.ada_resolve.specs.Reading.{read_at, inside, behind, with_new_constant, IsPartRead, IsExpressionRead, IsCallRead, IsSimpleRead, behind_simple, AreChoicesRead, IsStatementRead, AreStatementsRead, AreBranchesRead, AreHandlersRead, IsSequenceRead, is_one_of, IsHeadRead, AreFormalsRead, IsNextBody, IsEndName, in_body, behind_body, first_place, first_context, IsReadAs}
+use Rattle.ada_resolve.proofs.WellFormed.Tables.{get_last, both_parts}
+use Rattle.ada_resolve.proofs.Standing.{Grows, Keeps, complete_grows, gives_same, SequenceStays, sequence_stays, BodyStays, body_stays, ProcedureDone, procedure_done, declarations_done, told_sound, told_keeps, declarations_keep, ended_keeps, around_body, ended_is, behind_sound, Sound, Complete, Stays, OthersStay, made_from, first_sound, first_complete, if_done, loop_done, LoopDone, HeadIs, block_done, declare_done, SequenceDone, sequence_done, statements_done, branch_done, handler_done, simple_done, ended_sound, declarations_sound, begin_open, begin_complete, part_sound, part_complete, parameter_sound, parameter_complete, texts_stay, statement_stays, statements_stay, branches_stay, handlers_stay, body_done, BodyDone}
 use Rattle.ada_resolve.proofs.Agreeing.{Agrees, Ahead, Readable, agrees_same, agrees_inside, agrees_parameter, agrees_behind, not_predefined}
 use Rattle.ada_resolve.proofs.Reading.{simple_read, condition_read, bound_read, choices_read}
-use Rattle.ada_resolve.proofs.Elaborated.{ahead_on, ahead_at, ahead_before, after_agrees, PartRead, part_read}
+use Rattle.ada_resolve.proofs.Elaborated.{ahead_on, ahead_at, ahead_before, after_agrees, after_none, after_full, PartRead, LateRead, ends_read, nothing_left, part_first, late_none, late_first, complete_back, body_back, body_late}
+use Rattle.ada_resolve.proofs.Heads.{HeadRead, head_read, ended_agrees, ahead_within, body_there}
 
 -- where a statement is read: all is in order there, and so are the types of the program
 record Here (k : Known) (p : Context) : Type 0 where
@@ -48,7 +51,7 @@ record StatementsRead (p : Context) (ss : StatementsTree) (fs : StmtsForm) (k : 
 
 record BranchesRead (p : Context) (bs : BranchesTree) (others : StatementsTree) (fs : BranchesForm) (k : Known) : Type 0 where
   end : Place
-  read : AreBranchesRead p bs others fs end
+  read : AreBranchesRead p bs (λ q these place. AreStatementsRead q others these place) fs end
   agrees : Agrees k end
 
 record HandlersRead (p : Context) (hs : HandlersTree) (fs : HandlersForm) (k : Known) : Type 0 where
@@ -70,28 +73,29 @@ here_behind k m p end f fit agrees = record { sound = f.sound; complete = f.comp
 
 -- an inner part ends: tables stay
 left_ahead : (m : Known) (outer : List Part) (p : Context) → Ahead (left_to outer m) p → Ahead m p
-left_ahead m [] p w = record { types = w.types; variables = w.variables; exceptions = w.exceptions; texts = w.texts }
-left_ahead m (part ∷ outer) p w = record { types = w.types; variables = w.variables; exceptions = w.exceptions; texts = w.texts }
+left_ahead m [] p w = record { types = w.types; variables = w.variables; exceptions = w.exceptions; texts = w.texts; bodies = w.bodies }
+left_ahead m (part ∷ outer) p w = record { types = w.types; variables = w.variables; exceptions = w.exceptions; texts = w.texts; bodies = w.bodies }
 
 record SameCounts (k m : Known) : Type 0 where
   types : length k.types ≡ length m.types
   variables : length k.variables ≡ length m.variables
   exceptions : length k.exceptions ≡ length m.exceptions
   texts : length k.texts ≡ length m.texts
+  bodies : length k.bodies ≡ length m.bodies
 
 left_counts : (m : Known) (outer : List Part) → SameCounts (left_to outer m) m
-left_counts m [] = record { types = refl; variables = refl; exceptions = refl; texts = refl }
-left_counts m (part ∷ outer) = record { types = refl; variables = refl; exceptions = refl; texts = refl }
+left_counts m [] = record { types = refl; variables = refl; exceptions = refl; texts = refl; bodies = refl }
+left_counts m (part ∷ outer) = record { types = refl; variables = refl; exceptions = refl; texts = refl; bodies = refl }
 
 agrees_left : (k m z : Known) (place end : Place) → Stays k z → z ≡ without_part m → Agrees k place → Agrees m end → Agrees z (behind place end)
 agrees_left k m z place end f is w v =
     let c : SameCounts z m = subst (λ u. SameCounts u m) (sym is) (left_counts m m.outer) in
-    agrees_behind k m z place end (ap (λ (x : Part). x.names) f.here) (ap (λ (x : Part). x.first_type) f.here) f.outer c.types c.variables c.exceptions c.texts w v
+    agrees_behind k m z place end (ap (λ (x : Part). x.names) f.here) (ap (λ (x : Part). x.first_type) f.here) (ap (λ (x : Part). x.around) f.here) f.outer c.types c.bodies c.variables c.exceptions c.texts w v
 
 -- behind a statement with no others in it, where the texts that it writes are counted
 no_texts : (k : Known) (place : Place) → Agrees k place → Agrees (with_texts [] k) place
 no_texts k place w =
-    agrees_same k (with_texts [] k) place refl refl refl refl refl refl (ap (λ (ts : List (List ℕ)). length ts) (append-nil k.texts)) w
+    agrees_same k (with_texts [] k) place refl refl refl refl refl refl refl refl (ap (λ (ts : List (List ℕ)). length ts) (append-nil k.texts)) w
 
 one_text : (k : Known) (place : Place) (text : List ℕ) → Agrees k place → Agrees (with_texts (text ∷ []) k) (record place { texts = place.texts + 1 })
 one_text k place text w = record {
@@ -99,6 +103,7 @@ one_text k place text w = record {
   outer = w.outer;
   first_type = w.first_type;
   types = w.types;
+  bodies = w.bodies;
   variables = w.variables;
   exceptions = w.exceptions;
   texts = ap (λ (n : ℕ). n + 1) w.texts ∙ sym (length-append k.texts (text ∷ []));
@@ -109,6 +114,17 @@ agrees_called k p procedure (text_argument spot text ∷ []) (writes_text n) w r
 agrees_called k p procedure (attribute_argument prefix attribute value ∷ []) (writes form) w r = no_texts k p.place w
 agrees_called k p procedure (expression_argument (path_expression tree) ∷ []) (frees access path) w r = no_texts k p.place w
 agrees_called k p procedure (expression_argument (path_expression tree) ∷ []) (gets path) w r = no_texts k p.place w
+agrees_called k p procedure [] (calls n actuals) w r = no_texts k p.place w
+agrees_called k p procedure (expression_argument (path_expression tree) ∷ []) (calls n actuals) w r = no_texts k p.place w
+agrees_called k p procedure (expression_argument (path_expression tree) ∷ (other ∷ more)) (calls n actuals) w r = no_texts k p.place w
+agrees_called k p procedure (text_argument spot text ∷ []) (calls n []) w r = absurd r.2
+agrees_called k p procedure (text_argument spot text ∷ []) (calls n (actual ∷ actuals)) w r = absurd r.2
+agrees_called k p procedure (text_argument spot text ∷ (other ∷ more)) (calls n []) w r = absurd r.2
+agrees_called k p procedure (text_argument spot text ∷ (other ∷ more)) (calls n (actual ∷ actuals)) w r = absurd r.2
+agrees_called k p procedure (attribute_argument prefix attribute value ∷ []) (calls n actuals) w r = no_texts k p.place w
+agrees_called k p procedure (attribute_argument prefix attribute value ∷ (other ∷ more)) (calls n actuals) w r = no_texts k p.place w
+agrees_called k p procedure (expression_argument e ∷ []) (calls n actuals) w r = no_texts k p.place w
+agrees_called k p procedure (expression_argument e ∷ (other ∷ more)) (calls n actuals) w r = no_texts k p.place w
 agrees_called k p procedure arguments form w r = absurd r
 
 agrees_simple : (k : Known) (p : Context) (s : StatementTree) (form : StmtForm) → Agrees k p.place → IsSimpleRead p s form → Agrees (with_texts (simple_texts s) k) (behind_simple form p.place)
@@ -150,98 +166,231 @@ abbrev ReadsOthers : Context → StatementsTree → Others → Type 0
 ReadsOthers p others tail =
     (place : Place) (at : At) (done : StmtsForm × At) → Here at.0 (read_at place p) → Ahead done.1.0 (read_at place p) → tail at ≡ gives done → StatementsRead (read_at place p) others done.0 done.1.0
 
--- a declarative part, its statements and their handlers
-record BodyRead (p : Context) (ds : DeclarationsTree) (ss : StatementsTree) (hs : HandlersTree) (elaborated : List DeclarationForm) (forms : StmtsForm) (handled : HandlersForm) (k : Known) : Type 0 where
-  declared : Place
-  done : Place
+-- the statements and the handlers of a part
+record SequenceRead (p : Context) (body : SequenceTree) (fs : SequenceForm) (k : Known) : Type 0 where
   end : Place
-  begins : IsPartRead p [] ds elaborated declared
-  statements : AreStatementsRead (read_at declared p) ss forms done
-  handlers : AreHandlersRead (read_at done p) hs handled end
+  read : IsSequenceRead p body fs.0 fs.1 end
   agrees : Agrees k end
 
-body_read : (p : Context) (inside_loop : Bool) (ds : DeclarationsTree) (ss : StatementsTree) (hs : HandlersTree) (at after ready : At) (own : StmtsForm × At) (handled : HandlersForm × At) → Here at.0 p → no_variable_yet at.0 ≡ true → at.0.here.elaborated ≡ [] → declarations_told ds at ≡ gives after → Complete after.0 → ready.0 ≡ after_types after.0 → Complete ready.0 → statements_told inside_loop ss ready ≡ gives own → handlers_told inside_loop hs own.1 ≡ gives handled → Ahead handled.1.0 p → ReadsStatements p inside_loop ss → ReadsHandlers p inside_loop hs → BodyRead p ds ss hs handled.1.0.here.elaborated own.0 handled.0 handled.1.0
-body_read p inside_loop ds ss hs at after ready own handled w none nothing_yet declared c ready_is ready_complete told handlers_so ahead reads handles =
-    record {
-      declared = part.end;
-      done = statements.end;
+-- where a declarative part is read, up to its end
+record Begun (k : Known) (p : Context) : Type 0 where
+  sound : Sound k
+  agrees : Agrees k p.place
+  fit : list_all (well.type_fits p.types) p.types ≡ true
+
+-- how the parts of a body are read, wherever it stands
+abbrev ReadsPart : DeclarationsTree → Type 0
+ReadsPart ds =
+    (q : Context) (at after : At) → Begun at.0 q → types_go_on at.0 ≡ true → Complete after.0 → Ahead after.0 q → declarations_told ds at ≡ gives after → PartRead q ds at.0 after.0
+
+abbrev ReadsSequence : Bool → SequenceTree → Type 0
+ReadsSequence inside_loop body =
+    (q : Context) (at : At) (done : SequenceForm × At) → Begun at.0 q → Ahead done.1.0 q → sequence_told inside_loop body at ≡ gives done → SequenceRead q body done.0 done.1.0
+
+sequence_one : (p : Context) (inside_loop : Bool) (start : Spot) (ss : StatementsTree) (hs : HandlersTree) (last : Spot) (at : At) (done : SequenceForm × At) → Begun at.0 p → Ahead done.1.0 p → SequenceDone inside_loop start ss hs at done → ReadsStatements p inside_loop ss → ReadsHandlers p inside_loop hs → SequenceRead p (a_sequence start ss hs last) done.0 done.1.0
+sequence_one p inside_loop start ss hs last at done w ahead d reads handles =
+    subst (λ (fs : SequenceForm). SequenceRead p (a_sequence start ss hs last) fs done.1.0) (sym d.form) (record {
       end = handlers.end;
-      begins = subst (λ (es : List DeclarationForm). IsPartRead p [] ds es part.end) (sym elaborated) (part.read [] (λ t. ap (λ (es : List DeclarationForm). is_collected t es) (sym nothing_yet)));
-      statements = statements.read;
-      handlers = handlers.read;
-      agrees = handlers.agrees;
-    }
+      read = (statements.end, statements.read, handlers.read);
+      agrees = subst (λ v. Agrees v handlers.end) (sym d.known) handlers.agrees;
+    })
   where
-    after_sound : Sound after.0
-    after_sound = declarations_sound ds at after w.sound declared
+    ready_sound : Sound d.ready.0
+    ready_sound = subst Sound (sym d.ready_known) (ended_sound at.0 w.sound)
 
-    ready_sound : Sound ready.0
-    ready_sound = subst Sound (sym ready_is) (ended_sound after.0 after_sound)
+    ready_complete : Complete d.ready.0
+    ready_complete = subst (λ (v : Known). Complete v) (sym d.ready_known) (begin_complete at.0 start d.quiet)
 
-    first : Stays ready.0 own.1.0
-    first = statements_stay inside_loop ss ready own ready_sound ready_complete told
+    ready_agrees : Agrees d.ready.0 p.place
+    ready_agrees = subst (λ v. Agrees v p.place) (sym d.ready_known) (after_agrees at.0 p.place w.agrees)
 
-    second : Stays own.1.0 handled.1.0
-    second = handlers_stay inside_loop hs own.1 handled first.sound first.complete handlers_so
+    first : Stays d.ready.0 d.own.1.0
+    first = statements_stay inside_loop ss d.ready d.own ready_sound ready_complete d.told
 
-    own_ahead : Ahead own.1.0 p
-    own_ahead = ahead_on own.1.0 handled.1.0 p second.grows ahead
+    second : Stays d.own.1.0 d.handled.1.0
+    second = handlers_stay inside_loop hs d.own.1 d.handled first.sound first.complete d.handlers_so
 
-    ready_ahead : Ahead ready.0 p
-    ready_ahead = ahead_on ready.0 own.1.0 p first.grows own_ahead
+    last_ahead : Ahead d.handled.1.0 p
+    last_ahead = ahead_as done.1.0 d.handled.1.0 p d.known ahead
 
-    after_ahead : Ahead after.0 p
-    after_ahead = ahead_before after.0 p (ahead_as ready.0 (after_types after.0) p ready_is ready_ahead)
+    own_ahead : Ahead d.own.1.0 p
+    own_ahead = ahead_on d.own.1.0 d.handled.1.0 p second.grows last_ahead
 
-    part : PartRead p ds at.0 after.0
-    part = part_read p ds at after w.sound w.agrees none c after_ahead w.fit declared
+    statements : StatementsRead p ss d.own.0 d.own.1.0
+    statements = reads p.place d.ready d.own (record { sound = ready_sound; complete = ready_complete; agrees = ready_agrees; fit = w.fit }) own_ahead d.told
 
-    elaborated : handled.1.0.here.elaborated ≡ part.forms
-    elaborated =
-        ap (λ (x : Part). x.elaborated) (second.here ∙ first.here) ∙
-        (ap (λ (v : Known). v.here.elaborated) ready_is ∙ (part.elaborated ∙ ap (λ (es : List DeclarationForm). es ++ part.forms) nothing_yet))
-
-    ready_agrees : Agrees ready.0 part.end
-    ready_agrees = subst (λ v. Agrees v part.end) (sym ready_is) (after_agrees after.0 part.end part.agrees)
-
-    statements : StatementsRead (read_at part.end p) ss own.0 own.1.0
-    statements = reads part.end ready own (record { sound = ready_sound; complete = ready_complete; agrees = ready_agrees; fit = w.fit }) (ahead_at own.1.0 p part.end own_ahead) told
-
-    handlers : HandlersRead (read_at statements.end p) hs handled.0 handled.1.0
-    handlers = handles statements.end own.1 handled (here_behind ready.0 own.1.0 p statements.end first w.fit statements.agrees) (ahead_at handled.1.0 p statements.end ahead) handlers_so
+    handlers : HandlersRead (read_at statements.end p) hs d.handled.0 d.handled.1.0
+    handlers = handles statements.end d.own.1 d.handled (here_behind d.ready.0 d.own.1.0 p statements.end first w.fit statements.agrees) (ahead_at d.handled.1.0 p statements.end last_ahead) d.handlers_so
 
 -- an inner part begins
-inner_here : (k m : Known) (p : Context) → m ≡ with_part k → Here k p → Here m (read_at (inside p.place) p)
-inner_here k m p is w =
-    here_as (with_part k) m (read_at (inside p.place) p) is (record { sound = part_sound k w.sound w.complete; complete = part_complete k; agrees = agrees_inside k p.place w.agrees; fit = w.fit })
+inner_begun : (k m : Known) (p : Context) → m ≡ with_part k → Here k p → Begun m (read_at (inside p.place) p)
+inner_begun k m p is w =
+    subst (λ v. Begun v (read_at (inside p.place) p)) (sym is) (record { sound = part_sound k w.sound w.complete; agrees = agrees_inside k p.place w.agrees; fit = w.fit })
 
-no_variable_inside : (k m : Known) → m ≡ with_part k → no_variable_yet m ≡ true
-no_variable_inside k m is = ap (λ (v : Known). no_variable_yet v) is ∙ eq-eqb (length k.variables) (length k.variables) refl
+part_goes_on : (k : Known) → types_go_on (with_part k) ≡ true
+part_goes_on k = both_parts (no_variable_yet (with_part k)) (no_body_yet (with_part k)) (eq-eqb (length k.variables) (length k.variables) refl) (eq-eqb (length k.bodies) (length k.bodies) refl)
 
--- a block: its declarations, its statements and its handlers
-record BlockRead (p : Context) (ds : DeclarationsTree) (ss : StatementsTree) (hs : HandlersTree) (done : StmtForm × At) : Type 0 where
-  elaborated : List DeclarationForm
-  forms : StmtsForm
-  handled : HandlersForm
-  last : Known
-  form : done.0 ≡ encloses elaborated forms handled
-  known : done.1.0 ≡ without_part last
-  body : BodyRead (read_at (inside p.place) p) ds ss hs elaborated forms handled last
+types_inside : (k m : Known) → m ≡ with_part k → types_go_on m ≡ true
+types_inside k m is = ap (λ (v : Known). types_go_on v) is ∙ part_goes_on k
 
-block_read : (p : Context) (inside_loop : Bool) (ds : DeclarationsTree) (start : Spot) (ss : StatementsTree) (hs : HandlersTree) (k : Known) (inner after : At) (done : StmtForm × At) → Here k p → inner.0 ≡ with_part k → declarations_told ds inner ≡ gives after → SequenceDone inside_loop start ss hs after done → Ahead done.1.0 p → ReadsStatements (read_at (inside p.place) p) inside_loop ss → ReadsHandlers (read_at (inside p.place) p) inside_loop hs → BlockRead p ds ss hs done
-block_read p inside_loop ds start ss hs k inner after done w is declared d ahead reads handles =
-    let q = read_at (inside p.place) p in
-    let last = ahead_at d.handled.1.0 p (inside p.place) (left_ahead d.handled.1.0 d.handled.1.0.outer p (ahead_as done.1.0 (without_part d.handled.1.0) p d.known ahead)) in
-    record {
-      elaborated = d.handled.1.0.here.elaborated;
-      forms = d.own.0;
-      handled = d.handled.0;
-      last = d.handled.1.0;
-      form = d.form;
-      known = d.known;
-      body = body_read q inside_loop ds ss hs inner after d.ready d.own d.handled (inner_here k inner.0 p is w) (no_variable_inside k inner.0 is) (ap (λ (v : Known). v.here.elaborated) is)
-          declared (begin_open after.0 start d.quiet) d.ready_known (subst (λ (v : Known). Complete v) (sym d.ready_known) (begin_complete after.0 start d.quiet)) d.told d.handlers_so last reads handles;
-    }
+-- a part without declarations creates nothing
+nothing_behind : {X : Type 0} (xs : List X) → drop (length xs) xs ≡ []
+nothing_behind [] = refl
+nothing_behind (x ∷ xs) = nothing_behind xs
+
+nothing_made : (k : Known) → (after_types (with_part k)).here.elaborated ≡ []
+unfolding after_types
+nothing_made k = by_end (types_go_on (with_part k))
+  where
+    none : missing_collections (with_part k) ≡ []
+    none = ap (λ (ts : List TypeForm). collections_of (length k.types) ts []) (nothing_behind k.types)
+
+    by_end : (b : Bool) → (ends_types b (with_part k)).here.elaborated ≡ []
+    by_end true = none
+    by_end false = refl
+
+-- a block, once its part is read
+block_behind : (p : Context) (k m z : Known) (place : Place) → Stays k z → z ≡ without_part m → Agrees k p.place → Agrees m place → Agrees z (behind p.place place)
+block_behind p k m z place f is w v = agrees_left k m z p.place place f is w v
+
+block_ahead : (p : Context) (m z : Known) → z ≡ without_part m → Ahead z p → Ahead m (read_at (inside p.place) p)
+block_ahead p m z is ahead = ahead_at m p (inside p.place) (left_ahead m m.outer p (ahead_as z (without_part m) p is ahead))
+
+-- the body of a procedure, with its head, and what is known behind it
+record ProcedureRead (p : Context) (head : HeadTree) (inner : DeclarationsTree) (body : SequenceTree) (end_name : Option Ident) (m : Known) : Type 0 where
+  b : BodyForm
+  formals : Place
+  declared : Place
+  done : Place
+  head_so : IsHeadRead p head
+  formals_so : AreFormalsRead (in_body head.name b p) head.formals formals
+  part_so : IsPartRead (read_at formals (in_body head.name b p)) (Some []) inner b.declarations declared
+  body_so : IsSequenceRead (read_at declared (in_body head.name b p)) body b.statements b.handlers done
+  next_so : IsNextBody p b formals done
+  end_so : IsEndName head.name.text end_name
+  agrees : Agrees m (behind_body head.name p.place done)
+
+inner_goes_on : (k : Known) (head : HeadTree) → types_go_on (behind_head k head) ≡ true
+unfolding behind_head
+inner_goes_on k head =
+    let f = with_formals k head.formals no_formals in
+    both_parts (length f.variables == length f.variables) (length k.bodies == length k.bodies) (eq-eqb (length f.variables) (length f.variables) refl) (eq-eqb (length k.bodies) (length k.bodies) refl)
+
+inner_elaborated : (k : Known) (head : HeadTree) → (behind_head k head).here.elaborated ≡ []
+unfolding behind_head
+inner_elaborated k head = refl
+
+inner_first : (k : Known) (head : HeadTree) → (behind_head k head).here.first_variable ≡ length (behind_head k head).variables
+unfolding behind_head
+inner_first k head = refl
+
+procedure_read : (p : Context) (head : HeadTree) (inner : DeclarationsTree) (body : SequenceTree) (end_name : Option Ident) (at next : At) → Begun at.0 p → Ahead next.0 p → ProcedureDone head inner body end_name at next → ReadsPart inner → ReadsSequence false body → ProcedureRead p head inner body end_name next.0
+procedure_read p head inner body end_name at next w ahead d part_so sequence_so = record {
+  b = b;
+  formals = first.end;
+  declared = part.end;
+  done = sequence.end;
+  head_so = first.head_so;
+  formals_so = first.read;
+  part_so = subst (λ (es : List DeclarationForm). IsPartRead (read_at first.end q) (Some []) inner es part.end) (sym elaborated) (part.read [] nothing_yet);
+  body_so = sequence.read;
+  next_so = (body_there k z head d.done.0.0 d.done.0.1 p sequence.end stays.done_in next_ahead sequence.agrees, formals_count, sym sequence.agrees.variables);
+  end_so = d.end_so;
+  agrees = subst (λ v. Agrees v (behind_body head.name p.place sequence.end)) (sym d.known)
+      (ended_agrees k z head d.done.0.0 d.done.0.1 p.place sequence.end stays.done_in agrees sequence.agrees);
+}
+  where
+    k : Known
+    k = after_types at.0
+
+    z : Known
+    z = d.done.1.0
+
+    b : BodyForm
+    b = body_of z d.done.0.0 d.done.0.1
+
+    q : Context
+    q = in_body head.name b p
+
+    stays : BodyStays at d.inner d.behind next head d.done
+    stays = body_stays head inner body end_name at next d w.sound
+
+    agrees : Agrees k p.place
+    agrees = after_agrees at.0 p.place w.agrees
+
+    next_ahead : Ahead (body_ended head.name d.done.0.0 d.done.0.1 z) p
+    next_ahead = ahead_as next.0 (body_ended head.name d.done.0.0 d.done.0.1 z) p d.known ahead
+
+    z_ahead : Ahead z q
+    z_ahead = ahead_within k z head d.done.0.0 d.done.0.1 p stays.done_in next_ahead
+
+    behind_ahead : Ahead d.behind.0 q
+    behind_ahead = ahead_before d.behind.0 q (ahead_on (after_types d.behind.0) z q stays.sequence.stays.grows z_ahead)
+
+    inner_keeps : Keeps d.inner.0 d.behind.0
+    inner_keeps = declarations_keep inner d.inner d.behind stays.inner_sound d.declared
+
+    inner_grows : Grows d.inner.0 d.behind.0
+    inner_grows = complete_grows d.inner.0 d.behind.0 stays.inner_complete inner_keeps
+
+    inner_ahead : Ahead (behind_head k head) q
+    inner_ahead = ahead_as d.inner.0 (behind_head k head) q d.inner_known (ahead_on d.inner.0 d.behind.0 q inner_grows behind_ahead)
+
+    first : HeadRead p head b (behind_head k head)
+    first = head_read k p head b agrees d.quiet inner_ahead.variables
+
+    part : PartRead (read_at first.end q) inner d.inner.0 d.behind.0
+    part = part_so (read_at first.end q) d.inner d.behind
+        (record { sound = stays.inner_sound; agrees = subst (λ v. Agrees v first.end) (sym d.inner_known) first.agrees; fit = w.fit })
+        (ap (λ (v : Known). types_go_on v) d.inner_known ∙ inner_goes_on k head) stays.sequence.complete (ahead_at d.behind.0 q first.end behind_ahead) d.declared
+
+    sequence : SequenceRead (read_at part.end q) body d.done.0 z
+    sequence = sequence_so (read_at part.end q) d.behind d.done (record { sound = stays.behind_in.sound; agrees = part.agrees; fit = w.fit }) (ahead_at z q part.end z_ahead) d.told
+
+    nothing : d.inner.0.here.elaborated ≡ []
+    nothing = ap (λ (v : Known). v.here.elaborated) d.inner_known ∙ inner_elaborated k head
+
+    nothing_yet : (t : ℕ) → is_one_of t [] ≡ is_collected t d.inner.0.here.elaborated
+    nothing_yet t = ap (λ (es : List DeclarationForm). is_collected t es) (sym nothing)
+
+    elaborated : z.here.elaborated ≡ part.forms
+    elaborated =
+        ap (λ (x : Part). x.elaborated) stays.sequence.stays.here ∙
+        (part.elaborated ∙ ap (λ (es : List DeclarationForm). es ++ part.forms) nothing)
+
+    same_first : (after_types d.behind.0).here.first_variable ≡ d.behind.0.here.first_variable
+    same_first = (ended_keeps d.behind.0).first_variable
+
+    formals_count : z.here.first_variable ≡ first.end.variables
+    formals_count =
+        ap (λ (x : Part). x.first_variable) stays.sequence.stays.here ∙
+        (same_first ∙ (inner_keeps.first_variable ∙ (ap (λ (v : Known). v.here.first_variable) d.inner_known ∙ (inner_first k head ∙ sym first.agrees.variables))))
+
+-- a body among types, and one behind another
+body_first : (p : Context) (head : HeadTree) (inner : DeclarationsTree) (body : SequenceTree) (end_name : Option Ident) (ds : DeclarationsTree) (at next after : At) → Agrees at.0 p.place → types_go_on at.0 ≡ true → Complete at.0 → Ahead at.0 p → next.0.here.elaborated ≡ (after_types at.0).here.elaborated → (r : ProcedureRead p head inner body end_name next.0) → LateRead (read_at (behind_body head.name p.place r.done) p) ds next.0 after.0 → PartRead p (a_declaration (body_declaration head inner body end_name) ds) at.0 after.0
+body_first p head inner body end_name ds at next after w go c ahead same r on = record {
+  forms = missing_collections at.0 ++ on.forms;
+  end = on.end;
+  elaborated = on.elaborated ∙ (ap (λ (es : List DeclarationForm). es ++ on.forms) (same ∙ ap (λ (v : Known). v.here.elaborated) (after_none at.0 go)) ∙
+      append_assoc at.0.here.elaborated (missing_collections at.0) on.forms);
+  read = λ made collected. (r.b, on.forms, r.formals, r.declared, r.done, ends_read at.0 p on.forms w c ahead made collected, r.head_so, r.formals_so, r.part_so, r.body_so, r.next_so, r.end_so, on.read);
+  agrees = on.agrees;
+}
+
+body_later : (p : Context) (head : HeadTree) (inner : DeclarationsTree) (body : SequenceTree) (end_name : Option Ident) (ds : DeclarationsTree) (at next after : At) → types_go_on at.0 ≡ false → next.0.here.elaborated ≡ (after_types at.0).here.elaborated → (r : ProcedureRead p head inner body end_name next.0) → LateRead (read_at (behind_body head.name p.place r.done) p) ds next.0 after.0 → LateRead p (a_declaration (body_declaration head inner body end_name) ds) at.0 after.0
+body_later p head inner body end_name ds at next after late same r on = record {
+  forms = on.forms;
+  end = on.end;
+  elaborated = on.elaborated ∙ ap (λ (es : List DeclarationForm). es ++ on.forms) (same ∙ ap (λ (v : Known). v.here.elaborated) (after_full at.0 late));
+  read = (r.b, on.forms, r.formals, r.declared, r.done, refl, r.head_so, r.formals_so, r.part_so, r.body_so, r.next_so, r.end_so, on.read);
+  agrees = on.agrees;
+}
+
+-- a body elaborates nothing in the part around it
+body_elaborates : (head : HeadTree) (inner : DeclarationsTree) (body : SequenceTree) (end_name : Option Ident) (at next : At) (d : ProcedureDone head inner body end_name at next) → Sound at.0 → next.0.here.elaborated ≡ (after_types at.0).here.elaborated
+body_elaborates head inner body end_name at next d s =
+    let stays = body_stays head inner body end_name at next d s in
+    ap (λ (v : Known). v.here.elaborated) (d.known ∙ ended_is (around_body (after_types at.0) head) d.done.1.0 head.name d.done.0.0 d.done.0.1 stays.done_in)
 
 -- a loop over the values of a parameter
 range_read : (p : Context) (inside_loop : Bool) (spot : Spot) (name : Ident) (low high : ExpressionTree) (ss : StatementsTree) (last : Spot) (at : At) (done : StmtForm × At) → Here at.0 p → Ahead done.1.0 p → Stays at.0 done.1.0 → (d : LoopDone spot (for_scheme name low high) ss last at done) → ReadsStatements p true ss → StatementRead p (loop_statement spot (for_scheme name low high) ss last) done.0 done.1.0
@@ -268,7 +417,7 @@ range_read p inside_loop spot name low high ss last at done w ahead stays d read
     known = d.known ∙ ap (λ (h : LoopHead). behind_loop h d.own.1.0) is.1
 
     place : Place
-    place = with_loop_parameter name (inside p.place)
+    place = with_new_constant name (inside p.place)
 
     begun : Here d.head.1.0 (read_at place p)
     begun = here_as (with_parameter name k) d.head.1.0 (read_at place p) is.2
@@ -326,34 +475,99 @@ mutual
       range_read p inside_loop spot name low high ss last at done w ahead (statement_stays inside_loop (loop_statement spot (for_scheme name low high) ss last) at done w.sound w.complete e)
       (loop_done inside_loop spot (for_scheme name low high) ss last at done e)
       (λ place before out here there told. statements_read (read_at place p) true ss before out here there told)
-  statement_read p inside_loop (block (a_sequence start ss hs last)) at done w ahead e =
-      let s = block (a_sequence start ss hs last) in
-      let d = block_done inside_loop (a_sequence start ss hs last) at done e in
+  statement_read p inside_loop (block body) at done w ahead e =
+      let s = block body in
+      let d = block_done inside_loop body at done e in
       let stays = statement_stays inside_loop s at done w.sound w.complete e in
       let q = read_at (inside p.place) p in
-      let r = block_read p inside_loop no_declarations start ss hs at.0 d.inner d.inner done w d.inner_known refl (sequence_done inside_loop start ss hs last d.inner done d.told) ahead
-      (λ place before out here there told. statements_read (read_at place q) inside_loop ss before out here there told)
-      (λ place before out here there told. handlers_read (read_at place q) inside_loop hs before out here there told) in
-      statement_is p s done.0 (encloses r.elaborated r.forms r.handled) done.1.0 done.1.0 r.form refl (record {
-        end = behind p.place r.body.end;
-        read = (r.body.declared, r.body.done, r.body.end, r.body.begins, r.body.statements, r.body.handlers, refl);
-        agrees = agrees_left at.0 r.last done.1.0 p.place r.body.end stays r.known w.agrees r.body.agrees;
+      let m = d.body_done.1.0 in
+      let begun = inner_begun at.0 d.inner.0 p d.inner_known w in
+      let own = sequence_stays inside_loop body d.inner d.body_done begun.sound d.told in
+      let r = sequence_read q inside_loop body d.inner d.body_done begun (block_ahead p m done.1.0 d.known ahead) d.told in
+      let nothing : m.here.elaborated ≡ [] = ap (λ (x : Part). x.elaborated) own.stays.here ∙
+      (ap (λ (v : Known). (after_types v).here.elaborated) d.inner_known ∙ nothing_made at.0) in
+      statement_is p s done.0 (encloses m.here.elaborated d.body_done.0.0 d.body_done.0.1) done.1.0 done.1.0 d.form refl (record {
+        end = behind p.place r.end;
+        read = (r.end, nothing, r.read, refl);
+        agrees = agrees_left at.0 m done.1.0 p.place r.end stays d.known w.agrees r.agrees;
       })
-  statement_read p inside_loop (declare_block spot ds (a_sequence start ss hs last)) at done w ahead e =
-      let s = declare_block spot ds (a_sequence start ss hs last) in
-      let d = declare_done inside_loop spot ds (a_sequence start ss hs last) at done e in
+  statement_read p inside_loop (declare_block spot ds body) at done w ahead e =
+      let s = declare_block spot ds body in
+      let d = declare_done inside_loop spot ds body at done e in
       let stays = statement_stays inside_loop s at done w.sound w.complete e in
       let q = read_at (inside p.place) p in
-      let r = block_read p inside_loop ds start ss hs at.0 d.inner d.behind done w d.inner_known d.declared (sequence_done inside_loop start ss hs last d.behind done d.told) ahead
-      (λ place before out here there told. statements_read (read_at place q) inside_loop ss before out here there told)
-      (λ place before out here there told. handlers_read (read_at place q) inside_loop hs before out here there told) in
-      statement_is p s done.0 (encloses r.elaborated r.forms r.handled) done.1.0 done.1.0 r.form refl (record {
-        end = behind p.place r.body.end;
-        read = (r.body.declared, r.body.done, r.body.end, r.body.begins, r.body.statements, r.body.handlers, refl);
-        agrees = agrees_left at.0 r.last done.1.0 p.place r.body.end stays r.known w.agrees r.body.agrees;
+      let m = d.body_done.1.0 in
+      let begun = inner_begun at.0 d.inner.0 p d.inner_known w in
+      let behind_sound = declarations_sound ds d.inner d.behind begun.sound d.declared in
+      let own = sequence_stays inside_loop body d.behind d.body_done behind_sound d.told in
+      let last = block_ahead p m done.1.0 d.known ahead in
+      let behind_ahead = ahead_before d.behind.0 q (ahead_on (after_types d.behind.0) m q own.stays.grows last) in
+      let part = part_read q ds d.inner d.behind begun (types_inside at.0 d.inner.0 d.inner_known) own.complete behind_ahead d.declared in
+      let r = sequence_read (read_at part.end q) inside_loop body d.behind d.body_done (record { sound = behind_sound; agrees = part.agrees; fit = w.fit }) (ahead_at m q part.end last) d.told in
+      let nothing : d.inner.0.here.elaborated ≡ [] = ap (λ (v : Known). v.here.elaborated) d.inner_known in
+      let elaborated : m.here.elaborated ≡ part.forms = ap (λ (x : Part). x.elaborated) own.stays.here ∙
+      (part.elaborated ∙ ap (λ (es : List DeclarationForm). es ++ part.forms) nothing) in
+      let begins : IsPartRead q (Some []) ds m.here.elaborated part.end = subst (λ (es : List DeclarationForm). IsPartRead q (Some []) ds es part.end) (sym elaborated)
+      (part.read [] (λ t. ap (λ (es : List DeclarationForm). is_collected t es) (sym nothing))) in
+      statement_is p s done.0 (encloses m.here.elaborated d.body_done.0.0 d.body_done.0.1) done.1.0 done.1.0 d.form refl (record {
+        end = behind p.place r.end;
+        read = (part.end, r.end, begins, r.read, refl);
+        agrees = agrees_left at.0 m done.1.0 p.place r.end stays d.known w.agrees r.agrees;
       })
   statement_read p inside_loop s at done w ahead e =
       let r = simple_one p inside_loop s at done w ahead e in record { end = behind_simple done.0 p.place; read = (r.0, refl); agrees = r.1 }
+
+  -- the statements and the handlers of a part
+  sequence_read : (p : Context) (inside_loop : Bool) (body : SequenceTree) (at : At) (done : SequenceForm × At) → Begun at.0 p → Ahead done.1.0 p → sequence_told inside_loop body at ≡ gives done → SequenceRead p body done.0 done.1.0
+  sequence_read p inside_loop (a_sequence start ss hs last) at done w ahead e =
+      sequence_one p inside_loop start ss hs last at done w ahead (sequence_done inside_loop start ss hs last at done e)
+      (λ place before out here there told. statements_read (read_at place p) inside_loop ss before out here there told)
+      (λ place before out here there told. handlers_read (read_at place p) inside_loop hs before out here there told)
+
+  -- the declarations, from one on where the types go on
+  part_read : (p : Context) (ds : DeclarationsTree) (at after : At) → Begun at.0 p → types_go_on at.0 ≡ true → Complete after.0 → Ahead after.0 p → declarations_told ds at ≡ gives after → PartRead p ds at.0 after.0
+  part_read p no_declarations at after w go c ahead e =
+      let same = gives_same e in
+      subst (λ (v : At). PartRead p no_declarations at.0 v.0) same
+      (nothing_left at.0 p w.agrees go (subst (λ (v : At). Complete v.0) (sym same) c) (subst (λ (v : At). Ahead v.0 p) (sym same) ahead))
+  part_read p (a_declaration (body_declaration head inner body end_name) ds) at after w go c ahead e =
+      let d = body_declaration head inner body end_name in
+      let done = declarations_done d ds at after e in
+      let own = procedure_done head inner body end_name at done.next done.one in
+      let sound = told_sound d at done.next w.sound done.one in
+      let late = body_late head inner body end_name at done.next own w.sound in
+      let next_complete = complete_back ds done.next after sound late done.told c in
+      let complete = body_back head inner body end_name at done.next own w.sound next_complete in
+      let next_ahead = ahead_on done.next.0 after.0 p (complete_grows done.next.0 after.0 next_complete (declarations_keep ds done.next after sound done.told)) ahead in
+      let at_ahead = ahead_on at.0 done.next.0 p (complete_grows at.0 done.next.0 complete (told_keeps d at done.next w.sound done.one)) next_ahead in
+      let r = procedure_read p head inner body end_name at done.next w next_ahead own
+      (λ q before out begun going full there told. part_read q inner before out begun going full there told)
+      (λ q before out begun there told. sequence_read q false body before out begun there told) in
+      let place = behind_body head.name p.place r.done in
+      let on = late_read (read_at place p) ds done.next after (record { sound = sound; agrees = r.agrees; fit = w.fit }) late c (ahead_at after.0 p place ahead) done.told in
+      body_first p head inner body end_name ds at done.next after w.agrees go complete at_ahead (body_elaborates head inner body end_name at done.next own w.sound) r on
+  part_read p (a_declaration d ds) at after w go c ahead e =
+      part_first p d ds at after tt w.sound w.agrees go c ahead w.fit e
+      (λ q next sound agrees going there fit told. part_read q ds next after (record { sound = sound; agrees = agrees; fit = fit }) going c there told)
+
+  -- from one on where they have ended
+  late_read : (p : Context) (ds : DeclarationsTree) (at after : At) → Begun at.0 p → types_go_on at.0 ≡ false → Complete after.0 → Ahead after.0 p → declarations_told ds at ≡ gives after → LateRead p ds at.0 after.0
+  late_read p no_declarations at after w late c ahead e = late_none p at after w.agrees late e
+  late_read p (a_declaration (body_declaration head inner body end_name) ds) at after w late c ahead e =
+      let d = body_declaration head inner body end_name in
+      let done = declarations_done d ds at after e in
+      let own = procedure_done head inner body end_name at done.next done.one in
+      let sound = told_sound d at done.next w.sound done.one in
+      let next_late = body_late head inner body end_name at done.next own w.sound in
+      let next_complete = complete_back ds done.next after sound next_late done.told c in
+      let next_ahead = ahead_on done.next.0 after.0 p (complete_grows done.next.0 after.0 next_complete (declarations_keep ds done.next after sound done.told)) ahead in
+      let r = procedure_read p head inner body end_name at done.next w next_ahead own
+      (λ q before out begun going full there told. part_read q inner before out begun going full there told)
+      (λ q before out begun there told. sequence_read q false body before out begun there told) in
+      let place = behind_body head.name p.place r.done in
+      let on = late_read (read_at place p) ds done.next after (record { sound = sound; agrees = r.agrees; fit = w.fit }) next_late c (ahead_at after.0 p place ahead) done.told in
+      body_later p head inner body end_name ds at done.next after late (body_elaborates head inner body end_name at done.next own w.sound) r on
+  late_read p (a_declaration d ds) at after w late c ahead e = late_first p d ds at after tt w.sound w.agrees late c ahead e
 
   statements_read : (p : Context) (inside_loop : Bool) (ss : StatementsTree) (at : At) (done : StmtsForm × At) → Here at.0 p → Ahead done.1.0 p → statements_told inside_loop ss at ≡ gives done → StatementsRead p ss done.0 done.1.0
   statements_read p inside_loop no_statements at done w ahead e =
@@ -417,54 +631,68 @@ mutual
         agrees = subst (λ v. Agrees v rest.end) (sym known) rest.agrees;
       })
 
--- the statements of a unit, its handlers and its end
-end_of : (tree : UnitTree) (body : SequenceTree) (at : At) (p : ProgramForm) → statements_part tree body at ≡ gives p → EndDone (statements_in body) (handlers_in body) at p
-end_of tree (a_sequence start ss hs last) at p e = end_done tree start ss hs last at p e
-
 -- nothing is bound before the first declaration
 first_agrees : (withs : Withs) (procedure : List ℕ) → Agrees (known_first withs procedure) first_place
-first_agrees withs procedure = record { here = λ text. refl; outer = λ text. refl; first_type = refl; types = refl; variables = refl; exceptions = refl; texts = refl }
+first_agrees withs procedure = record { here = λ text. refl; outer = λ text. refl; first_type = refl; types = refl; bodies = refl; variables = refl; exceptions = refl; texts = refl }
 
 -- a whole unit
-unit_read : (tree : UnitTree) (p : ProgramForm) (b : BodyDone tree p) → EndDone (statements_in tree.body) (handlers_in tree.body) b.ready p → IsReadAs tree p
-unit_read tree p b d = subst (λ v. IsReadAs tree v) (sym d.form) (record {
+unit_read : (tree : UnitTree) (p : ProgramForm) (b : BodyDone tree p) → IsReadAs tree p
+unit_read tree p b = subst (λ v. IsReadAs tree v) (sym b.form) (record {
   own_name = (refl, not_predefined tree.name b.quiet_name.0);
-  declared = r.declared;
-  done = r.done;
-  end = r.end;
-  elaborated = r.begins;
-  statements = r.statements;
-  handlers = r.handlers;
-  counted = record { types = sym r.agrees.types; variables = sym r.agrees.variables; exceptions = sym r.agrees.exceptions; texts = sym r.agrees.texts };
+  end_name = b.end_so;
+  declared = part.end;
+  end = sequence.end;
+  elaborated = begins;
+  body = sequence.read;
+  counted = record {
+    types = sym sequence.agrees.types;
+    bodies = sym sequence.agrees.bodies;
+    variables = sym sequence.agrees.variables;
+    exceptions = sym sequence.agrees.exceptions;
+    texts = sym sequence.agrees.texts;
+  };
 })
   where
     z : Known
-    z = d.handled.1.0
+    z = b.done.1.0
 
     c : Context
-    c = first_context (program_of z d.own.0 d.handled.0)
+    c = first_context (program_of z b.done.0.0 b.done.0.1)
 
-    first : Stays b.ready.0 d.own.1.0
-    first = statements_stay false (statements_in tree.body) b.ready d.own (body_sound tree p b) (body_complete tree p b) d.told
+    first : Begun (known_first b.withs tree.name.text) (first_context (program_of z b.done.0.0 b.done.0.1)) → Begun b.first.0 c
+    first w = subst (λ v. Begun v c) (sym b.first_known) w
 
-    second : Stays d.own.1.0 z
-    second = handlers_stay false (handlers_in tree.body) d.own.1 d.handled first.sound first.complete d.handlers_so
+    behind : Sound b.behind.0
+    behind = behind_sound tree p b
+
+    own : SequenceStays b.behind.0 z
+    own = sequence_stays false tree.body b.behind b.done behind b.told
 
     ahead : Ahead z c
-    ahead = record { types = λ t x is. is; variables = λ t x is. is; exceptions = λ t x is. is; texts = λ t x is. is }
+    ahead = record { types = λ t x is. is; variables = λ t x is. is; exceptions = λ t x is. is; texts = λ t x is. is; bodies = λ t x is. is }
 
-    before : Here (known_first b.withs tree.name.text) c
-    before = record { sound = first_sound b.withs tree.name.text; complete = first_complete b.withs tree.name.text; agrees = first_agrees b.withs tree.name.text; fit = second.sound.types_fit }
+    begun : Begun b.first.0 c
+    begun = first (record { sound = first_sound b.withs tree.name.text; agrees = first_agrees b.withs tree.name.text; fit = own.stays.sound.types_fit })
 
-    none : no_variable_yet b.first.0 ≡ true
-    none = ap (λ (v : Known). no_variable_yet v) b.first_known
+    behind_ahead : Ahead b.behind.0 c
+    behind_ahead = ahead_before b.behind.0 c (ahead_on (after_types b.behind.0) z c own.stays.grows ahead)
 
-    r : BodyRead c tree.declarations (statements_in tree.body) (handlers_in tree.body) z.here.elaborated d.own.0 d.handled.0 z
-    r = body_read c false tree.declarations (statements_in tree.body) (handlers_in tree.body) b.first b.behind b.ready d.own d.handled (here_as (known_first b.withs tree.name.text) b.first.0 c b.first_known before)
-        none (ap (λ (v : Known). v.here.elaborated) b.first_known) b.declared (begin_open b.behind.0 (begin_of tree.body) b.quiet) b.ready_known (body_complete tree p b) d.told d.handlers_so ahead
-        (λ place at out here there told. statements_read (read_at place c) false (statements_in tree.body) at out here there told)
-        (λ place at out here there told. handlers_read (read_at place c) false (handlers_in tree.body) at out here there told)
+    part : PartRead c tree.declarations b.first.0 b.behind.0
+    part = part_read c tree.declarations b.first b.behind begun (ap (λ (v : Known). types_go_on v) b.first_known) own.complete behind_ahead b.declared
+
+    sequence : SequenceRead (read_at part.end c) tree.body b.done.0 z
+    sequence = sequence_read (read_at part.end c) false tree.body b.behind b.done (record { sound = behind; agrees = part.agrees; fit = own.stays.sound.types_fit }) (ahead_at z c part.end ahead) b.told
+
+    nothing : b.first.0.here.elaborated ≡ []
+    nothing = ap (λ (v : Known). v.here.elaborated) b.first_known
+
+    elaborated : z.here.elaborated ≡ part.forms
+    elaborated = ap (λ (x : Part). x.elaborated) own.stays.here ∙ (part.elaborated ∙ ap (λ (es : List DeclarationForm). es ++ part.forms) nothing)
+
+    begins : IsPartRead c (Some []) tree.declarations z.here.elaborated part.end
+    begins = subst (λ (es : List DeclarationForm). IsPartRead c (Some []) tree.declarations es part.end) (sym elaborated)
+        (part.read [] (λ t. ap (λ (es : List DeclarationForm). is_collected t es) (sym nothing)))
 
 -- a program is read as its tree
 pub read_as : (tree : UnitTree) (program : ProgramForm) → Resolves tree program → IsReadAs tree program
-read_as tree program e = let b = body_done tree program e in unit_read tree program b (end_of tree tree.body b.ready program b.rest)
+read_as tree program e = unit_read tree program (body_done tree program e)

@@ -11,7 +11,7 @@ use Rattle.ada_resolve.specs.declared.fault.NameRule.TheVariants.{WrongType}
 use Rattle.ada_resolve.specs.declared.rights.Held.{Held}
 use Rattle.ada_resolve.specs.declared.rights.Held.TheVariants as held
 use Rattle.ada_resolve.specs.Known.{Known, visible}
-use Rattle.ada_resolve.specs.Paths.{Meant, access_value, boolean_value, integer_value, path_meant, path_remark, record_value, unknown, written_wanted}
+use Rattle.ada_resolve.specs.Paths.{Meant, access_value, boolean_value, integer_value, lent_value, path_meant, path_remark, record_value, unknown, written_wanted}
 use Rattle.ada_resolve.specs.Remark.{Remark, fine, wrong, node, ◌also◌}
 use Rattle.ada_resolve.specs.Rights.{Assigned, a_value, a_whole, right_found, right_remark}
 
@@ -48,6 +48,7 @@ target_wanted unknown spot = fine
 target_wanted (integer_value e) spot = read_wanted e spot
 target_wanted (boolean_value e) spot = read_wanted e spot
 target_wanted (access_value path t) spot = fine
+target_wanted (lent_value t) spot = fine
 target_wanted (record_value path) spot = fine
 target_wanted other spot = wrong spot WrongType
 

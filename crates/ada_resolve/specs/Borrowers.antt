@@ -14,7 +14,7 @@ use Rattle.ada_resolve.specs.Remark.{Remark, fine, wrong, node, ◌also◌, wron
 use Rattle.ada_resolve.specs.Expressions.{expression_remark}
 use Rattle.ada_resolve.specs.Instances.{designates_if_known}
 use Rattle.ada_resolve.specs.Objects.{variable_created}
-use Rattle.ada_resolve.specs.Paths.{Meant, access_value, path_meant, unknown}
+use Rattle.ada_resolve.specs.Paths.{Meant, access_value, lent_value, path_meant, unknown}
 use Rattle.ada_resolve.specs.Rights.{right_remark}
 use Rattle.ada_resolve.specs.Types.{record_found, record_remark}
 
@@ -32,6 +32,7 @@ lender_found known other = None
 abbrev pub lender_wanted : List TypeForm → Option TypeNo → Meant → Spot → Remark
 lender_wanted types designated unknown spot = fine
 lender_wanted types designated (access_value path t) spot = wrong_if (not (designates_if_known types t.0 designated)) spot WrongType
+lender_wanted types designated (lent_value t) spot = wrong_if (not (designates_if_known types t.0 designated)) spot WrongType
 lender_wanted types designated other spot = wrong spot WrongType
 
 -- What is wrong with the initial value of a borrower: it is a path, without parentheses (the profile's). Any other value is looked through too.

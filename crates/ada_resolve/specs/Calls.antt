@@ -18,6 +18,7 @@ use Rattle.ada_resolve.specs.Known.{Known, visible, missing, library_path_remark
 use Rattle.ada_resolve.specs.Library.{is_library_root}
 use Rattle.ada_resolve.specs.Remark.{Remark, fine, wrong, node, ◌also◌, wrong_if}
 use Rattle.ada_resolve.specs.Spots.{argument_spot, expression_spot}
+use Rattle.ada_resolve.specs.Actuals.{procedure_call_found, procedure_call_remark}
 use Rattle.ada_resolve.specs.Arguments.{argument_remark, arguments_remark, none_wanted}
 use Rattle.ada_resolve.specs.Expressions.{expression_remark}
 use Rattle.ada_resolve.specs.Lines.{put_line_found, put_line_remark}
@@ -99,10 +100,13 @@ library_call_found (Some Get) known texts arguments = taker_found known callee.G
 library_call_found (Some other) known texts arguments = None
 library_call_found None known texts arguments = None
 
--- A call of a declared name: of an instance of Unchecked_Deallocation; a call of the main procedure itself is not in the profile yet.
+-- A call of a declared name: of an instance of Unchecked_Deallocation, or of a procedure; a call of one whose body has not ended is not in the
+-- profile yet.
 abbrev pub own_call_remark : Option Entity → Bool → Known → Ident → List ArgumentTree → Remark
 own_call_remark (Some (entity.Instance t)) true known name arguments = taker_remark known (callee.Free t) name.spot arguments
 own_call_remark (Some (entity.Instance t)) false known name arguments = wrong name.spot WrongType
+own_call_remark (Some (entity.Callable p)) true known name arguments = procedure_call_remark known p name.spot arguments
+own_call_remark (Some (entity.Callable p)) false known name arguments = wrong name.spot WrongType
 own_call_remark (Some entity.Procedure) true known name arguments = wrong name.spot NotInProfile
 own_call_remark (Some entity.Procedure) false known name arguments = wrong name.spot WrongType
 own_call_remark (Some other) alone known name arguments = wrong name.spot WrongType
@@ -112,6 +116,8 @@ own_call_remark None alone known name arguments = missing None name
 abbrev pub own_call_found : Option Entity → Bool → Known → List ArgumentTree → Option StmtForm
 own_call_found (Some (entity.Instance t)) true known arguments = taker_found known (callee.Free t) arguments
 own_call_found (Some (entity.Instance t)) false known arguments = None
+own_call_found (Some (entity.Callable p)) true known arguments = procedure_call_found known p arguments
+own_call_found (Some (entity.Callable p)) false known arguments = None
 own_call_found (Some other) alone known arguments = None
 own_call_found None alone known arguments = None
 

@@ -19,7 +19,7 @@ use Rattle.ada_resolve.specs.Library.{no_component_rule}
 use Rattle.ada_resolve.specs.Remark.{Remark, fine, wrong, ◌also◌, wrong_if}
 use Rattle.ada_resolve.specs.Spots.{expression_spot}
 use Rattle.ada_resolve.specs.Operators.{access_wanted, boolean_wanted, integer_wanted, owner_wanted, record_value_wanted}
-use Rattle.ada_resolve.specs.Paths.{Meant, access_value, aggregate_value, boolean_value, component_at, component_named, components_of, integer_value, null_value, record_value, unknown}
+use Rattle.ada_resolve.specs.Paths.{Meant, access_value, aggregate_value, boolean_value, component_at, component_named, components_of, integer_value, lent_value, null_value, record_value, unknown}
 
 -- What is known before an item: how many items come before it, which components have their items (a record component has those of its
 -- elementary components, or one that is a record), and whether each item so far names a component of its own.
@@ -47,6 +47,7 @@ item_meant (integer_value e) = item_of_value e ∷ []
 item_meant (boolean_value e) = item_of_value e ∷ []
 item_meant (record_value path) = item_of_record path ∷ []
 item_meant (aggregate_value t items) = items
+item_meant (lent_value t) = []
 
 -- A value is of its component's type: an access component is given null, or what a path of that very type names, which is no borrower as a whole,
 -- and a record component a record of that very type.

@@ -1,16 +1,21 @@
--- What is known at a place in the main procedure, and what the names stand for there.
+-- What is known at a place in the procedures of a tree, and what the names stand for there.
 
-use Rattle.std.specs.Prelude.{ℕ, Bool, true, false, ◌==◌, not, nat_lt, ◌&&◌, if◌then◌else◌, List, [], ◌∷◌, length, Option, Some, None, is_some, codes, bytes_eq}
+use Rattle.std.specs.Prelude.{ℕ, ◌-◌, Bool, true, false, ◌==◌, ◌||◌, not, nat_lt, ◌&&◌, if◌then◌else◌, List, [], ◌∷◌, length, Option, Some, None, is_some, codes, bytes_eq}
 use Rattle.ada_text.specs.declared.spot.Spot.{Spot}
 use Rattle.ada_tree.specs.Names.{Ident, SelectorTree, component, dereference, PathTree, is_name}
 use Rattle.ada_program.specs.Form.{DeclarationForm}
-use Rattle.ada_program.specs.ProgramForm.{TypeForm, VariableForm}
+use Rattle.ada_program.specs.ProgramForm.{TypeForm, VariableForm, BodyForm}
+use Rattle.ada_program.specs.WellFormed.{is_borrower}
+use Rattle.ada_program.specs.declared.program.ProcedureNo.{ProcedureNo}
+use Rattle.ada_program.specs.declared.program.VariableNo.{VariableNo}
 use Rattle.ada_resolve.specs.declared.fault.NameRule.TheVariants.{UnknownName, DeclaredTwice, NotInProfile, Layout, Limit}
 use Rattle.ada_resolve.specs.declared.library.LibraryName.{LibraryName}
 use Rattle.ada_resolve.specs.declared.library.LibraryName.TheVariants.{TextIo, PutLine, UncheckedDeallocation, RunInput, Get, EndError, OtherUnit, Unknown}
 use Rattle.ada_resolve.specs.declared.library.Withs.{Withs}
 use Rattle.ada_resolve.specs.declared.scope.Entity.{Entity}
-use Rattle.ada_resolve.specs.declared.scope.Entity.TheVariants.{LibraryUnit, Procedure}
+use Rattle.ada_resolve.specs.declared.scope.Entity.TheVariants as entity
+use Rattle.ada_resolve.specs.declared.scope.Role.{Role}
+use Rattle.ada_resolve.specs.declared.scope.Role.TheVariants as role
 use Rattle.ada_resolve.specs.Library.{predefined, is_primitive, is_taken, missing_rule, library_name}
 use Rattle.ada_resolve.specs.Remark.{Remark, fine, wrong, node, ◌also◌, wrong_if}
 
@@ -19,22 +24,27 @@ pub record Named : Type 0 where
   pub text : List ℕ
   pub entity : Entity
 
--- A declarative part, or the scope of a loop parameter (8.1): the names that it declares so far, in order; the numbers of its first type and
--- of its first variable; and what it elaborates so far (3.11).
+-- A declarative part, or the scope of a loop parameter (8.1): the names that it declares so far, in order; the numbers of its first type, of its
+-- first variable behind formal parameters, and of the first procedure whose body ends in it; what it elaborates so far (3.11); and, where it is
+-- that of a procedure's body, the variables of the body around.
 pub record Part : Type 0 where
   pub names : List Named
   pub first_type : ℕ
   pub first_variable : ℕ
+  pub first_body : ℕ
   pub elaborated : List DeclarationForm
+  pub around : Option (List VariableForm)
 
--- What is known: the library units of the with clauses, the procedure's name, the declarative part that declares here, those around it, the
--- inner ones first (8.1), and all types, variables, exceptions and texts by their numbers; of an exception that is its name.
+-- What is known: the library units of the with clauses, the main procedure's name, the declarative part that declares here, those around it, the
+-- inner ones first (8.1); by their numbers all types, the bodies of the procedures that have ended, the variables of the body at this place, all
+-- exceptions, of which that is the name, and all texts.
 pub record Known : Type 0 where
   pub withs : Withs
   pub procedure : List ℕ
   pub here : Part
   pub outer : List Part
   pub types : List TypeForm
+  pub bodies : List BodyForm
   pub variables : List VariableForm
   pub exceptions : List (List ℕ)
   pub texts : List (List ℕ)
@@ -43,17 +53,22 @@ pub record Known : Type 0 where
 abbrev pub parts : Known → List Part
 parts known = known.here ∷ known.outer
 
--- A declarative part in which nothing is declared yet, behind so many types and variables.
-abbrev pub part_from : (types variables : ℕ) → Part
-part_from types variables = record { names = []; first_type = types; first_variable = variables; elaborated = [] }
+-- A declarative part in which nothing is declared yet, behind so many types, variables and bodies.
+abbrev pub part_from : (types variables bodies : ℕ) → Part
+part_from types variables bodies =
+    record { names = []; first_type = types; first_variable = variables; first_body = bodies; elaborated = []; around = None }
+
+-- The part that begins at a place.
+abbrev pub next_part : Known → Part
+next_part known = part_from (length known.types) (length known.variables) (length known.bodies)
 
 -- What is known where an inner part begins: it declares nothing yet.
 abbrev pub with_part : Known → Known
-with_part known = record known { here = part_from (length known.types) (length known.variables); outer = parts known }
+with_part known = record known { here = next_part known; outer = parts known }
 
 -- What is known once these are the parts: nothing is declared where there are none.
 abbrev pub left_to : List Part → Known → Known
-left_to [] known = record known { here = part_from (length known.types) (length known.variables) }
+left_to [] known = record known { here = next_part known }
 left_to (part ∷ outer) known = record known { here = part; outer = outer }
 
 -- What is known once the innermost part ends: its names are gone, and its types and its variables keep their numbers (8.2).
@@ -79,20 +94,37 @@ abbrev pub first_named : Option Entity → Option Entity → Option Entity
 first_named (Some entity) outer = Some entity
 first_named None outer = outer
 
+-- What a variable is: a borrower, or any other.
+abbrev pub role_of : Bool → Role
+role_of true = role.Borrower
+role_of false = role.Variable
+
+-- What a name of a body around stands for, whose variables are these: no object of that body is used in an inner one (the profile's).
+abbrev pub from_within : List VariableForm → Option Entity → Option Entity
+from_within variables (Some (entity.Variable x kind)) = Some (entity.Outer kind (role_of (is_borrower variables x.0)))
+from_within variables (Some (entity.Parameter x kind)) = Some (entity.Outer kind role.Constant)
+from_within variables (Some other) = Some other
+from_within variables None = None
+
+-- What a name that a part does not declare stands for in it: where the part is that of a procedure's body, the name is one of a body around.
+abbrev pub from_part : Option (List VariableForm) → Option Entity → Option Entity
+from_part (Some variables) outer = from_within variables outer
+from_part None outer = outer
+
 -- What a name stands for in these parts, the innermost first: an inner declaration hides the outer ones (8.3).
 abbrev pub named_in : List ℕ → List Part → Option Entity
 named_in text [] = None
-named_in text (part ∷ outer) = first_named (named text part.names) (named_in text outer)
+named_in text (part ∷ outer) = first_named (named text part.names) (from_part part.around (named_in text outer))
 
--- What a name stands for (8.3): what the parts declare hides the procedure's own name, and this what is visible everywhere.
+-- What a name stands for (8.3): what the parts declare hides the main procedure's name, and this what is visible everywhere.
 abbrev pub inner_first : Option Entity → Bool → Option Entity → Option Entity
 inner_first (Some entity) own standard = Some entity
-inner_first None true standard = Some Procedure
+inner_first None true standard = Some entity.Procedure
 inner_first None false standard = standard
 
 -- A library unit of one name is visible where a with clause names it (10.1.2, 10.1.6): Run_Input is the one of the profile.
 abbrev pub unit_named : Withs → List ℕ → Option Entity
-unit_named withs text = if bytes_eq text (codes "RUN_INPUT") && withs.run_input then Some LibraryUnit else None
+unit_named withs text = if bytes_eq text (codes "RUN_INPUT") && withs.run_input then Some entity.LibraryUnit else None
 
 -- What a name stands for that no part declares: what is predefined, or a library unit.
 abbrev pub outermost : Withs → List ℕ → Option Entity
@@ -115,6 +147,14 @@ name_remark known name = missing (visible known name.text) name
 abbrev pub most_names : ℕ
 most_names = 500
 
+-- How many formal parameters a part declares: where it is that of a procedure's body, they come before its other variables.
+abbrev pub formals_of : Part → ℕ
+formals_of part = if is_some part.around then part.first_variable else 0
+
+-- How many names a part declares besides formal parameters.
+abbrev pub own_names : Part → ℕ
+own_names part = length part.names - formals_of part
+
 -- What is wrong with declaring a name, in a declaration that begins at `first`: it is predefined; its part declares it already (8.3);
 -- it is the name of a primitive of controlled types; or there are too many.
 abbrev pub new_name_remark : Known → Ident → Spot → Remark
@@ -122,7 +162,7 @@ new_name_remark known name first =
     wrong_if (is_taken name.text) name.spot DeclaredTwice also
     wrong_if (is_some (named name.text known.here.names)) name.spot DeclaredTwice also
     wrong_if (is_primitive name.text) first NotInProfile also
-    wrong_if (not (nat_lt (length known.here.names) most_names)) name.spot Limit
+    wrong_if (not (nat_lt (own_names known.here) most_names)) name.spot Limit
 
 -- Whether the unit of a library name stands in a with clause (10.1.2).
 abbrev pub is_with : Withs → LibraryName → Bool
@@ -173,10 +213,31 @@ library_path_found known path =
 abbrev pub is_empty : {X : Type 0} → List X → Bool
 is_empty xs = length xs == 0
 
+-- The number of the next variable.
+abbrev pub next_variable : Known → VariableNo
+next_variable known = record { 0 = length known.variables }
+
+-- The number of the next procedure whose body ends.
+abbrev pub next_procedure : Known → ProcedureNo
+next_procedure known = record { 0 = length known.bodies }
+
 -- Whether the innermost part has declared no variable yet.
 abbrev pub no_variable_yet : Known → Bool
 no_variable_yet known = length known.variables == known.here.first_variable
 
--- A type, a number, an exception or an instance begins: it is a node of the source, and none follows a variable of its part.
+-- Whether no body of a procedure has ended in the innermost part yet.
+abbrev pub no_body_yet : Known → Bool
+no_body_yet known = length known.bodies == known.here.first_body
+
+-- Whether the innermost part has declared neither a variable nor a body yet: its types have not ended.
+abbrev pub types_go_on : Known → Bool
+types_go_on known = no_variable_yet known && no_body_yet known
+
+-- A type, a number, an exception or an instance begins: it is a node of the source, and none follows a variable or a body of its part.
 abbrev pub type_begins : Known → Spot → Remark
-type_begins known spot = node spot also wrong_if (not (no_variable_yet known)) spot Layout
+type_begins known spot = node spot also wrong_if (not (types_go_on known)) spot Layout
+
+-- Whether one of these parts is that of a procedure's body.
+abbrev pub is_in_procedure : List Part → Bool
+is_in_procedure [] = false
+is_in_procedure (part ∷ outer) = is_some part.around || is_in_procedure outer

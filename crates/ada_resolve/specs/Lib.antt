@@ -40,10 +40,14 @@ pub mod Borrowers
 pub mod Arguments
 -- Put_Line (A.10.7)
 pub mod Lines
+-- calls of procedures, and their actual parameters (6.4.1)
+pub mod Actuals
 -- calls (6.4, 13.11.2)
 pub mod Calls
 -- exceptions, and the choices of handlers (11.1, 11.2)
 pub mod Exceptions
+-- procedures, and their formal parameters (6.1, 6.3)
+pub mod Procedures
 -- statements (5.1)
 pub mod Statements
 -- the program of a tree, or its first fault

@@ -9,8 +9,9 @@ use Rattle.ada_tree.specs.ExpressionView.{argument_of, expression_of, items_of, 
 use Rattle.ada_tree.specs.Expressions.{aggregate_expression, expression_argument, expression_right, unary_expression}
 use Rattle.ada_tree.specs.Names.{ident_of, path_of, selector_of}
 use Rattle.ada_tree.specs.Records.{component_of, record_of}
-use Rattle.ada_tree.specs.Declarations.{choice_of}
+use Rattle.ada_tree.specs.Declarations.{choice_of, formal_of}
 use Rattle.ada_tree.specs.StatementView.{condition_of, statement_of}
+use Rattle.ada_tree.specs.declared.declarations.Formal.{Formal}
 use Rattle.ada_tree.specs.declared.expressions.Argument.{Argument}
 use Rattle.ada_tree.specs.declared.expressions.Expression.{Expression}
 use Rattle.ada_tree.specs.declared.expressions.Item.{Item}
@@ -25,7 +26,11 @@ use Rattle.ada_tree.specs.declared.statements.Choice.{Choice}
 use Rattle.ada_tree.specs.declared.statements.Statement.{Statement}
 use Rattle.ada_program.specs.Form.{ExpressionForm, PathForm, RightForm, StmtForm}
 use Rattle.ada_program.specs.declared.program.Choice.{Choice as ChoiceOf}
+use Rattle.ada_program.specs.Kept.{variables_in}
+use Rattle.ada_program.specs.WellFormed.{kind_held}
+use Rattle.ada_program.specs.declared.program.ProcedureNo.{ProcedureNo}
 use Rattle.ada_program.specs.declared.program.TypeNo.{TypeNo}
+use Rattle.ada_program.specs.declared.program.Variable.{Variable}
 use Rattle.ada_program.specs.declared.program.VariableKind.{VariableKind}
 use Rattle.ada_program.specs.declared.program.VariableNo.{VariableNo}
 use Rattle.ada_resolve.specs.declared.calls.Callee.{Callee}
@@ -34,7 +39,9 @@ use Rattle.ada_resolve.specs.declared.fault.NameFault.TheVariants.{NoMemory}
 use Rattle.ada_resolve.specs.declared.library.LibraryName.{LibraryName}
 use Rattle.ada_resolve.specs.declared.notes.Notes.{Notes}
 use Rattle.ada_resolve.specs.declared.rights.Held.{Held}
+use Rattle.ada_resolve.specs.declared.scope.Role.{Role}
 use Rattle.ada_resolve.specs.declared.selectors.Reached.{Reached}
+use Rattle.ada_resolve.specs.Actuals.{given_all, given_all_remark, given_meant, given_remark, procedure_call_found, procedure_call_remark, profile}
 use Rattle.ada_resolve.specs.Allocators.{aggregate_found, aggregate_remark, allocated_remark, default_found, new_found, new_remark}
 use Rattle.ada_resolve.specs.Arguments.{image_value_remark}
 use Rattle.ada_resolve.specs.Assignments.{Target, assignment_found, assignment_remark, target_found, target_remark}
@@ -50,8 +57,9 @@ use Rattle.ada_resolve.specs.Kept.{kept_meant}
 use Rattle.ada_resolve.specs.Method.{Seen, known, IsNoted}
 use Rattle.ada_resolve.specs.Objects.{initial_found, initial_remark}
 use Rattle.ada_resolve.specs.Operators.{integer_in}
-use Rattle.ada_resolve.specs.Paths.{Meant, named_meant, named_remark, path_meant, path_remark, selector_reached, selector_remark, selectors_reached, selectors_remark, variable_meant, variable_path_remark}
+use Rattle.ada_resolve.specs.Paths.{Meant, named_meant, named_remark, outer_meant, path_meant, path_remark, selector_reached, selector_remark, selectors_reached, selectors_remark, variable_meant, variable_path_remark}
 use Rattle.ada_resolve.specs.Records.{Composition, all_components_remark, components_written}
+use Rattle.ada_resolve.specs.Procedures.{Formals, formals_remark, no_formals, with_formals}
 use Rattle.ada_resolve.specs.Remark.{Remark}
 use Rattle.ada_resolve.specs.Rights.{Assigned, right_found, right_remark}
 use Rattle.ada_resolve.specs.Statements.{condition_meant, condition_remark, exit_found, exit_remark, bound_meant, bound_remark, statement_found, statement_remark}
@@ -103,6 +111,13 @@ abbrev pub variable_look : Seen → VariableNo → Spot → VariableKind → Lis
 variable_look seen x spot kind selectors = record {
   remark = variable_path_remark (known seen) spot kind (map selector_of selectors);
   meaning = variable_meant (known seen) x spot kind (map selector_of selectors);
+}
+
+-- An object of a body around and what is selected from it, apart from that it isn't in the profile.
+abbrev pub outer_look : Seen → VariableKind → Role → Spot → List Selector → Look Meant
+outer_look seen kind role spot selectors = record {
+  remark = variable_path_remark (known seen) spot kind (map selector_of selectors);
+  meaning = outer_meant (known seen) kind role spot (map selector_of selectors);
 }
 
 -- A selector behind what is reached (4.1), where the path stands at the spot.
@@ -252,6 +267,41 @@ abbrev pub line_look : Seen → ℕ → Argument → Look (Option StmtForm)
 line_look seen text argument = record {
   remark = line_remark (known seen) (argument_of argument);
   meaning = line_found (known seen) text (argument_of argument);
+}
+
+-- A call of a procedure with these formal parameters (6.4.1).
+abbrev pub actuals_look : Seen → Spot → List Variable → List Argument → Look (List ExpressionForm)
+actuals_look seen called formals arguments = record {
+  remark = given_all_remark (known seen) called (map kind_held (variables_in formals)) (map argument_of arguments);
+  meaning = given_all (known seen) (map kind_held (variables_in formals)) (map argument_of arguments);
+}
+
+-- The actual parameters of a call of the procedure of a number.
+abbrev pub profile_look : Seen → ProcedureNo → Spot → List Argument → Look (List ExpressionForm)
+profile_look seen procedure called arguments = record {
+  remark = given_all_remark (known seen) called (profile (known seen) procedure) (map argument_of arguments);
+  meaning = given_all (known seen) (profile (known seen) procedure) (map argument_of arguments);
+}
+
+-- The actual parameter for a formal one that holds this.
+abbrev pub given_look : Seen → VariableKind → Argument → Look ExpressionForm
+given_look seen kind argument = record {
+  remark = given_remark (known seen) kind (argument_of argument);
+  meaning = given_meant (known seen) (argument_of argument);
+}
+
+-- A call of the procedure of a number.
+abbrev pub procedure_call_look : Seen → ProcedureNo → Spot → List Argument → Look (Option StmtForm)
+procedure_call_look seen procedure called arguments = record {
+  remark = procedure_call_remark (known seen) procedure called (map argument_of arguments);
+  meaning = procedure_call_found (known seen) procedure (map argument_of arguments);
+}
+
+-- The formals of a body that begins at the spot (6.1).
+abbrev pub formals_look : Seen → Spot → List Formal → Look Formals
+formals_look seen first formals = record {
+  remark = formals_remark (known seen) first no_formals (map formal_of formals);
+  meaning = with_formals (known seen) (map formal_of formals) no_formals;
 }
 
 -- A statement (5.1).

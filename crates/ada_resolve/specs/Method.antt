@@ -1,12 +1,12 @@
 -- What the methods of the resolver promise, in a word each: what they answer, what is noted, and what is known after them.
 
-use Rattle.std.specs.Prelude.{◌≡◌, ◌++◌, ◌∷◌, ℕ, Bool, List, [], map, Option, Result, IfOk, OnOk}
+use Rattle.std.specs.Prelude.{◌≡◌, ◌++◌, ◌∷◌, ℕ, Bool, List, [], map, Option, Some, Result, IfOk, OnOk}
 use Rattle.std.specs.Global.{Vec}
 use denote.MutBor.{MutBor}
 use denote.Ref.{Bor}
 use denote.Triple.Both.{Both}
 use Rattle.ada_text.specs.declared.spot.Spot.{Spot}
-use Rattle.ada_tree.specs.Declarations.{optional_aspect_of}
+use Rattle.ada_tree.specs.Declarations.{formal_of, optional_aspect_of}
 use Rattle.ada_tree.specs.ExpressionView.{argument_of, expression_of, optional_right_of}
 use Rattle.ada_tree.specs.Expressions.{ExpressionTree}
 use Rattle.ada_tree.specs.Names.{Ident, ident_of, name_of, optional_ident_of}
@@ -14,6 +14,7 @@ use Rattle.ada_tree.specs.Records.{ComponentTree, component_of, record_of, stati
 use Rattle.ada_tree.specs.Statements.{DeclarationTree, access_type, borrower_declaration, constant_declaration, instance, object_declaration, record_type, HandlersTree, branches_from, handlers_from}
 use Rattle.ada_tree.specs.StatementView.{branch_of, handler_of, unit_of}
 use Rattle.ada_tree.specs.declared.declarations.Aspect.{Aspect}
+use Rattle.ada_tree.specs.declared.declarations.Formal.{Formal}
 use Rattle.ada_tree.specs.declared.expressions.Argument.{Argument}
 use Rattle.ada_tree.specs.declared.expressions.Item.{Item as WrittenItem}
 use Rattle.ada_tree.specs.declared.expressions.Right.{Right}
@@ -43,26 +44,28 @@ use Rattle.ada_resolve.specs.declared.components.Components.{Components}
 use Rattle.ada_resolve.specs.declared.components.KnownComponent.{KnownComponent}
 use Rattle.ada_resolve.specs.declared.components.KnownType.{KnownType}
 use Rattle.ada_resolve.specs.declared.fault.NameFault.{NameFault}
+use Rattle.ada_resolve.specs.declared.formals.Formals.{Formals as FormalsOf}
 use Rattle.ada_resolve.specs.declared.instances.Instance.{Instance}
 use Rattle.ada_resolve.specs.declared.items.Filling.{Filling as FillingOf}
 use Rattle.ada_resolve.specs.declared.meant.Meant.{Meant as MeantOf}
 use Rattle.ada_resolve.specs.declared.notes.Notes.{Notes}
 use Rattle.ada_resolve.specs.declared.part.Part.{Part as PartOf}
-use Rattle.ada_resolve.specs.declared.program.Body.{Body}
+use Rattle.ada_resolve.specs.declared.procedures.Sequence.{Sequence}
 use Rattle.ada_resolve.specs.declared.resolver.Resolver.{Resolver}
 use Rattle.ada_resolve.specs.declared.scope.Entity.{Entity}
-use Rattle.ada_resolve.specs.Arguments.{argument_remark, arguments_remark, image_remark}
+use Rattle.ada_resolve.specs.Arguments.{argument_remark, arguments_remark, image_remark, none_wanted}
 use Rattle.ada_resolve.specs.Instances.{with_elaborated}
 use Rattle.ada_resolve.specs.Expressions.{expression_meant, item_remark}
 use Rattle.ada_resolve.specs.Items.{Filling, after_item, filled_components, first_filling, for_remark}
 use Rattle.ada_resolve.specs.Kept.{composition_in, kept_with, known_type_form}
-use Rattle.ada_resolve.specs.Known.{Known, entered, new_name_remark, visible}
+use Rattle.ada_resolve.specs.Known.{Known, Named, Part, entered, new_name_remark, visible}
 use Rattle.ada_resolve.specs.Objects.{initial_source, record_created, variable_created}
-use Rattle.ada_resolve.specs.Records.{Composition, further_component_remark}
-use Rattle.ada_resolve.specs.Remark.{Remark, noted}
-use Rattle.ada_resolve.specs.Resolution.{At, Others, Told, branches_told, end_told, procedure_from, program_of, told_of, with_parameter}
+use Rattle.ada_resolve.specs.Records.{Composition, further_component_remark, with_record_defined}
+use Rattle.ada_resolve.specs.Remark.{Remark, ◌also◌, noted}
+use Rattle.ada_resolve.specs.Procedures.{Formals, body_begun, body_ended, body_of, formal_remark, variables_around, with_formal, with_procedure, without_body}
+use Rattle.ada_resolve.specs.Resolution.{At, Others, Told, branches_told, procedure_from, program_of, told_of, with_parameter}
 use Rattle.ada_resolve.specs.Types.{completion_remark, new_unless, with_definition}
-use Rattle.ada_resolve.specs.View.{filling_in, handlers_in, known_of, meant_of, optional_items, part_of, right_in, statements_in, AnswersBranches, AnswersWith, Tells}
+use Rattle.ada_resolve.specs.View.{filling_in, formals_in, handlers_in, known_of, meant_of, optional_items, optional_variables, part_of, right_in, statements_in, AnswersBranches, AnswersWith, Tells}
 
 -- The resolver of a method that only looks at a part of the tree.
 abbrev pub Seen : Type 0
@@ -205,6 +208,10 @@ with_kept seen c before = kept_with (known seen) before (component_of c)
 abbrev pub remark_of_arguments : Seen → List Argument → Remark
 remark_of_arguments seen arguments = arguments_remark (known seen) (map argument_of arguments)
 
+-- What is wrong with arguments that are too many.
+abbrev pub too_many_remark : Seen → List Argument → Remark
+too_many_remark seen arguments = none_wanted (map argument_of arguments) also arguments_remark (known seen) (map argument_of arguments)
+
 -- What is wrong with one argument.
 abbrev pub remark_of_argument : Seen → Argument → Remark
 remark_of_argument seen argument = argument_remark (known seen) (argument_of argument)
@@ -224,6 +231,11 @@ type_name_remark seen completes name spot = new_unless completes (new_name_remar
 -- What is known once a type is defined: a new one, or the one that it completes.
 abbrev pub with_type : Option TypeNo → KnownType → Known → Known
 with_type completes definition = with_definition completes (known_type_form definition)
+
+-- What is known once a record type of these components, as the code keeps it, is declared: a new one, or the one that it completes.
+abbrev pub with_composed : Option TypeNo → Identifier → Components → Known → Known
+with_composed completes name components known =
+    with_record_defined completes known (ident_of name) (composition_in components)
 
 -- What is known once an object or a borrower is declared (3.3.1): it is named, is a variable, and is created with its initial value.
 abbrev pub with_object : Identifier → (borrows : Bool) → VariableKind → Option RightOf → Known → Known
@@ -277,11 +289,39 @@ with_own_parameter name = with_parameter (ident_of name)
 abbrev pub procedure_outcome : Resolver → UnitOf → Told ProgramForm
 procedure_outcome resolver unit = procedure_from (unit_of unit) (known_of resolver)
 
--- The outcome of the end of a procedure whose statements are known: its handlers, and its name.
-abbrev pub end_outcome : Resolver → UnitOf → Vec Stmt → List Handler → Noting → Told ProgramForm
-end_outcome resolver unit statements handlers notes =
-    end_told (unit_of unit) (handlers_of handlers) (statements_in statements, (known_of resolver, notes.entry.now))
-
 -- The program of what the resolver knows, and of the statements and their handlers.
-abbrev pub program_in : Resolver → Body → ProgramForm
+abbrev pub program_in : Resolver → Sequence → ProgramForm
 program_in resolver body = program_of (known_of resolver) (statements_in body.statements) (handlers_in body.handlers)
+
+-- The part of a procedure's body, with these names, behind so many types, formal parameters and bodies; the variables of the body around are these.
+abbrev pub part_of_body : List Named → (types formals bodies : ℕ) → List VariableForm → Part
+part_of_body names types formals bodies around =
+    record { names = names; first_type = types; first_variable = formals; first_body = bodies; elaborated = []; around = Some around }
+
+-- The call changes in this way the formal parameters that are looked at.
+abbrev pub Declaring : Both (MutBor FormalsOf) (MutBor FormalsOf) → (Formals → Formals) → Type 0
+Declaring formals change = formals_in formals.exit.now ≡ change (formals_in formals.entry.now)
+
+-- What is wrong with a formal behind others, in a body that begins at the spot.
+abbrev pub next_formal_remark : Seen → Spot → Both (MutBor FormalsOf) (MutBor FormalsOf) → Formal → Remark
+next_formal_remark seen first before formal = formal_remark (known seen) first (formals_in before.entry.now) (formal_of formal)
+
+-- The formals with one more.
+abbrev pub with_next_formal : Seen → Formal → Formals → Formals
+with_next_formal seen formal = with_formal (known seen) (formal_of formal)
+
+-- What is known where the body of a procedure of this name begins, with these formals.
+abbrev pub begun_with : Identifier → FormalsOf → Known → Known
+begun_with name formals = body_begun (ident_of name) (formals_in formals)
+
+-- What is known once the body around is at work again, whose variables these are.
+abbrev pub at_work_again : Option (Vec Variable) → Known → Known
+at_work_again around known = record known { variables = variables_around (optional_variables around) }
+
+-- What is known once a body has ended, whose statements and handlers these are.
+abbrev pub without_body_of : Sequence → Known → Known
+without_body_of body known = with_procedure (body_of known (statements_in body.statements) (handlers_in body.handlers)) (without_body known)
+
+-- What is known behind the body of a procedure of this name, whose statements and handlers these are.
+abbrev pub ended_with : Identifier → Sequence → Known → Known
+ended_with name body = body_ended (ident_of name) (statements_in body.statements) (handlers_in body.handlers)

@@ -14,14 +14,15 @@ use Rattle.ada_program.specs.declared.program.PartKind.{PartKind}
 use Rattle.ada_program.specs.declared.program.PartKind.TheVariants as part
 use Rattle.ada_program.specs.declared.program.VariableKind.{VariableKind}
 use Rattle.ada_program.specs.declared.program.VariableKind.TheVariants as variable
-use Rattle.ada_program.specs.ProgramForm.{PartForm, TypeForm, record_of, access_to, VariableForm}
+use Rattle.ada_program.specs.ProgramForm.{PartForm, TypeForm, record_of, access_to, VariableForm, BodyForm}
 use Rattle.ada_resolve.specs.Library.{library_name}
 use Rattle.ada_resolve.specs.declared.library.LibraryName.TheVariants.{UncheckedDeallocation, EndError}
 use Rattle.ada_resolve.specs.Records.{components_written, kinds_within}
 use Rattle.ada_resolve.specs.Statics.{at_most_greatest, integer_of}
 
 -- What a declaration binds its name to: a type that is to be completed (3.10.1), a type, the value of a named number (3.3.2), an exception
--- (11.1), an instance for an access type (13.11.2), a variable (3.3.1), or a loop parameter, which is a constant (5.5).
+-- (11.1), an instance for an access type (13.11.2), a variable (3.3.1), a loop parameter or a formal parameter of mode `in`, which are constants
+-- (5.5, 6.2), a procedure whose body has ended or has not (6.3), or, seen from the body of a procedure, an object of a body around.
 pub data Meaning : Type 0 where
   an_incomplete_type : (t : ℕ) → Meaning
   a_type : (t : ℕ) → Meaning
@@ -30,6 +31,9 @@ pub data Meaning : Type 0 where
   an_instance : (access : ℕ) → Meaning
   a_variable : (x : ℕ) → Meaning
   a_parameter : (x : ℕ) → Meaning
+  a_procedure : (n : ℕ) → Meaning
+  a_procedure_around : Meaning
+  an_outer_object : Meaning
 
 -- A name, and what it is bound to.
 pub record Binding : Type 0 where
@@ -37,21 +41,23 @@ pub record Binding : Type 0 where
   pub meaning : Meaning
 
 -- A place in the text: what the innermost declarative part has bound before it, the last first; what the parts around it have bound, the inner
--- ones first; the number of the first type of the part; how many types, variables and exceptions are declared before it; and how many texts
--- Put_Line writes before it.
+-- ones first; the number of the first type of the part; how many types and exceptions are declared before it, how many variables of its body, and
+-- how many bodies of procedures have ended before it; and how many texts Put_Line writes before it.
 pub record Place : Type 0 where
   pub here : List Binding
   pub outer : List Binding
   pub first_type : ℕ
   pub types : ℕ
+  pub bodies : ℕ
   pub variables : ℕ
   pub exceptions : ℕ
   pub texts : ℕ
 
--- What a tree is read by: a place in it, and the tables of the program.
+-- What a tree is read by: a place in it, the tables of the program, and the variables of the body at the place.
 pub record Context : Type 0 where
   pub place : Place
   pub types : List TypeForm
+  pub bodies : List BodyForm
   pub variables : List VariableForm
   pub texts : List (List ℕ)
   pub exceptions : List (List ℕ)
@@ -85,13 +91,17 @@ IsNumberNamed p text n = IsBound p text (a_number n)
 abbrev pub IsVariableNamed : Context → List ℕ → ℕ → Type 0
 IsVariableNamed p text x = IsBound p text (a_variable x)
 
--- A name is that of the object of a number (3.3): of a variable, or of a loop parameter, which is a constant.
+-- A name is that of the object of a number (3.3): of a variable, or of a constant, which a loop parameter and a formal parameter are.
 abbrev pub IsObjectNamed : Context → List ℕ → ℕ → Type 0
 IsObjectNamed p text x = IsVariableNamed p text x ⊎ IsBound p text (a_parameter x)
 
 -- A name is that of an instance, which is for the access type of a number (12.3, 13.11.2).
 abbrev pub IsInstanceNamed : Context → List ℕ → ℕ → Type 0
 IsInstanceNamed p text t = IsBound p text (an_instance t)
+
+-- A name is that of the procedure of a number, whose body has ended (6.1, 6.3).
+abbrev pub IsProcedureNamed : Context → List ℕ → ℕ → Type 0
+IsProcedureNamed p text n = IsBound p text (a_procedure n)
 
 -- The value of a static expression (4.9): a number, or that of a named number.
 abbrev pub IsStaticRead : Context → StaticTree → ℤ → Type 0

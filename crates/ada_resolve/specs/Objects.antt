@@ -14,7 +14,7 @@ use Rattle.ada_resolve.specs.declared.rights.Held.{Held}
 use Rattle.ada_resolve.specs.declared.rights.Held.TheVariants as held
 use Rattle.ada_resolve.specs.declared.scope.Entity.{Entity}
 use Rattle.ada_resolve.specs.declared.scope.Entity.TheVariants as entity
-use Rattle.ada_resolve.specs.Known.{Known, declared, visible, missing, new_name_remark, library_remark, library_found, is_empty, no_variable_yet}
+use Rattle.ada_resolve.specs.Known.{Known, declared, visible, missing, new_name_remark, library_remark, library_found, is_empty, next_variable, types_go_on}
 use Rattle.ada_resolve.specs.Library.{is_library_root}
 use Rattle.ada_resolve.specs.Remark.{Remark, fine, wrong, node, ◌also◌, wrong_if}
 use Rattle.ada_resolve.specs.Instances.{is_collected, with_elaborated}
@@ -118,14 +118,15 @@ own_types known = drop known.here.first_type known.types
 abbrev pub missing_collections : Known → List DeclarationForm
 missing_collections known = collections_of known.here.first_type (own_types known) known.here.elaborated
 
--- What is known once the types of the innermost part end, at its first object or at its `begin`: an access type without an instance has its collection created there.
+-- What is known once the types of the innermost part end, at its first body or object or at its `begin`: an access type without an instance has its
+-- collection created there.
 abbrev pub ends_types : Bool → Known → Known
 ends_types true known = with_elaborated (missing_collections known) known
 ends_types false known = known
 
 -- What is known once the types end, if they have not ended before.
 unfoldable pub after_types : Known → Known
-after_types known = ends_types (no_variable_yet known) known
+after_types known = ends_types (types_go_on known) known
 
 -- The initial value, null where none is written (3.10).
 abbrev pub initial_source : Option RightForm → RightForm
@@ -143,10 +144,6 @@ abbrev pub initial_items_in : Option Assigned → Option (List ItemForm)
 initial_items_in (Some (a_whole items)) = Some items
 initial_items_in (Some (a_value value)) = None
 initial_items_in None = None
-
--- The number of the next variable.
-abbrev pub next_variable : Known → VariableNo
-next_variable known = record { 0 = length known.variables }
 
 -- What is known once there is one more variable.
 abbrev pub with_variable : VariableForm → Known → Known

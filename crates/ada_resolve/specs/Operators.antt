@@ -12,7 +12,7 @@ use Rattle.ada_program.specs.WellFormed.{names_borrower}
 use Rattle.ada_program.specs.declared.program.TypeNo.{TypeNo}
 use Rattle.ada_resolve.specs.declared.fault.NameRule.TheVariants.{WrongType}
 use Rattle.ada_resolve.specs.Remark.{Remark, fine, wrong, ◌also◌, wrong_if}
-use Rattle.ada_resolve.specs.Paths.{Meant, access_value, aggregate_value, boolean_value, integer_value, null_value, record_value, unknown}
+use Rattle.ada_resolve.specs.Paths.{Meant, access_value, aggregate_value, boolean_value, integer_value, lent_value, null_value, record_value, unknown}
 
 -- The Integer of a meaning; 0 where it is none.
 abbrev pub integer_in : Meant → ExpressionForm
@@ -116,6 +116,7 @@ abbrev pub access_wanted : TypeNo → Meant → Spot → Remark
 access_wanted access unknown spot = fine
 access_wanted access null_value spot = fine
 access_wanted access (access_value path t) spot = wrong_if (not (access.0 == t.0)) spot WrongType
+access_wanted access (lent_value t) spot = wrong_if (not (access.0 == t.0)) spot WrongType
 access_wanted access other spot = wrong spot WrongType
 
 -- A record of this very type is wanted (4.3.1, 5.2): what a path leads to, or an aggregate, where the meaning is known.
@@ -128,6 +129,7 @@ record_value_wanted t other spot = wrong spot WrongType
 -- What a borrower holds goes to borrowers alone, and is freed by its owner (3.10.2, 13.11.2): elsewhere no borrower is wanted.
 abbrev pub owner_wanted : List VariableForm → Meant → Spot → Remark
 owner_wanted variables (access_value path t) spot = wrong_if (names_borrower variables path) spot WrongType
+owner_wanted variables (lent_value t) spot = wrong spot WrongType
 owner_wanted variables other spot = fine
 
 -- What can be compared for equality (4.5.2): an Integer, a Boolean, a value of an access type, or null, which is of all access types; and a record,
@@ -145,6 +147,7 @@ abbrev pub comparable : Meant → Comparable
 comparable unknown = any_value
 comparable null_value = the_null
 comparable (access_value path t) = an_access
+comparable (lent_value t) = an_access
 comparable (integer_value e) = an_integer
 comparable (boolean_value e) = a_boolean
 comparable (record_value path) = a_record

@@ -18,14 +18,17 @@ use Rattle.ada_resolve.specs.declared.fault.NameRule.TheVariants.{WrongType, Not
 use Rattle.ada_resolve.specs.declared.library.LibraryName.{LibraryName}
 use Rattle.ada_resolve.specs.declared.scope.Entity.{Entity}
 use Rattle.ada_resolve.specs.declared.scope.Entity.TheVariants as entity
+use Rattle.ada_resolve.specs.declared.scope.Role.{Role}
+use Rattle.ada_resolve.specs.declared.scope.Role.TheVariants as role
 use Rattle.ada_resolve.specs.declared.selectors.Reached.{Reached}
 use Rattle.ada_resolve.specs.declared.selectors.Reached.TheVariants as reached
-use Rattle.ada_resolve.specs.Known.{Known, Part, named, parts, visible, missing, library_path_remark, library_path_found}
+use Rattle.ada_resolve.specs.Known.{Known, Part, named, next_variable, parts, visible, missing, library_path_remark, library_path_found}
 use Rattle.ada_resolve.specs.Library.{is_library_root, no_component_rule}
 use Rattle.ada_resolve.specs.Remark.{Remark, fine, wrong, ◌also◌, wrong_if}
 
 -- What an expression means (4.4): null, the value of an access type that a path names, an Integer or a Boolean, the record to which a path leads,
--- or an aggregate of a record type, with its items in the order of the elementary components; unknown where something is wrong.
+-- or an aggregate of a record type, with its items in the order of the elementary components; unknown where something is wrong. What a borrower
+-- of a body around holds is not in the profile, but of its access type.
 pub data Meant : Type 0 where
   unknown : Meant
   null_value : Meant
@@ -34,6 +37,7 @@ pub data Meant : Type 0 where
   boolean_value : ExpressionForm → Meant
   record_value : RecordPathForm → Meant
   aggregate_value : TypeNo → List ItemForm → Meant
+  lent_value : TypeNo → Meant
 
 -- The path of the components that are selected, one behind the other, from a variable, which is a record object or not and stands at the spot
 -- (4.1.3).
@@ -233,10 +237,21 @@ variable_meant known x spot kind selectors =
     reached_meant (selected_path x (is_record_kind kind) spot (components_selected known (variable_reached known kind) selectors))
     (selectors_reached known (variable_reached known kind) selectors)
 
+-- What a borrower of a body around holds.
+abbrev pub lent_by : VariableKind → Meant
+lent_by (variable.Access t) = lent_value t
+lent_by other = unknown
+
+-- An object of a body around, with what is selected from it: a borrower as a whole lends what it holds. No variable here has its number.
+abbrev pub outer_meant : Known → VariableKind → Role → Spot → List SelectorTree → Meant
+outer_meant known kind role.Borrower spot [] = lent_by kind
+outer_meant known kind role spot selectors = variable_meant known (next_variable known) spot kind selectors
+
 -- What a name stands for, with what is selected from it.
 abbrev pub entity_meant : Known → Option Entity → Spot → List SelectorTree → Meant
 entity_meant known (Some (entity.Variable x kind)) spot selectors = variable_meant known x spot kind selectors
-entity_meant known (Some (entity.Parameter x)) spot selectors = variable_meant known x spot variable.Integer selectors
+entity_meant known (Some (entity.Parameter x kind)) spot selectors = variable_meant known x spot kind selectors
+entity_meant known (Some (entity.Outer kind role)) spot selectors = outer_meant known kind role spot selectors
 entity_meant known (Some (entity.Number n)) spot [] = integer_value (integer n)
 entity_meant known (Some (entity.Truth b)) spot [] = boolean_value (boolean b)
 entity_meant known other spot selectors = unknown
@@ -304,10 +319,12 @@ variable_path_remark known spot kind selectors =
     selectors_remark known spot (variable_reached known kind) selectors also
     record_type_wanted (selectors_reached known (variable_reached known kind) selectors) spot
 
--- A value is wanted: another thing of that name is of the wrong kind (8.6).
+-- A value is wanted: an object of a body around isn't in the profile, and another thing of that name is of the wrong kind (8.6).
 abbrev pub value_wanted : Known → Option Entity → Ident → List SelectorTree → Remark
 value_wanted known (Some (entity.Variable x kind)) name selectors = variable_path_remark known name.spot kind selectors
-value_wanted known (Some (entity.Parameter x)) name selectors = variable_path_remark known name.spot variable.Integer selectors
+value_wanted known (Some (entity.Parameter x kind)) name selectors = variable_path_remark known name.spot kind selectors
+value_wanted known (Some (entity.Outer kind role)) name selectors =
+    wrong name.spot NotInProfile also variable_path_remark known name.spot kind selectors
 value_wanted known (Some (entity.Number n)) name [] = fine
 value_wanted known (Some (entity.Truth b)) name [] = fine
 value_wanted known (Some other) name selectors = wrong name.spot WrongType
@@ -322,9 +339,10 @@ abbrev pub library_is_no_value : Option LibraryName → Spot → Remark
 library_is_no_value (Some name) spot = wrong spot WrongType
 library_is_no_value None spot = fine
 
--- A loop parameter is a constant (3.3, 5.5): nothing is written to it.
+-- A loop parameter and a formal parameter of mode `in` are constants (3.3, 5.5, 6.2): nothing is written to them.
 abbrev pub written_wanted : Option Entity → Spot → Remark
-written_wanted (Some (entity.Parameter x)) spot = wrong spot WrongType
+written_wanted (Some (entity.Parameter x kind)) spot = wrong spot WrongType
+written_wanted (Some (entity.Outer kind role.Constant)) spot = wrong spot WrongType
 written_wanted (Some other) spot = fine
 written_wanted None spot = fine
 

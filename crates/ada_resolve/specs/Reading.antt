@@ -8,8 +8,8 @@ use Rattle.ada_values.specs.declared.operator.BinaryOperator.TheVariants as bina
 use Rattle.ada_tree.specs.Names.{Ident, NameTree, SelectorTree, component, dereference, PathTree}
 use Rattle.ada_tree.specs.Expressions.{ExpressionTree, number_expression, null_expression, path_expression, aggregate_expression, enclosed_expression, unary_expression, binary_expression, ItemsTree, no_more_items, an_item, RightTree, expression_right, allocator_right, creation_right, ArgumentTree, expression_argument, text_argument, attribute_argument}
 use Rattle.ada_tree.specs.Records.{StaticTree}
-use Rattle.ada_tree.specs.Declarations.{ChoiceTree, named_choice, others_choice}
-use Rattle.ada_tree.specs.Statements.{DeclarationTree, exception_declaration, constant_declaration, object_declaration, borrower_declaration, incomplete_type, access_type, record_type, instance, DeclarationsTree, no_declarations, a_declaration, SchemeTree, endless, while_scheme, for_scheme, StatementTree, null_statement, assignment, call, if_statement, loop_statement, exit_statement, return_statement, raise_statement, block, declare_block, StatementsTree, no_statements, a_statement, BranchesTree, no_branches, a_branch, HandlersTree, no_handlers, a_handler, SequenceTree, a_sequence, UnitTree}
+use Rattle.ada_tree.specs.Declarations.{ChoiceTree, named_choice, others_choice, FormalTree, HeadTree}
+use Rattle.ada_tree.specs.Statements.{DeclarationTree, exception_declaration, constant_declaration, object_declaration, borrower_declaration, incomplete_type, access_type, record_type, body_declaration, instance, DeclarationsTree, no_declarations, a_declaration, SchemeTree, endless, while_scheme, for_scheme, StatementTree, null_statement, assignment, call, if_statement, loop_statement, exit_statement, return_statement, raise_statement, block, declare_block, StatementsTree, no_statements, a_statement, BranchesTree, no_branches, a_branch, HandlersTree, no_handlers, a_handler, SequenceTree, a_sequence, UnitTree}
 use Rattle.ada_program.specs.declared.program.Choice.{Choice}
 use Rattle.ada_program.specs.declared.program.Choice.TheVariants as choice
 use Rattle.ada_program.specs.declared.program.ComponentKind.{ComponentKind}
@@ -18,13 +18,13 @@ use Rattle.ada_program.specs.declared.program.PartKind.TheVariants as part
 use Rattle.ada_program.specs.declared.program.TypeNo.{TypeNo}
 use Rattle.ada_program.specs.declared.program.VariableKind.{VariableKind}
 use Rattle.ada_program.specs.declared.program.VariableKind.TheVariants as variable
-use Rattle.ada_program.specs.Form.{DeclarationForm, collects, declares, declares_record, PathForm, RecordPathForm, ExpressionForm, integer, boolean, reads, is_null, applied_to, ItemForm, null_item, item_of_path, item_of_value, item_of_record, RightForm, nothing, value_of, allocates, allocates_default, computes, StmtForm, skips, assigns, assigns_record, frees, gets, writes, writes_text, chooses, repeats, counts, exits, returns, raises, encloses, StmtsForm, no_stmts, a_stmt, BranchesForm, otherwise, HandlersForm}
+use Rattle.ada_program.specs.Form.{DeclarationForm, collects, declares, declares_record, PathForm, RecordPathForm, ExpressionForm, integer, boolean, reads, is_null, applied_to, ItemForm, null_item, item_of_path, item_of_value, item_of_record, RightForm, nothing, value_of, allocates, allocates_default, computes, StmtForm, skips, assigns, assigns_record, frees, gets, writes, writes_text, chooses, repeats, counts, exits, calls, returns, raises, encloses, StmtsForm, no_stmts, a_stmt, BranchesForm, otherwise, HandlersForm}
 use Rattle.ada_program.specs.Form as form
-use Rattle.ada_program.specs.ProgramForm.{PartForm, TypeForm, record_of, object_of, ProgramForm}
+use Rattle.ada_program.specs.ProgramForm.{PartForm, TypeForm, record_of, object_of, BodyForm, ProgramForm}
 use Rattle.ada_program.specs.WellFormed as fits
 use Rattle.ada_resolve.specs.Library.{library_name}
 use Rattle.ada_resolve.specs.declared.library.LibraryName.TheVariants.{PutLine, Get}
-use Rattle.ada_resolve.specs.Naming.{Context, Place, Meaning, an_incomplete_type, a_type, a_number, an_exception, an_instance, a_variable, a_parameter, meaning_among, IsPredefined, IsExceptionNamed, IsNumberNamed, IsRecordNamed, IsVariableNamed, IsObjectNamed, IsFullRecordNamed, IsFullTypeNamed, IsStaticRead, IsTypeRead, IsInstanceRead, IsInstanceNamed, IsKindNamed, truth_name}
+use Rattle.ada_resolve.specs.Naming.{Context, Place, Binding, Meaning, an_incomplete_type, a_type, a_number, an_exception, an_instance, a_variable, a_parameter, a_procedure, a_procedure_around, an_outer_object, meaning_among, IsPredefined, IsExceptionNamed, IsNumberNamed, IsRecordNamed, IsVariableNamed, IsObjectNamed, IsFullRecordNamed, IsFullTypeNamed, IsStaticRead, IsTypeRead, IsInstanceRead, IsInstanceNamed, IsProcedureNamed, IsKindNamed, truth_name}
 use Rattle.ada_resolve.specs.Known.{parts_of}
 use Rattle.ada_resolve.specs.Operators.{joined}
 use Rattle.ada_resolve.specs.Statics.{at_most_greatest, integer_of}
@@ -252,9 +252,15 @@ IsGet procedure = library_name procedure.root.text (parts_of procedure.selectors
 abbrev pub IsImage : Ident → Ident → Type 0
 IsImage prefix attribute = (prefix.text ≡ codes "INTEGER") × (attribute.text ≡ codes "IMAGE")
 
+-- The actual parameters of a procedure, one for one: each is an expression (6.4.1).
+abbrev pub AreActualsRead : Context → List ArgumentTree → List ExpressionForm → Type 0
+AreActualsRead p [] [] = Unit {0}
+AreActualsRead p (expression_argument e ∷ arguments) (form ∷ forms) = IsExpressionRead p e form × AreActualsRead p arguments forms
+AreActualsRead p arguments forms = ⊥
+
 -- A call (6.4) of an instance frees what its one actual names, by the access type that the instance is for (13.11.2); a call of Get reads a
--- number of the input to what its one actual names; a call of Put_Line writes its one actual, a value or a text (A.10.7). A text that is
--- written is the next of the program's texts.
+-- number of the input to what its one actual names; a call of Put_Line writes its one actual, a value or a text (A.10.7); any other is a call of
+-- the procedure of the name, with what is written for its formal parameters. A text that is written is the next of the program's texts.
 abbrev pub IsCallRead : Context → PathTree → List ArgumentTree → StmtForm → Type 0
 IsCallRead p procedure (expression_argument (path_expression tree) ∷ []) (frees access path) =
     (procedure.selectors ≡ []) × IsInstanceNamed p procedure.root.text access × IsTargetRead p tree path
@@ -263,6 +269,8 @@ IsCallRead p procedure (attribute_argument prefix attribute value ∷ []) (write
     IsPutLine procedure × IsImage prefix attribute × IsExpressionRead p value form
 IsCallRead p procedure (text_argument spot text ∷ []) (writes_text n) =
     IsPutLine procedure × (n ≡ p.place.texts) × (slice_get p.texts n ≡ Some text)
+IsCallRead p procedure arguments (calls n actuals) =
+    (procedure.selectors ≡ []) × IsProcedureNamed p procedure.root.text n × AreActualsRead p arguments actuals
 IsCallRead p procedure arguments other = ⊥
 
 -- The condition behind `when`, or none where none is written (5.7).
@@ -328,9 +336,9 @@ with_new_exception name place = record (with_binding name (an_exception place.ex
 abbrev pub with_new_variable : Ident → Place → Place
 with_new_variable name place = record (with_binding name (a_variable place.variables) place) { variables = place.variables + 1 }
 
--- The place once the next variable is the loop parameter of the name (5.5).
-abbrev pub with_loop_parameter : Ident → Place → Place
-with_loop_parameter name place = record (with_binding name (a_parameter place.variables) place) { variables = place.variables + 1 }
+-- The place once the next variable is the constant of the name: a loop parameter or a formal parameter (5.5, 6.2).
+abbrev pub with_new_constant : Ident → Place → Place
+with_new_constant name place = record (with_binding name (a_parameter place.variables) place) { variables = place.variables + 1 }
 
 -- The place once the next variable is a record object of the name, and the next type is what it is known by.
 abbrev pub with_new_record : Ident → Place → Place
@@ -427,42 +435,13 @@ declared_type (access_type spot name designated aspect) = Some name
 declared_type (record_type spot name definition) = Some name
 declared_type other = None
 
--- The rest of a declarative part, up to its end (3.11), where the collections of these access types are created before (7.6.1). Each name is
--- new in the part, and is bound behind its declaration. An incomplete type is the next type, and a full type declaration in the same part
--- completes it: that alone has a name that the part has declared already (8.3). Any other full type declaration declares the next type. An
--- instance creates the collection of its access type; those of the others are created where the types end, by when all are completed, and then
--- each object in order; a type, a number or an exception creates nothing.
-pub data IsPartRead : Context → List ℕ → DeclarationsTree → List DeclarationForm → (end : Place) → Type 0 where
-  part_incomplete_type :
-      {p : Context} {made : List ℕ} {spot : Spot} {name : Ident} {ds : DeclarationsTree} {forms : List DeclarationForm} {end : Place} →
-      IsNew p.place name → IsPartRead (read_at (with_incomplete_type name p.place) p) made ds forms end →
-      IsPartRead p made (a_declaration (incomplete_type spot name) ds) forms end
-  part_completion :
-      {p : Context} {made : List ℕ} {t : ℕ} {name : Ident} {d : DeclarationTree} {ds : DeclarationsTree} {forms : List DeclarationForm} {end : Place} →
-      declared_type d ≡ Some name → meaning_among name.text p.place.here ≡ Some (an_incomplete_type t) → IsTypeRead p d t →
-      IsPartRead (read_at (with_binding name (a_type t) p.place) p) made ds forms end → IsPartRead p made (a_declaration d ds) forms end
-  part_new_type :
-      {p : Context} {made : List ℕ} {name : Ident} {d : DeclarationTree} {ds : DeclarationsTree} {forms : List DeclarationForm} {end : Place} →
-      declared_type d ≡ Some name → IsNew p.place name → IsTypeRead p d p.place.types →
-      IsPartRead (read_at (with_new_type name p.place) p) made ds forms end → IsPartRead p made (a_declaration d ds) forms end
-  part_number :
-      {p : Context} {made : List ℕ} {name : Ident} {value : StaticTree} {n : ℤ} {ds : DeclarationsTree} {forms : List DeclarationForm} {end : Place} →
-      IsNew p.place name → IsStaticRead p value n →
-      IsPartRead (read_at (with_binding name (a_number n) p.place) p) made ds forms end →
-      IsPartRead p made (a_declaration (constant_declaration name value) ds) forms end
-  part_exception :
-      {p : Context} {made : List ℕ} {name : Ident} {ds : DeclarationsTree} {forms : List DeclarationForm} {end : Place} →
-      IsNew p.place name → slice_get p.exceptions p.place.exceptions ≡ Some name.text →
-      IsPartRead (read_at (with_new_exception name p.place) p) made ds forms end →
-      IsPartRead p made (a_declaration (exception_declaration name) ds) forms end
-  part_instance :
-      {p : Context} {made : List ℕ} {spot : Spot} {name object access : Ident} {generic : NameTree} {t : ℕ} {ds : DeclarationsTree} {forms : List DeclarationForm} {end : Place} →
-      IsNew p.place name → IsInstanceRead p generic object access t →
-      IsPartRead (read_at (with_binding name (an_instance t) p.place) p) (t ∷ made) ds forms end →
-      IsPartRead p made (a_declaration (instance spot name generic object access) ds) (collects t ∷ forms) end
-  part_objects :
-      {p : Context} {made : List ℕ} {ds : DeclarationsTree} {end : Place} (others : List ℕ) (forms : List DeclarationForm) →
-      AreCompleted p.place → AreOthers p made others → AreObjectsRead p ds forms end → IsPartRead p made ds (map collects others ++ forms) end
+-- A full type declaration of a name (3.2.1), and the place behind it: in the part of an incomplete type it completes that, which alone has a name
+-- that the part has declared already (8.3); any other declares the next type.
+pub data IsTypeDeclared (p : Context) (d : DeclarationTree) (name : Ident) : (next : Place) → Type 0 where
+  by_completion :
+      {t : ℕ} → meaning_among name.text p.place.here ≡ Some (an_incomplete_type t) → IsTypeRead p d t →
+      IsTypeDeclared p d name (with_binding name (a_type t) p.place)
+  by_new_type : IsNew p.place name → IsTypeRead p d p.place.types → IsTypeDeclared p d name (with_new_type name p.place)
 
 -- A statement with no others in it (5.1): among others, an exit (5.7) and a return (6.5), each where it stands, and one that raises the
 -- exception of its name (11.3).
@@ -489,26 +468,127 @@ IsRangeRead p name low high x from to =
     (slice_get p.variables x ≡ Some (record { name = name.text; spot = name.spot; kind = variable.Integer; borrows = false })) ×
     IsExpressionRead p low from × IsExpressionRead p high to
 
--- The declarative part of a block (5.6), up to its end: an inner part.
-abbrev pub BeginsInside : Context → DeclarationsTree → List DeclarationForm → (end : Place) → Type 0
-BeginsInside p ds elaborated end = IsPartRead (read_at (inside p.place) p) [] ds elaborated end
+-- What a formal parameter holds has the name that is written (6.1): Integer or Boolean.
+abbrev pub IsScalarNamed : List ℕ → VariableKind → Type 0
+IsScalarNamed text variable.Integer = text ≡ codes "INTEGER"
+IsScalarNamed text variable.Boolean = text ≡ codes "BOOLEAN"
+IsScalarNamed text other = ⊥
+
+-- Formal parameters of mode `in`, up to the last (6.1): each is the next variable, a constant of a new name, and has the type that is written.
+abbrev pub AreFormalsRead : Context → List FormalTree → (end : Place) → Type 0
+AreFormalsRead p [] end = end ≡ p.place
+AreFormalsRead p (f ∷ fs) end =
+    (kind : VariableKind) × IsNew p.place f.name × (f.output ≡ None) × IsScalarNamed f.type_name.text kind ×
+    (slice_get p.variables p.place.variables ≡ Some (record { name = f.name.text; spot = f.name.spot; kind = kind; borrows = false })) ×
+    AreFormalsRead (read_at (with_new_constant f.name p.place) p) fs end
+
+-- What a name means in the body of a procedure, which means this around it: objects of the bodies around are out of reach there (the profile's).
+abbrev pub from_body : Meaning → Meaning
+from_body (a_variable x) = an_outer_object
+from_body (a_parameter x) = an_outer_object
+from_body other = other
+
+-- A binding as it is seen from the body of a procedure.
+abbrev pub bound_outside : Binding → Binding
+bound_outside b = record { text = b.text; meaning = from_body b.meaning }
+
+-- Where the body of a procedure of this name begins (6.3): it is a part of its own, which has bound nothing yet, and has variables of its own.
+abbrev pub body_place : Ident → Place → Place
+body_place name place = record place {
+  here = [];
+  outer = map bound_outside (record { text = name.text; meaning = a_procedure_around } ∷ place.here ++ place.outer);
+  first_type = place.types;
+  variables = 0;
+}
+
+-- The place behind a body of this name, whose end this is: the name is that of the next procedure, and the body around is at work again.
+abbrev pub behind_body : Ident → Place → (end : Place) → Place
+behind_body name place end = record end {
+  here = record { text = name.text; meaning = a_procedure end.bodies } ∷ place.here;
+  outer = place.outer;
+  first_type = place.first_type;
+  bodies = end.bodies + 1;
+  variables = place.variables;
+}
+
+-- The tables of a program, read where the body of a procedure of this name begins.
+abbrev pub in_body : Ident → BodyForm → Context → Context
+in_body name b p = record p { place = body_place name p.place; variables = b.variables }
+
+-- The name after the `end` of a body is that of its procedure, where one is written (6.3).
+abbrev pub IsEndName : List ℕ → Option Ident → Type 0
+IsEndName text None = Unit {0}
+IsEndName text (Some name) = name.text ≡ text
+
+-- What is written before a body (6.1, 6.3): its name is new in the part, and it overrides nothing.
+abbrev pub IsHeadRead : Context → HeadTree → Type 0
+IsHeadRead p head = IsNew p.place head.name × (head.overriding ≡ None)
+
+-- The bodies of a program and what the text up to a place tells of one (6.3): it is the next one that ends, and has as many formal parameters and
+-- variables.
+abbrev pub IsNextBody : Context → BodyForm → (formals end : Place) → Type 0
+IsNextBody p b formals end =
+    (slice_get p.bodies end.bodies ≡ Some b) × (b.formals ≡ formals.variables) × (length b.variables ≡ end.variables)
+
+-- Where the types of a part end, all are completed, and the first of these declarations, up to the rest, create the collections of the access types
+-- that have none yet (7.6.1). Where they have ended before, nothing is created.
+abbrev pub DoTypesEnd : Context → (made : Option (List ℕ)) → (forms rest : List DeclarationForm) → Type 0
+DoTypesEnd p (Some made) forms rest = (others : List ℕ) × (forms ≡ map collects others ++ rest) × AreCompleted p.place × AreOthers p made others
+DoTypesEnd p None forms rest = forms ≡ rest
+
+-- How statements behind branches are read.
+abbrev pub ReadOthers : Type 1
+ReadOthers = Context → StmtsForm → (end : Place) → Type 0
 
 abbrev mutual
+  -- The rest of a declarative part, up to its end (3.11): among its types, where the collections of these access types are created before (7.6.1), or
+  -- behind them. Each name is new in the part, and is bound behind its declaration. An incomplete type is the next type, which a full type
+  -- declaration of the part completes. An instance creates the collection of its access type. The types end at the first body, at the first object
+  -- or where the part ends. Each body has a part, statements and handlers of its own. A type, a number, an exception or a body creates nothing.
+  pub IsPartRead : Context → (made : Option (List ℕ)) → DeclarationsTree → List DeclarationForm → (end : Place) → Type 0
+  IsPartRead p (Some made) (a_declaration (incomplete_type spot name) ds) forms end =
+      IsNew p.place name × IsPartRead (read_at (with_incomplete_type name p.place) p) (Some made) ds forms end
+  IsPartRead p (Some made) (a_declaration (access_type spot name designated aspect) ds) forms end =
+      (next : Place) × IsTypeDeclared p (access_type spot name designated aspect) name next × IsPartRead (read_at next p) (Some made) ds forms end
+  IsPartRead p (Some made) (a_declaration (record_type spot name definition) ds) forms end =
+      (next : Place) × IsTypeDeclared p (record_type spot name definition) name next × IsPartRead (read_at next p) (Some made) ds forms end
+  IsPartRead p (Some made) (a_declaration (constant_declaration name value) ds) forms end =
+      (n : ℤ) × IsNew p.place name × IsStaticRead p value n × IsPartRead (read_at (with_binding name (a_number n) p.place) p) (Some made) ds forms end
+  IsPartRead p (Some made) (a_declaration (exception_declaration name) ds) forms end =
+      IsNew p.place name × (slice_get p.exceptions p.place.exceptions ≡ Some name.text) ×
+      IsPartRead (read_at (with_new_exception name p.place) p) (Some made) ds forms end
+  IsPartRead p (Some made) (a_declaration (instance spot name generic object access) ds) forms end =
+      (t : ℕ) × (rest : List DeclarationForm) × (forms ≡ collects t ∷ rest) × IsNew p.place name × IsInstanceRead p generic object access t ×
+      IsPartRead (read_at (with_binding name (an_instance t) p.place) p) (Some (t ∷ made)) ds rest end
+  IsPartRead p made (a_declaration (body_declaration head inner body end_name) ds) forms end =
+      (b : BodyForm) × (rest : List DeclarationForm) × (formals declared done : Place) × DoTypesEnd p made forms rest × IsHeadRead p head ×
+      AreFormalsRead (in_body head.name b p) head.formals formals ×
+      IsPartRead (read_at formals (in_body head.name b p)) (Some []) inner b.declarations declared ×
+      IsSequenceRead (read_at declared (in_body head.name b p)) body b.statements b.handlers done ×
+      IsNextBody p b formals done × IsEndName head.name.text end_name ×
+      IsPartRead (read_at (behind_body head.name p.place done) p) None ds rest end
+  IsPartRead p made ds forms end = (rest : List DeclarationForm) × DoTypesEnd p made forms rest × AreObjectsRead p ds rest end
+
+  -- The statements and the handlers of a part (11.2), and the place behind them.
+  pub IsSequenceRead : Context → SequenceTree → StmtsForm → HandlersForm → (end : Place) → Type 0
+  IsSequenceRead p (a_sequence start ss hs last) forms handled end =
+      (done : Place) × AreStatementsRead p ss forms done × AreHandlersRead (read_at done p) hs handled end
+
   -- A statement, and the place behind it (5.1): among others, one that chooses among branches (5.3), one that repeats statements up to where
   -- its end stands, for ever, while a condition is true, or for each value of a parameter (5.5), and a block (5.6).
   pub IsStatementRead : Context → StatementTree → StmtForm → (end : Place) → Type 0
-  IsStatementRead p (if_statement spot branches others last) (chooses forms) end = AreBranchesRead p branches others forms end
+  IsStatementRead p (if_statement spot branches others last) (chooses forms) end =
+      AreBranchesRead p branches (λ q these place. AreStatementsRead q others these place) forms end
   IsStatementRead p (loop_statement spot (for_scheme name low high) ss last) (counts x from to forms end_spot) end =
       IsRangeRead p name low high x from to × (end_spot ≡ last) ×
-      (done : Place) × AreStatementsRead (read_at (with_loop_parameter name (inside p.place)) p) ss forms done × (end ≡ behind p.place done)
+      (done : Place) × AreStatementsRead (read_at (with_new_constant name (inside p.place)) p) ss forms done × (end ≡ behind p.place done)
   IsStatementRead p (loop_statement spot scheme ss last) (repeats condition forms end_spot) end =
       IsSchemeRead p scheme condition × (end_spot ≡ last) × AreStatementsRead p ss forms end
-  IsStatementRead p (block (a_sequence start ss hs last)) (encloses elaborated forms handled) end =
-      (declared done ended : Place) × BeginsInside p no_declarations elaborated declared × AreStatementsRead (read_at declared p) ss forms done ×
-      AreHandlersRead (read_at done p) hs handled ended × (end ≡ behind p.place ended)
-  IsStatementRead p (declare_block spot ds (a_sequence start ss hs last)) (encloses elaborated forms handled) end =
-      (declared done ended : Place) × BeginsInside p ds elaborated declared × AreStatementsRead (read_at declared p) ss forms done ×
-      AreHandlersRead (read_at done p) hs handled ended × (end ≡ behind p.place ended)
+  IsStatementRead p (block body) (encloses elaborated forms handled) end =
+      (done : Place) × (elaborated ≡ []) × IsSequenceRead (read_at (inside p.place) p) body forms handled done × (end ≡ behind p.place done)
+  IsStatementRead p (declare_block spot ds body) (encloses elaborated forms handled) end =
+      (declared done : Place) × IsPartRead (read_at (inside p.place) p) (Some []) ds elaborated declared ×
+      IsSequenceRead (read_at declared p) body forms handled done × (end ≡ behind p.place done)
   IsStatementRead p statement form end = IsSimpleRead p statement form × (end ≡ behind_simple form p.place)
 
   -- Statements, one for one (5.1).
@@ -520,8 +600,8 @@ abbrev mutual
       (next : Place) × IsStatementRead p s form next × AreStatementsRead (read_at next p) ss forms end
 
   -- Branches, one for one, each with its condition and its statements, and behind them what stands behind `else` (5.3).
-  pub AreBranchesRead : Context → BranchesTree → StatementsTree → BranchesForm → (end : Place) → Type 0
-  AreBranchesRead p no_branches others (otherwise forms) end = AreStatementsRead p others forms end
+  pub AreBranchesRead : Context → BranchesTree → ReadOthers → BranchesForm → (end : Place) → Type 0
+  AreBranchesRead p no_branches others (otherwise forms) end = others p forms end
   AreBranchesRead p no_branches others (form.a_branch condition forms more) end = ⊥
   AreBranchesRead p (a_branch e ss bs) others (otherwise forms) end = ⊥
   AreBranchesRead p (a_branch e ss bs) others (form.a_branch condition forms more) end =
@@ -537,43 +617,38 @@ abbrev mutual
 
 -- The place before the first declaration of a tree.
 abbrev pub first_place : Place
-first_place = record { here = []; outer = []; first_type = 0; types = 0; variables = 0; exceptions = 0; texts = 0 }
+first_place = record { here = []; outer = []; first_type = 0; types = 0; bodies = 0; variables = 0; exceptions = 0; texts = 0 }
 
 -- A tree is read from there, by the tables of a program.
 abbrev pub first_context : ProgramForm → Context
 first_context program = record {
   place = first_place;
   types = program.types;
+  bodies = program.bodies;
   variables = program.variables;
   texts = program.texts;
   exceptions = program.exceptions;
 }
 
--- The statements of a body.
-abbrev pub statements_in : SequenceTree → StatementsTree
-statements_in (a_sequence start ss hs last) = ss
-
--- The handlers of a body.
-abbrev pub handlers_in : SequenceTree → HandlersTree
-handlers_in (a_sequence start ss hs last) = hs
-
--- The program has as many types, variables and exceptions as the text up to the place declares, and as many texts as it writes, and no more.
+-- The program has as many types, procedures, variables of the main one and exceptions as the text up to the place declares, and as many texts as
+-- it writes, and no more.
 pub record AreCounted (program : ProgramForm) (end : Place) : Type 0 where
   pub types : length program.types ≡ end.types
+  pub bodies : length program.bodies ≡ end.bodies
   pub variables : length program.variables ≡ end.variables
   pub exceptions : length program.exceptions ≡ end.exceptions
   pub texts : length program.texts ≡ end.texts
 
 -- Each declaration and each statement of the program is what the tree says there: nothing is left out, put in or filled up in silence, and each
--- name, literal, operator and text is the one that is written. Types, variables, exceptions and the texts of Put_Line are numbered in the order
--- of the text, and each has a number of its own. A name stands for what its innermost declaration declares; a part declares a name once (8.3),
--- no declaration has a predefined one (A.1), and nothing is written to a loop parameter (5.5).
+-- name, literal, operator and text is the one that is written. Types, exceptions and the texts of Put_Line are numbered in the order of the text,
+-- procedures in the order in which their bodies end, and the variables of each body in the order of the text; each has a number of its own. A name
+-- stands for what its innermost declaration declares; a part declares a name once (8.3), no declaration has a predefined one (A.1), a body uses no
+-- object of the bodies around, and nothing is written to a loop parameter or a formal parameter (5.5, 6.2).
 pub record IsReadAs (tree : UnitTree) (program : ProgramForm) : Type 0 where
   pub own_name : IsNew first_place tree.name
+  pub end_name : IsEndName tree.name.text tree.end_name
   pub declared : Place
-  pub done : Place
   pub end : Place
-  pub elaborated : IsPartRead (first_context program) [] tree.declarations program.declarations declared
-  pub statements : AreStatementsRead (read_at declared (first_context program)) (statements_in tree.body) program.statements done
-  pub handlers : AreHandlersRead (read_at done (first_context program)) (handlers_in tree.body) program.handlers end
+  pub elaborated : IsPartRead (first_context program) (Some []) tree.declarations program.declarations declared
+  pub body : IsSequenceRead (read_at declared (first_context program)) tree.body program.statements program.handlers end
   pub counted : AreCounted program end

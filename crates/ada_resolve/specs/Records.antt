@@ -8,6 +8,7 @@ use Rattle.ada_program.specs.ProgramForm.{PartForm, TypeForm, record_of}
 use Rattle.ada_program.specs.declared.program.ComponentKind.{ComponentKind}
 use Rattle.ada_program.specs.declared.program.ComponentKind.TheVariants as kind
 use Rattle.ada_program.specs.declared.program.PartKind.{PartKind}
+use Rattle.ada_program.specs.declared.program.TypeNo.{TypeNo}
 use Rattle.ada_program.specs.declared.program.PartKind.TheVariants as part
 use Rattle.ada_resolve.specs.declared.fault.NameRule.TheVariants.{DeclaredTwice, WrongType, NotInProfile, NoInitialValue, Limit}
 use Rattle.ada_resolve.specs.declared.scope.Entity.{Entity}
@@ -184,11 +185,15 @@ record_type_remark known spot name definition =
     new_unless (completed_type known name) (new_name_remark known name spot) also
     all_components_remark known (components_written definition)
 
--- What is known once a record type that is made of this is declared.
+-- What is known once a record type that is made of this is declared: a new one, or the one that it completes.
+abbrev pub with_record_defined : Option TypeNo → Known → Ident → Composition → Known
+with_record_defined completes known name made =
+    declared (record known { types = defined completes (record_of name.text made.parts made.kinds) known.types })
+    name.text (entity.Record (number_of completes known.types) made.size)
+
+-- What is known once a record type of a name that is made of this is declared.
 abbrev pub with_record : Known → Ident → Composition → Known
-with_record known name made =
-    declared (record known { types = defined (completed_type known name) (record_of name.text made.parts made.kinds) known.types })
-    name.text (entity.Record (number_of (completed_type known name) known.types) made.size)
+with_record known name made = with_record_defined (completed_type known name) known name made
 
 -- After it the record type is known.
 abbrev pub record_type_known : Known → Ident → RecordTree → Known

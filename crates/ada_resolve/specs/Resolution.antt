@@ -4,8 +4,8 @@ use Rattle.std.specs.Prelude.{◌≡◌, ℕ, Bool, true, false, ◌||◌, if◌
 use Rattle.ada_text.specs.declared.spot.Spot.{Spot}
 use Rattle.ada_tree.specs.Expressions.{ExpressionTree}
 use Rattle.ada_tree.specs.Names.{Ident, NameTree}
-use Rattle.ada_tree.specs.Declarations.{ChoiceTree, ClauseTree}
-use Rattle.ada_tree.specs.Statements.{DeclarationTree, exception_declaration, constant_declaration, incomplete_type, access_type, record_type, instance, object_declaration, borrower_declaration, DeclarationsTree, no_declarations, a_declaration, SchemeTree, endless, while_scheme, for_scheme, StatementTree, if_statement, loop_statement, block, declare_block, StatementsTree, no_statements, a_statement, BranchesTree, no_branches, a_branch, BranchTree, HandlersTree, no_handlers, a_handler, HandlerTree, SequenceTree, a_sequence, begin_of, UnitTree}
+use Rattle.ada_tree.specs.Declarations.{ChoiceTree, ClauseTree, HeadTree}
+use Rattle.ada_tree.specs.Statements.{DeclarationTree, exception_declaration, constant_declaration, incomplete_type, access_type, record_type, instance, object_declaration, borrower_declaration, body_declaration, DeclarationsTree, no_declarations, a_declaration, SchemeTree, endless, while_scheme, for_scheme, StatementTree, if_statement, loop_statement, block, declare_block, StatementsTree, no_statements, a_statement, BranchesTree, no_branches, a_branch, BranchTree, HandlersTree, no_handlers, a_handler, HandlerTree, SequenceTree, a_sequence, begin_of, UnitTree}
 use Rattle.ada_program.specs.Form.{ExpressionForm, StmtForm, chooses, counts, encloses, repeats, StmtsForm, no_stmts, a_stmt, BranchesForm, otherwise, HandlersForm}
 use Rattle.ada_program.specs.Form as form
 use Rattle.ada_program.specs.declared.program.Choice.{Choice}
@@ -19,14 +19,15 @@ use Rattle.ada_resolve.specs.declared.library.Withs.{Withs}
 use Rattle.ada_resolve.specs.declared.notes.Notes.{Notes}
 use Rattle.ada_resolve.specs.declared.scope.Entity.{Entity}
 use Rattle.ada_resolve.specs.declared.scope.Entity.TheVariants as entity
-use Rattle.ada_resolve.specs.Known.{Known, Named, declared, part_from, with_part, without_part}
+use Rattle.ada_resolve.specs.Known.{Known, Named, declared, part_from, with_part, without_part, next_variable}
 use Rattle.ada_resolve.specs.Library.{is_taken, is_primitive, library_name}
 use Rattle.ada_resolve.specs.Remark.{Remark, fine, wrong, node, ◌also◌, wrong_if, noted}
 use Rattle.ada_resolve.specs.Spots.{declaration_spot}
 use Rattle.ada_resolve.specs.Borrowers.{borrower_known, borrower_remark}
 use Rattle.ada_resolve.specs.Exceptions.{choices_meant, choices_remark, exception_known, exception_remark}
 use Rattle.ada_resolve.specs.Instances.{instance_known, instance_remark}
-use Rattle.ada_resolve.specs.Objects.{after_types, next_variable, object_known, object_remark, with_variable}
+use Rattle.ada_resolve.specs.Objects.{after_types, object_known, object_remark, with_variable}
+use Rattle.ada_resolve.specs.Procedures.{behind_head, body_ended, body_head_remark}
 use Rattle.ada_resolve.specs.Records.{record_type_known, record_type_remark}
 use Rattle.ada_resolve.specs.Statements.{bound_meant, bound_remark, condition_meant, condition_remark, simple_texts, statement_meant, statement_remark, with_texts}
 use Rattle.ada_resolve.specs.Statics.{constant_known, constant_remark}
@@ -94,9 +95,10 @@ abbrev pub known_first : Withs → List ℕ → Known
 known_first withs procedure = record {
   withs = withs;
   procedure = procedure;
-  here = part_from 0 0;
+  here = part_from 0 0 0;
   outer = [];
   types = [];
+  bodies = [];
   variables = [];
   exceptions = [];
   texts = [];
@@ -144,14 +146,17 @@ declaration_known known other = known
 abbrev pub told_of : DeclarationTree → At → Told At
 told_of declaration at = settled (noted (declaration_remark at.0 declaration) at.1) (declaration_known at.0 declaration)
 
--- What a declaration gives, behind those before it: the types end before an object.
-abbrev pub declaration_told : DeclarationTree → At → Told At
-declaration_told declaration at = told_of declaration (known_at at.0 declaration, at.1)
+-- What a declaration with no others in it gives, behind those before it: the types end before an object.
+abbrev pub single_told : DeclarationTree → At → Told At
+single_told declaration at = told_of declaration (known_at at.0 declaration, at.1)
 
--- The declarations, in order (3.11).
-abbrev pub declarations_told : DeclarationsTree → At → Told At
-declarations_told no_declarations at = gives at
-declarations_told (a_declaration declaration declarations) at = and_then (declaration_told declaration at) (declarations_told declarations)
+-- What the head of a procedure's body gives (6.1, 6.3): the first of the rules that it breaks, or what is known where the body begins.
+abbrev pub head_told_of : HeadTree → At → Told At
+head_told_of head at = settled (noted (body_head_remark at.0 head) at.1) (behind_head at.0 head)
+
+-- The types end before a body.
+abbrev pub body_head_told : HeadTree → At → Told At
+body_head_told head at = head_told_of head (after_types at.0, at.1)
 
 -- Whether one of these is an incomplete type.
 abbrev pub is_incomplete : Entity → Bool
@@ -207,7 +212,8 @@ range_remark known spot name low high =
 -- What is known where the statements of such a loop begin: the parameter, an Integer, is declared in a part of its own (5.5, 8.1).
 abbrev pub with_parameter : Ident → Known → Known
 with_parameter name known =
-    declared (with_variable (record { name = name.text; spot = name.spot; kind = variable.Integer; borrows = false }) (with_part known)) name.text (entity.Parameter (next_variable known))
+    declared (with_variable (record { name = name.text; spot = name.spot; kind = variable.Integer; borrows = false }) (with_part known)) name.text
+    (entity.Parameter (next_variable known) variable.Integer)
 
 -- What comes of the head of a loop, which begins at the spot: the rules that it breaks are told with those noted before.
 abbrev pub head_told : Spot → SchemeTree → At → Told (LoopHead × At)
@@ -234,10 +240,28 @@ abbrev pub ended_loop : LoopHead → Spot → Told (StmtsForm × At) → Told (S
 ended_loop head last (broken spot rule) = broken spot rule
 ended_loop head last (gives done) = gives (loop_of head done.0 last, (behind_loop head done.1.0, done.1.1))
 
--- A block ends behind its handlers (5.6): it elaborates what its part does, and the part ends.
-abbrev pub ended_block : StmtsForm → Told (HandlersForm × At) → Told (StmtForm × At)
-ended_block forms (broken spot rule) = broken spot rule
-ended_block forms (gives done) = gives (encloses done.1.0.here.elaborated forms done.0, (without_part done.1.0, done.1.1))
+-- What the statements of a part do, and what handles their exceptions (11.2).
+abbrev pub SequenceForm : Type 0
+SequenceForm = StmtsForm × HandlersForm
+
+-- A block whose part is the innermost one (5.6): it elaborates what the part does.
+abbrev pub block_of : Known → SequenceForm → StmtForm
+block_of known body = encloses known.here.elaborated body.0 body.1
+
+-- A block ends behind its handlers: its part ends.
+abbrev pub ended_block : Told (SequenceForm × At) → Told (StmtForm × At)
+ended_block (broken spot rule) = broken spot rule
+ended_block (gives done) = gives (block_of done.1.0 done.0, (without_part done.1.0, done.1.1))
+
+-- The name after `end` is the procedure's own, where one is written (6.3).
+abbrev pub same_name : {X : Type 0} → List ℕ → Option Ident → X → Told X
+same_name procedure (Some name) x = if bytes_eq name.text procedure then gives x else broken name.spot UnknownName
+same_name procedure None x = gives x
+
+-- The body of a procedure ends behind its handlers (6.3): the part ends, and the procedure may be called.
+abbrev pub ended_body : Ident → Option Ident → Told (SequenceForm × At) → Told At
+ended_body name end_name (broken spot rule) = broken spot rule
+ended_body name end_name (gives done) = same_name name.text end_name (body_ended name done.0.0 done.0.1 done.1.0, done.1.1)
 
 -- What is wrong with the statements of a loop or of a handler, which begins at the spot: there is one (5.1).
 abbrev pub body_remark : Spot → StatementsTree → Remark
@@ -262,6 +286,20 @@ abbrev pub Others : Type 0
 Others = At → Told (StmtsForm × At)
 
 abbrev mutual
+  -- What a declaration gives, behind those before it: that of a body looks at all that is in it (6.3).
+  pub declaration_told : DeclarationTree → At → Told At
+  declaration_told (body_declaration head declarations body end_name) at =
+      and_then (body_head_told head at)
+      (λ inner. and_then (declarations_told declarations inner)
+      (λ behind. ended_body head.name end_name (sequence_told false body behind)))
+  declaration_told declaration at = single_told declaration at
+
+  -- The declarations, in order (3.11).
+  pub declarations_told : DeclarationsTree → At → Told At
+  declarations_told no_declarations at = gives at
+  declarations_told (a_declaration declaration declarations) at =
+      and_then (declaration_told declaration at) (λ behind. declarations_told declarations behind)
+
   -- What comes of a statement, in a loop or not: the first of the rules that it breaks, or what it does, and what is known behind it.
   pub statement_told : (inside_loop : Bool) → StatementTree → At → Told (StmtForm × At)
   statement_told inside_loop (if_statement spot branches others last) at =
@@ -271,18 +309,18 @@ abbrev mutual
       and_then (head_told spot scheme (at.0, noted (body_remark spot statements) at.1))
       (λ begun. ended_loop begun.0 last (statements_told true statements begun.1))
   statement_told inside_loop (block body) at =
-      and_then (node_told (begin_of body) (with_part at.0) at.1) (λ inner. block_told inside_loop body inner)
+      and_then (node_told (begin_of body) (with_part at.0) at.1) (λ inner. ended_block (sequence_told inside_loop body inner))
   statement_told inside_loop (declare_block spot declarations body) at =
       and_then (node_told spot (with_part at.0) at.1)
-      (λ inner. and_then (declarations_told declarations inner) (λ behind. block_told inside_loop body behind))
+      (λ inner. and_then (declarations_told declarations inner) (λ behind. ended_block (sequence_told inside_loop body behind)))
   statement_told inside_loop simple at = simple_told inside_loop simple at
 
-  -- A block whose declarations are known (5.6): no type is incomplete at its `begin`; its statements, and their handlers.
-  pub block_told : (inside_loop : Bool) → SequenceTree → At → Told (StmtForm × At)
-  block_told inside_loop (a_sequence start statements handlers last) at =
+  -- The rest of a part whose declarations are known: no type is incomplete at its `begin`; its statements, and their handlers.
+  pub sequence_told : (inside_loop : Bool) → SequenceTree → At → Told (SequenceForm × At)
+  sequence_told inside_loop (a_sequence start statements handlers last) at =
       and_then (at_begin start at)
       (λ ready. and_then (statements_told inside_loop statements ready)
-      (λ done. ended_block done.0 (handlers_told inside_loop handlers done.1)))
+      (λ done. made_into (λ handled. (done.0, handled)) (handlers_told inside_loop handlers done.1)))
 
   -- The statements, in order (5.1).
   pub statements_told : (inside_loop : Bool) → StatementsTree → At → Told (StmtsForm × At)
@@ -319,15 +357,11 @@ handler_told inside_loop handler at =
     and_then (choices_told handler.spot handler.choices handler.statements at)
     (λ begun. made_into (λ forms. (begun.0, forms)) (statements_told inside_loop handler.statements begun.1))
 
--- The name after `end` is the procedure's own, where one is written (6.3).
-abbrev pub same_name : {X : Type 0} → List ℕ → Option Ident → X → Told X
-same_name procedure (Some name) x = if bytes_eq name.text procedure then gives x else broken name.spot UnknownName
-same_name procedure None x = gives x
-
 -- The program of what is known, of what the statements do, and of what handles their exceptions.
 abbrev pub program_of : Known → StmtsForm → HandlersForm → ProgramForm
 program_of known forms handled = record {
   types = known.types;
+  bodies = known.bodies;
   variables = known.variables;
   texts = known.texts;
   exceptions = known.exceptions;
@@ -336,23 +370,17 @@ program_of known forms handled = record {
   handlers = handled;
 }
 
--- The end of a tree whose statements are known: its handlers, and its name.
-abbrev pub end_told : UnitTree → HandlersTree → StmtsForm × At → Told ProgramForm
-end_told tree handlers done =
-    and_then (handlers_told false handlers done.1)
-    (λ handled. same_name tree.name.text tree.end_name (program_of handled.1.0 done.0 handled.0))
+-- The end of a tree whose statements and handlers are known: its name.
+abbrev pub end_told : UnitTree → SequenceForm × At → Told ProgramForm
+end_told tree done = same_name tree.name.text tree.end_name (program_of done.1.0 done.0.0 done.0.1)
 
--- The statements of a tree whose declarations are known, and what follows.
-abbrev pub statements_part : UnitTree → SequenceTree → At → Told ProgramForm
-statements_part tree (a_sequence start statements handlers last) at = and_then (statements_told false statements at) (end_told tree handlers)
-
--- The body of a tree whose declarations are looked at: no type is incomplete at its `begin`, and what follows.
-abbrev pub begin_told : UnitTree → At → Told ProgramForm
-begin_told tree at = and_then (at_begin (begin_of tree.body) at) (statements_part tree tree.body)
+-- The statements of a tree whose declarations are looked at, and what follows.
+abbrev pub statements_part : UnitTree → At → Told ProgramForm
+statements_part tree at = and_then (sequence_told false tree.body at) (end_told tree)
 
 -- The declarations of a tree, and what follows.
 abbrev pub part_told : UnitTree → At → Told ProgramForm
-part_told tree at = and_then (declarations_told tree.declarations at) (begin_told tree)
+part_told tree at = and_then (declarations_told tree.declarations at) (statements_part tree)
 
 -- The procedure of a tree, where this is known before its first declaration: its name, and what follows.
 abbrev pub procedure_from : UnitTree → Known → Told ProgramForm

@@ -15,7 +15,7 @@ use Rattle.ada_resolve.specs.Spots.{expression_spot}
 use Rattle.ada_resolve.specs.Allocators.{allocator_found, allocator_remark}
 use Rattle.ada_resolve.specs.Expressions.{expression_meant, expression_remark}
 use Rattle.ada_resolve.specs.Operators.{access_wanted, boolean_wanted, integer_wanted, owner_wanted, record_value_wanted}
-use Rattle.ada_resolve.specs.Paths.{Meant, access_value, aggregate_value, boolean_value, integer_value, null_value, record_value, unknown}
+use Rattle.ada_resolve.specs.Paths.{Meant, access_value, aggregate_value, boolean_value, integer_value, lent_value, null_value, record_value, unknown}
 
 -- The access type of what is assigned to.
 abbrev pub access_kind : Option Held → Option TypeNo
@@ -72,6 +72,7 @@ assigned (integer_value e) = Some (a_value (computes e))
 assigned (boolean_value e) = Some (a_value (computes e))
 assigned (record_value path) = Some (a_whole (item_of_record path ∷ []))
 assigned (aggregate_value t items) = Some (a_whole items)
+assigned (lent_value t) = None
 
 -- A new object is assigned, where it is known.
 abbrev pub new_assigned : Option RightForm → Option Assigned

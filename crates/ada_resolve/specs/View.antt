@@ -3,7 +3,7 @@
 use Rattle.std.specs.Prelude.{◌≡◌, ℕ, List, map, reverse, Option, Some, None, option_map, Result, Ok, Err}
 use Rattle.ada_tree.specs.Statements.{UnitTree}
 use Rattle.ada_program.specs.Form.{PathForm, RightForm, StmtForm, StmtsForm, ItemForm, LinksForm, a_link, no_more_links, path_form, record_path_form, expression_form, right_form, item_form, stmt_form, stmts_form, branches_form, condition_form, BranchesForm, ExpressionForm, declaration_form, HandlersForm, handlers_form}
-use Rattle.ada_program.specs.ProgramForm.{variable_form}
+use Rattle.ada_program.specs.ProgramForm.{VariableForm, body_form, variable_form}
 use Rattle.ada_program.specs.declared.program.Item.{Item}
 use Rattle.ada_program.specs.declared.program.Link.{Link}
 use Rattle.ada_program.specs.declared.program.Path.{Path}
@@ -13,6 +13,7 @@ use Rattle.ada_program.specs.declared.program.Choice.{Choice}
 use Rattle.ada_program.specs.declared.program.Handler.{Handler}
 use Rattle.ada_program.specs.declared.program.Stmt.{Stmt}
 use Rattle.ada_program.specs.declared.program.TypeNo.{TypeNo}
+use Rattle.ada_program.specs.declared.program.Variable.{Variable}
 use Rattle.ada_text.specs.declared.spot.Spot.{Spot}
 use Rattle.ada_resolve.specs.declared.fault.NameFault.{NameFault}
 use Rattle.ada_resolve.specs.declared.fault.NameFault.TheVariants.{Broken, NoMemory}
@@ -30,17 +31,20 @@ use Rattle.ada_resolve.specs.declared.rights.Assigned.{Assigned as AssignedOf}
 use Rattle.ada_resolve.specs.declared.rights.Assigned.TheVariants as assigned
 use Rattle.ada_resolve.specs.Assignments.{Target, value_target, record_target}
 use Rattle.ada_resolve.specs.Rights.{Assigned, a_value, a_whole}
+use Rattle.ada_resolve.specs.declared.formals.Formals.{Formals as FormalsOf}
 use Rattle.ada_resolve.specs.declared.items.Filling.{Filling as FillingOf}
 use Rattle.ada_resolve.specs.declared.part.Part.{Part as PartOf}
+use Rattle.ada_resolve.specs.declared.procedures.Sequence.{Sequence}
 use Rattle.ada_resolve.specs.Kept.{known_type_form}
 use Rattle.ada_resolve.specs.Known.{Known, Named, Part}
 use Rattle.ada_resolve.specs.Items.{Filling}
+use Rattle.ada_resolve.specs.Procedures.{Formals}
 use Rattle.ada_resolve.specs.declared.library.Withs.{Withs}
 use Rattle.std.specs.Global.{Vec}
 use Rattle.std.specs.String.{string_bytes}
 use denote.Ref.{Bor}
-use Rattle.ada_resolve.specs.Paths.{Meant, access_value, aggregate_value, boolean_value, integer_value, null_value, record_value, unknown}
-use Rattle.ada_resolve.specs.Resolution.{At, IsFirstNameFault, LoopHead, on_condition, over_range, Others, Told, broken, gives, made_into}
+use Rattle.ada_resolve.specs.Paths.{Meant, access_value, aggregate_value, boolean_value, integer_value, lent_value, null_value, record_value, unknown}
+use Rattle.ada_resolve.specs.Resolution.{At, IsFirstNameFault, LoopHead, on_condition, over_range, Others, SequenceForm, Told, broken, gives, made_into}
 use Rattle.ada_resolve.specs.declared.loops.Head.{Head}
 use Rattle.ada_resolve.specs.declared.loops.Head.TheVariants as head
 
@@ -48,13 +52,28 @@ use Rattle.ada_resolve.specs.declared.loops.Head.TheVariants as head
 abbrev pub named_of : Bor (List ℕ) × Entity → Named
 named_of entry = record { text = entry.0.now; entity = entry.1 }
 
+-- What names stand for, as the code keeps it.
+abbrev pub names_in : List (Bor (List ℕ) × Entity) → List Named
+names_in entries = map named_of entries
+
+-- The formal parameters of a procedure, as far as they are looked at.
+abbrev pub formals_in : FormalsOf → Formals
+formals_in f = record { names = names_in f.names.entries; variables = map variable_form f.variables.items }
+
+-- The variables of the body around, where there is one.
+abbrev pub optional_variables : Option (Vec Variable) → Option (List VariableForm)
+optional_variables (Some variables) = Some (map variable_form variables.items)
+optional_variables None = None
+
 -- A declarative part, as the code keeps it.
 unfoldable pub part_of : PartOf → Part
 part_of p = record {
   names = map named_of p.names.entries;
   first_type = p.first_type;
   first_variable = p.first_variable;
+  first_body = p.first_body;
   elaborated = map declaration_form p.declarations.items;
+  around = optional_variables p.around;
 }
 
 -- What a resolution in progress knows: the code keeps the outer parts with the innermost last.
@@ -65,6 +84,7 @@ known_of r = record {
   here = part_of r.here;
   outer = reverse (map part_of r.outer.items);
   types = map known_type_form r.types.items;
+  bodies = map body_form r.procedures.items;
   variables = map variable_form r.variables.items;
   exceptions = map string_bytes r.exceptions.items;
   texts = map string_bytes r.texts.items;
@@ -83,6 +103,7 @@ meant_of (meant.Integer e) = integer_value (expression_form e)
 meant_of (meant.Boolean e) = boolean_value (expression_form e)
 meant_of (meant.Record path) = record_value (record_path_form path)
 meant_of (meant.Aggregate t items) = aggregate_value t (items_in items)
+meant_of (meant.Lent t) = lent_value t
 
 -- What can be compared, as the code tells it.
 abbrev pub comparable_of : ComparableOf → Comparable
@@ -166,6 +187,10 @@ Answers (Err e) view told = Refuses e told
 abbrev pub AnswersWith : {X Y S : Type 0} → Result X NameFault → (X → Y) → S → Told (Y × S) → Type 0
 AnswersWith (Ok x) view after told = told ≡ gives (view x, after)
 AnswersWith (Err e) view after told = Refuses e told
+
+-- What the statements of a part do, and what handles their exceptions.
+abbrev pub sequence_in : Sequence → SequenceForm
+sequence_in body = (stmts_form body.statements.items, handlers_form body.handlers.items)
 
 -- What the statements do.
 abbrev pub statements_in : Vec Stmt → StmtsForm

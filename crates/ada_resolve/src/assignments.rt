@@ -103,7 +103,7 @@ fn target_meant(meant: Meant, spot: Spot, notes: &mut Notes) -> Option<Target>
     ensures remark { IsNoted notes (target_wanted (meant_of meant) spot) }
 {
     match meant {
-        Meant::Unknown => None,
+        Meant::Unknown | Meant::Lent(_) => None,
         Meant::Integer(value) => read_target(value, Held::Integer, spot, notes),
         Meant::Boolean(value) => read_target(value, Held::Boolean, spot, notes),
         Meant::Access(path, access) => Some(Target::Value(path, Held::Access(access))),

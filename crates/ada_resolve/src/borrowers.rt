@@ -120,6 +120,11 @@ impl<'t> Resolver<'t> {
                 notes.note_if(!designates, spot, NameRule::WrongType);
                 Some((path, access))
             }
+            Meant::Lent(access) => {
+                let designates = self.designates_if_known(access, wanted);
+                notes.note_if(!designates, spot, NameRule::WrongType);
+                None
+            }
             _ => {
                 notes.note(spot, NameRule::WrongType);
                 None

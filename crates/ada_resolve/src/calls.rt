@@ -1,4 +1,4 @@
-//! Resolution of calls: of instances of Unchecked_Deallocation, and of the library's procedures (6.4, 13.11.2).
+//! Resolution of calls: of procedures, of instances of Unchecked_Deallocation, and of the library's procedures (6.4, 13.11.2).
 
 ghost use Rattle.std.specs.Prelude.{◌≡◌, IfErr};
 ghost use Rattle.ada_tree.specs.ExpressionView.{expression_of};
@@ -34,7 +34,8 @@ pub(crate) enum Callee {
 }
 
 impl<'t> Resolver<'t> {
-    /// `P (..);` (6.4): an instance of Unchecked_Deallocation, Get, or Put_Line. A text that it writes has this number.
+    /// `P (..);` (6.4): a procedure, an instance of Unchecked_Deallocation, Get, or Put_Line. A text that it writes has this
+    /// number.
     pub(crate) fn call(
         &self,
         procedure: &Path<'t>,
@@ -89,6 +90,9 @@ impl<'t> Resolver<'t> {
         match self.lookup(name, notes) {
             Some(Entity::Instance(access)) if alone => {
                 self.taker(Callee::Free(access), name.spot, arguments, notes)
+            }
+            Some(Entity::Callable(procedure)) if alone => {
+                self.procedure_call(procedure, name.spot, arguments, notes)
             }
             Some(Entity::Procedure) if alone => {
                 notes.note(name.spot, NameRule::NotInProfile);

@@ -3,12 +3,13 @@
 ghost use Rattle.std.specs.Prelude.{◌≡◌, map};
 ghost use Rattle.ada_tree.specs.StatementView.{declaration_of, declarations_of};
 ghost use Rattle.ada_resolve.specs.Method.{known, IsNoted, Takes};
-ghost use Rattle.ada_resolve.specs.Resolution.{declaration_told, declarations_told, some_incomplete, entity_in, at_begin, unused_remark};
+ghost use Rattle.ada_resolve.specs.Resolution.{declaration_told, declarations_told, single_told, some_incomplete, entity_in, at_begin, unused_remark};
 ghost use Rattle.ada_resolve.specs.View.{Settles};
 
 use crate::fault::{NameFault, NameRule};
 use crate::instances::Instance;
 use crate::notes::Notes;
+use crate::procedures::same_name;
 use crate::resolver::Resolver;
 use crate::spots::declaration_spot;
 use ada_program::Spot;
@@ -16,6 +17,7 @@ use ada_tree::declarations::Declaration;
 
 impl<'t> Resolver<'t> {
     /// The declarations, in order.
+    #[cycle(statements)]
     pub(crate) fn declarations(
         &mut self,
         declarations: &[Declaration<'t>],
@@ -23,13 +25,14 @@ impl<'t> Resolver<'t> {
     ) -> Result<(), NameFault>
         ensures { Takes result self notes (declarations_told (declarations_of declarations.now)) }
     {
-        for one in declarations {
+        'declarations: for one in declarations {
             self.declaration(one, notes)?;
         }
         Ok(())
     }
 
-    /// One declaration.
+    /// One declaration, with those in it.
+    #[cycle(statements)]
     #[tactic(auto, using(std::proofs::lemmas::Grind::common_steps, ada_tree::specs::StatementView::statement_rules))]
     fn declaration(
         &mut self,
@@ -37,6 +40,44 @@ impl<'t> Resolver<'t> {
         notes: &mut Notes,
     ) -> Result<(), NameFault>
         ensures { Takes result self notes (declaration_told (declaration_of declaration.now)) }
+    {
+        match declaration {
+            Declaration::Body {
+                head,
+                declarations,
+                body,
+                end_name,
+            } => {
+                self.end_of_types()?;
+                self.body_head(head, notes)?;
+                self.declarations(declarations, notes)?;
+                let body = self.sequence(body, false, notes)?;
+                same_name(head.name, *end_name)?;
+                self.end_body(head.name, body)
+            }
+            Declaration::Exception { .. }
+            | Declaration::Constant { .. }
+            | Declaration::Pool { .. }
+            | Declaration::Object { .. }
+            | Declaration::Borrower { .. }
+            | Declaration::IncompleteType { .. }
+            | Declaration::AccessType { .. }
+            | Declaration::RecordType { .. }
+            | Declaration::DerivedType { .. }
+            | Declaration::Clause { .. }
+            | Declaration::Specification(_)
+            | Declaration::Instance { .. } => self.single_declaration(declaration, notes),
+        }
+    }
+
+    /// A declaration with no others in it. A procedure's body is none.
+    #[tactic(auto, using(std::proofs::lemmas::Grind::common_steps, ada_tree::specs::StatementView::statement_rules))]
+    fn single_declaration(
+        &mut self,
+        declaration: &Declaration<'t>,
+        notes: &mut Notes,
+    ) -> Result<(), NameFault>
+        ensures { Takes result self notes (single_told (declaration_of declaration.now)) }
     {
         match declaration {
             Declaration::IncompleteType { spot, name } => self.incomplete_type(*spot, *name, notes),

@@ -306,7 +306,7 @@ fn item_meant(alloc: Global, value: Meant) -> Result<Vec<program::Item>, NameFau
     ensures memory { IfErr result (λ e. e ≡ NameFault.NoMemory) }
 {
     match value {
-        Meant::Unknown => Ok(Vec::new(alloc)),
+        Meant::Unknown | Meant::Lent(_) => Ok(Vec::new(alloc)),
         Meant::Null => single_item(alloc, program::Item::Null),
         Meant::Access(path, _) => single_item(alloc, program::Item::Path(path)),
         Meant::Integer(expression) | Meant::Boolean(expression) => {

@@ -4,9 +4,9 @@ ghost use Rattle.std.specs.Prelude.{◌≡◌, IfOk, OnOk, IfErr};
 ghost use Rattle.ada_tree.specs.Names.{ident_of};
 ghost use Rattle.ada_tree.specs.StatementView.{scheme_of};
 ghost use Rattle.ada_program.specs.Form.{expression_form, stmt_form};
+ghost use Rattle.ada_resolve.specs.Known.{next_variable};
 ghost use Rattle.ada_resolve.specs.Look.{Looks, bound_look};
 ghost use Rattle.ada_resolve.specs.Method.{known, Changes, Does, new_variable, with_own_parameter};
-ghost use Rattle.ada_resolve.specs.Objects.{next_variable};
 ghost use Rattle.ada_resolve.specs.Resolution.{behind_loop, head_told, loop_of};
 ghost use Rattle.ada_resolve.specs.View.{head_in, known_of, statements_in};
 
@@ -88,7 +88,13 @@ impl<'t> Resolver<'t> {
     {
         self.enter_part()?;
         let parameter = self.add_variable(name, false, VariableKind::Integer)?;
-        self.declare(name.text, Entity::Parameter(parameter))?;
+        self.declare(
+            name.text,
+            Entity::Parameter {
+                variable: parameter,
+                kind: VariableKind::Integer,
+            },
+        )?;
         Ok(parameter)
     }
 

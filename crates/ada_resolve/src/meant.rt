@@ -30,6 +30,8 @@ pub(crate) enum Meant {
     Record(RecordPath),
     /// An aggregate of this record type: its items in the order of the elementary components.
     Aggregate(TypeNo, Vec<Item>),
+    /// What a borrower of a body around holds, a value of this access type.
+    Lent(TypeNo),
 }
 
 /// What can be compared for equality (4.5.2).
@@ -74,7 +76,7 @@ impl Meant {
     {
         match self {
             Meant::Unknown | Meant::Null => {}
-            Meant::Access(_, found) => {
+            Meant::Access(_, found) | Meant::Lent(found) => {
                 notes.note_if(access.0 != found.0, spot, NameRule::WrongType);
             }
             Meant::Integer(_) | Meant::Boolean(_) | Meant::Record(_) | Meant::Aggregate(_, _) => {
@@ -95,7 +97,11 @@ impl Meant {
             Meant::Aggregate(found, _) => {
                 notes.note_if(number.0 != found.0, spot, NameRule::WrongType);
             }
-            Meant::Null | Meant::Access(_, _) | Meant::Integer(_) | Meant::Boolean(_) => {
+            Meant::Null
+            | Meant::Access(_, _)
+            | Meant::Integer(_)
+            | Meant::Boolean(_)
+            | Meant::Lent(_) => {
                 notes.note(spot, NameRule::WrongType);
             }
         }
@@ -106,8 +112,12 @@ impl Meant {
         ensures { IsNoted notes
             (rules.owner_wanted (variables_in variables.now) (meant_of self.now) spot) }
     {
-        if let Meant::Access(path, _) = self {
-            notes.note_if(names_borrower(variables, path), spot, NameRule::WrongType);
+        match self {
+            Meant::Access(path, _) => {
+                notes.note_if(names_borrower(variables, path), spot, NameRule::WrongType);
+            }
+            Meant::Lent(_) => notes.note(spot, NameRule::WrongType),
+            _ => {}
         }
     }
 
@@ -118,7 +128,7 @@ impl Meant {
         match self {
             Meant::Unknown => Comparable::AnyValue,
             Meant::Null => Comparable::Null,
-            Meant::Access(_, _) => Comparable::Access,
+            Meant::Access(_, _) | Meant::Lent(_) => Comparable::Access,
             Meant::Integer(_) => Comparable::Integer,
             Meant::Boolean(_) => Comparable::Boolean,
             Meant::Record(_) | Meant::Aggregate(_, _) => Comparable::Record,

@@ -4,9 +4,10 @@ ghost use Rattle.std.specs.Prelude.{◌≡◌, is_some, IfOk, OnOk, IfErr};
 ghost use Rattle.ada_tree.specs.ExpressionView.{optional_right_of};
 ghost use Rattle.ada_tree.specs.Names.{ident_of, name_of};
 ghost use Rattle.ada_program.specs.Form.{declaration_form};
+ghost use Rattle.ada_resolve.specs.Known.{next_variable};
 ghost use Rattle.ada_resolve.specs.Look.{Looks, initial_look};
 ghost use Rattle.ada_resolve.specs.Method.{known, Finds, IsNoted, Changes, object_tree, Declares, each, new_variable, with_created, with_declarations, with_object, with_object_created, with_record_of};
-ghost use Rattle.ada_resolve.specs.Objects.{type_in, object_type_found, object_type_remark, held_of, initial_items_in, initial_value_in, kind_of, initial_wanted, after_types, with_variable, missing_collections, lacks_collection, next_variable};
+ghost use Rattle.ada_resolve.specs.Objects.{type_in, object_type_found, object_type_remark, held_of, initial_items_in, initial_value_in, kind_of, initial_wanted, after_types, with_variable, missing_collections, lacks_collection};
 ghost use Rattle.ada_resolve.specs.Paths.{designated_of};
 ghost use Rattle.ada_resolve.specs.View.{assigned_in, known_of, optional_items, right_in};
 
@@ -181,7 +182,7 @@ impl<'t> Resolver<'t> {
         ensures known { OnOk result (Changes self after_types) }
         ensures memory { IfErr result (λ e. e ≡ NameFault.NoMemory) }
     {
-        if !self.no_object_yet() {
+        if !self.types_go_on() {
             return Ok(());
         }
         let collections = self.collections()?;

@@ -1,18 +1,21 @@
 //! A declarative part: what it declares so far, and what names stand for in it.
 
-ghost use Rattle.std.specs.Prelude.{◌≡◌, map, reverse, length, OnOk, IfErr, [], ◌∷◌};
+ghost use Rattle.std.specs.Prelude.{◌≡◌, map, reverse, is_some, OnOk, IfErr, [], ◌∷◌};
 ghost use Rattle.ada_program.specs.Form.{collects, declares, declares_record, declaration_form};
+ghost use Rattle.ada_program.specs.Kept.{variables_in};
+ghost use Rattle.ada_program.specs.ProgramForm.{variable_form};
 ghost use Rattle.ada_resolve.specs.Instances.{is_collected};
-ghost use Rattle.ada_resolve.specs.Known.{named, named_in, part_from};
-ghost use Rattle.ada_resolve.specs.Method.{each, Elaborates, Enters};
+ghost use Rattle.ada_resolve.specs.Known.{formals_of, from_part, from_within, is_in_procedure, named, named_in, own_names, part_from, role_of};
+ghost use Rattle.ada_resolve.specs.Method.{each, part_of_body, Elaborates, Enters};
 ghost use Rattle.ada_resolve.specs.Paths.{is_incomplete_entity, is_incomplete_in};
 ghost use Rattle.ada_resolve.specs.Resolution.{some_incomplete, entity_in};
 ghost use Rattle.ada_resolve.specs.Objects.{initial_source};
-ghost use Rattle.ada_resolve.specs.View.{optional_items, part_of, right_in};
+ghost use Rattle.ada_resolve.specs.View.{names_in, optional_items, optional_variables, part_of, right_in};
 
 use crate::fault::NameFault;
-use crate::scope::Entity;
-use ada_program::program::{self, Declaration};
+use crate::scope::{Entity, Role};
+use ada_program::borrowers::is_borrower;
+use ada_program::program::{self, Declaration, Variable};
 use ada_program::{TypeNo, VariableNo};
 use indexmap::IndexMap;
 use std::alloc::Global;
@@ -24,23 +27,58 @@ pub(crate) struct Part<'t> {
     names: IndexMap<&'t str, Entity>,
     /// The number of its first type.
     pub(crate) first_type: usize,
-    /// The number of its first variable.
+    /// The number of its first variable behind formal parameters.
     pub(crate) first_variable: usize,
+    /// The number of the first procedure whose body ends in it.
+    pub(crate) first_body: usize,
     /// What it elaborates, in order.
     declarations: Vec<Declaration>,
+    /// Where it is that of a procedure's body, the variables of the body around.
+    around: Option<Vec<Variable>>,
 }
 
 impl<'t> Part<'t> {
-    /// Nothing is declared yet, behind so many types and variables.
+    /// Nothing is declared yet, behind so many types, variables and bodies.
     #[tactic(auto, unfolding(crate::specs::View::part_of))]
-    pub(crate) fn new(alloc: Global, first_type: usize, first_variable: usize) -> Part<'t>
-        ensures { part_of result ≡ part_from first_type first_variable }
+    pub(crate) fn new(
+        alloc: Global,
+        first_type: usize,
+        first_variable: usize,
+        first_body: usize,
+    ) -> Part<'t>
+        ensures { part_of result ≡ part_from first_type first_variable first_body }
     {
         Part {
             names: IndexMap::new(alloc),
             first_type,
             first_variable,
+            first_body,
             declarations: Vec::new(alloc),
+            around: None,
+        }
+    }
+
+    /// The part of a procedure's body, with names of formal parameters, behind so many types and bodies; these are the
+    /// variables of the body around.
+    #[tactic(auto, unfolding(crate::specs::View::part_of))]
+    pub(crate) fn of_body(
+        alloc: Global,
+        names: IndexMap<&'t str, Entity>,
+        first_type: usize,
+        first_variable: usize,
+        first_body: usize,
+        around: Vec<Variable>,
+    ) -> Part<'t>
+        ensures { part_of result ≡ part_of_body (names_in names.entry.entries) first_type first_variable
+            first_body (each variable_form around) }
+    {
+        Part {
+            names,
+            first_type,
+            first_variable,
+            first_body,
+            declarations: Vec::new(alloc),
+            around: Some(around),
         }
     }
 
@@ -52,12 +90,43 @@ impl<'t> Part<'t> {
         self.names.get(text).copied()
     }
 
-    /// How many names it declares.
+    /// How many names it declares besides formal parameters.
     #[tactic(auto, unfolding(crate::specs::View::part_of))]
-    pub(crate) fn count(&self) -> usize
-        ensures { result ≡ length (part_of self.now).names }
+    pub(crate) fn own_names(&self) -> usize
+        ensures { result ≡ own_names (part_of self.now) }
     {
-        self.names.len()
+        self.names.len().saturating_sub(self.formals())
+    }
+
+    /// How many formal parameters it declares.
+    #[tactic(auto, unfolding(crate::specs::View::part_of))]
+    fn formals(&self) -> usize
+        ensures { result ≡ formals_of (part_of self.now) }
+    {
+        if self.is_of_body() {
+            self.first_variable
+        } else {
+            0
+        }
+    }
+
+    /// Whether it is that of a procedure's body.
+    #[tactic(auto, unfolding(crate::specs::View::part_of))]
+    pub(crate) fn is_of_body(&self) -> bool
+        ensures { result ≡ is_some (part_of self.now).around }
+    {
+        self.around.is_some()
+    }
+
+    /// What a name that it does not declare stands for in it, where this is what it stands for around it.
+    #[tactic(auto, unfolding(crate::specs::View::part_of))]
+    pub(crate) fn from_around(&self, outer: Option<Entity>) -> Option<Entity>
+        ensures { result ≡ from_part (part_of self.now).around outer }
+    {
+        match &self.around {
+            Some(variables) => from_within(variables, outer),
+            None => outer,
+        }
     }
 
     /// The name stands for this from now on.
@@ -155,13 +224,24 @@ impl<'t> Part<'t> {
     pub(crate) fn into_declarations(self) -> Vec<Declaration>
         ensures { each declaration_form result ≡ (part_of self.entry).elaborated }
     {
+        self.into_contents().0
+    }
+
+    /// What it elaborates, in order, and the variables of the body around, where it is that of a procedure's body.
+    #[tactic(auto, unfolding(crate::specs::View::part_of))]
+    pub(crate) fn into_contents(self) -> (Vec<Declaration>, Option<Vec<Variable>>)
+        ensures elaborated { each declaration_form result.0 ≡ (part_of self.entry).elaborated }
+        ensures around { optional_variables result.1 ≡ (part_of self.entry).around }
+    {
         let Part {
             names: _,
             first_type: _,
             first_variable: _,
+            first_body: _,
             declarations,
+            around,
         } = self;
-        declarations
+        (declarations, around)
     }
 }
 
@@ -173,7 +253,46 @@ pub(crate) fn named_in<'t>(parts: &[Part<'t>], text: &'t str) -> Option<Entity>
     let (inner, outer) = parts.split_last()?;
     match inner.named(text) {
         Some(entity) => Some(entity),
-        None => named_in(outer, text),
+        None => inner.from_around(named_in(outer, text)),
+    }
+}
+
+/// What a name of a body around stands for, whose variables are these: no object of that body is used in an inner one.
+fn from_within(variables: &[Variable], outer: Option<Entity>) -> Option<Entity>
+    ensures { result ≡ from_within (variables_in variables.now) outer }
+{
+    match outer {
+        Some(Entity::Variable { variable, kind }) => Some(Entity::Outer {
+            kind,
+            role: role_of(is_borrower(variables, variable.0)),
+        }),
+        Some(Entity::Parameter { variable: _, kind }) => Some(Entity::Outer {
+            kind,
+            role: Role::Constant,
+        }),
+        _ => outer,
+    }
+}
+
+/// What a variable is: a borrower, or any other.
+fn role_of(borrows: bool) -> Role
+    ensures { result ≡ role_of borrows }
+{
+    if borrows {
+        Role::Borrower
+    } else {
+        Role::Variable
+    }
+}
+
+/// Whether one of these parts is that of a procedure's body; the last of them is the innermost.
+#[tactic(auto, using(crate::proofs::Names::reversed_snoc))]
+pub(crate) fn is_in_procedure(parts: &[Part<'_>]) -> bool
+    ensures { result ≡ is_in_procedure (reverse (map part_of parts.now)) }
+{
+    match parts.split_last() {
+        Some((inner, outer)) => inner.is_of_body() || is_in_procedure(outer),
+        None => false,
     }
 }
 

@@ -4,10 +4,10 @@ ghost use Rattle.std.specs.Prelude.{◌≡◌, map, slice_get, option_copied, If
 ghost use Rattle.ada_tree.specs.Names.{ident_of, selector_of};
 ghost use Rattle.ada_program.specs.Form.{path_form};
 ghost use Rattle.ada_resolve.specs.Kept.{forms_in, kinds_in};
-ghost use Rattle.ada_resolve.specs.Known.{parts_of};
-ghost use Rattle.ada_resolve.specs.Look.{Looks, library_path_look, named_look, path_look, variable_look};
+ghost use Rattle.ada_resolve.specs.Known.{next_variable, parts_of};
+ghost use Rattle.ada_resolve.specs.Look.{Looks, library_path_look, named_look, outer_look, path_look, variable_look};
 ghost use Rattle.ada_resolve.specs.Method.{known, Finds, IsNoted, each, entity_of};
-ghost use Rattle.ada_resolve.specs.Paths.{component_named, components_of, designated_of, elementary_of, is_incomplete_type, is_record_kind, name_of_type, reached_meant, record_of_object, variable_reached, written_wanted};
+ghost use Rattle.ada_resolve.specs.Paths.{component_named, components_of, designated_of, elementary_of, is_incomplete_type, is_record_kind, lent_by, name_of_type, reached_meant, record_of_object, variable_reached, written_wanted};
 ghost use Rattle.ada_resolve.specs.View.{meant_of, optional_number, itself};
 
 use crate::components::{Components, KnownComponent, KnownType};
@@ -17,7 +17,7 @@ use crate::meant::Meant;
 use crate::notes::Notes;
 use crate::part::{is_incomplete_in, is_this_incomplete};
 use crate::resolver::Resolver;
-use crate::scope::Entity;
+use crate::scope::{Entity, Role};
 use crate::selectors::Reached;
 use ada_program::program::{self, ComponentNo, Expression, RecordPath, VariableKind};
 use ada_program::{Spot, TypeNo, VariableNo};
@@ -51,17 +51,11 @@ impl<'t> Resolver<'t> {
         ensures { Looks meant_of result notes (named_look self name.entry selectors.now) }
     {
         match (self.lookup(name, notes), selectors) {
-            (Some(Entity::Variable { variable, kind }), _) => {
-                self.variable_value(variable, name.spot, kind, selectors, notes)
-            }
-            (Some(Entity::Parameter(parameter)), _) => {
-                self.variable_value(
-                    parameter,
-                    name.spot,
-                    VariableKind::Integer,
-                    selectors,
-                    notes,
-                )
+            (Some(Entity::Variable { variable, kind } | Entity::Parameter { variable, kind }), _) =>
+                self.variable_value(variable, name.spot, kind, selectors, notes),
+            (Some(Entity::Outer { kind, role }), _) => {
+                notes.note(name.spot, NameRule::NotInProfile);
+                self.outer_value(kind, role, name.spot, selectors, notes)
             }
             (Some(Entity::Number(value)), []) => Ok(Meant::Integer(Expression::Integer(value))),
             (Some(Entity::Truth(value)), []) => Ok(Meant::Boolean(Expression::Boolean(value))),
@@ -77,9 +71,42 @@ impl<'t> Resolver<'t> {
     pub(crate) fn written(&self, name: Identifier<'t>, notes: &mut Notes)
         ensures { IsNoted notes (written_wanted (entity_of self name.entry) name.entry.spot) }
     {
-        if let Some(Entity::Parameter(_)) = self.visible(name.text) {
+        if let Some(
+            Entity::Parameter { .. }
+            | Entity::Outer {
+                kind: _,
+                role: Role::Constant,
+            },
+        ) = self.visible(name.text)
+        {
             notes.note(name.spot, NameRule::WrongType);
         }
+    }
+
+    /// What an object of a body around means, with what is selected from it: a borrower as a whole lends what it holds.
+    fn outer_value(
+        &self,
+        kind: VariableKind,
+        role: Role,
+        spot: Spot,
+        selectors: &[Selector<'t>],
+        notes: &mut Notes,
+    ) -> Result<Meant, NameFault>
+        ensures { Looks meant_of result notes (outer_look self kind role spot selectors.now) }
+    {
+        let meant = self.variable_value(self.next_variable(), spot, kind, selectors, notes)?;
+        match (role, selectors) {
+            (Role::Borrower, []) => Ok(lent_by(kind)),
+            _ => Ok(meant),
+        }
+    }
+
+    /// The number of the next variable.
+    #[tactic(auto, unfolding(crate::specs::View::known_of))]
+    fn next_variable(&self) -> VariableNo
+        ensures { result ≡ next_variable (known self) }
+    {
+        VariableNo(self.variables.len())
     }
 
     /// What a variable means, with what is selected from it.
@@ -254,6 +281,16 @@ fn reached_meant(reached: Reached, path: program::Path) -> Meant
             record: number,
         }),
         Reached::Value(VariableKind::Record(_)) | Reached::Nothing => Meant::Unknown,
+    }
+}
+
+/// What a borrower of a body around holds.
+fn lent_by(kind: VariableKind) -> Meant
+    ensures { meant_of result ≡ lent_by kind }
+{
+    match kind {
+        VariableKind::Access(access) => Meant::Lent(access),
+        VariableKind::Integer | VariableKind::Boolean | VariableKind::Record(_) => Meant::Unknown,
     }
 }
 

@@ -2,26 +2,25 @@
 
 ghost use Rattle.std.specs.Prelude.{◌≡◌, map, IfOk, IfErr};
 ghost use Rattle.ada_tree.specs.Declarations.{clause_of};
-ghost use Rattle.ada_tree.specs.Names.{ident_of, optional_ident_of, name_of};
+ghost use Rattle.ada_tree.specs.Names.{ident_of, name_of};
 ghost use Rattle.ada_tree.specs.StatementView.{unit_of};
 ghost use Rattle.ada_program.specs.Nested.{CollectionsNest};
 ghost use Rattle.ada_program.specs.ProgramForm.{program_form};
 ghost use Rattle.ada_program.specs.WellFormed.{IsWellFormed};
-ghost use Rattle.ada_resolve.specs.Method.{Finds, IsNoted, end_outcome, program_in, procedure_outcome};
-ghost use Rattle.ada_resolve.specs.Resolution.{units_of, clause_told, clauses_told, alone_remark, same_name, Resolves, no_units, unit_told};
-ghost use Rattle.ada_resolve.specs.View.{same_units, Answers, Tells, Faults, done};
+ghost use Rattle.ada_resolve.specs.Method.{Finds, IsNoted, program_in, procedure_outcome};
+ghost use Rattle.ada_resolve.specs.Resolution.{units_of, clause_told, clauses_told, alone_remark, Resolves, no_units, unit_told};
+ghost use Rattle.ada_resolve.specs.View.{same_units, Answers, Faults};
 
 use crate::components::definitions;
 use crate::fault::{NameFault, NameRule};
 use crate::laws::{collections_nest, programs_are_well_formed};
 use crate::library::{LibraryName, Withs, is_primitive, library_name};
 use crate::notes::Notes;
+use crate::procedures::{Sequence, same_name};
 use crate::resolver::Resolver;
 use crate::scope::is_taken;
-use ada_program::program::{Handler, Stmt};
 use ada_program::{Program, Spot};
 use ada_tree::names::{Identifier, Name};
-use ada_tree::statements::Handler as WrittenHandler;
 use ada_tree::unit::{Clause, Unit};
 use std::alloc::Global;
 
@@ -52,44 +51,17 @@ fn whole_program(alloc: Global, unit: &Unit<'_>) -> Result<Program, NameFault>
     assemble(resolver, body)
 }
 
-/// What the procedure does: its statements, and what handles their exceptions (11.2).
-#[derive(Drop)]
-struct Body {
-    statements: Vec<Stmt>,
-    handlers: Vec<Handler>,
-}
-
 /// The body of the procedure, behind its name and its declarations; and its end.
-#[tactic(auto, using(crate::proofs::Views::body_view, crate::proofs::Views::begin_view))]
-fn procedure<'t>(resolver: &mut Resolver<'t>, unit: &Unit<'t>) -> Result<Body, NameFault>
+fn procedure<'t>(resolver: &mut Resolver<'t>, unit: &Unit<'t>) -> Result<Sequence, NameFault>
     ensures { Answers result (program_in resolver.new) (procedure_outcome resolver.old unit.now) }
 {
     let mut notes = Notes::new();
     alone(unit.name, unit.spot, &mut notes);
     notes.settle()?;
     resolver.declarations(&unit.declarations, &mut notes)?;
-    resolver.begin(unit.body.begin, &mut notes)?;
-    let statements = resolver.statements(&unit.body.statements, false, &mut notes)?;
-    procedure_end(resolver, unit, statements, &unit.body.handlers, &mut notes)
-}
-
-/// The end of the procedure, behind its statements: its handlers, and its name.
-fn procedure_end<'t>(
-    resolver: &mut Resolver<'t>,
-    unit: &Unit<'t>,
-    statements: Vec<Stmt>,
-    handlers: &[WrittenHandler<'t>],
-    notes: &mut Notes,
-) -> Result<Body, NameFault>
-    ensures { Answers result (program_in resolver.new)
-        (end_outcome resolver.old unit.now statements handlers.now notes) }
-{
-    let handlers = resolver.handlers(handlers, false, notes)?;
+    let body = resolver.sequence(&unit.body, false, &mut notes)?;
     same_name(unit.name, unit.end_name)?;
-    Ok(Body {
-        statements,
-        handlers,
-    })
+    Ok(body)
 }
 
 /// The library units of the `with` clauses: each is one that is in use.
@@ -158,23 +130,9 @@ pub(crate) fn alone(name: Identifier<'_>, spot: Spot, notes: &mut Notes)
     notes.note_if(is_primitive(name.text), spot, NameRule::NotInProfile);
 }
 
-/// The name after `end` is the procedure's own, where one is written (6.3).
-fn same_name(name: Identifier<'_>, last: Option<Identifier<'_>>) -> Result<(), NameFault>
-    ensures { Tells result done
-        (same_name name.entry.text.now (optional_ident_of last.entry) done) }
-{
-    match last {
-        Some(end) if end.text != name.text => Err(NameFault::Broken {
-            spot: end.spot,
-            rule: NameRule::UnknownName,
-        }),
-        _ => Ok(()),
-    }
-}
-
 /// The program of what is resolved.
 #[tactic(auto, unfolding(crate::specs::View::known_of))]
-fn assemble(resolver: Resolver<'_>, body: Body) -> Result<Program, NameFault>
+fn assemble(resolver: Resolver<'_>, body: Sequence) -> Result<Program, NameFault>
     ensures program { Finds program_form result (program_in resolver.entry body) }
     ensures memory { IfErr result (λ e. e ≡ NameFault.NoMemory) }
 {
@@ -186,12 +144,14 @@ fn assemble(resolver: Resolver<'_>, body: Body) -> Result<Program, NameFault>
         here,
         outer: _,
         types: _,
+        procedures,
         variables,
         exceptions,
         texts,
     } = resolver;
     Ok(Program {
         types,
+        procedures,
         variables,
         texts,
         exceptions,

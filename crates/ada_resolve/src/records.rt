@@ -4,7 +4,7 @@ ghost use Rattle.std.specs.Prelude.{◌≡◌, IfErr, IfOk, OnOk};
 ghost use Rattle.ada_tree.specs.Records.{component_of, initial_static_of};
 ghost use Rattle.ada_resolve.specs.Kept.{composition_in, with_kinds};
 ghost use Rattle.ada_resolve.specs.Look.{Looks, components_look, listed_look};
-ghost use Rattle.ada_resolve.specs.Method.{known, IsNoted, Remarks, Composes, record_tree, Declares, next_component_remark, with_kept};
+ghost use Rattle.ada_resolve.specs.Method.{known, IsNoted, Changes, Remarks, Composes, with_composed, record_tree, Declares, next_component_remark, with_kept};
 ghost use Rattle.ada_resolve.specs.Records.{initial_value, initial_truth, no_value_remark, kind_remark, kind_of_component, kinds_within, size_of_component, first_integer_remark, first_truth_remark};
 
 use crate::components::{Components, KnownType};
@@ -13,8 +13,8 @@ use crate::library::is_primitive;
 use crate::notes::Notes;
 use crate::resolver::Resolver;
 use crate::scope::{Entity, is_taken};
-use ada_program::Spot;
 use ada_program::program::{ComponentKind, PartKind};
+use ada_program::{Spot, TypeNo};
 use ada_tree::names::Identifier;
 use ada_tree::records::{ComponentDefinition, RecordDefinition, StaticValue};
 
@@ -23,7 +23,7 @@ const MOST_COMPONENTS: usize = 4_096;
 
 impl<'t> Resolver<'t> {
     /// `type T is record .. end record;` (3.8)
-    #[tactic(auto, using(std::proofs::lemmas::Grind::common_steps, crate::proofs::ComponentLists::listed_once, crate::proofs::ComponentLists::parts_kept, crate::proofs::ComponentLists::kinds_kept))]
+    #[tactic(auto, using(std::proofs::lemmas::Grind::common_steps, crate::proofs::ComponentLists::listed_once))]
     pub(crate) fn record_type(
         &mut self,
         spot: Spot,
@@ -38,6 +38,20 @@ impl<'t> Resolver<'t> {
         self.new_unless(completes, name, spot, notes);
         let components = self.components(definition, notes)?;
         notes.settle()?;
+        self.define_record(completes, name, components)
+    }
+
+    /// A record type of these components is known: a new one, or the one that it completes.
+    #[tactic(auto, using(std::proofs::lemmas::Grind::common_steps, crate::proofs::ComponentLists::parts_kept, crate::proofs::ComponentLists::kinds_kept))]
+    fn define_record(
+        &mut self,
+        completes: Option<TypeNo>,
+        name: Identifier<'t>,
+        components: Components<'t>,
+    ) -> Result<(), NameFault>
+        ensures known { OnOk result (Changes self (with_composed completes name.entry components.entry)) }
+        ensures memory { IfErr result (λ e. e ≡ NameFault.NoMemory) }
+    {
         let size = components.size();
         let definition = KnownType::Record {
             name: name.text,

@@ -3,18 +3,22 @@
 ghost use Rattle.std.specs.Prelude.{◌≡◌, map, length, IfOk, OnOk, IfErr, bytes_eq};
 ghost use Rattle.ada_tree.specs.Names.{ident_of};
 ghost use Rattle.ada_program.specs.Form.{declaration_form};
-ghost use Rattle.ada_resolve.specs.Known.{named, named_in, parts, declared, visible, name_remark, new_name_remark, library_remark, library_found, is_with, no_variable_yet, outermost, type_begins, with_part, without_part};
-ghost use Rattle.ada_resolve.specs.Method.{known, each, IsNoted, Changes, with_type};
+ghost use Rattle.ada_program.specs.ProgramForm.{body_form, variable_form};
+ghost use Rattle.ada_resolve.specs.Known.{named, named_in, next_part, no_body_yet, own_names, is_in_procedure, parts, declared, visible, name_remark, new_name_remark, library_remark, library_found, is_with, no_variable_yet, outermost, type_begins, types_go_on, with_part, without_part};
+ghost use Rattle.ada_resolve.specs.Method.{at_work_again, known, each, IsNoted, Changes, with_type, without_body_of};
+ghost use Rattle.ada_resolve.specs.Procedures.{with_body, with_procedure};
 ghost use Rattle.ada_resolve.specs.Resolution.{known_first};
-ghost use Rattle.ada_resolve.specs.View.{known_of};
+ghost use Rattle.ada_resolve.specs.View.{formals_in, known_of, part_of};
 
 use crate::components::KnownType;
 use crate::fault::{NameFault, NameRule};
+use crate::formals::Formals;
 use crate::library::{LibraryName, Withs, is_primitive, library_name, missing_rule};
 use crate::notes::Notes;
-use crate::part::{Part, named_in};
+use crate::part::{Part, is_in_procedure, named_in};
+use crate::procedures::Sequence;
 use crate::scope::{Entity, is_taken, predefined};
-use ada_program::program::{Declaration, Variable};
+use ada_program::program::{Declaration, Procedure, Variable};
 use ada_program::{Spot, TypeNo};
 use ada_tree::names::Identifier;
 use std::alloc::Global;
@@ -29,13 +33,16 @@ pub(crate) struct Resolver<'t> {
     pub(crate) alloc: Global,
     /// The library units of the `with` clauses.
     pub(crate) withs: Withs,
-    /// The procedure's own name.
+    /// The main procedure's name.
     pub(crate) procedure: &'t str,
     /// The innermost declarative part: the one that declares here.
     pub(crate) here: Part<'t>,
     /// The declarative parts around it, of which the last is the inner one of the others.
     pub(crate) outer: Vec<Part<'t>>,
     pub(crate) types: Vec<KnownType<'t>>,
+    /// The procedures whose bodies have ended.
+    pub(crate) procedures: Vec<Procedure>,
+    /// The variables of the body at work.
     pub(crate) variables: Vec<Variable>,
     /// The names of the declared exceptions, in upper case.
     pub(crate) exceptions: Vec<String>,
@@ -53,9 +60,10 @@ impl<'t> Resolver<'t> {
             alloc,
             withs,
             procedure,
-            here: Part::new(alloc, 0, 0),
+            here: Part::new(alloc, 0, 0, 0),
             outer: Vec::new(alloc),
             types: Vec::new(alloc),
+            procedures: Vec::new(alloc),
             variables: Vec::new(alloc),
             exceptions: Vec::new(alloc),
             texts: Vec::new(alloc),
@@ -68,23 +76,115 @@ impl<'t> Resolver<'t> {
         ensures known { OnOk result (Changes self with_part) }
         ensures memory { IfErr result (λ e. e ≡ NameFault.NoMemory) }
     {
-        let inner = Part::new(self.alloc, self.types.len(), self.variables.len());
+        let inner = self.next_part();
         let outer = mem::replace(&mut self.here, inner);
         self.outer.push(outer)?;
         Ok(())
     }
 
     /// The innermost part ends: its names are gone. What it elaborates is given back.
-    #[tactic(auto, unfolding(crate::specs::View::known_of), using(crate::proofs::Names::reversed_snoc))]
     pub(crate) fn leave_part(&mut self) -> Vec<Declaration>
         ensures known { Changes self without_part }
         ensures elaborated { each declaration_form result ≡ (known_of self.old).here.elaborated }
     {
+        self.take_part().into_declarations()
+    }
+
+    /// The innermost part ends, and is given back.
+    #[tactic(auto, unfolding(crate::specs::View::known_of), using(crate::proofs::Names::reversed_snoc))]
+    fn take_part(&mut self) -> Part<'t>
+        ensures known { Changes self without_part }
+        ensures part { part_of result ≡ (known_of self.old).here }
+    {
         let outer = match self.outer.pop() {
             Some(outer) => outer,
-            None => Part::new(self.alloc, self.types.len(), self.variables.len()),
+            None => self.next_part(),
         };
-        mem::replace(&mut self.here, outer).into_declarations()
+        mem::replace(&mut self.here, outer)
+    }
+
+    /// The part that begins here.
+    #[tactic(auto, unfolding(crate::specs::View::known_of))]
+    fn next_part(&self) -> Part<'t>
+        ensures { part_of result ≡ next_part (known self) }
+    {
+        Part::new(
+            self.alloc,
+            self.types.len(),
+            self.variables.len(),
+            self.procedures.len(),
+        )
+    }
+
+    /// The body of a procedure begins, with these formals: the variables of the body around are put aside.
+    #[tactic(auto, unfolding(crate::specs::View::known_of), using(crate::proofs::Names::reversed_snoc))]
+    pub(crate) fn enter_body(&mut self, formals: Formals<'t>) -> Result<(), NameFault>
+        ensures known { OnOk result (Changes self (with_body (formals_in formals.entry))) }
+        ensures memory { IfErr result (λ e. e ≡ NameFault.NoMemory) }
+    {
+        let Formals { names, variables } = formals;
+        let first = variables.len();
+        let around = mem::replace(&mut self.variables, variables);
+        let inner = Part::of_body(
+            self.alloc,
+            names,
+            self.types.len(),
+            first,
+            self.procedures.len(),
+            around,
+        );
+        let outer = mem::replace(&mut self.here, inner);
+        self.outer.push(outer)?;
+        Ok(())
+    }
+
+    /// The body of a procedure ends, whose statements and handlers these are: the body around is at work again.
+    #[tactic(auto, using(std::proofs::lemmas::Grind::common_steps, crate::proofs::Profiles::left_variables))]
+    pub(crate) fn leave_body(&mut self, body: Sequence) -> Result<(), NameFault>
+        ensures known { OnOk result (Changes self (without_body_of body)) }
+        ensures memory { IfErr result (λ e. e ≡ NameFault.NoMemory) }
+    {
+        let formals = self.first_variable();
+        let (declarations, around) = self.take_part().into_contents();
+        let variables = self.resume(around);
+        self.add_procedure(Procedure {
+            formals,
+            variables,
+            declarations,
+            statements: body.statements,
+            handlers: body.handlers,
+        })
+    }
+
+    /// The number of the first variable of the innermost part behind formal parameters.
+    #[tactic(auto, unfolding(crate::specs::View::known_of, crate::specs::View::part_of))]
+    fn first_variable(&self) -> usize
+        ensures { result ≡ (known self).here.first_variable }
+    {
+        self.here.first_variable
+    }
+
+    /// There is this procedure too.
+    #[tactic(auto, unfolding(crate::specs::View::known_of), using(crate::proofs::Names::map_snoc))]
+    fn add_procedure(&mut self, procedure: Procedure) -> Result<(), NameFault>
+        ensures known { OnOk result (Changes self (with_procedure (body_form procedure))) }
+        ensures memory { IfErr result (λ e. e ≡ NameFault.NoMemory) }
+    {
+        self.procedures.push(procedure)?;
+        Ok(())
+    }
+
+    /// The body around is at work again, whose variables these are; those of the body that ends are given back.
+    #[tactic(auto, unfolding(crate::specs::View::known_of))]
+    fn resume(&mut self, around: Option<Vec<Variable>>) -> Vec<Variable>
+        ensures known { Changes self (at_work_again around) }
+        ensures variables { each variable_form result ≡ (known_of self.old).variables }
+    {
+        let variables = match around {
+            Some(variables) => variables,
+            None => Vec::new(self.alloc),
+        };
+        mem::replace(&mut self.variables, variables)
     }
 
     /// What the innermost part declares under a name.
@@ -102,19 +202,27 @@ impl<'t> Resolver<'t> {
     {
         match self.here.named(text) {
             Some(entity) => Some(entity),
-            None => named_in(&self.outer, text),
+            None => self.here.from_around(named_in(&self.outer, text)),
         }
     }
 
-    /// How many names the innermost part declares.
+    /// How many names the innermost part declares besides formal parameters.
     #[tactic(auto, unfolding(crate::specs::View::known_of))]
-    fn count(&self) -> usize
-        ensures { result ≡ length (known self).here.names }
+    fn own_names(&self) -> usize
+        ensures { result ≡ own_names (known self).here }
     {
-        self.here.count()
+        self.here.own_names()
     }
 
-    /// Whether it is the procedure's own name.
+    /// Whether the place is in a procedure's body.
+    #[tactic(auto, unfolding(crate::specs::View::known_of))]
+    pub(crate) fn is_in_procedure(&self) -> bool
+        ensures { result ≡ is_in_procedure (parts (known self)) }
+    {
+        self.here.is_of_body() || is_in_procedure(&self.outer)
+    }
+
+    /// Whether it is the main procedure's name.
     #[tactic(auto, unfolding(crate::specs::View::known_of))]
     fn is_own(&self, text: &'t str) -> bool
         ensures { result ≡ bytes_eq text.now (known self).procedure }
@@ -178,7 +286,7 @@ impl<'t> Resolver<'t> {
             NameRule::DeclaredTwice,
         );
         notes.note_if(is_primitive(name.text), first, NameRule::NotInProfile);
-        notes.note_if(self.count() >= MOST_NAMES, name.spot, NameRule::Limit);
+        notes.note_if(self.own_names() >= MOST_NAMES, name.spot, NameRule::Limit);
     }
 
     /// What a name of the library stands for, whose unit is named in a `with` clause.
@@ -222,12 +330,27 @@ impl<'t> Resolver<'t> {
         self.variables.len() == self.here.first_variable
     }
 
-    /// A type, a number, an exception or an instance begins: none follows an object of its part.
+    /// Whether no body of a procedure has ended in the innermost part yet.
+    #[tactic(auto, unfolding(crate::specs::View::known_of, crate::specs::View::part_of))]
+    fn no_body_yet(&self) -> bool
+        ensures { result ≡ no_body_yet (known self) }
+    {
+        self.procedures.len() == self.here.first_body
+    }
+
+    /// Whether the innermost part has declared neither an object nor a body yet.
+    pub(crate) fn types_go_on(&self) -> bool
+        ensures { result ≡ types_go_on (known self) }
+    {
+        self.no_object_yet() && self.no_body_yet()
+    }
+
+    /// A type, a number, an exception or an instance begins: none follows an object or a body of its part.
     pub(crate) fn type_begins(&self, spot: Spot, notes: &mut Notes)
         ensures { IsNoted notes (type_begins (known self) spot) }
     {
         notes.node(spot);
-        notes.note_if(!self.no_object_yet(), spot, NameRule::Layout);
+        notes.note_if(!self.types_go_on(), spot, NameRule::Layout);
     }
 
     /// A new type with the next number.

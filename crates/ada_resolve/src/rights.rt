@@ -162,7 +162,7 @@ fn assigned_by(alloc: Global, value: Meant) -> Result<Option<Assigned>, NameFaul
             Ok(Some(Assigned::Record(items)))
         }
         Meant::Aggregate(_, items) => Ok(Some(Assigned::Record(items))),
-        Meant::Unknown => Ok(None),
+        Meant::Unknown | Meant::Lent(_) => Ok(None),
     }
 }
 

@@ -1,10 +1,10 @@
-//! What the names of the main procedure stand for.
+//! What the names of a tree stand for.
 
 ghost use Rattle.std.specs.Prelude.{◌≡◌};
 ghost use Rattle.ada_resolve.specs.Library.{predefined, is_taken};
 
 use crate::library::is_library_root;
-use ada_program::program::{Exception, VariableKind};
+use ada_program::program::{Exception, ProcedureNo, VariableKind};
 use ada_program::{TypeNo, VariableNo};
 
 /// What a name stands for.
@@ -20,8 +20,10 @@ pub(crate) enum Entity {
     Number(i32),
     /// An exception (11.1).
     Exception(Exception),
-    /// The main procedure.
+    /// A procedure whose body has not ended: the main procedure, or one around the place.
     Procedure,
+    /// A procedure whose body has ended: it may be called (6.4).
+    Callable(ProcedureNo),
     /// A library unit that a `with` clause names (10.1.2).
     LibraryUnit,
     /// A record type that is not completed yet (3.10.1).
@@ -40,8 +42,27 @@ pub(crate) enum Entity {
         variable: VariableNo,
         kind: VariableKind,
     },
-    /// A loop parameter: an Integer, and a constant (5.5).
-    Parameter(VariableNo),
+    /// A loop parameter, or a formal parameter of mode `in`: a constant (5.5, 6.2).
+    Parameter {
+        variable: VariableNo,
+        kind: VariableKind,
+    },
+    /// An object of a body around, which is not used in an inner one.
+    Outer {
+        kind: VariableKind,
+        role: Role,
+    },
+}
+
+/// What an object of a body around is.
+#[derive(Clone, Copy)]
+pub(crate) enum Role {
+    /// A variable that is no borrower.
+    Variable,
+    /// A borrower (3.10).
+    Borrower,
+    /// A loop parameter, or a formal parameter of mode `in` (5.5, 6.2).
+    Constant,
 }
 
 /// What a predefined name stands for.

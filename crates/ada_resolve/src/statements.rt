@@ -4,22 +4,23 @@ ghost use Rattle.std.specs.Prelude.{◌≡◌, length, map, OnOk, IfErr};
 ghost use Rattle.ada_tree.specs.ExpressionView.{argument_of};
 ghost use Rattle.ada_tree.specs.StatementView.{branch_of, handler_of, sequence_of, statement_of, statements_of};
 ghost use Rattle.ada_program.specs.Form.{expression_form, stmt_form};
-ghost use Rattle.ada_resolve.specs.Known.{with_part};
+ghost use Rattle.ada_resolve.specs.Known.{with_part, without_part};
 ghost use Rattle.ada_resolve.specs.Look.{Looks, condition_look, exit_look, statement_look};
 ghost use Rattle.ada_resolve.specs.Method.{known, IsNoted, Changes, Does, DoesBranches, Takes, branches_come, handlers_of};
-ghost use Rattle.ada_resolve.specs.Resolution.{block_told, body_remark, branch_told, handler_told, handlers_told, node_told, simple_told, statement_told, statements_told};
+ghost use Rattle.ada_resolve.specs.Resolution.{block_of, body_remark, branch_told, handler_told, handlers_told, node_told, sequence_told, simple_told, statement_told, statements_told};
 ghost use Rattle.ada_resolve.specs.Statements.{simple_texts, form_or_null, text_in, with_texts};
-ghost use Rattle.ada_resolve.specs.View.{branch_form, handler_form, handlers_in, stmt_in, statements_in};
+ghost use Rattle.ada_resolve.specs.View.{branch_form, handler_form, handlers_in, known_of, sequence_in, stmt_in, statements_in};
 
 use crate::fault::{NameFault, NameRule};
 use crate::notes::Notes;
+use crate::procedures::Sequence;
 use crate::resolver::Resolver;
 use crate::spots::{expression_spot, statement_spot};
 use ada_program::Spot;
 use ada_program::program::{self, Branch, Handler, Stmt, TextNo};
 use ada_tree::expressions::{Argument, Expression as Written};
 use ada_tree::statements::{
-    Branch as WrittenBranch, Handler as WrittenHandler, Sequence, Statement,
+    Branch as WrittenBranch, Handler as WrittenHandler, Sequence as WrittenSequence, Statement,
 };
 
 impl<'t> Resolver<'t> {
@@ -84,7 +85,8 @@ impl<'t> Resolver<'t> {
             }
             Statement::Block(body) => {
                 self.begin_block(body.begin, notes)?;
-                self.block(body, inside_loop, notes)
+                let body = self.sequence(body, inside_loop, notes)?;
+                Ok(self.end_block(body))
             }
             Statement::DeclareBlock {
                 spot,
@@ -93,7 +95,8 @@ impl<'t> Resolver<'t> {
             } => {
                 self.begin_block(*spot, notes)?;
                 self.declarations(declarations, notes)?;
-                self.block(body, inside_loop, notes)
+                let body = self.sequence(body, inside_loop, notes)?;
+                Ok(self.end_block(body))
             }
             Statement::Null(_)
             | Statement::Assignment { .. }
@@ -104,22 +107,22 @@ impl<'t> Resolver<'t> {
         }
     }
 
-    /// A block whose declarations are known (5.6): its statements, and their handlers. Its part ends behind them.
+    /// The rest of a part whose declarations are known: its statements, and their handlers.
     #[cycle(statements)]
-    #[tactic(auto, using(std::proofs::lemmas::Grind::common_steps, ada_program::specs::Form::statement_rules, crate::proofs::Views::body_view))]
-    fn block(
+    #[tactic(auto, using(std::proofs::lemmas::Grind::common_steps, crate::proofs::Views::body_view))]
+    pub(crate) fn sequence(
         &mut self,
-        body: &Sequence<'t>,
+        body: &WrittenSequence<'t>,
         inside_loop: bool,
         notes: &mut Notes,
-    ) -> Result<Stmt, NameFault>
-        ensures { Does result stmt_form self notes (block_told inside_loop (sequence_of body.now)) }
+    ) -> Result<Sequence, NameFault>
+        ensures { Does result sequence_in self notes
+            (sequence_told inside_loop (sequence_of body.now)) }
     {
         self.begin(body.begin, notes)?;
         let statements = self.statements(&body.statements, inside_loop, notes)?;
         let handlers = self.handlers(&body.handlers, inside_loop, notes)?;
-        Ok(Stmt::Block {
-            declarations: self.leave_part(),
+        Ok(Sequence {
             statements,
             handlers,
         })
@@ -213,6 +216,23 @@ impl<'t> Resolver<'t> {
         notes.node(spot);
         notes.settle()?;
         self.enter_part()
+    }
+
+    /// A block ends behind its handlers (5.6): its part ends.
+    #[tactic(auto, using(std::proofs::lemmas::Grind::common_steps, ada_program::specs::Form::statement_rules))]
+    fn end_block(&mut self, body: Sequence) -> Stmt
+        ensures known { Changes self without_part }
+        ensures meant { stmt_form result ≡ block_of (known_of self.old) (sequence_in body) }
+    {
+        let Sequence {
+            statements,
+            handlers,
+        } = body;
+        Stmt::Block {
+            declarations: self.leave_part(),
+            statements,
+            handlers,
+        }
     }
 
     /// A condition (5.3): False where something is wrong.

@@ -9,9 +9,9 @@ use Rattle.ada_program.specs.declared.program.ComponentKind.{ComponentKind}
 use Rattle.ada_program.specs.declared.program.ComponentKind.TheVariants as component
 use Rattle.ada_program.specs.declared.program.TypeNo.{TypeNo}
 use Rattle.ada_program.specs.declared.program.VariableKind.TheVariants as variable
-use Rattle.ada_program.specs.ProgramForm.{TypeForm, program_form}
+use Rattle.ada_program.specs.ProgramForm.{TypeForm, ProgramForm, program_form}
 use Rattle.ada_program.specs.WellFormed.{is_access, reached_components, held_kind, component_kind, kind_among}
-use Rattle.ada_program.specs.Nested.{are_open}
+use Rattle.ada_program.specs.Nested.{Callees, are_open, callees_of}
 use Rattle.ada_meaning.specs.declared.state.Id.{Id}
 use Rattle.ada_meaning.specs.declared.state.Value.{Value}
 use Rattle.ada_meaning.specs.declared.state.Value.TheVariants.{Names}
@@ -30,20 +30,20 @@ use Rattle.ada_scopes.specs.Scopes.{type_collected, CollectTwoTypes, TypesHaveOn
 use Rattle.ada_scopes.proofs.Counts.{one, times, times_append, target_open, opened_by, opened, Scopes, scopes, all_of, opened_all}
 use Rattle.ada_scopes.proofs.Homes.{HasItem, has_split, opened_here, opened_later, ItemsFit, fit_before, fit_after, opened_fits, has_opened, Housed, housed_after}
 use Rattle.ada_scopes.proofs.Control.{Goes, NeedsOpen, AreOpen, RecordNeeds, RecordsNeed, RecordsOpen, Lone, Begins, Nested, standing, beginning, parting}
-use Rattle.ada_scopes.proofs.Runs.{state_nested}
+use Rattle.ada_scopes.proofs.Runs.{Scoped, state_nested}
 
 -- No access type is opened twice.
-lone_begun : (types : List TypeForm) (s : State) (b : Begins types s) → Lone (scopes (b.m ∷ b.rest))
-lone_begun types s b t =
+lone_begun : (types : List TypeForm) (callees : Callees) (s : State) (b : Begins types callees s) → Lone (scopes (b.m ∷ b.rest))
+lone_begun types callees s b t =
     let once = b.growing.once t in
     let all = b.growing.all t in
     let sum = times_append t (opened b.m.items) (all_of (scopes b.rest)) in
     omega (arith, once, all, sum)
 
-lone_in : (types : List TypeForm) (s : State) → Nested types s → Lone (scopes s.masters)
-lone_in types s (standing w n) = w.lone
-lone_in types s (beginning b) = subst (λ (ms : List Master). Lone (scopes ms)) (sym b.masters) (lone_begun types s b)
-lone_in types s (parting p runs goes) = p.lone
+lone_in : (types : List TypeForm) (callees : Callees) (s : State) → Nested types callees s → Lone (scopes s.masters)
+lone_in types callees s (standing w n) = w.lone
+lone_in types callees s (beginning b) = subst (λ (ms : List Master). Lone (scopes ms)) (sym b.masters) (lone_begun types callees s b)
+lone_in types callees s (parting p runs goes) = p.lone
 
 differ_by : (t : ℕ) (owned : Owned) (us : List ℕ) → times t (opened_by owned us) ≡ 0 → Differ (Some t) (type_collected owned)
 differ_by t (declared x) us none = tt
@@ -81,21 +81,21 @@ two_types (i ∷ is) lone = AllPairs-cons CollectTwoTypes i is (newest_alone i.o
 
 pub one_collection : TypesHaveOneCollection
 one_collection program well nest input events last run =
-    let lone = lone_in (program_form program).types last (state_nested program well nest input events last run) in
+    let lone = lone_in (program_form program).types (callees_of (program_form program)) last (state_nested program well nest input events last run).nested in
     two_types (items_of last.masters) (λ t. subst (λ (us : List ℕ). times t us ≤ 1) (sym (opened_all last.masters)) (lone t))
 
 -- Each object in its collection has that as its home.
-pub housed_in : (types : List TypeForm) (s : State) → Nested types s → Housed s.heap (items_of s.masters)
-housed_in types s (standing w n) = w.housed
-housed_in types s (beginning b) =
+pub housed_in : (types : List TypeForm) (callees : Callees) (s : State) → Nested types callees s → Housed s.heap (items_of s.masters)
+housed_in types callees s (standing w n) = w.housed
+housed_in types callees s (beginning b) =
     subst (λ (ms : List Master). Housed s.heap (items_of ms)) (sym b.masters) (housed_after s.heap b.m.items (items_of b.rest) b.growing.housed)
-housed_in types s (parting p runs goes) = p.housed
+housed_in types callees s (parting p runs goes) = p.housed
 
 -- Items fit the types of the program.
-fit_in : (types : List TypeForm) (s : State) → Nested types s → ItemsFit types (items_of s.masters)
-fit_in types s (standing w n) = w.fit
-fit_in types s (beginning b) = subst (λ (ms : List Master). ItemsFit types (items_of ms)) (sym b.masters) b.growing.fit
-fit_in types s (parting p runs goes) = p.fit
+fit_in : (types : List TypeForm) (callees : Callees) (s : State) → Nested types callees s → ItemsFit types (items_of s.masters)
+fit_in types callees s (standing w n) = w.fit
+fit_in types callees s (beginning b) = subst (λ (ms : List Master). ItemsFit types (items_of ms)) (sym b.masters) b.growing.fit
+fit_in types callees s (parting p runs goes) = p.fit
 
 contains_item : (n access : ℕ) (is : List Item) → HasItem n access is → (i : Item) × Contains is i × (i.number ≡ n) × (type_housed i.owned ≡ Some access)
 contains_item n access [] h = absurd h
@@ -107,7 +107,7 @@ contains_item n access (i ∷ is) (inr h) =
 pub in_collections : ObjectsLieInCollections
 in_collections program well nest input events last run o object listed =
     contains_item object.cell.home.item object.cell.access (items_of last.masters)
-    (housed_in (program_form program).types last (state_nested program well nest input events last run) o object listed.0 listed.1)
+    (housed_in (program_form program).types (callees_of (program_form program)) last (state_nested program well nest input events last run).nested o object listed.0 listed.1)
 
 -- What is opened is the collection of an item.
 opened_item : (t : ℕ) (is : List Item) → 1 ≤ times t (opened is) → (i : Item) × Contains is i × (i.owned ≡ collection t)
@@ -210,28 +210,28 @@ target_parting : (types : List TypeForm) (n access c : ℕ) (target : TypeNo) (m
 target_parting types n access c target [] opens records names has = absurd has
 target_parting types n access c target (m ∷ ms) opens records names has = elim (has_split n access m.items (items_of ms) has) [ inl own ↦ inl (has_number n access m.items own) | inr outer ↦ inr (lasting_more n target.0 m ms (target_in types n access c target ms opens records names outer)) ]
 
-goes_leaving : (types : List TypeForm) (ss : Scopes) (k : List (Frame Value)) → Goes types ss k → is_leaving k ≡ true
-goes_leaving types ss [] goes = absurd goes
-goes_leaving types ss (frame.Leaves mode ∷ k) goes = refl
-goes_leaving types ss (frame.Ends v ∷ k) goes = goes_leaving types ss k goes
-goes_leaving types ss (frame.GivesBack v cause pool ∷ k) goes = goes_leaving types ss k goes
-goes_leaving types ss (f ∷ k) goes = absurd goes
+goes_leaving : (types : List TypeForm) (callees : Callees) (ss : Scopes) (k : List (Frame Value)) → Goes types callees ss k → is_leaving k ≡ true
+goes_leaving types callees ss [] goes = absurd goes
+goes_leaving types callees ss (frame.Leaves mode ∷ k) goes = refl
+goes_leaving types callees ss (frame.Ends v ∷ k) goes = goes_leaving types callees ss k goes
+goes_leaving types callees ss (frame.GivesBack v cause pool ∷ k) goes = goes_leaving types callees ss k goes
+goes_leaving types callees ss (f ∷ k) goes = absurd goes
 
-target_nested : (types : List TypeForm) (s : State) (o : Id) (x : Object) (c : ℕ) (target : TypeNo) → Nested types s → IsListed s.heap o x → HoldsNames types x.cell.access c target → IsGoing s x.cell.home.item ⊎ (1 ≤ times target.0 (all_of (scopes (lasting x.cell.home.item s.masters))))
-target_nested types s o x c target (standing w n) listed names =
+target_nested : (types : List TypeForm) (callees : Callees) (s : State) (o : Id) (x : Object) (c : ℕ) (target : TypeNo) → Nested types callees s → IsListed s.heap o x → HoldsNames types x.cell.access c target → IsGoing s x.cell.home.item ⊎ (1 ≤ times target.0 (all_of (scopes (lasting x.cell.home.item s.masters))))
+target_nested types callees s o x c target (standing w n) listed names =
     inr (target_in types x.cell.home.item x.cell.access c target s.masters w.needs w.records names (w.housed o x listed.0 listed.1))
-target_nested types s o x c target (beginning b) listed names =
+target_nested types callees s o x c target (beginning b) listed names =
     inr (subst (λ (ms : List Master). 1 ≤ times target.0 (all_of (scopes (lasting x.cell.home.item ms)))) (sym b.masters)
     (lasting_more x.cell.home.item target.0 b.m b.rest (target_in types x.cell.home.item x.cell.access c target b.rest b.growing.outer b.growing.records names (b.growing.housed o x listed.0 listed.1))))
-target_nested types s o x c target (parting p runs goes) listed names =
+target_nested types callees s o x c target (parting p runs goes) listed names =
     elim (target_parting types x.cell.home.item x.cell.access c target s.masters p.needs p.records names (p.housed o x listed.0 listed.1)) [
-      | inl innermost ↦ inl (goes_leaving types (scopes s.masters) s.control goes, innermost)
+      | inl innermost ↦ inl (goes_leaving types callees (scopes s.masters) s.control goes, innermost)
       | inr later ↦ inr later
     ]
 
 pub outlived : ComponentsAreOutlived
 outlived program well nest input events last run o x c target listed names =
-    elim (target_nested (program_form program).types last o x c target (state_nested program well nest input events last run) listed names) [
+    elim (target_nested (program_form program).types (callees_of (program_form program)) last o x c target (state_nested program well nest input events last run).nested listed names) [
       | inl going ↦ inl going
       | inr le ↦ inr (open_in target.0 (lasting x.cell.home.item last.masters) le)
     ]
@@ -293,8 +293,11 @@ stays_by types s n m access fit lone has (inr le) =
 abbrev pub AreOfKinds : List TypeForm → State → Type 0
 AreOfKinds types s = (o : Id) (x : Object) → object_at s.heap o ≡ Some x → IsFilled types (cells_of s.heap) x.cell
 
-pub held_outside : (types : List TypeForm) (s : State) → Nested types s → AreOfKinds types s → HeldOutside s
-held_outside types s nested kinds holder held holds =
+pub held_outside : (p : ProgramForm) (s : State) → Scoped p s → AreOfKinds p.types s → HeldOutside s
+held_outside program s scoped kinds holder held holds =
+    let types = program.types in
+    let callees = callees_of program in
+    let nested = scoped.nested in
     let o = holds.0 in
     let p = holds.1 in
     let listed = holds.3 in
@@ -306,13 +309,13 @@ held_outside types s nested kinds holder held holds =
     let twice : Some named.2.0 ≡ Some held.cell = sym named.2.1 ∙ here in
     let one_cell : named.2.0 ≡ held.cell = cc in
     let access : held.cell.access ≡ named.0.0 = ap (λ (x : Cell Value). x.access) (sym one_cell) ∙ named.2.2 in
-    let has = housed_in types s nested p held own.0 own.1 in
-    stays_by types s holder.cell.home.item held.cell.home.item named.0.0 (fit_in types s nested) (lone_in types s nested) (subst (λ (a : ℕ). HasItem held.cell.home.item a (items_of s.masters)) access has)
-    (target_nested types s o holder holds.2 named.0 nested listed names)
+    let has = housed_in types callees s nested p held own.0 own.1 in
+    stays_by types s holder.cell.home.item held.cell.home.item named.0.0 (fit_in types callees s nested) (lone_in types callees s nested) (subst (λ (a : ℕ). HasItem held.cell.home.item a (items_of s.masters)) access has)
+    (target_nested types callees s o holder holds.2 named.0 nested listed names)
 
 pub outside : NamesStayOutside
 outside program well nest input events last run =
-    held_outside (program_form program).types last (state_nested program well nest input events last run)
+    held_outside (program_form program) last (state_nested program well nest input events last run)
     (λ o x at. objects_have_their_kinds program well input events last o x run at)
 
 -- A number belongs to one master only.

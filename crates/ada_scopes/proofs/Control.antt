@@ -6,7 +6,7 @@ use Rattle.std.specs.List.{list_all}
 use Rattle.ada_program.specs.Form.{DeclarationForm, StmtsForm, HandlersForm}
 use Rattle.ada_program.specs.ProgramForm.{TypeForm}
 use Rattle.ada_program.specs.WellFormed.{is_access, reached_components, is_object, collections_first}
-use Rattle.ada_program.specs.Nested.{collected, are_open}
+use Rattle.ada_program.specs.Nested.{Callees, collected, are_open}
 use Rattle.ada_meaning.specs.declared.state.Value.{Value}
 use Rattle.ada_meaning.specs.declared.state.Mode.TheVariants.{Running}
 use Rattle.ada_meaning.specs.Heap.{Cell}
@@ -17,7 +17,7 @@ use Rattle.ada_meaning.specs.Step.{older, owning, shorter}
 use Rattle.ada_meaning.specs.Named.{Object, State, new_object}
 use Rattle.ada_meaning.specs.Law.{items_of}
 use Rattle.ada_scopes.proofs.Counts.{times, times_append, Within, open_within, opened, Scopes, scopes, all_of, scopes_declared, scopes_recorded, fewer, fewer_older}
-use Rattle.ada_scopes.proofs.Texts.{RecordsNest, PartNests, StatementsNest, BranchesNest, HandlersNest}
+use Rattle.ada_scopes.proofs.Texts.{RecordsNest, PartNests, StatementsNest, BranchesNest, HandlersNest, BodyNests}
 use Rattle.ada_scopes.proofs.Homes.{ItemsFit, fit_owning, Housed, housed_after, housed_owning, housed_new}
 
 -- Two lists have each number equally often.
@@ -38,21 +38,22 @@ abbrev pub RecordHere : List TypeForm → List ℕ → ℕ → Type 0
 RecordHere types us t = Where us (λ around. (is_access types t ≡ false) × (are_open around (reached_components types t) ≡ true))
 
 -- What a frame holds was written where these are open. Frames without statements nest everywhere; a part that is under way has created all
--- its collections, has a master, and what the record objects need that it has left to create is open, be it one whose initial value is evaluated; and
--- no master but the innermost one is being left.
-abbrev pub FrameNests : List TypeForm → Scopes → Frame Value → Type 0
-FrameNests types ss (frame.Elaborates ds fs hs) =
-    (list_all is_object ds ≡ true) × Where (all_of ss) (λ around. StatementsNest types around fs × HandlersNest types around hs × RecordsNest types around ds) × HasOne ss
-FrameNests types ss (frame.Does fs) = Where (all_of ss) (λ around. StatementsNest types around fs)
-FrameNests types ss (frame.Decides fs branches) = Where (all_of ss) (λ around. StatementsNest types around fs × BranchesNest types around branches)
-FrameNests types ss (frame.Repeats condition fs) = Where (all_of ss) (λ around. StatementsNest types around fs)
-FrameNests types ss (frame.Turns condition fs) = Where (all_of ss) (λ around. StatementsNest types around fs)
-FrameNests types ss (frame.Ranges x fs) = Where (all_of ss) (λ around. StatementsNest types around fs)
-FrameNests types ss (frame.Counts x value last fs) = Where (all_of ss) (λ around. StatementsNest types around fs)
-FrameNests types ss (frame.Handles hs) = Where (all_of ss) (λ around. HandlersNest types around hs)
-FrameNests types ss (frame.DeclaresRecord x t) = RecordHere types (all_of ss) t × HasOne ss
-FrameNests types ss (frame.Leaves mode) = ⊥
-FrameNests types ss f = Unit {0}
+-- its collections, has a master, and what the record objects need that it has left to create is open, be it one whose initial value is evaluated; a body
+-- that is called nests as if it stood there; and no master but the innermost one is being left.
+abbrev pub FrameNests : List TypeForm → Callees → Scopes → Frame Value → Type 0
+FrameNests types callees ss (frame.Elaborates ds fs hs) =
+    (list_all is_object ds ≡ true) × Where (all_of ss) (λ around. StatementsNest types callees around fs × HandlersNest types callees around hs × RecordsNest types around ds) × HasOne ss
+FrameNests types callees ss (frame.Does fs) = Where (all_of ss) (λ around. StatementsNest types callees around fs)
+FrameNests types callees ss (frame.Decides fs branches) = Where (all_of ss) (λ around. StatementsNest types callees around fs × BranchesNest types callees around branches)
+FrameNests types callees ss (frame.Repeats condition fs) = Where (all_of ss) (λ around. StatementsNest types callees around fs)
+FrameNests types callees ss (frame.Turns condition fs) = Where (all_of ss) (λ around. StatementsNest types callees around fs)
+FrameNests types callees ss (frame.Ranges x fs) = Where (all_of ss) (λ around. StatementsNest types callees around fs)
+FrameNests types callees ss (frame.Counts x value last fs) = Where (all_of ss) (λ around. StatementsNest types callees around fs)
+FrameNests types callees ss (frame.Handles hs) = Where (all_of ss) (λ around. HandlersNest types callees around hs)
+FrameNests types callees ss (frame.Calls procedure b count) = Where (all_of ss) (λ around. BodyNests types callees around b)
+FrameNests types callees ss (frame.DeclaresRecord x t) = RecordHere types (all_of ss) t × HasOne ss
+FrameNests types callees ss (frame.Leaves mode) = ⊥
+FrameNests types callees ss f = Unit {0}
 
 -- What is open behind a frame: that of a master is the last one of its master.
 abbrev pub behind : (master : Bool) → Scopes → Scopes
@@ -60,17 +61,17 @@ behind true ss = older ss
 behind false ss = ss
 
 -- What is left to do nests, where masters have opened these.
-abbrev pub Nests : List TypeForm → Scopes → List (Frame Value) → Type 0
-Nests types ss [] = Unit {0}
-Nests types ss (f ∷ k) = FrameNests types ss f × Nests types (behind (is_master f) ss) k
+abbrev pub Nests : List TypeForm → Callees → Scopes → List (Frame Value) → Type 0
+Nests types callees ss [] = Unit {0}
+Nests types callees ss (f ∷ k) = FrameNests types callees ss f × Nests types callees (behind (is_master f) ss) k
 
 -- The innermost master is being left, and what is behind that nests.
-abbrev pub Goes : List TypeForm → Scopes → List (Frame Value) → Type 0
-Goes types ss [] = ⊥
-Goes types ss (frame.Leaves mode ∷ k) = Nests types (older ss) k
-Goes types ss (frame.Ends v ∷ k) = Goes types ss k
-Goes types ss (frame.GivesBack v cause pool ∷ k) = Goes types ss k
-Goes types ss (f ∷ k) = ⊥
+abbrev pub Goes : List TypeForm → Callees → Scopes → List (Frame Value) → Type 0
+Goes types callees ss [] = ⊥
+Goes types callees ss (frame.Leaves mode ∷ k) = Nests types callees (older ss) k
+Goes types callees ss (frame.Ends v ∷ k) = Goes types callees ss k
+Goes types callees ss (frame.GivesBack v cause pool ∷ k) = Goes types callees ss k
+Goes types callees ss (f ∷ k) = ⊥
 
 -- What the components of an access type's objects name lies in collections that are open.
 abbrev pub NeedsOpen : List TypeForm → List ℕ → List ℕ → Type 0
@@ -156,7 +157,7 @@ pub record Growing (types : List TypeForm) (m : Master) (rest : List Master) (he
   pub coming : RecordsNest types there ds
 
 -- A part that is beginning.
-pub record Begins (types : List TypeForm) (s : State) : Type 0 where
+pub record Begins (types : List TypeForm) (callees : Callees) (s : State) : Type 0 where
   pub m : Master
   pub rest : List Master
   pub ds : List DeclarationForm
@@ -168,15 +169,15 @@ pub record Begins (types : List TypeForm) (s : State) : Type 0 where
   pub control : s.control ≡ frame.Elaborates ds fs hs ∷ k
   pub runs : s.mode ≡ Running
   pub growing : Growing types m rest s.heap ds there
-  pub statements : StatementsNest types there fs
-  pub handlers : HandlersNest types there hs
-  pub nests : Nests types (scopes rest) k
+  pub statements : StatementsNest types callees there fs
+  pub handlers : HandlersNest types callees there hs
+  pub nests : Nests types callees (scopes rest) k
 
 -- A state of a run: what is left to do nests, whether or not a jump is on its way; or a part begins; or the innermost master is being left.
-pub data Nested (types : List TypeForm) (s : State) : Type 0 where
-  standing : Whole types s.masters s.heap → Nests types (scopes s.masters) s.control → Nested types s
-  beginning : Begins types s → Nested types s
-  parting : Parting types s.masters s.heap → s.mode ≡ Running → Goes types (scopes s.masters) s.control → Nested types s
+pub data Nested (types : List TypeForm) (callees : Callees) (s : State) : Type 0 where
+  standing : Whole types s.masters s.heap → Nests types callees (scopes s.masters) s.control → Nested types callees s
+  beginning : Begins types callees s → Nested types callees s
+  parting : Parting types s.masters s.heap → s.mode ≡ Running → Goes types callees (scopes s.masters) s.control → Nested types callees s
 
 -- How masters change.
 pub whole_declared : (types : List TypeForm) (number x : ℕ) (ms : List Master) (heap : List Object) → Whole types ms heap → Whole types (owning (record { number = number; owned = declared x }) ms) heap
@@ -204,11 +205,11 @@ whole_recorded types number t (m ∷ ms) heap cell around some home access alike
   records = ((open_within around (all_of (scopes (m ∷ ms))) (reached_components types t) (λ u le. let same = alike u in omega (arith, same, le)) opens, w.records.0), w.records.1);
 }
 
-pub nests_recorded : (types : List TypeForm) (number t : ℕ) (ms : List Master) (k : List (Frame Value)) → Nests types (scopes ms) k → Nests types (scopes (owning (record { number = number; owned = record_object t }) ms)) k
-nests_recorded types number t ms k n = rw (scopes_recorded number t ms) n
+pub nests_recorded : (types : List TypeForm) (callees : Callees) (number t : ℕ) (ms : List Master) (k : List (Frame Value)) → Nests types callees (scopes ms) k → Nests types callees (scopes (owning (record { number = number; owned = record_object t }) ms)) k
+nests_recorded types callees number t ms k n = rw (scopes_recorded number t ms) n
 
-pub nests_declared : (types : List TypeForm) (number x : ℕ) (ms : List Master) (k : List (Frame Value)) → Nests types (scopes ms) k → Nests types (scopes (owning (record { number = number; owned = declared x }) ms)) k
-nests_declared types number x ms k n = rw (scopes_declared number x ms) n
+pub nests_declared : (types : List TypeForm) (callees : Callees) (number x : ℕ) (ms : List Master) (k : List (Frame Value)) → Nests types callees (scopes ms) k → Nests types callees (scopes (owning (record { number = number; owned = declared x }) ms)) k
+nests_declared types callees number x ms k n = rw (scopes_declared number x ms) n
 
 pub whole_heap : (types : List TypeForm) (ms : List Master) (before after : List Object) → Housed after (items_of ms) → Whole types ms before → Whole types ms after
 whole_heap types ms before after housed w = record { lone = w.lone; needs = w.needs; housed = housed; fit = w.fit; records = w.records }

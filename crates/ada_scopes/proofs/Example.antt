@@ -1,4 +1,4 @@
--- A program whose collections nest and a run of it; and a program whose collections do not.
+-- Programs whose collections nest and runs of them; and a program whose collections do not.
 
 use Rattle.std.proofs.Common.{◌≡◌, ◌≤◌, ◌<◌, ◌==◌, ◌+◌, ℕ, zero, suc, Bool, true, false, List, [], ◌∷◌, ◌++◌, length, map, refl, sym, ap, ◌∙◌, subst, arith, inl, inr}
 use Rattle.std.proofs.Math.ListN.{replicate}
@@ -23,10 +23,10 @@ use Rattle.ada_program.specs.declared.program.TypeNo.{TypeNo}
 use Rattle.ada_program.specs.declared.program.Variable.{Variable}
 use Rattle.ada_program.specs.declared.program.VariableKind.TheVariants as variable
 use Rattle.ada_program.specs.declared.program.Program.{Program}
-use Rattle.ada_program.specs.Form.{expression_form, stmt_form, allocates, null_item, skips, encloses, StmtsForm, no_stmts, a_stmt, no_handlers, DeclarationForm, collects, declares, declaration_forms, stmt_forms, handler_forms, statement_rules}
-use Rattle.ada_program.specs.ProgramForm.{program_form}
-use Rattle.ada_program.specs.WellFormed.{Creation, creation, created_by_all, created_by_handlers, creates_from, has_collections, IsWellFormed, stmts_fit}
-use Rattle.ada_program.specs.Nested.{collected, statements_nest, CollectionsNest}
+use Rattle.ada_program.specs.Form.{expression_form, stmt_form, allocates, null_item, skips, calls, encloses, StmtsForm, no_stmts, a_stmt, no_handlers, DeclarationForm, collects, declares, declaration_forms, stmt_forms, handler_forms, statement_rules}
+use Rattle.ada_program.specs.ProgramForm.{BodyForm, variable_form, body_forms, program_form}
+use Rattle.ada_program.specs.WellFormed.{Creation, created_in_all, profile_of, bodies_fit, creation, created_by_all, created_by_handlers, creates_from, has_collections, IsWellFormed, stmts_fit}
+use Rattle.ada_program.specs.Nested.{callees_from, collected, statements_nest, CollectionsNest}
 use Rattle.ada_meaning.specs.declared.state.Id.{Id}
 use Rattle.ada_meaning.specs.State.{Owned, declared, collection, record_object, Item}
 use Rattle.ada_meaning.specs.Named.{Object, State, next}
@@ -85,6 +85,7 @@ block_form ds = a_stmt (encloses ds (a_stmt skips no_stmts) no_handlers) no_stmt
 abbrev pub nested : Program
 nested = record {
   types = vec (cell_of (kind.Integer (pos 0) ∷ []) (omega arith) (omega arith) ∷ access_to 0 ∷ cell_of (access_kind 1 ∷ access_kind 3 ∷ []) (omega arith) (omega arith) ∷ access_to 2 ∷ []) (omega arith);
+  procedures = vec [] (omega arith);
   variables = vec (of_type 1 ∷ of_type 3 ∷ []) (omega arith);
   texts = vec [] (omega arith);
   exceptions = vec [] (omega arith);
@@ -104,7 +105,7 @@ abbrev creations_with : Program → StmtsForm → List Creation
 creations_with program fs = map creation (declaration_forms program) ++ created_by_all fs ++ created_by_handlers (handler_forms program)
 
 abbrev fits_with : Program → StmtsForm → Bool
-fits_with program fs = stmts_fit (program_form program).types (program_form program).variables (program_form program).texts (program_form program).exceptions false fs
+fits_with program fs = stmts_fit (program_form program).types (program_form program).variables (program_form program).texts (program_form program).exceptions [] false fs
 
 pub nested_well_formed : IsWellFormed (program_form nested)
 nested_well_formed = record {
@@ -117,12 +118,13 @@ nested_well_formed = record {
   initials_fit = refl;
   statements_fit = ap (fits_with nested) nested_are;
   handlers_fit = refl;
+  bodies_fit = refl;
 }
 
 pub nested_nests : CollectionsNest (program_form nested)
 nested_nests = record {
   declarations = refl;
-  statements = ap (λ (fs : StmtsForm). statements_nest (program_form nested).types (collected (program_form nested).declarations) fs) nested_are;
+  statements = ap (λ (fs : StmtsForm). statements_nest (program_form nested).types [] (collected (program_form nested).declarations) fs) nested_are;
   handlers = refl;
 }
 
@@ -130,7 +132,93 @@ nested_nests = record {
 pub holds_both : InSomeRun nested (λ events last. HoldsNearAndFar nested last)
 unfolding next expression_form stmt_form
 holds_both =
-    run_by nested nested_forms nested_are (steps 12 ++ grants true ∷ []) (λ events last. HoldsNearAndFar nested last) refl
+    run_by nested [] nested_forms refl nested_are (steps 12 ++ grants true ∷ []) (λ events last. HoldsNearAndFar nested last) refl
+    (record {
+      block = _;
+      main = _;
+      o = record { 0 = 0 };
+      object = _;
+      far = record { 0 = 1 };
+      near = record { 0 = 3 };
+      entered = refl;
+      listed = (refl, refl);
+      first = refl;
+      second = refl;
+      far_is_open = (_, (1, omega arith, refl), refl);
+      near_is_open = (_, (0, omega arith, refl), refl);
+    })
+
+-- type Cell is record Value : Integer; end record; type Far is access Cell; X : Far;
+-- procedure P is type Link; type Near is access Link; .. Y : Near := new Link'(null, null); begin null; end; begin P; end;
+abbrev pub calling : Program
+calling = record {
+  types = nested.types;
+  procedures = vec (record {
+    formals = 0;
+    variables = vec (of_type 3 ∷ []) (omega arith);
+    declarations = vec (declaration.Collection (record { 0 = 3 }) ∷ with_nulls 0 3 (item.Null ∷ item.Null ∷ []) (omega arith) ∷ []) (omega arith);
+    statements = vec (stmt.Null ∷ []) (omega arith);
+    handlers = vec [] (omega arith);
+  } ∷ []) (omega arith);
+  variables = vec (of_type 1 ∷ []) (omega arith);
+  texts = vec [] (omega arith);
+  exceptions = vec [] (omega arith);
+  declarations = nested.declarations;
+  statements = vec (stmt.Call (record { 0 = 0 }) (vec [] (omega arith)) ∷ []) (omega arith);
+  handlers = vec [] (omega arith);
+}
+
+abbrev calling_forms : StmtsForm
+calling_forms = a_stmt (calls 0 []) no_stmts
+
+abbrev calling_bodies : List BodyForm
+calling_bodies = record {
+  formals = 0;
+  variables = map variable_form (of_type 3 ∷ []);
+  declarations = collects 3 ∷ declares 0 (allocates 3 (null_item ∷ null_item ∷ [])) ∷ [];
+  statements = a_stmt skips no_stmts;
+  handlers = no_handlers;
+} ∷ []
+
+pub calling_are : stmt_forms calling ≡ calling_forms
+calling_are = simp statement_rules
+
+bodies_are : body_forms calling ≡ calling_bodies
+bodies_are = simp statement_rules
+
+-- What holds of these bodies and statements holds of the program.
+of_both : (test : List BodyForm → StmtsForm → Bool) → test calling_bodies calling_forms ≡ true → test (body_forms calling) (stmt_forms calling) ≡ true
+of_both test is = rw (bodies_are, calling_are) is
+
+pub calling_well_formed : IsWellFormed (program_form calling)
+calling_well_formed = record {
+  types_fit = refl;
+  variables_fit = refl;
+  creates_in_order = ap (λ (fs : StmtsForm). creates_from 1 0 (creations_with calling fs)) calling_are;
+  collections_first = refl;
+  collections_fit = refl;
+  has_one_each = of_both (λ bs fs. has_collections (created_in_all bs ++ creations_with calling fs) 0 (program_form calling).types) refl;
+  initials_fit = refl;
+  statements_fit = of_both
+      (λ bs fs. stmts_fit (program_form calling).types (program_form calling).variables [] [] (map profile_of bs) false fs) refl;
+  handlers_fit = refl;
+  bodies_fit = ap (bodies_fit (program_form calling).types [] [] []) bodies_are;
+}
+
+pub calling_nests : CollectionsNest (program_form calling)
+calling_nests = record {
+  declarations = refl;
+  statements = of_both
+      (λ bs fs. statements_nest (program_form calling).types (callees_from (program_form calling).types [] bs) (collected (program_form calling).declarations) fs)
+      refl;
+  handlers = refl;
+}
+
+-- The object of the procedure's body has been allocated.
+pub body_holds_both : InSomeRun calling (λ events last. HoldsNearAndFar calling last)
+unfolding next expression_form stmt_form
+body_holds_both =
+    run_by calling calling_bodies calling_forms bodies_are calling_are (steps 13 ++ grants true ∷ []) (λ events last. HoldsNearAndFar calling last) refl
     (record {
       block = _;
       main = _;
@@ -151,6 +239,7 @@ holds_both =
 abbrev pub loose : Program
 loose = record {
   types = vec (cell_of (access_kind 2 ∷ []) (omega arith) (omega arith) ∷ access_to 0 ∷ access_to 3 ∷ cell_of (kind.Integer (pos 0) ∷ []) (omega arith) (omega arith) ∷ []) (omega arith);
+  procedures = vec [] (omega arith);
   variables = vec (of_type 1 ∷ []) (omega arith);
   texts = vec [] (omega arith);
   exceptions = vec [] (omega arith);
@@ -176,6 +265,7 @@ loose_well_formed = record {
   initials_fit = refl;
   statements_fit = ap (fits_with loose) loose_are;
   handlers_fit = refl;
+  bodies_fit = refl;
 }
 
 -- An item that is a collection is counted.
@@ -208,7 +298,7 @@ main_items = record { number = 1; owned = declared 0 } ∷ record { number = 0; 
 is_short : InSomeRun loose (λ events last. IsShort last)
 unfolding next expression_form stmt_form
 is_short =
-    run_by loose loose_forms loose_are (steps 5 ++ grants true ∷ steps 4) (λ events last. IsShort last) refl
+    run_by loose [] loose_forms refl loose_are (steps 5 ++ grants true ∷ steps 4) (λ events last. IsShort last) refl
     (record { 0 = 0 }, _, 0, record { 0 = 2 }, (refl, refl), refl, λ outlived. elim outlived [ inl going ↦ cc (going.0) | inr found ↦ omega (arith, contains_opened 2 main_items found.0 found.1.0 found.1.1 found.1.2 found.2) ])
 
 pub not_outlived : ComponentsAreOutlivedIn loose → ⊥
@@ -222,6 +312,7 @@ not_outlived all =
 abbrev pub passing : Program
 passing = record {
   types = vec (cell_of (access_kind 2 ∷ []) (omega arith) (omega arith) ∷ access_to 0 ∷ access_to 3 ∷ cell_of (kind.Integer (pos 0) ∷ []) (omega arith) (omega arith) ∷ []) (omega arith);
+  procedures = vec [] (omega arith);
   variables = vec (of_type 1 ∷ []) (omega arith);
   texts = vec [] (omega arith);
   exceptions = vec [] (omega arith);
@@ -247,12 +338,13 @@ passing_well_formed = record {
   initials_fit = refl;
   statements_fit = ap (fits_with passing) passing_are;
   handlers_fit = refl;
+  bodies_fit = refl;
 }
 
 pub passing_nests : CollectionsNest (program_form passing)
 passing_nests = record {
   declarations = refl;
-  statements = ap (λ (fs : StmtsForm). statements_nest (program_form passing).types (collected (program_form passing).declarations) fs) passing_are;
+  statements = ap (λ (fs : StmtsForm). statements_nest (program_form passing).types [] (collected (program_form passing).declarations) fs) passing_are;
   handlers = refl;
 }
 
@@ -264,7 +356,7 @@ oldest_item = record { number = 0; owned = collection 1 } ∷ []
 pub outlasts : InSomeRun passing (λ events last. OutlastsTarget passing last)
 unfolding next expression_form stmt_form
 outlasts =
-    run_by passing passing_forms passing_are (steps 6 ++ grants true ∷ steps 8) (λ events last. OutlastsTarget passing last) refl
+    run_by passing [] passing_forms refl passing_are (steps 6 ++ grants true ∷ steps 8) (λ events last. OutlastsTarget passing last) refl
     (record {
       o = record { 0 = 0 };
       object = _;

@@ -2,10 +2,16 @@
 pub mod Counts
 -- what nests in the text of a program
 pub mod Texts
+-- what procedures create nests where they are called
+pub mod Bodies
 -- what is left to do nests in the masters that are entered
 pub mod Control
 -- objects and their homes
 pub mod Homes
+-- what comes next while forms are evaluated nests
+pub mod Evaluations
+-- so it does while a master is being left
+pub mod Leavings
 -- each step leads from nested states to nested states
 pub mod Steps
 -- so does each run

@@ -2,16 +2,23 @@
 
 use Rattle.std.proofs.Common.{◌≡◌, ℕ, ℤ, List, [], ◌∷◌, ◌++◌, arith, refl, ap, subst}
 use Rattle.ada_program.specs.declared.program.Program.{Program}
-use Rattle.ada_program.specs.ProgramForm.{TypeForm, program_form}
+use Rattle.ada_program.specs.ProgramForm.{TypeForm, ProgramForm, program_form}
 use Rattle.ada_program.specs.WellFormed.{IsWellFormed}
-use Rattle.ada_program.specs.Nested.{collected, CollectionsNest}
+use Rattle.ada_program.specs.Nested.{Callees, collected, callees_of, CollectionsNest}
 use Rattle.ada_meaning.specs.State.{Master}
 use Rattle.ada_meaning.specs.Step.{halts, moves, tells, asks, picks}
 use Rattle.ada_meaning.specs.Named.{State, Next, next}
 use Rattle.ada_meaning.specs.Run.{Event, Choice, settled, grants, takes, Leads, Step, Run, here, there, first_state}
-use Rattle.ada_scopes.proofs.Texts.{ProgramNests, program_nests}
+use Rattle.ada_scopes.proofs.Texts.{BodiesNest}
+use Rattle.ada_scopes.proofs.Bodies.{ProgramNests, program_nests}
 use Rattle.ada_scopes.proofs.Control.{Whole, Growing, Nested, beginning, grows}
-use Rattle.ada_scopes.proofs.Steps.{Good, next_good}
+use Rattle.ada_scopes.proofs.Evaluations.{Good}
+use Rattle.ada_scopes.proofs.Steps.{next_good}
+
+-- What each state of a run keeps: what its procedures create nests wherever the text calls them, and so does what is left to do.
+pub record Scoped (p : ProgramForm) (s : State) : Type 0 where
+  pub bodies : BodiesNest p.types (callees_of p) p.bodies
+  pub nested : Nested p.types (callees_of p) s
 
 append_nil : (us : List ℕ) → us ++ [] ≡ us
 append_nil [] = refl
@@ -21,7 +28,7 @@ nothing_yet : (types : List TypeForm) → Whole types [] []
 nothing_yet types = record { lone = λ t. omega arith; needs = tt; housed = λ o x at listed. absurd (cc at); fit = tt; records = tt }
 
 -- The first state: the part of the main procedure begins.
-main_begins : (program : Program) (input : List ℤ) → ProgramNests (program_form program) → Nested (program_form program).types (first_state program input)
+main_begins : (program : Program) (input : List ℤ) → ProgramNests (program_form program) → Nested (program_form program).types (callees_of (program_form program)) (first_state program input)
 main_begins program input nest =
     let p = program_form program in
     let first : Master = record { number = 0; items = [] } in
@@ -42,33 +49,42 @@ main_begins program input nest =
       nests = tt;
     })
 
-pub first_nested : (program : Program) → IsWellFormed (program_form program) → CollectionsNest (program_form program) → (input : List ℤ) → Nested (program_form program).types (first_state program input)
-first_nested program well nest input = main_begins program input (program_nests (program_form program) well nest)
+pub first_nested : (program : Program) → IsWellFormed (program_form program) → CollectionsNest (program_form program) → (input : List ℤ) → Scoped (program_form program) (first_state program input)
+first_nested program well nest input =
+    let text = program_nests (program_form program) well nest in
+    record { bodies = text.bodies; nested = main_begins program input text }
 
-led : (types : List TypeForm) (coming : Next) (choice : Choice) (e : Event) (after : State) → Good types coming → Leads coming choice e after → Nested types after
-led types (halts halt) choice e after g l = absurd l
-led types (moves shown s) settled e after g l = rw (l.1) g
-led types (tells request shown s) settled e after g l = rw (l.1) g
-led types (asks request answers) (grants granted) e after g l = rw (l.1) (g granted)
-led types (picks n taking) (takes i) e after g l = rw (l.2) (g i l.0)
-led types (moves shown s) (grants granted) e after g l = absurd l
-led types (moves shown s) (takes i) e after g l = absurd l
-led types (tells request shown s) (grants granted) e after g l = absurd l
-led types (tells request shown s) (takes i) e after g l = absurd l
-led types (asks request answers) settled e after g l = absurd l
-led types (asks request answers) (takes i) e after g l = absurd l
-led types (picks n taking) settled e after g l = absurd l
-led types (picks n taking) (grants granted) e after g l = absurd l
+led : (types : List TypeForm) (callees : Callees) (coming : Next) (choice : Choice) (e : Event) (after : State) → Good types callees coming → Leads coming choice e after → Nested types callees after
+led types callees (halts halt) choice e after g l = absurd l
+led types callees (moves shown s) settled e after g l = rw (l.1) g
+led types callees (tells request shown s) settled e after g l = rw (l.1) g
+led types callees (asks request answers) (grants granted) e after g l = rw (l.1) (g granted)
+led types callees (picks n taking) (takes i) e after g l = rw (l.2) (g i l.0)
+led types callees (moves shown s) (grants granted) e after g l = absurd l
+led types callees (moves shown s) (takes i) e after g l = absurd l
+led types callees (tells request shown s) (grants granted) e after g l = absurd l
+led types callees (tells request shown s) (takes i) e after g l = absurd l
+led types callees (asks request answers) settled e after g l = absurd l
+led types callees (asks request answers) (takes i) e after g l = absurd l
+led types callees (picks n taking) settled e after g l = absurd l
+led types callees (picks n taking) (grants granted) e after g l = absurd l
 
 -- A step keeps that.
-pub step_nested : (types : List TypeForm) (program : Program) (s after : State) (choice : Choice) (e : Event) → Nested types s → Step program s choice e after → Nested types after
-step_nested types program s after choice e nested step = led types (next program.types.items s) choice e after (next_good types program.types.items s nested) step
+pub step_nested : (program : Program) (s after : State) (choice : Choice) (e : Event) → Scoped (program_form program) s → Step program s choice e after → Scoped (program_form program) after
+step_nested program s after choice e scoped step =
+    let p = program_form program in
+    let types = program.types.items in
+    record {
+      bodies = scoped.bodies;
+      nested = led p.types (callees_of p) (next types p.bodies s) choice e after
+          (next_good p.types (callees_of p) p.bodies scoped.bodies types s scoped.nested) step;
+    }
 
-run_nested : (types : List TypeForm) (program : Program) (s last : State) (events : List Event) → Nested types s → Run program s events last → Nested types last
-run_nested types program s last events nested here = nested
-run_nested types program s last (e ∷ events) nested (there choice mid step rest) =
-    run_nested types program mid last events (step_nested types program s mid choice e nested step) rest
+run_nested : (program : Program) (s last : State) (events : List Event) → Scoped (program_form program) s → Run program s events last → Scoped (program_form program) last
+run_nested program s last events scoped here = scoped
+run_nested program s last (e ∷ events) scoped (there choice mid step rest) =
+    run_nested program mid last events (step_nested program s mid choice e scoped step) rest
 
-pub state_nested : (program : Program) → IsWellFormed (program_form program) → CollectionsNest (program_form program) → (input : List ℤ) (events : List Event) (last : State) → Run program (first_state program input) events last → Nested (program_form program).types last
+pub state_nested : (program : Program) → IsWellFormed (program_form program) → CollectionsNest (program_form program) → (input : List ℤ) (events : List Event) (last : State) → Run program (first_state program input) events last → Scoped (program_form program) last
 state_nested program well nest input events last run =
-    run_nested (program_form program).types program (first_state program input) last events (first_nested program well nest input) run
+    run_nested program (first_state program input) last events (first_nested program well nest input) run

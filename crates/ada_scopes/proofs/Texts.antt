@@ -1,15 +1,16 @@
 -- What nests in the text of a program: each part opens collections once, none that is open around it, and those of components with them.
 
-use Rattle.std.proofs.Common.{◌≡◌, ℕ, zero, suc, ◌+◌, ◌≤◌, ◌==◌, ◌&&◌, cond, not, count_by, Bool, true, false, List, [], ◌∷◌, ◌++◌, map, arith, refl, sym, ap, ◌∙◌, subst}
+use Rattle.std.proofs.Common.{◌≡◌, ℕ, zero, suc, ◌+◌, ◌≤◌, ◌==◌, ◌&&◌, cond, not, count_by, Bool, true, false, List, [], ◌∷◌, ◌++◌, map, Some, arith, refl, sym, ap, ◌∙◌, subst}
 use Rattle.std.specs.Prelude.{is_some}
 use Rattle.std.proofs.lemmas.Bool.{eqb-true}
 use Rattle.std.proofs.lemmas.List.Sums.{sum_by-cons}
 use Rattle.std.specs.List.{slice_get, list_all}
+use Rattle.ada_program.specs.declared.program.VariableKind.{VariableKind}
 use Rattle.ada_program.specs.declared.program.ScalarType.TheVariants.{Integer, Boolean}
-use Rattle.ada_program.specs.Form.{DeclarationForm, collects, declares, declares_record, StmtForm, skips, assigns, assigns_record, frees, gets, writes, writes_text, chooses, repeats, counts, exits, returns, raises, encloses, StmtsForm, no_stmts, a_stmt, BranchesForm, otherwise, a_branch, HandlersForm, no_handlers, a_handler}
-use Rattle.ada_program.specs.ProgramForm.{TypeForm, record_of, access_to, object_of, VariableForm, ProgramForm}
-use Rattle.ada_program.specs.WellFormed.{IsWellFormed, Creation, of_collection, of_variable, creation, created_by, created_by_all, created_by_branches, created_by_handlers, creations, is_access, designated_in, collections_first, collection_fits, is_collection, has_collections, has_type, variable_fits, is_record_object, record_initial_fits, initial_fits, declarations_fit, is_type, scalar_of, variable_kind, condition_fits, has_statement, choice_fits, statement_fits, stmts_fit, branches_fit, handlers_fit, reached_components}
-use Rattle.ada_program.specs.Nested.{collected, record_objects, is_one_of, are_open, collection_nests, record_nests, part_nests, statement_nests, statements_nest, branches_nest, handlers_nest, CollectionsNest}
+use Rattle.ada_program.specs.Form.{DeclarationForm, collects, declares, declares_record, StmtForm, skips, assigns, assigns_record, frees, gets, writes, writes_text, chooses, repeats, counts, exits, calls, returns, raises, encloses, StmtsForm, no_stmts, a_stmt, BranchesForm, otherwise, a_branch, HandlersForm, no_handlers, a_handler}
+use Rattle.ada_program.specs.ProgramForm.{TypeForm, record_of, access_to, object_of, VariableForm, BodyForm, ProgramForm}
+use Rattle.ada_program.specs.WellFormed.{IsWellFormed, all_creations, Creation, of_collection, of_variable, creation, created_by, created_by_all, created_by_branches, created_by_handlers, is_access, designated_in, collections_first, collection_fits, is_collection, has_collections, has_type, variable_fits, is_record_object, record_initial_fits, initial_fits, declarations_fit, is_type, scalar_of, variable_kind, condition_fits, has_statement, choice_fits, statement_fits, stmts_fit, branches_fit, handlers_fit, reached_components}
+use Rattle.ada_program.specs.Nested.{Callees, call_nests, collected, record_objects, is_one_of, are_open, collection_nests, record_nests, part_nests, statement_nests, statements_nest, branches_nest, handlers_nest}
 use Rattle.ada_typed.proofs.Objects.{record_no_access}
 use Rattle.ada_scopes.proofs.Counts.{and_left, and_right, one, times, times_of, times_none, all_times}
 
@@ -31,34 +32,46 @@ pub record PartNests (types : List TypeForm) (around : List ℕ) (ds : List Decl
   pub records : RecordsNest types (collected ds ++ around) ds
 
 abbrev mutual
-  pub StatementNests : List TypeForm → List ℕ → StmtForm → Type 0
-  StatementNests types around skips = Unit {0}
-  StatementNests types around (assigns target right) = Unit {0}
-  StatementNests types around (assigns_record target items) = Unit {0}
-  StatementNests types around (frees access path) = Unit {0}
-  StatementNests types around (gets target) = Unit {0}
-  StatementNests types around (writes e) = Unit {0}
-  StatementNests types around (writes_text text) = Unit {0}
-  StatementNests types around (chooses branches) = BranchesNest types around branches
-  StatementNests types around (repeats condition fs end_spot) = StatementsNest types around fs
-  StatementNests types around (counts x low high fs end_spot) = StatementsNest types around fs
-  StatementNests types around (exits condition spot) = Unit {0}
-  StatementNests types around (returns spot) = Unit {0}
-  StatementNests types around (raises e) = Unit {0}
-  StatementNests types around (encloses ds fs hs) =
-      PartNests types around ds × StatementsNest types (collected ds ++ around) fs × HandlersNest types (collected ds ++ around) hs
+  pub StatementNests : List TypeForm → Callees → List ℕ → StmtForm → Type 0
+  StatementNests types callees around skips = Unit {0}
+  StatementNests types callees around (assigns target right) = Unit {0}
+  StatementNests types callees around (assigns_record target items) = Unit {0}
+  StatementNests types callees around (frees access path) = Unit {0}
+  StatementNests types callees around (gets target) = Unit {0}
+  StatementNests types callees around (writes e) = Unit {0}
+  StatementNests types callees around (writes_text text) = Unit {0}
+  StatementNests types callees around (chooses branches) = BranchesNest types callees around branches
+  StatementNests types callees around (repeats condition fs end_spot) = StatementsNest types callees around fs
+  StatementNests types callees around (counts x low high fs end_spot) = StatementsNest types callees around fs
+  StatementNests types callees around (exits condition spot) = Unit {0}
+  StatementNests types callees around (calls procedure actuals) = call_nests (slice_get callees procedure) around ≡ true
+  StatementNests types callees around (returns spot) = Unit {0}
+  StatementNests types callees around (raises e) = Unit {0}
+  StatementNests types callees around (encloses ds fs hs) =
+      PartNests types around ds × StatementsNest types callees (collected ds ++ around) fs × HandlersNest types callees (collected ds ++ around) hs
 
-  pub StatementsNest : List TypeForm → List ℕ → StmtsForm → Type 0
-  StatementsNest types around no_stmts = Unit {0}
-  StatementsNest types around (a_stmt f fs) = StatementNests types around f × StatementsNest types around fs
+  pub StatementsNest : List TypeForm → Callees → List ℕ → StmtsForm → Type 0
+  StatementsNest types callees around no_stmts = Unit {0}
+  StatementsNest types callees around (a_stmt f fs) = StatementNests types callees around f × StatementsNest types callees around fs
 
-  pub BranchesNest : List TypeForm → List ℕ → BranchesForm → Type 0
-  BranchesNest types around (otherwise fs) = StatementsNest types around fs
-  BranchesNest types around (a_branch e fs branches) = StatementsNest types around fs × BranchesNest types around branches
+  pub BranchesNest : List TypeForm → Callees → List ℕ → BranchesForm → Type 0
+  BranchesNest types callees around (otherwise fs) = StatementsNest types callees around fs
+  BranchesNest types callees around (a_branch e fs branches) = StatementsNest types callees around fs × BranchesNest types callees around branches
 
-  pub HandlersNest : List TypeForm → List ℕ → HandlersForm → Type 0
-  HandlersNest types around no_handlers = Unit {0}
-  HandlersNest types around (a_handler choices fs hs) = StatementsNest types around fs × HandlersNest types around hs
+  pub HandlersNest : List TypeForm → Callees → List ℕ → HandlersForm → Type 0
+  HandlersNest types callees around no_handlers = Unit {0}
+  HandlersNest types callees around (a_handler choices fs hs) = StatementsNest types callees around fs × HandlersNest types callees around hs
+
+-- So it is of a body, where these are open around it.
+pub record BodyNests (types : List TypeForm) (callees : Callees) (around : List ℕ) (b : BodyForm) : Type 0 where
+  pub part : PartNests types around b.declarations
+  pub statements : StatementsNest types callees (collected b.declarations ++ around) b.statements
+  pub handlers : HandlersNest types callees (collected b.declarations ++ around) b.handlers
+
+-- Wherever a call of one of these bodies nests, the body nests as if it stood there.
+abbrev pub BodiesNest : List TypeForm → Callees → List BodyForm → Type 0
+BodiesNest types callees bodies =
+    (procedure : ℕ) (b : BodyForm) (around : List ℕ) → slice_get bodies procedure ≡ Some b → call_nests (slice_get callees procedure) around ≡ true → BodyNests types callees around b
 
 -- How often creations create the collection of a type.
 abbrev pub makes_by : ℕ → Creation → ℕ
@@ -99,10 +112,10 @@ times_makes t (declares_record x u initial ∷ ds) = let h = times_makes t ds in
 abbrev pub Once : List TypeForm → List Creation → Type 0
 Once types cs = (t : ℕ) → is_access types t ≡ true → makes t cs ≤ 1
 
-once_left : (types : List TypeForm) (bs cs : List Creation) → Once types (bs ++ cs) → Once types bs
+pub once_left : (types : List TypeForm) (bs cs : List Creation) → Once types (bs ++ cs) → Once types bs
 once_left types bs cs once t is = let h = once t is in let all = makes_append t bs cs in omega (arith, h, all)
 
-once_right : (types : List TypeForm) (bs cs : List Creation) → Once types (bs ++ cs) → Once types cs
+pub once_right : (types : List TypeForm) (bs cs : List Creation) → Once types (bs ++ cs) → Once types cs
 once_right types bs cs once t is = let h = once t is in let all = makes_append t bs cs in omega (arith, h, all)
 
 -- A well-formed program creates each collection once.
@@ -124,12 +137,12 @@ this_one cs k (suc i) (access_to name designated ∷ types) has is =
     let same : k + suc i ≡ (k + 1) + i = omega arith in
     ap (λ n. count_by (is_collection n) cs) same ∙ this_one cs (k + 1) i types (and_right (count_by (is_collection k) cs == 1) (has_collections cs (k + 1) types) has) is
 
-all_once : (p : ProgramForm) → IsWellFormed p → Once p.types (creations p)
+pub all_once : (p : ProgramForm) → IsWellFormed p → Once p.types (all_creations p)
 all_once p well t is =
     let same : 0 + t ≡ t = omega arith in
-    let counted = this_one (creations p) 0 t p.types well.has_one_each is in
-    let named : count_by (is_collection t) (creations p) ≡ 1 = ap (λ n. count_by (is_collection n) (creations p)) (sym same) ∙ counted in
-    let made = makes_is t (creations p) in
+    let counted = this_one (all_creations p) 0 t p.types well.has_one_each is in
+    let named : count_by (is_collection t) (all_creations p) ≡ 1 = ap (λ n. count_by (is_collection n) (all_creations p)) (sym same) ∙ counted in
+    let made = makes_is t (all_creations p) in
     omega (arith, made, named)
 
 -- What a part collects is of access types.
@@ -174,7 +187,7 @@ records_hold types variables there (declares_record x t initial ∷ ds) right in
       records_hold types variables there ds right (and_right own others initials) (and_right (record_nests types there t) later nest),
     )
 
-part_holds : (types : List TypeForm) (variables : List VariableForm) (around : List ℕ) (ds : List DeclarationForm) → list_all (variable_fits types) variables ≡ true → collections_first ds ≡ true → list_all (collection_fits types) ds ≡ true → list_all (initial_fits types variables) ds ≡ true → Once types (map creation ds) → part_nests types around ds ≡ true → PartNests types around ds
+pub part_holds : (types : List TypeForm) (variables : List VariableForm) (around : List ℕ) (ds : List DeclarationForm) → list_all (variable_fits types) variables ≡ true → collections_first ds ≡ true → list_all (collection_fits types) ds ≡ true → list_all (initial_fits types variables) ds ≡ true → Once types (map creation ds) → part_nests types around ds ≡ true → PartNests types around ds
 part_holds types variables around ds right first fits initials once both_nest = record {
   first = first;
   once = λ t. once_by types ds t (is_one_of (collected ds) t) refl fits once;
@@ -188,10 +201,14 @@ part_holds types variables around ds right first fits initials once both_nest = 
     nests : list_all (collection_nests types around (collected ds ++ around)) (collected ds) ≡ true
     nests = and_left (list_all (collection_nests types around (collected ds ++ around)) (collected ds)) (list_all (record_nests types (collected ds ++ around)) (record_objects ds)) both_nest
 
+-- Where calls nest with some callees, they do with others.
+abbrev pub CallsNest : Callees → Callees → Type 0
+CallsNest before callees = (procedure : ℕ) (around : List ℕ) → call_nests (slice_get before procedure) around ≡ true → call_nests (slice_get callees procedure) around ≡ true
+
 -- So it is of statements.
-module _ (types : List TypeForm) (variables : List VariableForm) (texts exceptions : List (List ℕ)) (right : list_all (variable_fits types) variables ≡ true) where
+module _ (types : List TypeForm) (variables : List VariableForm) (texts exceptions : List (List ℕ)) (callable : List (List VariableKind)) (right : list_all (variable_fits types) variables ≡ true) (before callees : Callees) (more : CallsNest before callees) where
   mutual
-    statement_holds : (f : StmtForm) (inside : Bool) (around : List ℕ) → statement_fits types variables texts exceptions inside f ≡ true → Once types (created_by f) → statement_nests types around f ≡ true → StatementNests types around f
+    statement_holds : (f : StmtForm) (inside : Bool) (around : List ℕ) → statement_fits types variables texts exceptions callable inside f ≡ true → Once types (created_by f) → statement_nests types before around f ≡ true → StatementNests types callees around f
     statement_holds skips inside around fits once nests = tt
     statement_holds (assigns target right) inside around fits once nests = tt
     statement_holds (assigns_record target items) inside around fits once nests = tt
@@ -201,21 +218,22 @@ module _ (types : List TypeForm) (variables : List VariableForm) (texts exceptio
     statement_holds (writes_text text) inside around fits once nests = tt
     statement_holds (chooses branches) inside around fits once nests = branches_hold branches inside around fits once nests
     statement_holds (repeats condition fs end_spot) inside around fits once nests =
-        statements_hold fs true around (and_right (condition_fits types variables condition && has_statement fs) (stmts_fit types variables texts exceptions true fs) fits) once nests
+        statements_hold fs true around (and_right (condition_fits types variables condition && has_statement fs) (stmts_fit types variables texts exceptions callable true fs) fits) once nests
     statement_holds (counts x low high fs end_spot) inside around fits once nests =
         statements_hold fs true around
-        (and_right (is_type Integer (scalar_of (variable_kind variables x)) && has_type types variables Integer low && has_type types variables Integer high && has_statement fs) (stmts_fit types variables texts exceptions true fs) fits)
+        (and_right (is_type Integer (scalar_of (variable_kind variables x)) && has_type types variables Integer low && has_type types variables Integer high && has_statement fs) (stmts_fit types variables texts exceptions callable true fs) fits)
         (λ t is. let h = once t is in omega (arith, h)) nests
     statement_holds (exits condition spot) inside around fits once nests = tt
+    statement_holds (calls procedure actuals) inside around fits once nests = more procedure around nests
     statement_holds (returns spot) inside around fits once nests = tt
     statement_holds (raises e) inside around fits once nests = tt
     statement_holds (encloses ds fs hs) inside around fits once nests =
         let part = part_nests types around ds in
-        let inner = statements_nest types (collected ds ++ around) fs in
-        let handled = handlers_nest types (collected ds ++ around) hs in
+        let inner = statements_nest types before (collected ds ++ around) fs in
+        let handled = handlers_nest types before (collected ds ++ around) hs in
         let part_fits = declarations_fit types variables ds in
-        let inner_fits = stmts_fit types variables texts exceptions inside fs in
-        let handled_fits = handlers_fit types variables texts exceptions inside hs in
+        let inner_fits = stmts_fit types variables texts exceptions callable inside fs in
+        let handled_fits = handlers_fit types variables texts exceptions callable inside hs in
         let first_two = and_left (part && inner) handled nests in
         let fit_two = and_left (part_fits && inner_fits) handled_fits fits in
         let own_fits = and_left part_fits inner_fits fit_two in
@@ -228,54 +246,35 @@ module _ (types : List TypeForm) (variables : List VariableForm) (texts exceptio
           handlers_hold hs inside (collected ds ++ around) (and_right (part_fits && inner_fits) handled_fits fits) (once_right types (map creation ds ++ created_by_all fs) (created_by_handlers hs) once) (and_right (part && inner) handled nests),
         )
 
-    statements_hold : (fs : StmtsForm) (inside : Bool) (around : List ℕ) → stmts_fit types variables texts exceptions inside fs ≡ true → Once types (created_by_all fs) → statements_nest types around fs ≡ true → StatementsNest types around fs
+    pub statements_hold : (fs : StmtsForm) (inside : Bool) (around : List ℕ) → stmts_fit types variables texts exceptions callable inside fs ≡ true → Once types (created_by_all fs) → statements_nest types before around fs ≡ true → StatementsNest types callees around fs
     statements_hold no_stmts inside around fits once nests = tt
     statements_hold (a_stmt f fs) inside around fits once nests = (
-      statement_holds f inside around (and_left (statement_fits types variables texts exceptions inside f) (stmts_fit types variables texts exceptions inside fs) fits) (once_left types (created_by f) (created_by_all fs) once)
-          (and_left (statement_nests types around f) (statements_nest types around fs) nests),
-      statements_hold fs inside around (and_right (statement_fits types variables texts exceptions inside f) (stmts_fit types variables texts exceptions inside fs) fits) (once_right types (created_by f) (created_by_all fs) once)
-          (and_right (statement_nests types around f) (statements_nest types around fs) nests),
+      statement_holds f inside around (and_left (statement_fits types variables texts exceptions callable inside f) (stmts_fit types variables texts exceptions callable inside fs) fits) (once_left types (created_by f) (created_by_all fs) once)
+          (and_left (statement_nests types before around f) (statements_nest types before around fs) nests),
+      statements_hold fs inside around (and_right (statement_fits types variables texts exceptions callable inside f) (stmts_fit types variables texts exceptions callable inside fs) fits) (once_right types (created_by f) (created_by_all fs) once)
+          (and_right (statement_nests types before around f) (statements_nest types before around fs) nests),
     )
 
-    branches_hold : (branches : BranchesForm) (inside : Bool) (around : List ℕ) → branches_fit types variables texts exceptions inside branches ≡ true → Once types (created_by_branches branches) → branches_nest types around branches ≡ true → BranchesNest types around branches
+    branches_hold : (branches : BranchesForm) (inside : Bool) (around : List ℕ) → branches_fit types variables texts exceptions callable inside branches ≡ true → Once types (created_by_branches branches) → branches_nest types before around branches ≡ true → BranchesNest types callees around branches
     branches_hold (otherwise fs) inside around fits once nests = statements_hold fs inside around fits once nests
     branches_hold (a_branch e fs branches) inside around fits once nests =
         let own = has_type types variables Boolean e in
-        let inner = stmts_fit types variables texts exceptions inside fs in
-        let others = branches_fit types variables texts exceptions inside branches in (
+        let inner = stmts_fit types variables texts exceptions callable inside fs in
+        let others = branches_fit types variables texts exceptions callable inside branches in (
           statements_hold fs inside around (and_right own inner (and_left (own && inner) others fits)) (once_left types (created_by_all fs) (created_by_branches branches) once)
-              (and_left (statements_nest types around fs) (branches_nest types around branches) nests),
+              (and_left (statements_nest types before around fs) (branches_nest types before around branches) nests),
           branches_hold branches inside around (and_right (own && inner) others fits) (once_right types (created_by_all fs) (created_by_branches branches) once)
-              (and_right (statements_nest types around fs) (branches_nest types around branches) nests),
+              (and_right (statements_nest types before around fs) (branches_nest types before around branches) nests),
         )
 
-    handlers_hold : (hs : HandlersForm) (inside : Bool) (around : List ℕ) → handlers_fit types variables texts exceptions inside hs ≡ true → Once types (created_by_handlers hs) → handlers_nest types around hs ≡ true → HandlersNest types around hs
+    pub handlers_hold : (hs : HandlersForm) (inside : Bool) (around : List ℕ) → handlers_fit types variables texts exceptions callable inside hs ≡ true → Once types (created_by_handlers hs) → handlers_nest types before around hs ≡ true → HandlersNest types callees around hs
     handlers_hold no_handlers inside around fits once nests = tt
     handlers_hold (a_handler choices fs hs) inside around fits once nests =
         let chosen = list_all (choice_fits exceptions) choices && has_statement fs in
-        let inner = stmts_fit types variables texts exceptions inside fs in
-        let others = handlers_fit types variables texts exceptions inside hs in (
+        let inner = stmts_fit types variables texts exceptions callable inside fs in
+        let others = handlers_fit types variables texts exceptions callable inside hs in (
           statements_hold fs inside around (and_right chosen inner (and_left (chosen && inner) others fits)) (once_left types (created_by_all fs) (created_by_handlers hs) once)
-              (and_left (statements_nest types around fs) (handlers_nest types around hs) nests),
+              (and_left (statements_nest types before around fs) (handlers_nest types before around hs) nests),
           handlers_hold hs inside around (and_right (chosen && inner) others fits) (once_right types (created_by_all fs) (created_by_handlers hs) once)
-              (and_right (statements_nest types around fs) (handlers_nest types around hs) nests),
+              (and_right (statements_nest types before around fs) (handlers_nest types before around hs) nests),
         )
-
--- The declarations, the statements and the handlers of a program.
-pub record ProgramNests (p : ProgramForm) : Type 0 where
-  pub part : PartNests p.types [] p.declarations
-  pub statements : StatementsNest p.types (collected p.declarations) p.statements
-  pub handlers : HandlersNest p.types (collected p.declarations) p.handlers
-
-pub program_nests : (p : ProgramForm) → IsWellFormed p → CollectionsNest p → ProgramNests p
-program_nests p well nest =
-    let once = all_once p well in
-    let before = once_left p.types (map creation p.declarations ++ created_by_all p.statements) (created_by_handlers p.handlers) once in
-    record {
-      part = part_holds p.types p.variables [] p.declarations well.variables_fit well.collections_first well.collections_fit well.initials_fit
-          (once_left p.types (map creation p.declarations) (created_by_all p.statements) before) nest.declarations;
-      statements = statements_hold p.types p.variables p.texts p.exceptions well.variables_fit p.statements false (collected p.declarations) well.statements_fit
-          (once_right p.types (map creation p.declarations) (created_by_all p.statements) before) nest.statements;
-      handlers = handlers_hold p.types p.variables p.texts p.exceptions well.variables_fit p.handlers false (collected p.declarations) well.handlers_fit
-          (once_right p.types (map creation p.declarations ++ created_by_all p.statements) (created_by_handlers p.handlers) once) nest.handlers;
-    }

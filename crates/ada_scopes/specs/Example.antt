@@ -3,6 +3,7 @@
 use Rattle.std.specs.Prelude.{◌≡◌, ℕ, [], ◌∷◌}
 use Rattle.ada_program.specs.declared.program.Program.{Program}
 use Rattle.ada_program.specs.declared.program.TypeNo.{TypeNo}
+use Rattle.ada_program.specs.Form.{calls, no_stmts, a_stmt, stmt_forms}
 use Rattle.ada_program.specs.ProgramForm.{program_form}
 use Rattle.ada_program.specs.WellFormed.{IsWellFormed}
 use Rattle.ada_program.specs.Nested.{CollectionsNest}
@@ -12,8 +13,8 @@ use Rattle.ada_meaning.specs.Named.{Object, State}
 use Rattle.ada_order.specs.Example.{InSomeRun}
 use Rattle.ada_scopes.specs.Scopes.{lasting, IsOpenIn, IsListed, HoldsNames, ComponentsAreOutlivedIn}
 
--- A block is entered inside the main procedure. An object's first component is of an access type of the main procedure, and its second one of an
--- access type of the block.
+-- A block, or the body of a procedure, is entered inside the main procedure. An object's first component is of an access type of the main procedure, and
+-- its second one of an access type of the block or of the body.
 pub record HoldsNearAndFar (program : Program) (s : State) : Type 0 where
   pub block : Master
   pub main : Master
@@ -32,6 +33,13 @@ pub record HoldsNearAndFar (program : Program) (s : State) : Type 0 where
 abbrev pub CollectionsOfBlocksNest : Type 0
 CollectionsOfBlocksNest =
     (program : Program) × IsWellFormed (program_form program) × CollectionsNest (program_form program)
+    × InSomeRun program (λ events last. HoldsNearAndFar program last)
+
+-- So has one that does nothing but call a procedure, whose body has such an object.
+abbrev pub CollectionsOfCallsNest : Type 0
+CollectionsOfCallsNest =
+    (program : Program) × IsWellFormed (program_form program) × CollectionsNest (program_form program)
+    × (stmt_forms program ≡ a_stmt (calls 0 []) no_stmts)
     × InSomeRun program (λ events last. HoldsNearAndFar program last)
 
 -- A well-formed program has an object that lasts longer than what its component names: the component's type has its collection in a block.

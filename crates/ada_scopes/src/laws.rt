@@ -1,6 +1,7 @@
 //! The laws of collections that nest. Each is a function that does nothing, and whose contract is the theorem.
 
-ghost use Rattle.ada_scopes.specs.Example.{CollectionsOfBlocksNest, NestingIsNeeded, CollectionsGoOneByOne};
+ghost use Rattle.ada_scopes.specs.Example.{CollectionsOfBlocksNest, CollectionsOfCallsNest};
+ghost use Rattle.ada_scopes.specs.Example.{CollectionsGoOneByOne, NestingIsNeeded};
 ghost use Rattle.ada_scopes.specs.Scopes.{TypesHaveOneCollection, ObjectsLieInCollections, ComponentsAreOutlived};
 ghost use Rattle.ada_scopes.specs.Scopes.{NamesStayOutside, InnermostIsNotNamed};
 
@@ -32,6 +33,11 @@ pub fn names_stay_outside()
 /// procedure, and one of its own.
 pub fn collections_of_blocks_nest()
     ensures { CollectionsOfBlocksNest }
+{}
+
+/// So has the body of a procedure that is called: a call nests as if the body stood where it is called (6.4).
+pub fn collections_of_calls_nest()
+    ensures { CollectionsOfCallsNest }
 {}
 
 /// They are needed: where an outer access type's objects have components of an access type of a block, an object is there

@@ -1,10 +1,10 @@
-//! What blocks mean for what lies in collections, over any run of a program whose collections nest: no object of an outer
-//! master has a component that names one of an inner master. Nothing here runs: each function of [`laws`] is a theorem on
-//! the definitions of meaning, and its contract is the statement.
+//! What blocks and calls mean for what lies in collections, over any run of a program whose collections nest: no object of
+//! an outer master has a component that names one of an inner master. Nothing here runs: each function of [`laws`] is a
+//! theorem on the definitions of meaning, and its contract is the statement.
 //!
 //! What a crate above takes from here: `one_collection`, `in_collections`, `outlived`, `outside` and `innermost_unnamed` of
-//! `proofs::Components` over runs; or, beside an invariant of its own, `first_nested` and `step_nested` of `proofs::Runs`,
-//! and `held_outside` and `held_inside` of `proofs::Components` over states.
+//! `proofs::Components` over runs; or, beside an invariant of its own, `Scoped`, `first_nested` and `step_nested` of
+//! `proofs::Runs`, and `held_outside` and `held_inside` of `proofs::Components` over states.
 #![tactic(auto)]
 
 pub mod laws;

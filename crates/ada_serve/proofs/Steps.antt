@@ -4,6 +4,7 @@ use Rattle.std.proofs.Common.{◌≡◌, ◌⊎◌, inl, inr, ℕ, ℤ, zero, su
 use Rattle.std.specs.Prelude.{IfOk, nat_eq, not, ◌&&◌, cond}
 use Rattle.std.proofs.lemmas.Grind.{flat_map-append}
 use Rattle.std.specs.Io.KnownBytes.{Appends}
+use Rattle.ada_program.specs.ProgramForm.{body_forms}
 use Rattle.ada_program.specs.declared.program.Program.{Program}
 use Rattle.ada_meaning.specs.declared.request.Request.{Request as Asked}
 use Rattle.ada_meaning.specs.declared.request.Request.TheVariants as asked
@@ -73,18 +74,18 @@ runners (picks n taken) before after (takes i) event last a l = (ap takes a.0, a
 
 -- What a machine does in one turn.
 
-pub steps_on : (program : Program) (s last : State) (before after : RefuseOne) (event : Event) (old new : Option (List ℕ)) → Makes RefusesOne TakesNewest (next program.types.items s) before event last after → Appends old new (event_text (texts_of program) event) → StepsOn program before.left after.left s last old new
+pub steps_on : (program : Program) (s last : State) (before after : RefuseOne) (event : Event) (old new : Option (List ℕ)) → Makes RefusesOne TakesNewest (next program.types.items (body_forms program) s) before event last after → Appends old new (event_text (texts_of program) event) → StepsOn program before.left after.left s last old new
 steps_on program s last before after event old new m a = record {
   choice = m.choice;
   event = event;
-  runners = runners (next program.types.items s) before after m.choice event last m.answers m.leads;
+  runners = runners (next program.types.items (body_forms program) s) before after m.choice event last m.answers m.leads;
   step = m.leads;
   line = a;
 }
 
-pub breaks_in_line : (program : Program) (s last : State) (before after : RefuseOne) (event : Event) (old new : Option (List ℕ)) → Makes RefusesOne TakesNewest (next program.types.items s) before event last after → AppendsFront old new (event_text (texts_of program) event) → BreaksOff program before.left s old new
+pub breaks_in_line : (program : Program) (s last : State) (before after : RefuseOne) (event : Event) (old new : Option (List ℕ)) → Makes RefusesOne TakesNewest (next program.types.items (body_forms program) s) before event last after → AppendsFront old new (event_text (texts_of program) event) → BreaksOff program before.left s old new
 breaks_in_line program s last before after event old new m a =
-    in_line m.choice event after.left last (runners (next program.types.items s) before after m.choice event last m.answers m.leads) m.leads a
+    in_line m.choice event after.left last (runners (next program.types.items (body_forms program) s) before after m.choice event last m.answers m.leads) m.leads a
 
 pub breaks_in_end : (program : Program) (until : ℕ) (s : State) (halt : Halt) (old new : Option (List ℕ)) → (halt ≡ Memory) ⊎ Halts program s halt → AppendsFront old new (end_text (exceptions_of program) halt) → BreaksOff program until s old new
 breaks_in_end program until s halt old new (inl memory) a = before_it (subst (λ (h : Halt). AppendsFront old new (end_text (exceptions_of program) h)) memory a)
@@ -111,7 +112,7 @@ written_first program refuse first s old e = record {
 lines_more : (program : Program) (events : List Event) (event : Event) → lines_of program (events ++ event ∷ []) ≡ lines_of program events ++ event_text (texts_of program) event
 lines_more program events event = flat_map-append (event_text (texts_of program)) events (event ∷ []) ∙ ap (λ text. lines_of program events ++ text) (append-nil (event_text (texts_of program) event))
 
-run_more : (program : Program) (refuse : ℕ) (first s last : State) (statements until after : ℕ) (events : List Event) (choice : Choice) (event : Event) → RunnerRun program refuse first statements events until s → RunnerAnswers until (next program.types.items s) choice after → Step program s choice event last → RunnerRun program refuse first (begun_with (begins s) statements) (events ++ event ∷ []) after last
+run_more : (program : Program) (refuse : ℕ) (first s last : State) (statements until after : ℕ) (events : List Event) (choice : Choice) (event : Event) → RunnerRun program refuse first statements events until s → RunnerAnswers until (next program.types.items (body_forms program) s) choice after → Step program s choice event last → RunnerRun program refuse first (begun_with (begins s) statements) (events ++ event ∷ []) after last
 run_more program refuse first s last statements until after events choice event run is step = goes_on statements event s until choice events run is step refl refl
 
 written_more : (program : Program) (refuse : ℕ) (first s last : State) (statements begun_now until after : ℕ) (old mid new : Option (List ℕ)) → HasWritten program refuse first statements until s old mid → StepsOn program until after s last mid new → begun_now ≡ begun_with (begins s) statements → HasWritten program refuse first begun_now after last old new
@@ -126,7 +127,7 @@ ends_else : (coming : Next) → GoesOn coming → coming ≡ halts Memory → �
 ends_else coming goes e = let never : GoesOn (halts Memory) = subst GoesOn e goes in never refl
 
 pub no_memory : StatesGoOn → (program : Program) (s : State) → Halts program s Memory → ⊥
-no_memory goes program s e = ends_else (next program.types.items s) (goes program s) e
+no_memory goes program s e = ends_else (next program.types.items (body_forms program) s) (goes program s) e
 
 -- What comes next is the end, or the runner has a step.
 data HasStep (until : ℕ) (coming : Next) : Type 0 where
@@ -160,7 +161,7 @@ GoesOnFrom program numbers limit refuse statements s = (before : List Event) (un
 -- It goes on where each step that the runner can make goes on.
 by_step : StatesGoOn → (program : Program) (numbers : List ℤ) (limit refuse statements : ℕ) (s : State) → statements ≤ limit → ((choice : Choice) (event : Event) (mid : State) → Step program s choice event mid → GoesOnFrom program numbers limit refuse (begun_with (begins s) statements) mid) → GoesOnFrom program numbers limit refuse statements s
 by_step goes program numbers limit refuse statements s within later before until run =
-    elim (has_step until (next program.types.items s) (goes program s)) [
+    elim (has_step until (next program.types.items (body_forms program) s) (goes program s)) [
       | halted halt is ↦ record { tail = end_text (exceptions_of program) halt; status = status_of halt; is = ended statements before until s halt within run is refl refl }
       | steps choice event after mid is leads ↦ one_before program numbers limit refuse before event (later choice event mid leads (before ++ event ∷ []) after (run_more program refuse (first_state program numbers) s mid statements until after before choice event run is leads))
     ]
@@ -295,7 +296,7 @@ pub reaches_limit : (program : Program) (numbers : List ℤ) (limit refuse left 
 reaches_limit program numbers limit refuse left until s result old mid new h b none a e = has_stopped program numbers limit refuse h.statements until s result old mid new h.written (omega (arith, h.count, none)) b a e
 
 -- A quiet step, and quiet steps one after another: nothing is asked, and nothing is written.
-quiet_step : (program : Program) (refuse : ℕ) (first s last : State) (statements begun_now until : ℕ) (old new : Option (List ℕ)) → HasWritten program refuse first statements until s old new → next program.types.items s ≡ moves Quiet last → begun_now ≡ begun_with (begins s) statements → HasWritten program refuse first begun_now until last old new
+quiet_step : (program : Program) (refuse : ℕ) (first s last : State) (statements begun_now until : ℕ) (old new : Option (List ℕ)) → HasWritten program refuse first statements until s old new → next program.types.items (body_forms program) s ≡ moves Quiet last → begun_now ≡ begun_with (begins s) statements → HasWritten program refuse first begun_now until last old new
 quiet_step program refuse first s last statements begun_now until old new h is count =
     let made : StepsOn program until until s last new new = record {
       choice = settled;

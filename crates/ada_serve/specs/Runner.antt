@@ -3,6 +3,7 @@
 
 use Rattle.std.specs.Prelude.{◌≡◌, ℕ, ℤ, ◌-◌, nat_eq, ◌≤◌, Bool, true, false, not, ◌&&◌, cond, List, [], ◌++◌, flat_map, Option, Some, None, Result, Ok, Err}
 use Rattle.std.specs.Io.KnownBytes.{Appends}
+use Rattle.ada_program.specs.ProgramForm.{body_forms}
 use Rattle.ada_program.specs.declared.program.Program.{Program}
 use Rattle.ada_meaning.specs.declared.event.Halt.{Halt}
 use Rattle.ada_meaning.specs.declared.event.Halt.TheVariants.{Finished, Unhandled, Erroneous, Stuck, Memory}
@@ -88,7 +89,7 @@ pub record HasWritten (program : Program) (refuse : ℕ) (first : State) (statem
 pub record StepsOn (program : Program) (until after : ℕ) (s last : State) (old new : Option (List ℕ)) : Type 0 where
   pub choice : Choice
   pub event : Event
-  pub runners : RunnerAnswers until (next program.types.items s) choice after
+  pub runners : RunnerAnswers until (next program.types.items (body_forms program) s) choice after
   pub step : Step program s choice event last
   pub line : Appends old new (event_text (texts_of program) event)
 
@@ -103,7 +104,7 @@ pub record EndsIn (program : Program) (s : State) (old new : Option (List ℕ)) 
 pub data BreaksOff (program : Program) (until : ℕ) (s : State) (old new : Option (List ℕ)) : Type 0 where
   before_it : AppendsFront old new [] → BreaksOff program until s old new
   in_line : (choice : Choice) (event : Event) (after : ℕ) (last : State)
-      → RunnerAnswers until (next program.types.items s) choice after → Step program s choice event last
+      → RunnerAnswers until (next program.types.items (body_forms program) s) choice after → Step program s choice event last
       → AppendsFront old new (event_text (texts_of program) event) → BreaksOff program until s old new
   in_end : (halt : Halt) → Halts program s halt → AppendsFront old new (end_text (exceptions_of program) halt) → BreaksOff program until s old new
 

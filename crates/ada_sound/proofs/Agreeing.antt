@@ -1,6 +1,6 @@
 -- Where a statement begins, variables and components are as they are relied on to be.
 
-use Rattle.std.proofs.Common.{◌≡◌, ◌≢◌, ℕ, zero, suc, true, List, [], ◌∷◌, refl, sym, ap, ◌∙◌, ◌⊎◌, inl, inr}
+use Rattle.std.proofs.Common.{◌≡◌, ◌≢◌, ℕ, zero, suc, true, List, [], ◌∷◌, refl, sym, ap, subst, ◌∙◌, ◌⊎◌, inl, inr}
 use Rattle.std.specs.Prelude.{Option, Some, None}
 use Rattle.std.specs.List.{slice_get, slice_index_or}
 use Rattle.ada_program.specs.declared.program.Program.{Program}
@@ -8,12 +8,12 @@ use Rattle.ada_program.specs.declared.program.VariableKind.{VariableKind}
 use Rattle.ada_program.specs.declared.program.VariableKind.TheVariants as variable
 use Rattle.ada_program.specs.Form.{PathForm, nothing, assigns, StmtsForm, a_stmt}
 use Rattle.ada_program.specs.declared.program.ComponentKind.{ComponentKind}
-use Rattle.ada_program.specs.ProgramForm.{ProgramForm, program_form}
-use Rattle.ada_program.specs.WellFormed.{access_of, variable_kind, held_kind, component_kind, kind_among, IsWellFormed}
+use Rattle.ada_program.specs.ProgramForm.{TypeForm, ProgramForm, program_form, seen_in}
+use Rattle.ada_program.specs.WellFormed.{access_of, variable_kind, held_kind, component_kind, kind_among}
 use Rattle.ada_flow.specs.declared.rule.Hold.{Hold}
 use Rattle.ada_flow.specs.declared.rule.Hold.TheVariants as hold
 use Rattle.ada_flow.specs.declared.rule.Region.{Region}
-use Rattle.ada_flow.specs.Flow.{Holds, hold_at, variable_access, variables_of}
+use Rattle.ada_flow.specs.Flow.{Holds, hold_at, variable_access}
 use Rattle.ada_meaning.specs.declared.state.Id.{Id}
 use Rattle.ada_meaning.specs.declared.state.Value.{Value}
 use Rattle.ada_meaning.specs.declared.state.Value.TheVariants.{Null, Names, Scalar}
@@ -35,15 +35,18 @@ use Rattle.ada_owners.specs.Keeping.{IsThere}
 use Rattle.ada_owners.proofs.Kernel.{same_place, of_same}
 use Rattle.ada_owners.proofs.Objects.{listed_at}
 use Rattle.ada_owners.proofs.Changes.{store_access, store_reads}
-use Rattle.ada_sound.specs.Agreement.{IsAtHome, Exists, IsValid, IsAs, Turning, here, IsFlowAt, component_access, IsKept, IsOwning, IsCleared, Agrees, value_in}
+use Rattle.ada_sound.specs.Agreement.{IsAtHome, Exists, IsValid, IsAs, Turning, here, IsFlowAt, IsBehind, running_procedure, component_access, IsKept, IsOwning, IsCleared, Agrees, value_in}
 use Rattle.ada_sound.specs.Agreement as agreement
 use Rattle.ada_sound.proofs.Items as items
 use Rattle.ada_sound.proofs.Stored.{Stored, exists_out}
 use Rattle.ada_sound.proofs.Back.{stored_before}
-use Rattle.ada_sound.proofs.Fits.{Fit, IsRelied, none_spared, hold_in, bare, component_value, access_is}
+use Rattle.ada_sound.proofs.Fits.{Outer, Fit, IsRelied, none_spared, hold_in, stacked, component_value, access_is}
 use Rattle.ada_sound.proofs.Scalars.{scalars_lost}
-use Rattle.ada_sound.proofs.Invariant.{Control, RunsOn, Working, Half, Resumes, front, final}
-use Rattle.ada_sound.proofs.Starts.{reached, Sound}
+use Rattle.ada_sound.proofs.Invariant.{Known, Control, RunsOn, Working, Half, Resumes, outers, front, final}
+use Rattle.ada_typed.proofs.Bodies.{SeenFits, seen_fits}
+use Rattle.ada_sound.proofs.Callers.{Suspension, rest_of, known_in}
+use Rattle.ada_sound.proofs.Returns.{same_types}
+use Rattle.ada_sound.proofs.Starts.{Sound}
 
 -- What is in its collection exists, and an open collection of its type is its home.
 exists_there : {heap : List Object} {masters : List Master} (o : Id) (x : Object) (access : Option ℕ) → Stored None heap masters → object_at heap o ≡ Some x → x.listed ≡ true → access ≡ Some x.cell.access → Exists heap masters access o
@@ -57,11 +60,11 @@ exists_by None o stored of = absurd of
 exists_by {heap} (Some t) o stored of = let h = listed_at heap o t of in exists_there o h.object (Some t) stored h.found h.listed (ap Some (sym h.access))
 
 -- What typing says.
-typed_filled : (p : ProgramForm) (s : State) → typed.Typed p s → AreFilled p.types (cells_of s.heap) (cells_of s.heap)
+typed_filled : (p : ProgramForm) (s : State) → typed.TypedIn p s → AreFilled p.types (cells_of s.heap) (cells_of s.heap)
 typed_filled p s (typed.running kinds r fits) = r.filled
 typed_filled p s (typed.on_jump mode j goes) = j.filled
 
-typed_held : (p : ProgramForm) (s : State) (x : ℕ) (kind : VariableKind) → typed.Typed p s → variable_kind p.variables x ≡ Some kind → HasKind (cells_of s.heap) kind (slice_index_or (places s) x Null)
+typed_held : (p : ProgramForm) (s : State) (x : ℕ) (kind : VariableKind) → typed.TypedIn p s → variable_kind p.variables x ≡ Some kind → HasKind (cells_of s.heap) kind (slice_index_or (places s) x Null)
 typed_held p s x kind (typed.running kinds r fits) is = active_held (cells_of s.heap) p.variables kinds s.activations x kind r.active is
 typed_held p s x kind (typed.on_jump mode j goes) is = active_held (cells_of s.heap) p.variables [] s.activations x kind j.active is
 
@@ -80,43 +83,43 @@ named_at cells (d ∷ cs) (v ∷ vs) zero k have is = let same : v ≡ Names k =
 named_at cells (d ∷ cs) (v ∷ vs) (suc c) k have is = named_at cells cs vs c k have.1 is
 
 -- What a component of an object names exists if it is there.
-kept_exists : (program : Program) (s : State) (o : Id) (object : Object) (c : ℕ) (k : Id) → typed.Typed (program_form program) s → Stored None s.heap s.masters → object_at s.heap o ≡ Some object → slice_get object.cell.values c ≡ Some (Names k) → IsThere s.heap k → Exists s.heap s.masters (component_access (program_form program).types object c) k
-kept_exists program s o object c k t stored found at (x, there, listed) =
-    let filled = filled_at (program_form program).types (cells_of s.heap) (cells_of s.heap) o.0 object.cell (typed_filled (program_form program) s t) (cell_at s.heap o.0 object found) in
+kept_exists : (own : ProgramForm) (s : State) (o : Id) (object : Object) (c : ℕ) (k : Id) → typed.TypedIn own s → Stored None s.heap s.masters → object_at s.heap o ≡ Some object → slice_get object.cell.values c ≡ Some (Names k) → IsThere s.heap k → Exists s.heap s.masters (component_access own.types object c) k
+kept_exists own s o object c k t stored found at (x, there, listed) =
+    let filled = filled_at own.types (cells_of s.heap) (cells_of s.heap) o.0 object.cell (typed_filled own s t) (cell_at s.heap o.0 object found) in
     let named = named_at (cells_of s.heap) filled.0 object.cell.values c k filled.2 at in
-    let of_type : component_access (program_form program).types object c ≡ Some named.0 = ap (λ components. access_of (kind_among components c)) filled.1 ∙ named.1 in
+    let of_type : component_access own.types object c ≡ Some named.0 = ap (λ components. access_of (kind_among components c)) filled.1 ∙ named.1 in
     let same : Some x.cell ≡ Some named.2.0 = sym (cell_at s.heap k.0 x there) ∙ named.2.1 in
     let access : x.cell.access ≡ named.0 = cc (same, named.2.2) in
-    exists_there k x (component_access (program_form program).types object c) stored there listed (of_type ∙ ap Some (sym access))
+    exists_there k x (component_access own.types object c) stored there listed (of_type ∙ ap Some (sym access))
 
 -- An owner is read as if no activation were suspended.
-read_bare : (heap : List Object) (s : State) (holds : Holds) (p : Place) → IsOwning holds p → value_at heap s.activations p ≡ value_at heap (bare (places s)) p
-read_bare heap s holds (variable x) own = refl
-read_bare heap s holds (component o c) own = refl
-read_bare heap s holds (elsewhere d x) own = absurd own
+read_bare : (heap : List Object) (outer : List Outer) (s : State) (holds : Holds) (p : Place) → IsOwning holds p → value_at heap s.activations p ≡ value_at heap (stacked (places s) outer) p
+read_bare heap outer s holds (variable x) own = refl
+read_bare heap outer s holds (component o c) own = refl
+read_bare heap outer s holds (elsewhere d x) own = absurd own
 
-owns_is : (holds : Holds) (p : Place) → IsOwning holds p → Owns (hold_in none_spared holds p)
-owns_is holds (variable x) (r, e) = rw e tt
-owns_is holds (component o c) own = tt
-owns_is holds (elsewhere d x) own = own
+owns_is : (outer : List Outer) (holds : Holds) (p : Place) → IsOwning holds p → Owns (hold_in outer none_spared holds p)
+owns_is outer holds (variable x) (r, e) = rw e tt
+owns_is outer holds (component o c) own = tt
+owns_is outer holds (elsewhere d x) own = absurd own
 
 -- Places are as they are relied on to be in a heap in which at most one component is another than it is: one that the statement sets to null, and
 -- which names what is there.
-module _ (program : Program) (s : State) (holds : Holds) (types : typed.Typed (program_form program) s) (stored : Stored None s.heap s.masters)
-    (lost : (x : ℕ) → variable_access (variables_of program) x ≡ None → hold_at holds x ≡ hold.Lost)
+module _ (own : ProgramForm) (outer : List Outer) (s : State) (holds : Holds) (types : typed.TypedIn own s) (stored : Stored None s.heap s.masters)
+    (lost : (x : ℕ) → variable_access own.variables x ≡ None → hold_at holds x ≡ hold.Lost)
     (heap : List Object) (same : (k : Id) → access_at heap k ≡ access_at s.heap k)
-    (reads : (p : Place) → (value_at heap (bare (places s)) p ≡ value_at s.heap (bare (places s)) p) ⊎ (IsCleared s p × ((k : Id) → value_at s.heap (bare (places s)) p ≡ Names k → IsThere s.heap k)))
-    (fit : Fit (program_form program).types (variables_of program) none_spared heap (places s) holds) where
+    (reads : (p : Place) → (value_at heap (stacked (places s) outer) p ≡ value_at s.heap (stacked (places s) outer) p) ⊎ (IsCleared s p × ((k : Id) → value_at s.heap (stacked (places s) outer) p ≡ Names k → IsThere s.heap k)))
+    (fit : Fit own.types own.variables outer none_spared heap (places s) holds) where
   exists_here : (access : Option ℕ) (o : Id) → IsOf (access_at heap) access o → Exists s.heap s.masters access o
   exists_here access o of = exists_by access o stored (of_same (access_at heap) (access_at s.heap) access o (sym (same o)) of)
 
   -- What is not lost holds no Integer or Boolean.
-  no_scalar : (x : ℕ) (kind : Option VariableKind) → variable_kind (variables_of program) x ≡ kind → hold_at holds x ≢ hold.Lost → (n : _) → value_in s x ≡ Scalar n → ⊥
+  no_scalar : (x : ℕ) (kind : Option VariableKind) → variable_kind own.variables x ≡ kind → hold_at holds x ≢ hold.Lost → (n : _) → value_in s x ≡ Scalar n → ⊥
   no_scalar x None is kept n v = kept (lost x (ap access_of is))
   no_scalar x (Some variable.Integer) is kept n v = kept (lost x (ap access_of is))
   no_scalar x (Some variable.Boolean) is kept n v = kept (lost x (ap access_of is))
-  no_scalar x (Some (variable.Access access)) is kept n v = rw v at (typed_held (program_form program) s x (variable.Access access) types is)
-  no_scalar x (Some (variable.Record t)) is kept n v = rw v at (typed_held (program_form program) s x (variable.Record t) types is)
+  no_scalar x (Some (variable.Access access)) is kept n v = rw v at (typed_held own s x (variable.Access access) types is)
+  no_scalar x (Some (variable.Record t)) is kept n v = rw v at (typed_held own s x (variable.Record t) types is)
 
   -- What an owner or a borrower names exists.
   relied_exists : (access : Option ℕ) (h : Hold) (o : Id) → IsRelied h → Says (access_at heap) h access o → Exists s.heap s.masters access o
@@ -125,28 +128,28 @@ module _ (program : Program) (s : State) (holds : Holds) (types : typed.Typed (p
   relied_exists access (hold.Alias r) o is says = exists_here access o says
   relied_exists access hold.Lost o is says = absurd is
 
-  valid_by : (x : ℕ) (v : Value) → IsRelied (hold_at holds x) → hold_at holds x ≢ hold.Lost → value_in s x ≡ v → IsValid s.heap s.masters (variable_access (variables_of program) x) v
+  valid_by : (x : ℕ) (v : Value) → IsRelied (hold_at holds x) → hold_at holds x ≢ hold.Lost → value_in s x ≡ v → IsValid s.heap s.masters (variable_access own.variables x) v
   valid_by x Null is kept v = tt
-  valid_by x (Names o) is kept v = relied_exists (variable_access (variables_of program) x) (hold_at holds x) o is (fit.owners.fit.relied (variable x) o v)
-  valid_by x (Scalar n) is kept v = no_scalar x (variable_kind (variables_of program) x) refl kept n v
+  valid_by x (Names o) is kept v = relied_exists (variable_access own.variables x) (hold_at holds x) o is (fit.owners.fit.relied (variable x) o v)
+  valid_by x (Scalar n) is kept v = no_scalar x (variable_kind own.variables x) refl kept n v
 
-  each_is : (x : ℕ) (h : Hold) → hold_at holds x ≡ h → IsAs s.heap s.masters (variable_access (variables_of program) x) h (value_in s x)
+  each_is : (x : ℕ) (h : Hold) → hold_at holds x ≡ h → IsAs s.heap s.masters (variable_access own.variables x) h (value_in s x)
   each_is x hold.Null e = rw e at (fit.nulls x)
   each_is x (hold.Own r) e = valid_by x (value_in s x) (rw e tt) (λ lost'. cc (e, lost')) refl
   each_is x (hold.Alias r) e = valid_by x (value_in s x) (rw e tt) (λ lost'. cc (e, lost')) refl
   each_is x hold.Lost e = tt
 
-  named_is : (o : Id) (object : Object) (c : ℕ) (k : Id) → object_at s.heap o ≡ Some object → object.listed ≡ true → slice_get object.cell.values c ≡ Some (Names k) → Exists s.heap s.masters (component_access (program_form program).types object c) k
+  named_is : (o : Id) (object : Object) (c : ℕ) (k : Id) → object_at s.heap o ≡ Some object → object.listed ≡ true → slice_get object.cell.values c ≡ Some (Names k) → Exists s.heap s.masters (component_access own.types object c) k
   named_is o object c k found listed at = go (reads (component o c))
     where
-      value : value_at s.heap (bare (places s)) (component o c) ≡ Names k
-      value = component_value s.heap (bare (places s)) o object c (Names k) found listed at
+      value : value_at s.heap (stacked (places s) outer) (component o c) ≡ Names k
+      value = component_value s.heap (stacked (places s) outer) o object c (Names k) found listed at
 
-      go : (value_at heap (bare (places s)) (component o c) ≡ value_at s.heap (bare (places s)) (component o c)) ⊎ (IsCleared s (component o c) × ((i : Id) → value_at s.heap (bare (places s)) (component o c) ≡ Names i → IsThere s.heap i)) → Exists s.heap s.masters (component_access (program_form program).types object c) k
-      go (inl e) = exists_here (component_access (program_form program).types object c) k (rw (same o ∙ access_is s.heap o object found listed) at (fit.owners.fit.relied (component o c) k (e ∙ value)))
-      go (inr cleared) = kept_exists program s o object c k types stored found at (cleared.1 k value)
+      go : (value_at heap (stacked (places s) outer) (component o c) ≡ value_at s.heap (stacked (places s) outer) (component o c)) ⊎ (IsCleared s (component o c) × ((i : Id) → value_at s.heap (stacked (places s) outer) (component o c) ≡ Names i → IsThere s.heap i)) → Exists s.heap s.masters (component_access own.types object c) k
+      go (inl e) = exists_here (component_access own.types object c) k (rw (same o ∙ access_is s.heap o object found listed) at (fit.owners.fit.relied (component o c) k (e ∙ value)))
+      go (inr cleared) = kept_exists own s o object c k types stored found at (cleared.1 k value)
 
-  component_holds : (o : Id) (object : Object) (c : ℕ) (v : Value) → object_at s.heap o ≡ Some object → object.listed ≡ true → slice_get object.cell.values c ≡ Some v → IsKept s.heap s.masters (component_access (program_form program).types object c) v
+  component_holds : (o : Id) (object : Object) (c : ℕ) (v : Value) → object_at s.heap o ≡ Some object → object.listed ≡ true → slice_get object.cell.values c ≡ Some v → IsKept s.heap s.masters (component_access own.types object c) v
   component_holds o object c Null found listed at = tt
   component_holds o object c (Names k) found listed at = named_is o object c k found listed at
   component_holds o object c (Scalar n) found listed at = tt
@@ -159,15 +162,15 @@ module _ (program : Program) (s : State) (holds : Holds) (types : typed.Typed (p
   owners_apart : (p q : Place) (o : Id) → IsOwning holds p → IsOwning holds q → value_at s.heap s.activations p ≡ Names o → value_at s.heap s.activations q ≡ Names o → (p ≡ q) ⊎ (IsCleared s p ⊎ IsCleared s q)
   owners_apart p q o a b c d = go (reads p) (reads q)
     where
-      go : (value_at heap (bare (places s)) p ≡ value_at s.heap (bare (places s)) p) ⊎ (IsCleared s p × ((k : Id) → value_at s.heap (bare (places s)) p ≡ Names k → IsThere s.heap k))
-          → (value_at heap (bare (places s)) q ≡ value_at s.heap (bare (places s)) q) ⊎ (IsCleared s q × ((k : Id) → value_at s.heap (bare (places s)) q ≡ Names k → IsThere s.heap k))
+      go : (value_at heap (stacked (places s) outer) p ≡ value_at s.heap (stacked (places s) outer) p) ⊎ (IsCleared s p × ((k : Id) → value_at s.heap (stacked (places s) outer) p ≡ Names k → IsThere s.heap k))
+          → (value_at heap (stacked (places s) outer) q ≡ value_at s.heap (stacked (places s) outer) q) ⊎ (IsCleared s q × ((k : Id) → value_at s.heap (stacked (places s) outer) q ≡ Names k → IsThere s.heap k))
           → (p ≡ q) ⊎ (IsCleared s p ⊎ IsCleared s q)
       go (inr cleared) other = inr (inl cleared.0)
       go (inl e) (inr cleared) = inr (inr cleared.0)
       go (inl e) (inl f) =
-          inl (fit.owners.fit.apart p q o (owns_is holds p a) (owns_is holds q b) (e ∙ sym (read_bare s.heap s holds p a) ∙ c) (f ∙ sym (read_bare s.heap s holds q b) ∙ d))
+          inl (fit.owners.fit.apart p q o (owns_is outer holds p a) (owns_is outer holds q b) (e ∙ sym (read_bare s.heap outer s holds p a) ∙ c) (f ∙ sym (read_bare s.heap outer s holds q b) ∙ d))
 
-  agrees_by : Agrees (program_form program).types (variables_of program) s holds
+  agrees_by : Agrees own.types own.variables s holds
   agrees_by = record {
     each = λ x. each_is x (hold_at holds x) refl;
     one_owner = variables_apart;
@@ -185,47 +188,59 @@ cleared_is s path later outer o c (d ∷ ds) is begins last leads =
 
 -- Flow at a place is flow at what is left to do there.
 AgreesThere : Program → State → Type 0
-AgreesThere program s = (way : List Turning) × (holds : Holds) × IsFlowAt program way s.control holds × Agrees (program_form program).types (variables_of program) s holds
+AgreesThere program s =
+    (rest : agreement.Place) × (way : List Turning) × (holds : Holds) × IsBehind (running_procedure s) rest × IsFlowAt program (running_procedure s) rest way s.control holds
+    × Agrees (program_form program).types (seen_in (running_procedure s) (program_form program)).variables s holds
 
-place_is : (program : Program) (way : List Turning) (control place : agreement.Place) (holds : Holds) → control ≡ place → IsFlowAt program way place holds → IsFlowAt program way control holds
-place_is program way control place holds is at = rw is at
+place_is : (program : Program) (procedure : Option ℕ) (rest : agreement.Place) (way : List Turning) (control place : agreement.Place) (holds : Holds) → control ≡ place → IsFlowAt program procedure rest way place holds → IsFlowAt program procedure rest way control holds
+place_is program procedure rest way control place holds is at = rw is at
 
-module _ (program : Program) (s : State) (well : IsWellFormed (program_form program)) (types : typed.Typed (program_form program) s) (b : BeginsStatement s) where
-  whole_agrees : Working (reached program) s.heap (places s) s.masters (RunsOn (reached program) (Does (a_stmt b.stmt b.later) ∷ b.outer)) → AgreesThere program s
+module _ (program : Program) (s : State) (gs : List Suspension) (fits : SeenFits (seen_in (running_procedure s) (program_form program))) (types : typed.TypedIn (seen_in (running_procedure s) (program_form program)) s) (rest_is : IsBehind (running_procedure s) (rest_of gs)) (b : BeginsStatement s) where
+  abbrev known : Known
+  known = known_in program (running_procedure s) gs
+
+  abbrev own : ProgramForm
+  own = known.program
+
+  there : (way : List Turning) (holds : Holds) → IsFlowAt program (running_procedure s) (rest_of gs) way (Does (a_stmt b.stmt b.later) ∷ b.outer) holds → Agrees own.types own.variables s holds → AgreesThere program s
   unfolding AgreesThere
+  there way holds comes agrees = (
+    rest_of gs,
+    way,
+    holds,
+    rest_is,
+    place_is program (running_procedure s) (rest_of gs) way s.control (Does (a_stmt b.stmt b.later) ∷ b.outer) holds b.first comes,
+    subst (λ (ts : List TypeForm). Agrees ts own.variables s holds) (same_types (running_procedure s) (program_form program)) agrees,
+  )
+
+  whole_agrees : Working known s.heap (places s) s.masters (RunsOn known (Does (a_stmt b.stmt b.later) ∷ b.outer)) → AgreesThere program s
   whole_agrees w =
-      let comes = w.rest.1 [] (Does (a_stmt b.stmt b.later) ∷ b.outer) w.holds here in (
-        comes.0,
-        w.holds,
-        place_is program comes.0 s.control (Does (a_stmt b.stmt b.later) ∷ b.outer) w.holds b.first comes.1,
-        agrees_by program s w.holds types w.stored (scalars_lost program comes.0 (Does (a_stmt b.stmt b.later) ∷ b.outer) w.holds well comes.1)
-            s.heap (λ k. refl) (λ p. inl refl) w.fit,
-      )
+      let comes = w.rest.1 [] (Does (a_stmt b.stmt b.later) ∷ b.outer) w.holds here in
+      there comes.0 w.holds comes.1
+      (agrees_by own (outers known) s w.holds types w.stored (scalars_lost program (running_procedure s) (rest_of gs) comes.0 (Does (a_stmt b.stmt b.later) ∷ b.outer) w.holds fits comes.1)
+      s.heap (λ k. refl) (λ p. inl refl) w.fit)
 
-  half_agrees : Half (reached program) (a_stmt b.stmt b.later) b.outer s.heap (places s) s.masters → AgreesThere program s
-  unfolding AgreesThere
+  half_agrees : Half known (a_stmt b.stmt b.later) b.outer s.heap (places s) s.masters → AgreesThere program s
   half_agrees h =
       let w = h.works in
-      let comes = w.rest.1 [] (Does (a_stmt b.stmt b.later) ∷ b.outer) w.holds here in (
-        comes.0,
-        w.holds,
-        place_is program comes.0 s.control (Does (a_stmt b.stmt b.later) ∷ b.outer) w.holds b.first comes.1,
-        agrees_by program s w.holds types (stored_before s.heap s.masters (Names h.o) h.c Null w.stored)
-            (scalars_lost program comes.0 (Does (a_stmt b.stmt b.later) ∷ b.outer) w.holds well comes.1)
-            (store s.heap (Names h.o) h.c Null) (store_access s.heap h.o h.there.0 h.there.1 h.c Null) (λ p. go p (same_place p (component h.o h.c))) w.fit,
-      )
+      let comes = w.rest.1 [] (Does (a_stmt b.stmt b.later) ∷ b.outer) w.holds here in
+      there comes.0 w.holds comes.1
+      (agrees_by own (outers known) s w.holds types (stored_before s.heap s.masters (Names h.o) h.c Null w.stored)
+      (scalars_lost program (running_procedure s) (rest_of gs) comes.0 (Does (a_stmt b.stmt b.later) ∷ b.outer) w.holds fits comes.1)
+      (store s.heap (Names h.o) h.c Null) (store_access s.heap h.o h.there.0 h.there.1 h.c Null) (λ p. go p (same_place p (component h.o h.c))) w.fit)
     where
-      go : (p : Place) → (p ≡ component h.o h.c) ⊎ (p ≢ component h.o h.c) → (value_at (store s.heap (Names h.o) h.c Null) (bare (places s)) p ≡ value_at s.heap (bare (places s)) p) ⊎ (IsCleared s p × ((k : Id) → value_at s.heap (bare (places s)) p ≡ Names k → IsThere s.heap k))
+      go : (p : Place) → (p ≡ component h.o h.c) ⊎ (p ≢ component h.o h.c) → (value_at (store s.heap (Names h.o) h.c Null) (stacked (places s) (outers known)) p ≡ value_at s.heap (stacked (places s) (outers known)) p) ⊎ (IsCleared s p × ((k : Id) → value_at s.heap (stacked (places s) (outers known)) p ≡ Names k → IsThere s.heap k))
       go p (inl e) =
           let begins = b.first ∙ ap (λ fs. Does fs ∷ b.outer) h.is in
           rw e (inr (cleared_is s h.path h.later b.outer h.o h.c h.path.selectors refl begins h.last h.found, h.kept))
-      go p (inr ne) = inl (store_reads s.heap h.o h.there.0 h.there.1 h.c Null (bare (places s)) p ne)
+      go p (inr ne) = inl (store_reads s.heap h.o h.there.0 h.there.1 h.c Null (stacked (places s) (outers known)) p ne)
 
-  resumes_agrees : Resumes (reached program) s.heap (places s) s.masters (Does (a_stmt b.stmt b.later) ∷ b.outer) → AgreesThere program s
+  resumes_agrees : Resumes known s.heap (places s) s.masters (Does (a_stmt b.stmt b.later) ∷ b.outer) → AgreesThere program s
   resumes_agrees (inl w) = whole_agrees w
   resumes_agrees (inr h) = half_agrees h
 
 -- Wherever a statement begins.
-pub agrees_at : (program : Program) (s : State) → IsWellFormed (program_form program) → Sound program s → BeginsStatement s → (way : List Turning) × (holds : Holds) × IsFlowAt program way s.control holds × Agrees (program_form program).types (variables_of program) s holds
+pub agrees_at : (program : Program) (s : State) → Sound program s → BeginsStatement s → (rest : agreement.Place) × (way : List Turning) × (holds : Holds) × IsBehind (running_procedure s) rest × IsFlowAt program (running_procedure s) rest way s.control holds × Agrees (program_form program).types (seen_in (running_procedure s) (program_form program)).variables s holds
 unfolding AgreesThere
-agrees_at program s well sound b = resumes_agrees program s well sound.typed b (rw (b.runs, b.first) at (sound.ready.1))
+agrees_at program s sound b =
+    resumes_agrees program s sound.suspensions (seen_fits (program_form program) sound.well (running_procedure s)) sound.typed.inside sound.stands.behind b (rw (b.runs, b.first) at (sound.ready.1))

@@ -35,8 +35,8 @@ use Rattle.ada_sound.proofs.Objects.{get_more}
 use Rattle.ada_sound.proofs.Items.{home_has}
 use Rattle.ada_sound.proofs.Stored.{Stored, stored_new, stored_filled}
 use Rattle.ada_sound.proofs.Alters.{alters_new}
-use Rattle.ada_sound.proofs.Fits.{Fit, Hand, bare, none_spared, hold_in, place_at, component_access, is_object, no_object, as_reliance, root_follows, lose_all, put_owner, create_fit, insert_fit}
-use Rattle.ada_sound.proofs.Invariant.{Known, Control, Rooms, NoneBroken, MayRaise, back_onto, named_of, FilledBy, GoesInto, LeadsTo, Filling, FillsTo, Accepts, StoresTo, StoringIn, RunsOn, Working, ReadyIn, Stepped, Fine}
+use Rattle.ada_sound.proofs.Fits.{Fit, Hand, stacked, none_spared, hold_in, place_at, component_access, is_object, no_object, as_reliance, root_follows, lose_all, put_owner, create_fit, insert_fit}
+use Rattle.ada_sound.proofs.Invariant.{outers, HasRoom, RoomFor, Known, Control, Rooms, NoneBroken, MayRaise, back_onto, named_of, FilledBy, GoesInto, LeadsTo, Filling, FillsTo, Accepts, StoresTo, StoringIn, RunsOn, Working, ReadyIn, Stepped, Fine}
 use Rattle.ada_sound.proofs.Ready.{running, at_work, ready_on, jumps_less}
 use Rattle.ada_sound.proofs.Followings.{first_kept}
 use Rattle.ada_sound.proofs.Roots.{root_object, object_there, rest_raises, record_raises}
@@ -186,16 +186,16 @@ module _ (known : Known) (k : Control) (a : Activation Value) (rest : List (Acti
     counted = w.rest.counted ∙ sym (filled_length known.program.types known.program.variables s.heap a.places w.rest.leads.components w.rest.done a.operands w.rest.filled w.rest.leads.fit)
 
     -- The values of the items are in hand, as far as nothing more is relied on than what they leave.
-    in_hand_by : (after : Place → Hold) → Lends s.heap a.places w.holds w.rest.target (moved_by_items (back_onto w.rest.done [])) after → (n : ℕ) → n ≡ length (back_onto w.rest.done []) → HaveKinds (cells_of s.heap) w.rest.leads.components (reverse (take n a.operands)) → AreInHand s.heap (bare a.places) after (λ c. access_of (kind_among (reached_components known.program.types access) c)) 0 (reverse (take n a.operands))
+    in_hand_by : (after : Place → Hold) → Lends (outers known) s.heap a.places w.holds w.rest.target (moved_by_items (back_onto w.rest.done [])) after → (n : ℕ) → n ≡ length (back_onto w.rest.done []) → HaveKinds (cells_of s.heap) w.rest.leads.components (reverse (take n a.operands)) → AreInHand s.heap (stacked a.places (outers known)) after (λ c. access_of (kind_among (reached_components known.program.types access) c)) 0 (reverse (take n a.operands))
     in_hand_by after lends n e h =
-        rw e (filled_in_hand known.program.types known.program.variables s.heap a.places w.holds w.rest.spot w.rest.target (moved_by_items (back_onto w.rest.done [])) after w.fit lends access w.rest.leads.components w.rest.done a.operands (λ x is. is) w.rest.leads.reached w.rest.leads.fit w.rest.before w.rest.filled (rw e at h))
+        rw e (filled_in_hand known.program.types known.program.variables (outers known) s.heap a.places w.holds w.rest.spot w.rest.target (moved_by_items (back_onto w.rest.done [])) after w.fit lends access w.rest.leads.components w.rest.done a.operands (λ x is. is) w.rest.leads.reached w.rest.leads.fit w.rest.before w.rest.filled (rw e at h))
 
     -- Where it goes to a variable, no component is an item.
-    made : w.rest.target ≡ None → Fit known.program.types known.program.variables none_spared (create s.heap words cell) a.places lost × Hand known.program.types known.program.variables none_spared (create s.heap words cell) a.places lost (Some access) (created s.heap words)
+    made : w.rest.target ≡ None → Fit known.program.types known.program.variables (outers known) none_spared (create s.heap words cell) a.places lost × Hand known.program.types known.program.variables (outers known) none_spared (create s.heap words cell) a.places lost (Some access) (created s.heap words)
     unfolding cell lost
     made none =
-        let after = hold_in none_spared lost in
-        create_fit words cell (in_hand_by after (lends_none s.heap a.places w.holds w.rest.target (moved_by_items (back_onto w.rest.done [])) none) count counted kinds)
+        let after = hold_in (outers known) none_spared lost in
+        create_fit words cell (in_hand_by after (lends_none (outers known) s.heap a.places w.holds w.rest.target (moved_by_items (back_onto w.rest.done [])) none) count counted kinds)
         (lose_all (moved_by_items (back_onto w.rest.done [])) w.fit)
 
     stored : Stored None (create s.heap words cell) s.masters
@@ -203,8 +203,8 @@ module _ (known : Known) (k : Control) (a : Activation Value) (rest : List (Acti
     stored = stored_new cell (home_has access item s.masters home) w.stored
 
     -- A variable owns it then, or a component does.
-    owned_by : (x : ℕ) (k' : Control) → w.rest.target ≡ None → variable_access known.program.variables x ≡ Some access → is_object known.program.variables x ≡ false → RunsOn known k' w.rooms (slice_set lost x (hold.Own Whole)) → Working known (create s.heap words cell) (slice_set a.places x (created s.heap words)) s.masters (RunsOn known k')
-    owned_by x k' none is other runs = record {
+    owned_by : (x : ℕ) (More : Rooms → Holds → Type 0) → w.rest.target ≡ None → variable_access known.program.variables x ≡ Some access → is_object known.program.variables x ≡ false → More w.rooms (slice_set lost x (hold.Own Whole)) → Working known (create s.heap words cell) (slice_set a.places x (created s.heap words)) s.masters More
+    owned_by x More none is other runs = record {
       rooms = w.rooms;
       holds = slice_set lost x (hold.Own Whole);
       stored = stored;
@@ -213,12 +213,12 @@ module _ (known : Known) (k : Control) (a : Activation Value) (rest : List (Acti
       rest = runs;
     }
 
-    inserted : (o : Id) (object : Object) (c : ℕ) → object_at s.heap o ≡ Some object → object.listed ≡ true → component_access known.program.types object c ≡ Some access → ((path : PathForm) → w.rest.target ≡ Some path → LeadsTo s.heap a.places (Names o) [] c path) → Fit known.program.types known.program.variables none_spared (store (create s.heap words cell) (Names o) c (created s.heap words)) a.places lost
+    inserted : (o : Id) (object : Object) (c : ℕ) → object_at s.heap o ≡ Some object → object.listed ≡ true → component_access known.program.types object c ≡ Some access → ((path : PathForm) → w.rest.target ≡ Some path → LeadsTo s.heap a.places (Names o) [] c path) → Fit known.program.types known.program.variables (outers known) none_spared (store (create s.heap words cell) (Names o) c (created s.heap words)) a.places lost
     unfolding cell lost
     inserted o object c found listed same leads =
         let moved = moved_by_items (back_onto w.rest.done []) in
-        let after = hold_of (with_lent o c (as_reliance lost)) in
-        insert_fit words cell o object c found listed same (in_hand_by after (lends_some s.heap a.places w.holds w.rest.target moved o object c found listed leads) count counted kinds) (lose_all moved w.fit)
+        let after = hold_of (with_lent o c (as_reliance (outers known) lost)) in
+        insert_fit words cell o object c found listed same (in_hand_by after (lends_some (outers known) s.heap a.places w.holds w.rest.target moved o object c found listed leads) count counted kinds) (lose_all moved w.fit)
 
     stored_in : (o : Value) (c : ℕ) (k' : Control) → ((path : PathForm) → w.rest.target ≡ Some path → LeadsTo s.heap a.places o [] c path) → Accepts known s.heap o c (Some access) → RunsOn known k' w.rooms lost → StoringIn known o c (created s.heap words) k' (create s.heap words cell) a.places s.masters
     stored_in Null c k' leads into runs = absurd into
@@ -239,16 +239,16 @@ module _ (known : Known) (k : Control) (a : Activation Value) (rest : List (Acti
           }),
         )
 
-    granted_ready : (k' : Control) (operands : List Value) → GoesInto s.heap a.places w.rest.target k' → StoresTo k' (λ x k2. ((variable_access known.program.variables x ≡ Some access) × (is_object known.program.variables x ≡ false)) × RunsOn known k2 w.rooms (slice_set lost x (hold.Own Whole))) (λ o c k2. Accepts known s.heap o c (Some access) × RunsOn known k2 w.rooms lost) → ReadyIn known Running k' (create s.heap words cell) a.places (created s.heap words ∷ operands) s.masters
-    granted_ready [] operands into to = absurd to
-    granted_ready (Stores x ∷ k') operands into to = inl (owned_by x k' (stores_none s.heap a.places w.rest.target x k' into) to.0.0 to.0.1 to.1)
-    granted_ready (Declares x ∷ k') operands into to = owned_by x k' (declares_none s.heap a.places w.rest.target x k' into) to.0.0 to.0.1 to.1
-    granted_ready (StoresIn o c ∷ k') operands into to = stored_in o c k' (λ path is. rw is at into) to.0 to.1
-    granted_ready (f ∷ k') operands into to = absurd to
+    granted_ready : (k' : Control) (operands : List Value) → RoomFor k' w.rooms → GoesInto s.heap a.places w.rest.target k' → StoresTo k' (λ x k2. ((variable_access known.program.variables x ≡ Some access) × (is_object known.program.variables x ≡ false)) × RunsOn known k2 w.rooms (slice_set lost x (hold.Own Whole))) (λ o c k2. Accepts known s.heap o c (Some access) × RunsOn known k2 w.rooms lost) → ReadyIn known Running k' (create s.heap words cell) a.places (created s.heap words ∷ operands) s.masters
+    granted_ready [] operands room into to = absurd to
+    granted_ready (Stores x ∷ k') operands room into to = inl (owned_by x (RunsOn known k') (stores_none s.heap a.places w.rest.target x k' into) to.0.0 to.0.1 to.1)
+    granted_ready (Declares x ∷ k') operands room into to = owned_by x (λ rooms holds. HasRoom rooms × RunsOn known k' rooms holds) (declares_none s.heap a.places w.rest.target x k' into) to.0.0 to.0.1 (room, to.1)
+    granted_ready (StoresIn o c ∷ k') operands room into to = stored_in o c k' (λ path is. rw is at into) to.0 to.1
+    granted_ready (f ∷ k') operands room into to = absurd to
 
     answered_fine : (granted : Bool) → Stepped known s.heap Quiet (answered named access count item words (running k a rest s) granted)
     unfolding cell lost
-    answered_fine true = record { ready = (tt, granted_ready k (drop count a.operands) w.rest.into w.rest.leads.to); alters = alters_new s.heap Quiet (new_object cell) refl; says = tt }
+    answered_fine true = record { ready = (tt, granted_ready k (drop count a.operands) w.rest.leads.room w.rest.into w.rest.leads.to); alters = alters_new s.heap Quiet (new_object cell) refl; says = tt }
     answered_fine false = jumps_less known k a rest s (Raising StorageError) (at_work w (w.rest.leads.refused refl))
 
   creates_by : (access count words : ℕ) (home : Option ℕ) → home_of access s.masters ≡ home → (w : Working known s.heap a.places s.masters (Filling known s.heap a.places access count [] k a.operands)) → HaveKinds (cells_of s.heap) w.rest.leads.components (reverse (take count a.operands)) → Fine known s.heap s.masters (new_next named access count words home (running k a rest s))

@@ -1,22 +1,22 @@
 -- A run by its choices: where they lead is computed.
 
-use Rattle.std.proofs.Common.{◌≡◌, ℕ, ℤ, Bool, true, false, List, [], ◌∷◌, refl}
+use Rattle.std.proofs.Common.{◌≡◌, ℕ, ℤ, Bool, true, false, List, [], ◌∷◌, refl, sym, ap, ◌∙◌, subst}
 use Rattle.std.specs.Prelude.{◌&&◌, length, Option, Some, None, nat_lt}
 use Rattle.std.specs.List.{list_all, filter}
 use Rattle.std.proofs.lemmas.Bool.{and_parts, ltb-true}
 use Rattle.ada_text.specs.declared.spot.Spot.{Spot}
 use Rattle.ada_program.specs.declared.program.Program.{Program}
 use Rattle.ada_program.specs.Form.{StmtsForm, HandlersForm, declaration_forms, stmt_forms, handler_forms}
-use Rattle.ada_program.specs.ProgramForm.{ProgramForm, program_form}
-use Rattle.ada_program.specs.WellFormed.{type_fits, variable_fits, creations, creates_from, collections_first, collection_fits, has_collections, initial_fits, stmts_fit, handlers_fit, IsWellFormed}
-use Rattle.ada_program.specs.Nested.{collected, part_nests, statements_nest, handlers_nest, CollectionsNest}
-use Rattle.ada_effects.specs.Effects.{passes}
+use Rattle.ada_program.specs.ProgramForm.{BodyForm, ProgramForm, body_forms, program_form}
+use Rattle.ada_program.specs.WellFormed.{type_fits, variable_fits, creations, creates_from, collections_first, collection_fits, has_collections, initial_fits, stmts_fit, handlers_fit, bodies_fit, all_creations, callable_in, IsWellFormed}
+use Rattle.ada_program.specs.Nested.{collected, part_nests, statements_nest, handlers_nest, callees_of, CollectionsNest}
+use Rattle.ada_effects.specs.Effects.{effects_of}
 use Rattle.ada_flow.specs.declared.rule.Rule.{Rule}
-use Rattle.ada_flow.specs.Flow.{Holds, Outcome, goes, faults, then_flow, stmts_flow, handlers_flow, handled, declarations_flow, outermost, types_of, variables_of, first_holds, program_flow}
+use Rattle.ada_flow.specs.Flow.{Holds, Outcome, goes, faults, stmts_flow, handlers_flow, declarations_flow, outermost, types_of, variables_of, first_holds, flow_of, program_flow}
 use Rattle.ada_meaning.specs.declared.event.Halt.{Halt}
 use Rattle.ada_meaning.specs.Frame as frame
 use Rattle.ada_meaning.specs.Event.{Quiet}
-use Rattle.ada_meaning.specs.Step.{moves, tells, asks, picks}
+use Rattle.ada_meaning.specs.Step.{halts, moves, tells, asks, picks}
 use Rattle.ada_meaning.specs.Named.{State, Next, next}
 use Rattle.ada_meaning.specs.Run.{Event, Choice, settled, grants, takes, Leads, Run, here, there, Halts, first_state}
 use Rattle.ada_sound.specs.Always.{IsChecked, Breaks, IsIllFormed, IsIllNested, InSomeRun, is_seen, IsFineAtEnds, HaltsAfter, HaltsSomewhere}
@@ -42,37 +42,45 @@ step_by (asks request answered) (grants granted) more = told Quiet (more (answer
 step_by (picks n taken) (takes i) more = only_if (nat_lt i n) (told Quiet (more (taken i)))
 step_by n choice more = None
 
-abbrev pub came_by : Program → State → List Choice → Came
-came_by program s [] = Some ([], s)
-came_by program s (c ∷ cs) = step_by (next program.types.items s) c (λ after. came_by program after cs)
+-- Where choices lead from a state, if each is one that the step leaves open, and these are the bodies of the program's procedures.
+abbrev pub came_by : Program → List BodyForm → State → List Choice → Came
+came_by program bodies s [] = Some ([], s)
+came_by program bodies s (c ∷ cs) = step_by (next program.types.items bodies s) c (λ after. came_by program bodies after cs)
 
 -- Where choices lead, there is a run.
 LeadsTo : Program → State → Came → Type 0
 LeadsTo program s None = Unit {0}
 LeadsTo program s (Some (events, last)) = Run program s events last
 
-told_goes : (program : Program) (s after : State) (choice : Choice) (e : Event) (came : Came) → Leads (next program.types.items s) choice e after → LeadsTo program after came → LeadsTo program s (told e came)
+told_goes : (program : Program) (s after : State) (choice : Choice) (e : Event) (came : Came)
+    → Leads (next program.types.items (body_forms program) s) choice e after → LeadsTo program after came → LeadsTo program s (told e came)
 unfolding LeadsTo
 told_goes program s after choice e None leads g = tt
 told_goes program s after choice e (Some (events, last)) leads g = there choice after leads g
 
-taken_goes : (program : Program) (s : State) (n i : ℕ) (taken : ℕ → State) (came : Came) (b : Bool) → nat_lt i n ≡ b → next program.types.items s ≡ picks n taken → LeadsTo program (taken i) came → LeadsTo program s (only_if b (told Quiet came))
+taken_goes : (program : Program) (s : State) (n i : ℕ) (taken : ℕ → State) (came : Came) (b : Bool) → nat_lt i n ≡ b
+    → next program.types.items (body_forms program) s ≡ picks n taken → LeadsTo program (taken i) came → LeadsTo program s (only_if b (told Quiet came))
 unfolding LeadsTo
 taken_goes program s n i taken came true less is g = told_goes program s (taken i) (takes i) Quiet came (rw is (ltb-true i n less, refl, refl)) g
 taken_goes program s n i taken came false less is g = tt
 
-step_goes : (program : Program) (s : State) (n : Next) (choice : Choice) (more : State → Came) → next program.types.items s ≡ n → ((after : State) → LeadsTo program after (more after)) → LeadsTo program s (step_by n choice more)
+step_goes : (program : Program) (s : State) (n : Next) (choice : Choice) (more : State → Came) → next program.types.items (body_forms program) s ≡ n
+    → ((after : State) → LeadsTo program after (more after)) → LeadsTo program s (step_by n choice more)
 unfolding LeadsTo
 step_goes program s (moves e after) settled more is g = told_goes program s after settled e (more after) (rw is (refl, refl)) (g after)
 step_goes program s (tells request e after) settled more is g = told_goes program s after settled e (more after) (rw is (refl, refl)) (g after)
-step_goes program s (asks request answered) (grants granted) more is g = told_goes program s (answered granted) (grants granted) Quiet (more (answered granted)) (rw is (refl, refl)) (g (answered granted))
+step_goes program s (asks request answered) (grants granted) more is g =
+    told_goes program s (answered granted) (grants granted) Quiet (more (answered granted)) (rw is (refl, refl)) (g (answered granted))
 step_goes program s (picks n taken) (takes i) more is g = taken_goes program s n i taken (more (taken i)) (nat_lt i n) refl is (g (taken i))
 step_goes program s n choice more is g = tt
 
-came_goes : (program : Program) (s : State) (cs : List Choice) → LeadsTo program s (came_by program s cs)
+came_goes : (program : Program) (bodies : List BodyForm) → body_forms program ≡ bodies → (s : State) (cs : List Choice)
+    → LeadsTo program s (came_by program bodies s cs)
 unfolding LeadsTo
-came_goes program s [] = here
-came_goes program s (c ∷ cs) = step_goes program s (next program.types.items s) c (λ after. came_by program after cs) refl (λ after. came_goes program after cs)
+came_goes program bodies has s [] = here
+came_goes program bodies has s (c ∷ cs) =
+    step_goes program s (next program.types.items bodies s) c (λ after. came_by program bodies after cs) (ap (λ bs. next program.types.items bs s) has)
+    (λ after. came_goes program bodies has after cs)
 
 -- What came of choices, if each was one that the step left open.
 abbrev pub has_come : Came → Bool
@@ -92,38 +100,37 @@ unfolding LeadsTo
 goes_there program s None is g = absurd (cc is)
 goes_there program s (Some (events, last)) is g = g
 
--- The first state of a program that does these statements with these handlers, with this input; and what comes of choices from there.
+-- The first state of a program that does these statements with these handlers, with this input; and what comes of choices from there, where these are the
+-- bodies of its procedures.
 abbrev pub first_with : Program → List ℤ → StmtsForm → HandlersForm → State
 first_with program input fs hs = record (first_state program input) { control = frame.Elaborates (declaration_forms program) fs hs ∷ [] }
 
-abbrev pub came : Program → List ℤ → StmtsForm → HandlersForm → List Choice → Came
-came program input fs hs cs = came_by program (first_with program input fs hs) cs
+abbrev pub came : Program → List ℤ → List BodyForm → StmtsForm → HandlersForm → List Choice → Came
+came program input bodies fs hs cs = came_by program bodies (first_with program input fs hs) cs
 
-abbrev pub last : Program → List ℤ → StmtsForm → HandlersForm → List Choice → State
-last program input fs hs cs = last_of (first_with program input fs hs) (came program input fs hs cs)
+abbrev pub last : Program → List ℤ → List BodyForm → StmtsForm → HandlersForm → List Choice → State
+last program input bodies fs hs cs = last_of (first_with program input fs hs) (came program input bodies fs hs cs)
 
--- What flow says of a program that does these statements with these handlers.
-abbrev pub flow_with : Program → StmtsForm → HandlersForm → Outcome
-flow_with program fs hs =
-    then_flow (declarations_flow (types_of program) (variables_of program) (declaration_forms program) (first_holds program))
-    (λ at. handled (passes fs hs) (handlers_flow (types_of program) (variables_of program) outermost hs) (stmts_flow (types_of program) (variables_of program) outermost fs at))
+-- The program as plain data, with these bodies, these statements and these handlers.
+abbrev pub form_with : Program → List BodyForm → StmtsForm → HandlersForm → ProgramForm
+form_with program bodies fs hs = record (program_form program) { bodies = bodies; statements = fs; handlers = hs }
 
--- The program as plain data, with these statements and these handlers.
-abbrev pub form_with : Program → StmtsForm → HandlersForm → ProgramForm
-form_with program fs hs = record (program_form program) { statements = fs; handlers = hs }
+-- What flow says of it.
+abbrev pub flow_with : Program → List BodyForm → StmtsForm → HandlersForm → Outcome
+flow_with program bodies fs hs = flow_of (form_with program bodies fs hs)
 
 -- Whether a program is well formed, and whether its collections nest.
 abbrev pub is_fine : ProgramForm → Bool
 is_fine p =
     list_all (type_fits p.types) p.types && (list_all (variable_fits p.types) p.variables && (creates_from (length p.variables) 0 (creations p) &&
-    (collections_first p.declarations && (list_all (collection_fits p.types) p.declarations && (has_collections (creations p) 0 p.types &&
-    (list_all (initial_fits p.types p.variables) p.declarations && (stmts_fit p.types p.variables p.texts p.exceptions false p.statements &&
-    handlers_fit p.types p.variables p.texts p.exceptions false p.handlers)))))))
+    (collections_first p.declarations && (list_all (collection_fits p.types) p.declarations && (has_collections (all_creations p) 0 p.types &&
+    (list_all (initial_fits p.types p.variables) p.declarations && (stmts_fit p.types p.variables p.texts p.exceptions (callable_in p) false p.statements &&
+    (handlers_fit p.types p.variables p.texts p.exceptions (callable_in p) false p.handlers && bodies_fit p.types p.texts p.exceptions [] p.bodies))))))))
 
 abbrev pub is_nested : ProgramForm → Bool
 is_nested p =
-    part_nests p.types [] p.declarations && (statements_nest p.types (collected p.declarations) p.statements &&
-    handlers_nest p.types (collected p.declarations) p.handlers)
+    part_nests p.types [] p.declarations && (statements_nest p.types (callees_of p) (collected p.declarations) p.statements &&
+    handlers_nest p.types (callees_of p) (collected p.declarations) p.handlers)
 
 fine_is : (p : ProgramForm) → is_fine p ≡ true → IsWellFormed p
 fine_is p e =
@@ -135,6 +142,7 @@ fine_is p e =
     let g = and_parts _ _ f.1 in
     let h = and_parts _ _ g.1 in
     let i = and_parts _ _ h.1 in
+    let j = and_parts _ _ i.1 in
     record {
       types_fit = a.0;
       variables_fit = b.0;
@@ -144,7 +152,8 @@ fine_is p e =
       has_one_each = g.0;
       initials_fit = h.0;
       statements_fit = i.0;
-      handlers_fit = i.1;
+      handlers_fit = j.0;
+      bodies_fit = j.1;
     }
 
 nested_is : (p : ProgramForm) → is_nested p ≡ true → CollectionsNest p
@@ -153,60 +162,118 @@ nested_is p e =
     let b = and_parts _ _ a.1 in
     record { declarations = a.0; statements = b.0; handlers = b.1 }
 
-module _ (program : Program) (fs : StmtsForm) (hs : HandlersForm) (is : stmt_forms program ≡ fs) (has : handler_forms program ≡ hs) where
+-- Of programs whose procedures have these bodies, and which do these statements with these handlers.
+module _ (program : Program) (bodies : List BodyForm) (fs : StmtsForm) (hs : HandlersForm)
+    (same : body_forms program ≡ bodies) (is : stmt_forms program ≡ fs) (has : handler_forms program ≡ hs) where
+  -- As plain data it is this.
+  form_is : program_form program ≡ form_with program bodies fs hs
+  form_is = rw same (rw is (rw has refl))
+
   -- What flow says of it.
-  pub flow_by : (o : Outcome) → flow_with program fs hs ≡ o → program_flow program ≡ o
-  flow_by o e = rw is (rw has e)
+  pub flow_in : (o : Outcome) → flow_with program bodies fs hs ≡ o → program_flow program ≡ o
+  flow_in o e = ap flow_of form_is ∙ e
 
   -- It is well formed, and its collections nest.
-  fine_by : is_fine (form_with program fs hs) ≡ true → IsWellFormed (program_form program)
-  fine_by e = rw is (rw has (fine_is (form_with program fs hs) e))
+  fine_in : is_fine (form_with program bodies fs hs) ≡ true → IsWellFormed (program_form program)
+  fine_in e = subst IsWellFormed (sym form_is) (fine_is (form_with program bodies fs hs) e)
 
-  nested_by : is_nested (form_with program fs hs) ≡ true → CollectionsNest (program_form program)
-  nested_by e = rw is (rw has (nested_is (form_with program fs hs) e))
+  nested_in : is_nested (form_with program bodies fs hs) ≡ true → CollectionsNest (program_form program)
+  nested_in e = subst CollectionsNest (sym form_is) (nested_is (form_with program bodies fs hs) e)
 
   -- It is accepted, or refused for one thing alone.
-  pub accepted_by : (normal raising : Option Holds) → is_fine (form_with program fs hs) ≡ true → is_nested (form_with program fs hs) ≡ true → flow_with program fs hs ≡ goes normal raising → IsChecked program
-  accepted_by normal raising fine nested e = record { well_formed = fine_by fine; nests = nested_by nested; obeys = (normal, raising, flow_by (goes normal raising) e) }
+  pub accepted_in : (normal raising : Option Holds) → is_fine (form_with program bodies fs hs) ≡ true → is_nested (form_with program bodies fs hs) ≡ true
+      → flow_with program bodies fs hs ≡ goes normal raising → IsChecked program
+  accepted_in normal raising fine nested e =
+      record { well_formed = fine_in fine; nests = nested_in nested; obeys = (normal, raising, flow_in (goes normal raising) e) }
 
-  pub breaks_by : (rule : Rule) (spot : Spot) → is_fine (form_with program fs hs) ≡ true → is_nested (form_with program fs hs) ≡ true → flow_with program fs hs ≡ faults spot rule → Breaks rule program
-  breaks_by rule spot fine nested e = record { well_formed = fine_by fine; nests = nested_by nested; spot = spot; faults_there = flow_by (faults spot rule) e }
+  pub breaks_in : (rule : Rule) (spot : Spot) → is_fine (form_with program bodies fs hs) ≡ true → is_nested (form_with program bodies fs hs) ≡ true
+      → flow_with program bodies fs hs ≡ faults spot rule → Breaks rule program
+  breaks_in rule spot fine nested e = record { well_formed = fine_in fine; nests = nested_in nested; spot = spot; faults_there = flow_in (faults spot rule) e }
 
-  pub ill_formed_by : (normal raising : Option Holds) → stmts_fit (program_form program).types (program_form program).variables (program_form program).texts (program_form program).exceptions false fs ≡ false → is_nested (form_with program fs hs) ≡ true → flow_with program fs hs ≡ goes normal raising → IsIllFormed program
-  ill_formed_by normal raising unfit nested e = record {
-    ill_formed = λ w. let fits : stmts_fit (program_form program).types (program_form program).variables (program_form program).texts (program_form program).exceptions false fs ≡ true = rw is at (w.statements_fit) in cc (unfit, fits);
-    nests = nested_by nested;
-    obeys = (normal, raising, flow_by (goes normal raising) e);
-  }
-
-  pub ill_nested_by : (normal raising : Option Holds) → is_fine (form_with program fs hs) ≡ true → part_nests (program_form program).types [] (declaration_forms program) ≡ false → flow_with program fs hs ≡ goes normal raising → IsIllNested program
-  ill_nested_by normal raising fine unnested e = record {
-    well_formed = fine_by fine;
-    ill_nested = λ w. cc (unnested, w.declarations);
-    obeys = (normal, raising, flow_by (goes normal raising) e);
-  }
-
-  -- The same of its parts.
-  pub fine_at_ends_by : (holds : Holds) (before within normal raising : Option Holds)
-      → declarations_flow (types_of program) (variables_of program) (declaration_forms program) (first_holds program) ≡ goes (Some holds) before
-      → stmts_flow (types_of program) (variables_of program) outermost fs holds ≡ goes (Some holds) within
-      → handlers_flow (types_of program) (variables_of program) outermost hs holds ≡ goes normal raising → IsFineAtEnds holds program
-  fine_at_ends_by holds before within normal raising d e g = (before, within, normal, raising, d, rw is e, rw has g)
+  -- Its parts, where its handlers would be fine at the ends of its statements.
+  pub fine_at_ends_in : (holds : Holds) (before within normal raising : Option Holds)
+      → declarations_flow (types_of program) (variables_of program) (declaration_forms program) (first_holds (variables_of program)) ≡ goes (Some holds) before
+      → stmts_flow (types_of program) (variables_of program) (outermost (effects_of (form_with program bodies fs hs))) fs holds ≡ goes (Some holds) within
+      → handlers_flow (types_of program) (variables_of program) (outermost (effects_of (form_with program bodies fs hs))) hs holds ≡ goes normal raising
+      → IsFineAtEnds holds program
+  fine_at_ends_in holds before within normal raising d e g = (before, within, normal, raising, d, rw same (rw is e), rw same (rw has g))
 
   -- A run by these choices.
-  pub run_by : (input : List ℤ) (cs : List Choice) (P : List Event → State → Type 0) → has_come (came program input fs hs cs) ≡ true → P (events_of (came program input fs hs cs)) (last program input fs hs cs) → InSomeRun program P
-  run_by input cs P comes p = (
+  pub run_in : (input : List ℤ) (cs : List Choice) (P : List Event → State → Type 0) → has_come (came program input bodies fs hs cs) ≡ true
+      → P (events_of (came program input bodies fs hs cs)) (last program input bodies fs hs cs) → InSomeRun program P
+  run_in input cs P comes p = (
     input,
-    events_of (came program input fs hs cs),
-    last program input fs hs cs,
-    rw is (rw has (goes_there program (first_with program input fs hs) (came program input fs hs cs) comes (came_goes program (first_with program input fs hs) cs))),
+    events_of (came program input bodies fs hs cs),
+    last program input bodies fs hs cs,
+    rw is (rw has (
+        goes_there program (first_with program input fs hs) (came program input bodies fs hs cs) comes
+        (came_goes program bodies same (first_with program input fs hs) cs)
+        )),
     p,
   )
 
   -- It halts so.
-  pub halts_by : (input : List ℤ) (cs : List Choice) (halt : Halt) → has_come (came program input fs hs cs) ≡ true → Halts program (last program input fs hs cs) halt → HaltsSomewhere halt program
-  halts_by input cs halt comes p = run_by input cs (λ events s. Halts program s halt) comes p
+  pub halts_in : (input : List ℤ) (cs : List Choice) (halt : Halt) → has_come (came program input bodies fs hs cs) ≡ true
+      → next program.types.items bodies (last program input bodies fs hs cs) ≡ halts halt → HaltsSomewhere halt program
+  halts_in input cs halt comes p = run_in input cs (λ events s. Halts program s halt) comes (rw same p)
 
   -- It halts so after these events.
-  pub halts_after : (input : List ℤ) (cs : List Choice) (seen : List Event) (halt : Halt) → has_come (came program input fs hs cs) ≡ true → Halts program (last program input fs hs cs) halt → filter is_seen (events_of (came program input fs hs cs)) ≡ seen → HaltsAfter seen halt program
-  halts_after input cs seen halt comes p q = run_by input cs (λ events s. Halts program s halt × (filter is_seen events ≡ seen)) comes (p, q)
+  pub halts_after_in : (input : List ℤ) (cs : List Choice) (seen : List Event) (halt : Halt) → has_come (came program input bodies fs hs cs) ≡ true
+      → next program.types.items bodies (last program input bodies fs hs cs) ≡ halts halt
+      → filter is_seen (events_of (came program input bodies fs hs cs)) ≡ seen → HaltsAfter seen halt program
+  halts_after_in input cs seen halt comes p q = run_in input cs (λ events s. Halts program s halt × (filter is_seen events ≡ seen)) comes (rw same p, q)
+
+-- Of programs whose bodies are computed from the program.
+module _ (program : Program) (fs : StmtsForm) (hs : HandlersForm) (is : stmt_forms program ≡ fs) (has : handler_forms program ≡ hs) where
+  abbrev whole : ProgramForm
+  whole = form_with program (body_forms program) fs hs
+
+  -- It is accepted, or refused for one thing alone.
+  pub accepted_by : (normal raising : Option Holds) → is_fine whole ≡ true → is_nested whole ≡ true → flow_of whole ≡ goes normal raising → IsChecked program
+  accepted_by normal raising fine nested e = accepted_in program (body_forms program) fs hs refl is has normal raising fine nested e
+
+  pub breaks_by : (rule : Rule) (spot : Spot) → is_fine whole ≡ true → is_nested whole ≡ true → flow_of whole ≡ faults spot rule → Breaks rule program
+  breaks_by rule spot fine nested e = breaks_in program (body_forms program) fs hs refl is has rule spot fine nested e
+
+  pub ill_formed_by : (normal raising : Option Holds)
+      → stmts_fit whole.types whole.variables whole.texts whole.exceptions (callable_in whole) false fs ≡ false → is_nested whole ≡ true
+      → flow_of whole ≡ goes normal raising → IsIllFormed program
+  ill_formed_by normal raising unfit nested e = record {
+    ill_formed = λ w.
+        let fits : stmts_fit whole.types whole.variables whole.texts whole.exceptions (callable_in whole) false fs ≡ true = rw is at (w.statements_fit) in
+        cc (unfit, fits);
+    nests = nested_in program (body_forms program) fs hs refl is has nested;
+    obeys = (normal, raising, flow_in program (body_forms program) fs hs refl is has (goes normal raising) e);
+  }
+
+  pub ill_nested_by : (normal raising : Option Holds) → is_fine whole ≡ true → part_nests whole.types [] whole.declarations ≡ false
+      → flow_of whole ≡ goes normal raising → IsIllNested program
+  ill_nested_by normal raising fine unnested e = record {
+    well_formed = fine_in program (body_forms program) fs hs refl is has fine;
+    ill_nested = λ w. cc (unnested, w.declarations);
+    obeys = (normal, raising, flow_in program (body_forms program) fs hs refl is has (goes normal raising) e);
+  }
+
+  -- The same of its parts.
+  pub fine_at_ends_by : (holds : Holds) (before within normal raising : Option Holds)
+      → declarations_flow (types_of program) (variables_of program) (declaration_forms program) (first_holds (variables_of program)) ≡ goes (Some holds) before
+      → stmts_flow (types_of program) (variables_of program) (outermost (effects_of whole)) fs holds ≡ goes (Some holds) within
+      → handlers_flow (types_of program) (variables_of program) (outermost (effects_of whole)) hs holds ≡ goes normal raising → IsFineAtEnds holds program
+  fine_at_ends_by holds before within normal raising d e g =
+      fine_at_ends_in program (body_forms program) fs hs refl is has holds before within normal raising d e g
+
+  -- A run by these choices.
+  pub run_by : (input : List ℤ) (cs : List Choice) (P : List Event → State → Type 0) → has_come (came program input (body_forms program) fs hs cs) ≡ true
+      → P (events_of (came program input (body_forms program) fs hs cs)) (last program input (body_forms program) fs hs cs) → InSomeRun program P
+  run_by input cs P comes p = run_in program (body_forms program) fs hs refl is has input cs P comes p
+
+  -- It halts so.
+  pub halts_by : (input : List ℤ) (cs : List Choice) (halt : Halt) → has_come (came program input (body_forms program) fs hs cs) ≡ true
+      → Halts program (last program input (body_forms program) fs hs cs) halt → HaltsSomewhere halt program
+  halts_by input cs halt comes p = halts_in program (body_forms program) fs hs refl is has input cs halt comes p
+
+  -- It halts so after these events.
+  pub halts_after : (input : List ℤ) (cs : List Choice) (seen : List Event) (halt : Halt) → has_come (came program input (body_forms program) fs hs cs) ≡ true
+      → Halts program (last program input (body_forms program) fs hs cs) halt
+      → filter is_seen (events_of (came program input (body_forms program) fs hs cs)) ≡ seen → HaltsAfter seen halt program
+  halts_after input cs seen halt comes p q = halts_after_in program (body_forms program) fs hs refl is has input cs seen halt comes p q

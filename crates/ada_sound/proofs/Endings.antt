@@ -28,10 +28,10 @@ use Rattle.ada_sound.proofs.Items.{Houses, newest_is}
 use Rattle.ada_sound.proofs.Stored.{Stored, IsTaken, stored_part, stored_finish, stored_back, stored_shorter, stored_older, exists_out, none_is_left, taken_is}
 use Rattle.ada_sound.proofs.Fits.{Fit, none_spared, going, weaker_fit, part_fit, finish_fit, back_fit, going_set, going_shorter, going_left}
 use Rattle.ada_sound.proofs.Alters.{alters_set}
-use Rattle.ada_sound.proofs.Invariant.{Known, Control, Rooms, Roomed, OwnedAmong, NamesNone, RunsOn, Working, Parting, Freed, Clearing, ClearsTo, LeavesTo, Behind, ThenBack, Ending, EndingBy, Backing, BackingBy, ReadyIn, Stepped, Fine, innermost}
+use Rattle.ada_sound.proofs.Invariant.{outers, below, Known, Control, Rooms, Roomed, OwnedAmong, NamesNone, RunsOn, Working, Parting, Freed, Clearing, ClearsTo, LeavesTo, Behind, ThenBack, Ending, EndingBy, Backing, BackingBy, ReadyIn, Stepped, Fine, innermost}
 use Rattle.ada_sound.proofs.Ready.{running, stays, goes_ready}
 use Rattle.ada_sound.proofs.Taken.{stored_after}
-use Rattle.ada_sound.proofs.Leavings.{HeldIn, taken_unnamed}
+use Rattle.ada_sound.proofs.Leavings.{NamedBelow, HeldIn, taken_unnamed}
 
 -- What is stored in one object stays where another one changes.
 swapped : {X : Type 0} (xs : List X) (i j : ℕ) (x y : X) → i ≢ j → slice_set (slice_set xs i x) j y ≡ slice_set (slice_set xs j y) i x
@@ -56,7 +56,7 @@ gone_off false on gone = refl
 
 -- A change of an object under way, that keeps what fits, and its home.
 abbrev KeepsFit : Known → Id → Object → List Object → List Value → Type 0
-KeepsFit known o y heap places = (spared : Id → Bool) (holds : Holds) → Fit known.program.types known.program.variables spared heap places holds → Fit known.program.types known.program.variables spared (slice_set heap o.0 y) places holds
+KeepsFit known o y heap places = (spared : Id → Bool) (holds : Holds) → Fit known.program.types known.program.variables (outers known) spared heap places holds → Fit known.program.types known.program.variables (outers known) spared (slice_set heap o.0 y) places holds
 
 -- At work again, with it gone.
 freed_works : {known : Known} {heap : List Object} {places : List Value} {ms : List Master} {more : Rooms → Holds → Type 0} → Stored None heap ms → Freed known none_spared heap places ms more → Working known heap places ms more
@@ -118,7 +118,7 @@ module _ (known : Known) where
       rooms = c.rooms;
       holds = c.holds;
       roomed = c.roomed;
-      fit = going_set heap (innermost ms) o x y found same (keeps heap places found (going heap (innermost ms)) c.holds c.fit);
+      fit = going_set (outers known) heap (innermost ms) o x y found same (keeps heap places found (going heap (innermost ms)) c.holds c.fit);
       rest = c.rest;
     }
     leaves_set places ms (f ∷ k) c = absurd c
@@ -230,20 +230,20 @@ module _ (known : Known) where
     Left_with items = Parting known s.heap a.places (record { number = number; items = items } ∷ ms) (RunsOn known (Leaves mode ∷ k))
 
     -- An object in the newest collection is of a type that may go with the master, and of those no variable owns one.
-    none_owned : (item : Item) (items : List Item) (access : ℕ) (pool : Option ℕ) (rooms : Rooms) (holds : Holds) → Houses item.owned access pool → Roomed (record { number = number; items = item ∷ items } ∷ ms) rooms → RunsOn known (Leaves mode ∷ k) rooms holds → (types : List ℕ) × NamesNone known.program.variables types holds × (is_among types (Some access) ≡ true)
+    none_owned : (item : Item) (items : List Item) (access : ℕ) (pool : Option ℕ) (rooms : Rooms) (holds : Holds) → Houses item.owned access pool → Roomed (below known) (record { number = number; items = item ∷ items } ∷ ms) rooms → RunsOn known (Leaves mode ∷ k) rooms holds → (types : List ℕ) × NamesNone known.program.variables types holds × (is_among types (Some access) ≡ true)
     none_owned item items access pool [] holds owns roomed r = absurd r
     none_owned item items access pool (gone ∷ rooms) holds owns roomed r = (gone.types, r.0, among_by item.owned access pool gone.types owns roomed.0.0)
 
     -- A member is taken.
-    taken_fine : (item : Item) (items : List Item) (pool : Option ℕ) (v : Value) → HousesFrom item.owned pool → Left_with (item ∷ items) → HeldIn s.heap (record { number = number; items = item ∷ items } ∷ ms) → IsTaken item.number s.heap v → Stepped known s.heap Quiet (record (running (Ends v ∷ GivesBack v (Leaving number item.number) pool ∷ Leaves mode ∷ k) a rest (left_with (item ∷ items))) { heap = named.part s.heap v })
+    taken_fine : (item : Item) (items : List Item) (pool : Option ℕ) (v : Value) → HousesFrom item.owned pool → Left_with (item ∷ items) → HeldIn s.heap (record { number = number; items = item ∷ items } ∷ ms) → NamedBelow (outers known) s.heap (record { number = number; items = item ∷ items } ∷ ms) → IsTaken item.number s.heap v → Stepped known s.heap Quiet (record (running (Ends v ∷ GivesBack v (Leaving number item.number) pool ∷ Leaves mode ∷ k) a rest (left_with (item ∷ items))) { heap = named.part s.heap v })
     unfolding left_with Left_with
-    taken_fine item items pool v from w held (o, is, member) =
+    taken_fine item items pool v from w held low (o, is, member) =
         let x = member.object in
         let sane = w.stored.sane o x member.found in
         let exists = sane.listed_exists member.listed in
         let type = newest_is x.cell.home.item x.cell.access x.cell.home.pool item (items ++ items_of ms) member.home w.stored.counted (sane.housed (exists_out o x member.found exists w.stored)) in
         let none = none_owned item items x.cell.access x.cell.home.pool w.rooms w.holds type w.roomed w.rest in
-        let unnamed = taken_unnamed known.program.types known.program.variables s.heap a.places w.holds number item items ms none.0 w.fit none.1 held o x member.found member.listed member.home none.2 in
+        let unnamed = taken_unnamed known.program.types known.program.variables (outers known) s.heap a.places w.holds number item items ms none.0 w.fit none.1 held low o x member.found member.listed member.home none.2 in
         rw is (rw (member.found) (record {
           ready = (
             tt,
@@ -262,7 +262,7 @@ module _ (known : Known) where
                     rooms = w.rooms;
                     holds = w.holds;
                     roomed = w.roomed;
-                    fit = going_set s.heap (item ∷ items) o x (parted x) member.found refl (part_fit o x member.found unnamed w.fit);
+                    fit = going_set (outers known) s.heap (item ∷ items) o x (parted x) member.found refl (part_fit o x member.found unnamed w.fit);
                     rest = w.rest;
                   },
                 ),
@@ -273,9 +273,9 @@ module _ (known : Known) where
           says = tt;
         }))
 
-    roomed_shorter : (item : Item) (items : List Item) (rooms : Rooms) → Roomed (record { number = number; items = item ∷ items } ∷ ms) rooms → Roomed (record { number = number; items = items } ∷ ms) rooms
-    roomed_shorter item items [] r = r
-    roomed_shorter item items (gone ∷ rooms) r = (r.0.1, r.1)
+    roomed_shorter : (item : Item) (items : List Item) (rooms : Rooms) (holds : Holds) → RunsOn known (Leaves mode ∷ k) rooms holds → Roomed (below known) (record { number = number; items = item ∷ items } ∷ ms) rooms → Roomed (below known) (record { number = number; items = items } ∷ ms) rooms
+    roomed_shorter item items [] holds runs r = absurd runs
+    roomed_shorter item items (gone ∷ rooms) holds runs r = (r.0.1, r.1)
 
     -- The newest item goes, of which no object is in its collection.
     shorter_fine : (item : Item) (items : List Item) → ((o : Id) (x : Object) → object_at s.heap o ≡ Some x → x.listed ≡ true → x.cell.home.item ≡ item.number → ⊥) → Left_with (item ∷ items) → Stepped known s.heap Quiet (left_with items)
@@ -286,7 +286,7 @@ module _ (known : Known) where
         rooms = w.rooms;
         holds = w.holds;
         stored = stored_shorter (record { number = number; items = [] }) item items ms (λ o x found listed is home. none o x found listed home) w.stored;
-        roomed = roomed_shorter item items w.rooms w.roomed;
+        roomed = roomed_shorter item items w.rooms w.holds w.rest w.roomed;
         fit = going_shorter item items none w.fit;
         rest = w.rest;
       },
@@ -302,33 +302,33 @@ module _ (known : Known) where
         let none : Houses (declared y) x.cell.access x.cell.home.pool = rw owns at type in
         none
 
-    members_fine : (item : Item) (items : List Item) (pool : Option ℕ) (vs : List Value) → HousesFrom item.owned pool → members s.heap item.number ≡ vs → Left_with (item ∷ items) → HeldIn s.heap (record { number = number; items = item ∷ items } ∷ ms) → Fine known s.heap (record { number = number; items = item ∷ items } ∷ ms) (members_next named (Leaving number item.number) pool vs (left_with (item ∷ items)))
+    members_fine : (item : Item) (items : List Item) (pool : Option ℕ) (vs : List Value) → HousesFrom item.owned pool → members s.heap item.number ≡ vs → Left_with (item ∷ items) → HeldIn s.heap (record { number = number; items = item ∷ items } ∷ ms) → NamedBelow (outers known) s.heap (record { number = number; items = item ∷ items } ∷ ms) → Fine known s.heap (record { number = number; items = item ∷ items } ∷ ms) (members_next named (Leaving number item.number) pool vs (left_with (item ∷ items)))
     unfolding left_with Left_with
-    members_fine item items pool [] owns e w held = shorter_fine item items (λ o x found listed home. none_is_left item.number s.heap o x e found listed home) w
-    members_fine item items pool (v ∷ vs) owns e w held = λ i lt. taken_fine item items pool (slice_index_or (v ∷ vs) i Null) owns w held (rw e at (taken_is item.number s.heap i (rw e lt)))
+    members_fine item items pool [] owns e w held low = shorter_fine item items (λ o x found listed home. none_is_left item.number s.heap o x e found listed home) w
+    members_fine item items pool (v ∷ vs) owns e w held low = λ i lt. taken_fine item items pool (slice_index_or (v ∷ vs) i Null) owns w held low (rw e at (taken_is item.number s.heap i (rw e lt)))
 
-    item_fine : (item : Item) (items : List Item) (what : Owned) → item.owned ≡ what → Left_with (item ∷ items) → HeldIn s.heap (record { number = number; items = item ∷ items } ∷ ms) → Fine known s.heap (record { number = number; items = item ∷ items } ∷ ms) (item_leave_next named number item what (left_with (item ∷ items)))
+    item_fine : (item : Item) (items : List Item) (what : Owned) → item.owned ≡ what → Left_with (item ∷ items) → HeldIn s.heap (record { number = number; items = item ∷ items } ∷ ms) → NamedBelow (outers known) s.heap (record { number = number; items = item ∷ items } ∷ ms) → Fine known s.heap (record { number = number; items = item ∷ items } ∷ ms) (item_leave_next named number item what (left_with (item ∷ items)))
     unfolding left_with Left_with
-    item_fine item items (declared y) is w held = shorter_fine item items (declared_has_none item items y is w) w
-    item_fine item items (collection access) is w held = members_fine item items (Some 0) (members s.heap item.number) (λ t own h. (let houses : Houses (collection access) t own = rw is at h in houses.1)) refl w held
-    item_fine item items (record_object t) is w held = members_fine item items None (members s.heap item.number) (λ u own h. (let houses : Houses (record_object t) u own = rw is at h in houses.1)) refl w held
+    item_fine item items (declared y) is w held low = shorter_fine item items (declared_has_none item items y is w) w
+    item_fine item items (collection access) is w held low = members_fine item items (Some 0) (members s.heap item.number) (λ t own h. (let houses : Houses (collection access) t own = rw is at h in houses.1)) refl w held low
+    item_fine item items (record_object t) is w held low = members_fine item items None (members s.heap item.number) (λ u own h. (let houses : Houses (record_object t) u own = rw is at h in houses.1)) refl w held low
 
     -- The master is left.
-    gone_ready : (rooms : Rooms) (holds : Holds) → Stored None s.heap (record { number = number; items = [] } ∷ ms) → Fit known.program.types known.program.variables none_spared s.heap a.places holds → Roomed (record { number = number; items = [] } ∷ ms) rooms → RunsOn known (Leaves mode ∷ k) rooms holds → ReadyIn known mode k s.heap a.places a.operands ms
+    gone_ready : (rooms : Rooms) (holds : Holds) → Stored None s.heap (record { number = number; items = [] } ∷ ms) → Fit known.program.types known.program.variables (outers known) none_spared s.heap a.places holds → Roomed (below known) (record { number = number; items = [] } ∷ ms) rooms → RunsOn known (Leaves mode ∷ k) rooms holds → ReadyIn known mode k s.heap a.places a.operands ms
     gone_ready [] holds stored fit roomed r = absurd r
     gone_ready (gone ∷ rooms) holds stored fit roomed r =
         goes_ready known mode k s.heap a.places a.operands ms
         (record { rooms = rooms; holds = r.1.0; stored = stored_older (record { number = number; items = [] }) ms stored; roomed = roomed.1; fit = weaker_fit r.1.0 r.1.1 fit; rest = r.1.2 })
 
-    master_fine : (items : List Item) → Left_with items → HeldIn s.heap (record { number = number; items = items } ∷ ms) → Fine known s.heap (record { number = number; items = items } ∷ ms) (master_leave_next named mode number items (record (running k a rest s) { masters = record { number = number; items = items } ∷ ms }))
+    master_fine : (items : List Item) → Left_with items → HeldIn s.heap (record { number = number; items = items } ∷ ms) → NamedBelow (outers known) s.heap (record { number = number; items = items } ∷ ms) → Fine known s.heap (record { number = number; items = items } ∷ ms) (master_leave_next named mode number items (record (running k a rest s) { masters = record { number = number; items = items } ∷ ms }))
     unfolding left_with Left_with
-    master_fine [] w held = stays known (Left number) _ (tt, gone_ready w.rooms w.holds w.stored (going_left w.fit) w.roomed w.rest) tt
-    master_fine (item ∷ items) w held = item_fine item items item.owned refl w held
+    master_fine [] w held low = stays known (Left number) _ (tt, gone_ready w.rooms w.holds w.stored (going_left w.fit) w.roomed w.rest) tt
+    master_fine (item ∷ items) w held low = item_fine item items item.owned refl w held low
 
-    pub left_fine : (items : List Item) → Parting known s.heap a.places (record { number = number; items = items } ∷ ms) (RunsOn known (Leaves mode ∷ k)) → HeldIn s.heap (record { number = number; items = items } ∷ ms) → Fine known s.heap (record { number = number; items = items } ∷ ms) (master_leave_next named mode number items (record (running k a rest s) { masters = record { number = number; items = items } ∷ ms }))
+    pub left_fine : (items : List Item) → Parting known s.heap a.places (record { number = number; items = items } ∷ ms) (RunsOn known (Leaves mode ∷ k)) → HeldIn s.heap (record { number = number; items = items } ∷ ms) → NamedBelow (outers known) s.heap (record { number = number; items = items } ∷ ms) → Fine known s.heap (record { number = number; items = items } ∷ ms) (master_leave_next named mode number items (record (running k a rest s) { masters = record { number = number; items = items } ∷ ms }))
     unfolding left_with Left_with
-    left_fine items w held = master_fine items w held
+    left_fine items w held low = master_fine items w held low
 
-  pub leave_fine : (mode : Mode) (k : Control) (a : Activation Value) (rest : List (Activation Value)) (s : State) (ms : List Master) → Parting known s.heap a.places ms (RunsOn known (Leaves mode ∷ k)) → HeldIn s.heap ms → Fine known s.heap ms (leave_next named mode ms (record (running k a rest s) { masters = ms }))
-  leave_fine mode k a rest s [] w held = tt
-  leave_fine mode k a rest s (m ∷ ms) w held = left_fine mode k a rest s m.number ms m.items w held
+  pub leave_fine : (mode : Mode) (k : Control) (a : Activation Value) (rest : List (Activation Value)) (s : State) (ms : List Master) → Parting known s.heap a.places ms (RunsOn known (Leaves mode ∷ k)) → HeldIn s.heap ms → NamedBelow (outers known) s.heap ms → Fine known s.heap ms (leave_next named mode ms (record (running k a rest s) { masters = ms }))
+  leave_fine mode k a rest s [] w held low = tt
+  leave_fine mode k a rest s (m ∷ ms) w held low = left_fine mode k a rest s m.number ms m.items w held low

@@ -40,8 +40,8 @@ use Rattle.ada_sound.proofs.Copied.{default_item, items_keep}
 use Rattle.ada_sound.proofs.Defaults.{defaults_fit, defaults_raise, defaults_move, defaults_keep, fill_defaults, DefaultFor, default_for, Reaches}
 use Rattle.ada_sound.proofs.Values.{read_other}
 use Rattle.ada_sound.proofs.Stored.{Stored, exists_out, stored_owning}
-use Rattle.ada_sound.proofs.Fits.{Fit, MayFollow, names_object, is_object, component_value, component_access, none_spared, bare, place_at, put_null, put_alias, component_is, root_follows, component_follows, take_variable, take_component}
-use Rattle.ada_sound.proofs.Invariant.{Known, Control, Rooms, Roomed, Accepts, LeadsTo, GoesInto, Allocating, Clearing, component_among, StoringIn, Pairs, IsAlone, IsOne, Half, HalfBy, IsCleared, front, final, WalksOn, Goes, Raised, RunsOn, NoneBroken, To, MayRaise, RaisesAt, FillsIn, IsHolder, Takes, Computing, Working, Resumes, EvaluatesTo, Awaits, FindsFor, MovesOn, FillsOn, FollowsFor, HalfFollows, ReadyIn, Stepped, Fine, ways}
+use Rattle.ada_sound.proofs.Fits.{Fit, MayFollow, names_object, is_object, component_value, component_access, none_spared, place_at, put_null, put_alias, component_is, root_follows, component_follows, take_variable, take_component}
+use Rattle.ada_sound.proofs.Invariant.{outers, below, HasRoom, Known, Control, Rooms, Roomed, Accepts, LeadsTo, GoesInto, Allocating, Clearing, component_among, StoringIn, Pairs, IsAlone, IsOne, Half, HalfBy, IsCleared, front, final, WalksOn, Goes, Raised, RunsOn, NoneBroken, To, MayRaise, RaisesAt, FillsIn, IsHolder, Takes, Computing, Working, Resumes, EvaluatesTo, Awaits, FindsFor, MovesOn, FillsOn, FollowsFor, HalfFollows, ReadyIn, Stepped, Fine, ways}
 use Rattle.ada_sound.proofs.Ready.{running, at_work, stays, ready_on, runs_on, resumes_on, jumps_less}
 use Rattle.ada_sound.proofs.Walks.{finds_fine, fills_fine, half_fine}
 use Rattle.ada_sound.proofs.Rooms.{roomed_declares}
@@ -96,10 +96,10 @@ module _ (known : Known) (k : Control) (a : Activation Value) (rest : List (Acti
           )
       into (Scalar n) c k' kind takes fits' w' = absurd (w'.rest.0)
 
-      to : (here : Spot) (cleared : Bool) (x : ℕ) (k' : Control) → is_object known.program.variables x ≡ false → variable_access known.program.variables x ≡ variable_access known.program.variables root → (rooms : Rooms) (holds : Holds) → Stored None s.heap s.masters → Roomed s.masters rooms → Fit known.program.types known.program.variables none_spared s.heap a.places holds → Goes (gives known.program.types known.program.variables here cleared x (value_of (at_path whole root [] spot)) holds) (RunsOn known k' rooms) (Raised (λ e. right_raises (is_same e) (value_of (at_path whole root [] spot))) (ways known k' rooms)) → Working known s.heap (slice_set a.places x (place_at a.places root)) s.masters (RunsOn known k')
-      to here cleared x k' none same rooms holds stored roomed fit g = by (is_borrower known.program.variables x) refl
+      to : (More : Rooms → Holds → Type 0) (here : Spot) (cleared : Bool) (x : ℕ) (k' : Control) → is_object known.program.variables x ≡ false → variable_access known.program.variables x ≡ variable_access known.program.variables root → (rooms : Rooms) (holds : Holds) → Stored None s.heap s.masters → Roomed (below known) s.masters rooms → Fit known.program.types known.program.variables (outers known) none_spared s.heap a.places holds → ((h : Holds) → RunsOn known k' rooms h → More rooms h) → Goes (gives known.program.types known.program.variables here cleared x (value_of (at_path whole root [] spot)) holds) (RunsOn known k' rooms) (Raised (λ e. right_raises (is_same e) (value_of (at_path whole root [] spot))) (ways known k' rooms)) → Working known s.heap (slice_set a.places x (place_at a.places root)) s.masters More
+      to More here cleared x k' none same rooms holds stored roomed fit more g = by (is_borrower known.program.variables x) refl
         where
-          by : (b : Bool) → is_borrower known.program.variables x ≡ b → Working known s.heap (slice_set a.places x (place_at a.places root)) s.masters (RunsOn known k')
+          by : (b : Bool) → is_borrower known.program.variables x ≡ b → Working known s.heap (slice_set a.places x (place_at a.places root)) s.masters More
           by true is =
               let h = borrow_gives known.program.types known.program.variables here cleared x whole root [] spot holds (RunsOn known k' rooms) (Raised (λ e. right_raises (is_same e) (value_of (at_path whole root [] spot))) (ways known k' rooms)) is g in
               record {
@@ -108,7 +108,7 @@ module _ (known : Known) (k : Control) (a : Activation Value) (rest : List (Acti
                 stored = stored;
                 roomed = roomed;
                 fit = borrow_by fit root spot x (hold_at holds root) none refl same h.0;
-                rest = h.1;
+                rest = more _ h.1;
               }
           by false is =
               let h = value_gives known.program.types known.program.variables here cleared x whole root [] spot holds (RunsOn known k' rooms) (Raised (λ e. right_raises (is_same e) (value_of (at_path whole root [] spot))) (ways known k' rooms)) is g in
@@ -118,13 +118,13 @@ module _ (known : Known) (k : Control) (a : Activation Value) (rest : List (Acti
                 stored = stored;
                 roomed = roomed;
                 fit = move_by fit root spot x (hold_at holds root) none refl same h.0;
-                rest = h.1;
+                rest = more _ h.1;
               }
 
       go : (k' : Control) → typed.Fits known.program (cells_of s.heap) kinds (Evaluates (value_of (at_path whole root [] spot)) ∷ k') → Working known s.heap a.places s.masters (Takes known s.heap a.places (value_of (at_path whole root [] spot)) k') → ReadyIn known Running k' s.heap a.places (place_at a.places root ∷ a.operands) s.masters
       go [] fits' w' = absurd (w'.rest)
-      go (Stores x ∷ k') (kind, takes, fits') w' = inl (to w'.rest.1.0 w'.rest.0 x k' (variable_none known.program s.heap kind kinds x k' (takes_none known.program.types known.program.variables kind (value_of (at_path whole root [] spot)) takes) fits') (variable_goes known.program s.heap kind kinds x k' fits' ∙ sym (own_access kind takes)) w'.rooms w'.holds w'.stored w'.roomed w'.fit w'.rest.1.1)
-      go (Declares x ∷ k') (kind, takes, fits') w' = to w'.rest.1.0 w'.rest.0 x k' (declared_none known.program s.heap kind kinds x k' (takes_none known.program.types known.program.variables kind (value_of (at_path whole root [] spot)) takes) fits') (declared_goes known.program s.heap kind kinds x k' fits' ∙ sym (own_access kind takes)) w'.rooms w'.holds w'.stored w'.roomed w'.fit w'.rest.1.1
+      go (Stores x ∷ k') (kind, takes, fits') w' = inl (to (RunsOn known k') w'.rest.1.0 w'.rest.0 x k' (variable_none known.program s.heap kind kinds x k' (takes_none known.program.types known.program.variables kind (value_of (at_path whole root [] spot)) takes) fits') (variable_goes known.program s.heap kind kinds x k' fits' ∙ sym (own_access kind takes)) w'.rooms w'.holds w'.stored w'.roomed w'.fit (λ h r. r) w'.rest.1.1)
+      go (Declares x ∷ k') (kind, takes, fits') w' = to (λ rooms holds. HasRoom rooms × RunsOn known k' rooms holds) w'.rest.2.0 w'.rest.1 x k' (declared_none known.program s.heap kind kinds x k' (takes_none known.program.types known.program.variables kind (value_of (at_path whole root [] spot)) takes) fits') (declared_goes known.program s.heap kind kinds x k' fits' ∙ sym (own_access kind takes)) w'.rooms w'.holds w'.stored w'.roomed w'.fit (λ h r. (w'.rest.0, r)) w'.rest.2.1
       go (StoresIn o c ∷ k') (kind, takes, fits') w' = into o c k' kind takes fits' w'
       go (f ∷ k') fits' w' = absurd (w'.rest)
 
@@ -160,7 +160,7 @@ module _ (known : Known) (k : Control) (a : Activation Value) (rest : List (Acti
 
   -- The value of a component is taken: what awaits it gets it, and the component is cleared next.
   module _ (whole : Bool) (root : ℕ) (spot : Spot) (o : Id) (object : Object) (c : ℕ) (v : Value) (found : object_at s.heap o ≡ Some object) (listed : object.listed ≡ true) (at : slice_get object.cell.values c ≡ Some v) where
-    named_there : {holds : Holds} → Fit known.program.types known.program.variables none_spared s.heap a.places holds → (p : Id) → v ≡ Names p → IsThere s.heap p
+    named_there : {holds : Holds} → Fit known.program.types known.program.variables (outers known) none_spared s.heap a.places holds → (p : Id) → v ≡ Names p → IsThere s.heap p
     named_there f p is = go (component_follows o object c v refl found listed at f)
       where
         go : MayFollow s.heap v → IsThere s.heap p
@@ -172,18 +172,18 @@ module _ (known : Known) (k : Control) (a : Activation Value) (rest : List (Acti
     no_walk u e (g ∷ es) null walks' = let none = rw null at walks' in cc none
 
     -- The value of a component is lent to a borrower.
-    borrow_component_by : {holds : Holds} (x d : ℕ) (ds : List ℕ) (h : Hold) → is_object known.program.variables x ≡ false → hold_at holds root ≡ h → lost_by h spot ≡ None → (f : Fit known.program.types known.program.variables none_spared s.heap a.places holds) → WalksOn s.heap a.places (at_path whole root (d ∷ ds) spot) (Names o) (c ∷ []) → variable_access known.program.variables x ≡ component_access known.program.types object c → Fit known.program.types known.program.variables none_spared s.heap (slice_set a.places x v) (slice_set holds x (borrowed_hold h))
+    borrow_component_by : {holds : Holds} (x d : ℕ) (ds : List ℕ) (h : Hold) → is_object known.program.variables x ≡ false → hold_at holds root ≡ h → lost_by h spot ≡ None → (f : Fit known.program.types known.program.variables (outers known) none_spared s.heap a.places holds) → WalksOn s.heap a.places (at_path whole root (d ∷ ds) spot) (Names o) (c ∷ []) → variable_access known.program.variables x ≡ component_access known.program.types object c → Fit known.program.types known.program.variables (outers known) none_spared s.heap (slice_set a.places x v) (slice_set holds x (borrowed_hold h))
     borrow_component_by x d ds hold.Null none is kept f walks same = absurd (no_walk (place_at a.places root) d ds (null_place f root spot is) walks.0)
     borrow_component_by x d ds (hold.Own r) none is kept f walks same = put_alias x v r none (rw same (λ p e. component_is o object c v p refl found listed at e f)) f
     borrow_component_by x d ds (hold.Alias r) none is kept f walks same = put_alias x v r none (rw same (λ p e. component_is o object c v p refl found listed at e f)) f
     borrow_component_by x d ds hold.Lost none is kept f walks same = absurd (cc kept)
 
-    borrow_to : (here : Spot) (cleared : Bool) (x d : ℕ) (ds : List ℕ) (k' : Control) (rooms : Rooms) (holds : Holds) → is_object known.program.variables x ≡ false → is_borrower known.program.variables x ≡ true → Stored None s.heap s.masters → Roomed s.masters rooms → Fit known.program.types known.program.variables none_spared s.heap a.places holds → WalksOn s.heap a.places (at_path whole root (d ∷ ds) spot) (Names o) (c ∷ []) → variable_access known.program.variables x ≡ component_access known.program.types object c → Goes (gives known.program.types known.program.variables here cleared x (value_of (at_path whole root (d ∷ ds) spot)) holds) (RunsOn known k' rooms) (Raised (λ e. right_raises (is_same e) (value_of (at_path whole root (d ∷ ds) spot))) (ways known k' rooms)) → Working known s.heap (slice_set a.places x v) s.masters (RunsOn known k')
-    borrow_to here cleared x d ds k' rooms holds none is stored roomed f walks same g =
+    borrow_to : (More : Rooms → Holds → Type 0) (here : Spot) (cleared : Bool) (x d : ℕ) (ds : List ℕ) (k' : Control) (rooms : Rooms) (holds : Holds) → is_object known.program.variables x ≡ false → is_borrower known.program.variables x ≡ true → Stored None s.heap s.masters → Roomed (below known) s.masters rooms → Fit known.program.types known.program.variables (outers known) none_spared s.heap a.places holds → WalksOn s.heap a.places (at_path whole root (d ∷ ds) spot) (Names o) (c ∷ []) → variable_access known.program.variables x ≡ component_access known.program.types object c → ((h : Holds) → RunsOn known k' rooms h → More rooms h) → Goes (gives known.program.types known.program.variables here cleared x (value_of (at_path whole root (d ∷ ds) spot)) holds) (RunsOn known k' rooms) (Raised (λ e. right_raises (is_same e) (value_of (at_path whole root (d ∷ ds) spot))) (ways known k' rooms)) → Working known s.heap (slice_set a.places x v) s.masters More
+    borrow_to More here cleared x d ds k' rooms holds none is stored roomed f walks same more g =
         let h = borrow_gives known.program.types known.program.variables here cleared x whole root (d ∷ ds) spot holds (RunsOn known k' rooms) (Raised (λ e. right_raises (is_same e) (value_of (at_path whole root (d ∷ ds) spot))) (ways known k' rooms)) is g in
-        record { rooms = rooms; holds = slice_set holds x (borrowed_hold (hold_at holds root)); stored = stored; roomed = roomed; fit = borrow_component_by x d ds (hold_at holds root) none refl h.0 f walks same; rest = h.1 }
+        record { rooms = rooms; holds = slice_set holds x (borrowed_hold (hold_at holds root)); stored = stored; roomed = roomed; fit = borrow_component_by x d ds (hold_at holds root) none refl h.0 f walks same; rest = more _ h.1 }
 
-    take_variable_by : (x d : ℕ) (ds : List ℕ) (k' : Control) (rooms : Rooms) (holds : Holds) (h : Hold) → is_object known.program.variables x ≡ false → hold_at holds root ≡ h → lost_by h spot ≡ None → Stored None s.heap s.masters → Roomed s.masters rooms → (f : Fit known.program.types known.program.variables none_spared s.heap a.places holds) → x ≢ root → IsCleared (at_path whole root (d ∷ ds) spot) k' → WalksOn s.heap a.places (at_path whole root (d ∷ ds) spot) (Names o) (c ∷ []) → variable_access known.program.variables x ≡ component_access known.program.types object c → RunsOn known k' rooms (slice_set holds x (value_hold (d ∷ ds) h)) → HalfBy known k' s.heap (slice_set a.places x v) s.masters
+    take_variable_by : (x d : ℕ) (ds : List ℕ) (k' : Control) (rooms : Rooms) (holds : Holds) (h : Hold) → is_object known.program.variables x ≡ false → hold_at holds root ≡ h → lost_by h spot ≡ None → Stored None s.heap s.masters → Roomed (below known) s.masters rooms → (f : Fit known.program.types known.program.variables (outers known) none_spared s.heap a.places holds) → x ≢ root → IsCleared (at_path whole root (d ∷ ds) spot) k' → WalksOn s.heap a.places (at_path whole root (d ∷ ds) spot) (Names o) (c ∷ []) → variable_access known.program.variables x ≡ component_access known.program.types object c → RunsOn known k' rooms (slice_set holds x (value_hold (d ∷ ds) h)) → HalfBy known k' s.heap (slice_set a.places x v) s.masters
     take_variable_by x d ds k' rooms holds hold.Null none is kept stored roomed f ne cleared walks same more = absurd (no_walk (place_at a.places root) d ds (null_place f root spot is) walks.0)
     take_variable_by x d ds k' rooms holds hold.Lost none is kept stored roomed f ne cleared walks same more = absurd (cc kept)
     take_variable_by x d ds k' rooms holds (hold.Own r) none is kept stored roomed f ne cleared walks same more =
@@ -197,7 +197,7 @@ module _ (known : Known) (k : Control) (a : Activation Value) (rest : List (Acti
         (λ p e. named_there f p (sym (component_value s.heap [] o object c v found listed at) ∙ e))
         (record { rooms = rooms; holds = slice_set holds x (hold.Own r); stored = stored_after s.heap o c Null stored; roomed = roomed; fit = take_variable x r none o object c v found listed at same f; rest = more })
 
-    take_to : (here : Spot) (cleared : Bool) (x d : ℕ) (ds : List ℕ) (k' : Control) (rooms : Rooms) (holds : Holds) → is_object known.program.variables x ≡ false → is_borrower known.program.variables x ≡ false → Stored None s.heap s.masters → Roomed s.masters rooms → Fit known.program.types known.program.variables none_spared s.heap a.places holds → WalksOn s.heap a.places (at_path whole root (d ∷ ds) spot) (Names o) (c ∷ []) → variable_access known.program.variables x ≡ component_access known.program.types object c → Goes (gives known.program.types known.program.variables here cleared x (value_of (at_path whole root (d ∷ ds) spot)) holds) (RunsOn known k' rooms) (Raised (λ e. right_raises (is_same e) (value_of (at_path whole root (d ∷ ds) spot))) (ways known k' rooms)) → Pairs cleared (value_of (at_path whole root (d ∷ ds) spot)) (λ path. x ≢ path.root) k' → HalfBy known k' s.heap (slice_set a.places x v) s.masters
+    take_to : (here : Spot) (cleared : Bool) (x d : ℕ) (ds : List ℕ) (k' : Control) (rooms : Rooms) (holds : Holds) → is_object known.program.variables x ≡ false → is_borrower known.program.variables x ≡ false → Stored None s.heap s.masters → Roomed (below known) s.masters rooms → Fit known.program.types known.program.variables (outers known) none_spared s.heap a.places holds → WalksOn s.heap a.places (at_path whole root (d ∷ ds) spot) (Names o) (c ∷ []) → variable_access known.program.variables x ≡ component_access known.program.types object c → Goes (gives known.program.types known.program.variables here cleared x (value_of (at_path whole root (d ∷ ds) spot)) holds) (RunsOn known k' rooms) (Raised (λ e. right_raises (is_same e) (value_of (at_path whole root (d ∷ ds) spot))) (ways known k' rooms)) → Pairs cleared (value_of (at_path whole root (d ∷ ds) spot)) (λ path. x ≢ path.root) k' → HalfBy known k' s.heap (slice_set a.places x v) s.masters
     take_to here false x d ds k' rooms holds none owned stored roomed f walks same g pairs =
         let h = value_gives known.program.types known.program.variables here false x whole root (d ∷ ds) spot holds (RunsOn known k' rooms) (Raised (λ e. right_raises (is_same e) (value_of (at_path whole root (d ∷ ds) spot))) (ways known k' rooms)) owned g in
         let never = cleared_is false (hold_at holds root) spot h.0 in
@@ -214,22 +214,22 @@ module _ (known : Known) (k : Control) (a : Activation Value) (rest : List (Acti
         cc (none.0)
 
     -- A variable gets the value: a borrower as it is, any other with the first half of a take pair; a declaration is none.
-    stores_to : (here : Spot) (cleared : Bool) (x d : ℕ) (ds : List ℕ) (k' : Control) (rooms : Rooms) (holds : Holds) → is_object known.program.variables x ≡ false → Stored None s.heap s.masters → Roomed s.masters rooms → Fit known.program.types known.program.variables none_spared s.heap a.places holds → WalksOn s.heap a.places (at_path whole root (d ∷ ds) spot) (Names o) (c ∷ []) → variable_access known.program.variables x ≡ component_access known.program.types object c → Goes (gives known.program.types known.program.variables here cleared x (value_of (at_path whole root (d ∷ ds) spot)) holds) (RunsOn known k' rooms) (Raised (λ e. right_raises (is_same e) (value_of (at_path whole root (d ∷ ds) spot))) (ways known k' rooms)) → Pairs cleared (value_of (at_path whole root (d ∷ ds) spot)) (λ path. x ≢ path.root) k' → Resumes known s.heap (slice_set a.places x v) s.masters k'
+    stores_to : (here : Spot) (cleared : Bool) (x d : ℕ) (ds : List ℕ) (k' : Control) (rooms : Rooms) (holds : Holds) → is_object known.program.variables x ≡ false → Stored None s.heap s.masters → Roomed (below known) s.masters rooms → Fit known.program.types known.program.variables (outers known) none_spared s.heap a.places holds → WalksOn s.heap a.places (at_path whole root (d ∷ ds) spot) (Names o) (c ∷ []) → variable_access known.program.variables x ≡ component_access known.program.types object c → Goes (gives known.program.types known.program.variables here cleared x (value_of (at_path whole root (d ∷ ds) spot)) holds) (RunsOn known k' rooms) (Raised (λ e. right_raises (is_same e) (value_of (at_path whole root (d ∷ ds) spot))) (ways known k' rooms)) → Pairs cleared (value_of (at_path whole root (d ∷ ds) spot)) (λ path. x ≢ path.root) k' → Resumes known s.heap (slice_set a.places x v) s.masters k'
     stores_to here cleared x d ds k' rooms holds none stored roomed f walks same g pairs = by (is_borrower known.program.variables x) refl
       where
         by : (b : Bool) → is_borrower known.program.variables x ≡ b → Resumes known s.heap (slice_set a.places x v) s.masters k'
-        by true is = inl (borrow_to here cleared x d ds k' rooms holds none is stored roomed f walks same g)
+        by true is = inl (borrow_to (RunsOn known k') here cleared x d ds k' rooms holds none is stored roomed f walks same (λ h r. r) g)
         by false is = inr (take_to here cleared x d ds k' rooms holds none is stored roomed f walks same g pairs)
 
-    declares_to : (here : Spot) (cleared : Bool) (x d : ℕ) (ds : List ℕ) (k' : Control) (rooms : Rooms) (holds : Holds) → is_object known.program.variables x ≡ false → Stored None s.heap s.masters → Roomed s.masters rooms → Fit known.program.types known.program.variables none_spared s.heap a.places holds → WalksOn s.heap a.places (at_path whole root (d ∷ ds) spot) (Names o) (c ∷ []) → variable_access known.program.variables x ≡ component_access known.program.types object c → Goes (gives known.program.types known.program.variables here cleared x (value_of (at_path whole root (d ∷ ds) spot)) holds) (RunsOn known k' rooms) (Raised (λ e. right_raises (is_same e) (value_of (at_path whole root (d ∷ ds) spot))) (ways known k' rooms)) → IsAlone cleared → Working known s.heap (slice_set a.places x v) s.masters (RunsOn known k')
-    declares_to here cleared x d ds k' rooms holds none stored roomed f walks same g alone = by (is_borrower known.program.variables x) refl
+    declares_to : (More : Rooms → Holds → Type 0) (here : Spot) (cleared : Bool) (x d : ℕ) (ds : List ℕ) (k' : Control) (rooms : Rooms) (holds : Holds) → is_object known.program.variables x ≡ false → Stored None s.heap s.masters → Roomed (below known) s.masters rooms → Fit known.program.types known.program.variables (outers known) none_spared s.heap a.places holds → WalksOn s.heap a.places (at_path whole root (d ∷ ds) spot) (Names o) (c ∷ []) → variable_access known.program.variables x ≡ component_access known.program.types object c → ((h : Holds) → RunsOn known k' rooms h → More rooms h) → Goes (gives known.program.types known.program.variables here cleared x (value_of (at_path whole root (d ∷ ds) spot)) holds) (RunsOn known k' rooms) (Raised (λ e. right_raises (is_same e) (value_of (at_path whole root (d ∷ ds) spot))) (ways known k' rooms)) → IsAlone cleared → Working known s.heap (slice_set a.places x v) s.masters More
+    declares_to More here cleared x d ds k' rooms holds none stored roomed f walks same more g alone = by (is_borrower known.program.variables x) refl
       where
-        by : (b : Bool) → is_borrower known.program.variables x ≡ b → Working known s.heap (slice_set a.places x v) s.masters (RunsOn known k')
-        by true is = borrow_to here cleared x d ds k' rooms holds none is stored roomed f walks same g
+        by : (b : Bool) → is_borrower known.program.variables x ≡ b → Working known s.heap (slice_set a.places x v) s.masters More
+        by true is = borrow_to More here cleared x d ds k' rooms holds none is stored roomed f walks same more g
         by false is = absurd (declares_none here cleared x d ds k' rooms holds is g alone)
 
     -- The same into a component: then the path has one selector.
-    take_into : (cleared : Bool) (target : PathForm) (q : Id) (holder : Object) (e d : ℕ) (ds : List ℕ) (k' : Control) (rooms : Rooms) (holds : Holds) → object_at s.heap q ≡ Some holder → holder.listed ≡ true → Stored None s.heap s.masters → Roomed s.masters rooms → Fit known.program.types known.program.variables none_spared s.heap a.places holds → WalksOn s.heap a.places (at_path whole root (d ∷ ds) spot) (Names o) (c ∷ []) → component_access known.program.types holder e ≡ component_access known.program.types object c → Goes (gives_component known.program.types cleared target (value_of (at_path whole root (d ∷ ds) spot)) holds) (RunsOn known k' rooms) (Raised (component_among (path_raises target) (value_of (at_path whole root (d ∷ ds) spot))) (ways known k' rooms)) → Pairs cleared (value_of (at_path whole root (d ∷ ds) spot)) (λ taken. IsOne taken.selectors) k' → HalfBy known k' (store s.heap (Names q) e v) a.places s.masters
+    take_into : (cleared : Bool) (target : PathForm) (q : Id) (holder : Object) (e d : ℕ) (ds : List ℕ) (k' : Control) (rooms : Rooms) (holds : Holds) → object_at s.heap q ≡ Some holder → holder.listed ≡ true → Stored None s.heap s.masters → Roomed (below known) s.masters rooms → Fit known.program.types known.program.variables (outers known) none_spared s.heap a.places holds → WalksOn s.heap a.places (at_path whole root (d ∷ ds) spot) (Names o) (c ∷ []) → component_access known.program.types holder e ≡ component_access known.program.types object c → Goes (gives_component known.program.types cleared target (value_of (at_path whole root (d ∷ ds) spot)) holds) (RunsOn known k' rooms) (Raised (component_among (path_raises target) (value_of (at_path whole root (d ∷ ds) spot))) (ways known k' rooms)) → Pairs cleared (value_of (at_path whole root (d ∷ ds) spot)) (λ taken. IsOne taken.selectors) k' → HalfBy known k' (store s.heap (Names q) e v) a.places s.masters
     take_into false target q holder e d ds k' rooms holds at_q listed_q stored roomed f walks same g pairs =
         let h = value_fills known.program.types false target whole root (d ∷ ds) spot holds (RunsOn known k' rooms) (Raised (component_among (path_raises target) (value_of (at_path whole root (d ∷ ds) spot))) (ways known k' rooms)) g in
         let no = cleared_is false (hold_at holds root) spot h.0 in
@@ -245,8 +245,8 @@ module _ (known : Known) (k : Control) (a : Activation Value) (rest : List (Acti
         stored_still p is = go (same_place (component o c) (component q e))
           where
             go : (component o c ≡ component q e) ⊎ (component o c ≢ component q e) → v ≡ Names p
-            go (inl one) = store_value s.heap q holder at_q e v (bare a.places) p (ap (λ place. value_at (store s.heap (Names q) e v) (bare a.places) place) (sym one) ∙ is)
-            go (inr ne) = sym (component_value s.heap [] o object c v found listed at) ∙ (sym (store_reads s.heap q holder at_q e v (bare a.places) (component o c) ne) ∙ is)
+            go (inl one) = store_value s.heap q holder at_q e v [] p (ap (λ place. value_at (store s.heap (Names q) e v) [] place) (sym one) ∙ is)
+            go (inr ne) = sym (component_value s.heap [] o object c v found listed at) ∙ (sym (store_reads s.heap q holder at_q e v [] (component o c) ne) ∙ is)
 
     take_ready : (d : ℕ) (ds : List ℕ) (to : VariableKind) (kinds : List VariableKind) (below : List Value) → names_object (Some to) ≡ false → component_access known.program.types object c ≡ access_of (Some to) → WalksOn s.heap a.places (at_path whole root (d ∷ ds) spot) (Names o) (c ∷ []) → typed.Fits known.program (cells_of s.heap) (to ∷ kinds) k → Working known s.heap a.places s.masters (Takes known s.heap a.places (value_of (at_path whole root (d ∷ ds) spot)) k) → ReadyIn known Running k s.heap a.places (v ∷ below) s.masters
     take_ready d ds to kinds below none is walks fits w = go k fits w
@@ -262,7 +262,7 @@ module _ (known : Known) (k : Control) (a : Activation Value) (rest : List (Acti
         go : (k' : Control) → typed.Fits known.program (cells_of s.heap) (to ∷ kinds) k' → Working known s.heap a.places s.masters (Takes known s.heap a.places (value_of (at_path whole root (d ∷ ds) spot)) k') → ReadyIn known Running k' s.heap a.places (v ∷ below) s.masters
         go [] fits' w' = absurd (w'.rest)
         go (Stores x ∷ k') fits' w' = stores_to w'.rest.1.0 w'.rest.0 x d ds k' w'.rooms w'.holds (variable_none known.program s.heap to kinds x k' none fits') w'.stored w'.roomed w'.fit walks (variable_goes known.program s.heap to kinds x k' fits' ∙ sym is) w'.rest.1.1 w'.rest.2
-        go (Declares x ∷ k') fits' w' = declares_to w'.rest.1.0 w'.rest.0 x d ds k' w'.rooms w'.holds (declared_none known.program s.heap to kinds x k' none fits') w'.stored w'.roomed w'.fit walks (declared_goes known.program s.heap to kinds x k' fits' ∙ sym is) w'.rest.1.1 w'.rest.2
+        go (Declares x ∷ k') fits' w' = declares_to (λ rooms holds. HasRoom rooms × RunsOn known k' rooms holds) w'.rest.2.0 w'.rest.1 x d ds k' w'.rooms w'.holds (declared_none known.program s.heap to kinds x k' none fits') w'.stored w'.roomed w'.fit walks (declared_goes known.program s.heap to kinds x k' fits' ∙ sym is) (λ h r. (w'.rest.0, r)) w'.rest.2.1 w'.rest.3
         go (StoresIn q e ∷ k') fits' w' = into q e k' fits' w'
         go (f ∷ k') fits' w' = absurd (w'.rest)
 
@@ -344,13 +344,13 @@ module _ (known : Known) (k : Control) (a : Activation Value) (rest : List (Acti
       go [] fits' g = absurd g
       go (Stores x ∷ k') fits' g =
           let h = to x k' (variable_goes known.program s.heap kind kinds x k' fits') g.1.0 g.0 g.1.1 in
-          (g.1.0, None, tt, h.0, record { components = al.components; reached = al.reached; fit = al.fit; fails = λ may. h.1.1 ConstraintError (rw may refl); refused = λ may. h.1.1 StorageError refl; to = ((h.1.0.0, variable_none known.program s.heap kind kinds x k' none fits'), h.1.0.1) })
+          (g.1.0, None, tt, h.0, record { components = al.components; reached = al.reached; fit = al.fit; fails = λ may. h.1.1 ConstraintError (rw may refl); refused = λ may. h.1.1 StorageError refl; room = tt; to = ((h.1.0.0, variable_none known.program s.heap kind kinds x k' none fits'), h.1.0.1) })
       go (Declares x ∷ k') fits' g =
-          let h = to x k' (declared_goes known.program s.heap kind kinds x k' fits') g.1.0 g.0 g.1.1 in
-          (g.1.0, None, tt, h.0, record { components = al.components; reached = al.reached; fit = al.fit; fails = λ may. h.1.1 ConstraintError (rw may refl); refused = λ may. h.1.1 StorageError refl; to = ((h.1.0.0, declared_none known.program s.heap kind kinds x k' none fits'), h.1.0.1) })
+          let h = to x k' (declared_goes known.program s.heap kind kinds x k' fits') g.2.0 g.1 g.2.1 in
+          (g.2.0, None, tt, h.0, record { components = al.components; reached = al.reached; fit = al.fit; fails = λ may. h.1.1 ConstraintError (rw may refl); refused = λ may. h.1.1 StorageError refl; room = g.0; to = ((h.1.0.0, declared_none known.program s.heap kind kinds x k' none fits'), h.1.0.1) })
       go (StoresIn o c ∷ k') fits' g =
           let h = into o c k' fits' g.0 g.1 in
-          (spot_of g.1.0, Some g.1.0, g.1.4, h.0, record { components = al.components; reached = al.reached; fit = al.fit; fails = λ may. h.1.1 ConstraintError (or_right (path_raises g.1.0) (items_raise items) may); refused = λ may. h.1.1 StorageError refl; to = h.1.0 })
+          (spot_of g.1.0, Some g.1.0, g.1.4, h.0, record { components = al.components; reached = al.reached; fit = al.fit; fails = λ may. h.1.1 ConstraintError (or_right (path_raises g.1.0) (items_raise items) may); refused = λ may. h.1.1 StorageError refl; room = tt; to = h.1.0 })
       go (f ∷ k') fits' g = absurd g
 
   -- The component that the object of an allocator without items goes to, if it goes to one; and what the allocator leads to.
@@ -379,13 +379,13 @@ module _ (known : Known) (k : Control) (a : Activation Value) (rest : List (Acti
       go [] fits' g = absurd g
       go (Stores x ∷ k') fits' g =
           let h = to x k' g.1.0 g.0 g.1.1 in
-          (None, tt, record { components = d.components; reached = d.reached; fit = defaults_fit known.program.types known.program.variables d.components; fails = λ may. absurd (cc (may, defaults_raise d.components)); refused = λ may. h.1 StorageError refl; to = ((variable_goes known.program s.heap kind kinds x k' fits' ∙ d.goes, variable_none known.program s.heap kind kinds x k' none fits'), rw (defaults_move d.components) h.0) })
+          (None, tt, record { components = d.components; reached = d.reached; fit = defaults_fit known.program.types known.program.variables d.components; fails = λ may. absurd (cc (may, defaults_raise d.components)); refused = λ may. h.1 StorageError refl; room = tt; to = ((variable_goes known.program s.heap kind kinds x k' fits' ∙ d.goes, variable_none known.program s.heap kind kinds x k' none fits'), rw (defaults_move d.components) h.0) })
       go (Declares x ∷ k') fits' g =
-          let h = to x k' g.1.0 g.0 g.1.1 in
-          (None, tt, record { components = d.components; reached = d.reached; fit = defaults_fit known.program.types known.program.variables d.components; fails = λ may. absurd (cc (may, defaults_raise d.components)); refused = λ may. h.1 StorageError refl; to = ((declared_goes known.program s.heap kind kinds x k' fits' ∙ d.goes, declared_none known.program s.heap kind kinds x k' none fits'), rw (defaults_move d.components) h.0) })
+          let h = to x k' g.2.0 g.1 g.2.1 in
+          (None, tt, record { components = d.components; reached = d.reached; fit = defaults_fit known.program.types known.program.variables d.components; fails = λ may. absurd (cc (may, defaults_raise d.components)); refused = λ may. h.1 StorageError refl; room = g.0; to = ((declared_goes known.program s.heap kind kinds x k' fits' ∙ d.goes, declared_none known.program s.heap kind kinds x k' none fits'), rw (defaults_move d.components) h.0) })
       go (StoresIn o c ∷ k') fits' g =
           let h = into o c k' fits' g.0 g.1 in
-          (Some g.1.0, g.1.4, record { components = d.components; reached = d.reached; fit = defaults_fit known.program.types known.program.variables d.components; fails = λ may. absurd (cc (may, defaults_raise d.components)); refused = λ may. h.1 StorageError refl; to = (h.0.0, rw (defaults_move d.components) h.0.1) })
+          (Some g.1.0, g.1.4, record { components = d.components; reached = d.reached; fit = defaults_fit known.program.types known.program.variables d.components; fails = λ may. absurd (cc (may, defaults_raise d.components)); refused = λ may. h.1 StorageError refl; room = tt; to = (h.0.0, rw (defaults_move d.components) h.0.1) })
       go (f ∷ k') fits' g = absurd g
 
   -- An expression goes to a variable on which nothing relies, or into a component without access values.
@@ -412,7 +412,7 @@ module _ (known : Known) (k : Control) (a : Activation Value) (rest : List (Acti
       go : (k' : Control) → typed.Fits known.program (cells_of s.heap) (kind ∷ kinds) k' → Takes known s.heap a.places (computes e) k' rooms holds → Computing known s.heap a.places a.operands e k' rooms holds
       go [] fits' g = absurd g
       go (Stores x ∷ k') fits' g = let h = to x k' g.1.0 g.0 g.1.1 in (h.0, (λ may. h.1.1 may ConstraintError may), h.1.0)
-      go (Declares x ∷ k') fits' g = let h = to x k' g.1.0 g.0 g.1.1 in (h.0, (λ may. h.1.1 may ConstraintError may), h.1.0)
+      go (Declares x ∷ k') fits' g = let h = to x k' g.2.0 g.1 g.2.1 in (h.0, (λ may. h.1.1 may ConstraintError may), (g.0, h.1.0))
       go (StoresIn o c ∷ k') fits' g = let h = into o c k' fits' g.0 g.1 in (h.0, h.1.1, h.1.0)
       go (f ∷ k') fits' g = absurd g
 
@@ -420,8 +420,8 @@ module _ (known : Known) (k : Control) (a : Activation Value) (rest : List (Acti
   nothing_ready : (kind : VariableKind) (kinds : List VariableKind) → names_object (Some kind) ≡ false → typed.Fits known.program (cells_of s.heap) (kind ∷ kinds) k → EvaluatesTo known nothing k s.heap a.places s.masters → ReadyIn known Running k s.heap a.places (Null ∷ a.operands) s.masters
   nothing_ready kind kinds none fits e = go k fits e
     where
-      to : (here : Spot) (cleared : Bool) (x : ℕ) (k' : Control) (rooms : Rooms) (holds : Holds) → is_object known.program.variables x ≡ false → Stored None s.heap s.masters → Roomed s.masters rooms → Fit known.program.types known.program.variables none_spared s.heap a.places holds → Goes (gives known.program.types known.program.variables here cleared x nothing holds) (RunsOn known k' rooms) (Raised (λ y. right_raises (is_same y) nothing) (ways known k' rooms)) → Working known s.heap (slice_set a.places x Null) s.masters (RunsOn known k')
-      to here cleared x k' rooms holds other stored roomed fit g = record { rooms = rooms; holds = slice_set holds x hold.Null; stored = stored; roomed = roomed; fit = put_null x other fit; rest = g.0 }
+      to : (More : Rooms → Holds → Type 0) (here : Spot) (cleared : Bool) (x : ℕ) (k' : Control) (rooms : Rooms) (holds : Holds) → is_object known.program.variables x ≡ false → Stored None s.heap s.masters → Roomed (below known) s.masters rooms → Fit known.program.types known.program.variables (outers known) none_spared s.heap a.places holds → ((h : Holds) → RunsOn known k' rooms h → More rooms h) → Goes (gives known.program.types known.program.variables here cleared x nothing holds) (RunsOn known k' rooms) (Raised (λ y. right_raises (is_same y) nothing) (ways known k' rooms)) → Working known s.heap (slice_set a.places x Null) s.masters More
+      to More here cleared x k' rooms holds other stored roomed fit more g = record { rooms = rooms; holds = slice_set holds x hold.Null; stored = stored; roomed = roomed; fit = put_null x other fit; rest = more _ g.0 }
 
       clears_in : (o : Value) (c : ℕ) (k' : Control) → Clearing known o c k' s.heap a.places s.masters → StoringIn known o c Null k' s.heap a.places s.masters
       clears_in Null c k' h = absurd h
@@ -430,8 +430,8 @@ module _ (known : Known) (k : Control) (a : Activation Value) (rest : List (Acti
 
       go : (k' : Control) → typed.Fits known.program (cells_of s.heap) (kind ∷ kinds) k' → EvaluatesTo known nothing k' s.heap a.places s.masters → ReadyIn known Running k' s.heap a.places (Null ∷ a.operands) s.masters
       go [] fits' w = absurd (w.rest)
-      go (Stores x ∷ k') fits' w = inl (to w.rest.1.0 w.rest.0 x k' w.rooms w.holds (variable_none known.program s.heap kind kinds x k' none fits') w.stored w.roomed w.fit w.rest.1.1)
-      go (Declares x ∷ k') fits' w = to w.rest.1.0 w.rest.0 x k' w.rooms w.holds (declared_none known.program s.heap kind kinds x k' none fits') w.stored w.roomed w.fit w.rest.1.1
+      go (Stores x ∷ k') fits' w = inl (to (RunsOn known k') w.rest.1.0 w.rest.0 x k' w.rooms w.holds (variable_none known.program s.heap kind kinds x k' none fits') w.stored w.roomed w.fit (λ h r. r) w.rest.1.1)
+      go (Declares x ∷ k') fits' w = to (λ rooms holds. HasRoom rooms × RunsOn known k' rooms holds) w.rest.2.0 w.rest.1 x k' w.rooms w.holds (declared_none known.program s.heap kind kinds x k' none fits') w.stored w.roomed w.fit (λ h r. (w.rest.0, r)) w.rest.2.1
       go (StoresIn o c ∷ k') fits' h = clears_in o c k' h
       go (f ∷ k') fits' w = absurd (w.rest)
 
@@ -489,11 +489,11 @@ module _ (known : Known) (k : Control) (a : Activation Value) (rest : List (Acti
       go (inr (raise, inr (inr fills))) = filling known a rest s below k cs v w.rest.0 (at_work w fills) raise
 
   -- A value is stored, a variable is created, a line is written.
-  pub stores_fine : (x : ℕ) (v : Value) (vs : List Value) → Resumes known s.heap (slice_set a.places x v) s.masters k → Stepped known s.heap Quiet (running k (record { places = slice_set a.places x v; operands = vs }) rest s)
-  stores_fine x v vs r = resumes_on known k (record { places = slice_set a.places x v; operands = vs }) rest s r Quiet tt
+  pub stores_fine : (x : ℕ) (v : Value) (vs : List Value) → Resumes known s.heap (slice_set a.places x v) s.masters k → Stepped known s.heap Quiet (running k (record a { places = slice_set a.places x v; operands = vs }) rest s)
+  stores_fine x v vs r = resumes_on known k (record a { places = slice_set a.places x v; operands = vs }) rest s r Quiet tt
 
-  pub declares_fine : (x : ℕ) (v : Value) (vs : List Value) → Working known s.heap (slice_set a.places x v) s.masters (RunsOn known k) → Stepped known s.heap Quiet (owned (declared x) (running k (record { places = slice_set a.places x v; operands = vs }) rest s))
-  declares_fine x v vs w = runs_on known k (record { places = slice_set a.places x v; operands = vs }) rest (owned (declared x) s) (record { rooms = w.rooms; holds = w.holds; stored = stored_owning (declared x) w.stored; roomed = roomed_declares _ x s.masters w.rooms w.roomed; fit = w.fit; rest = w.rest }) Quiet tt
+  pub declares_fine : (x : ℕ) (v : Value) (vs : List Value) → Working known s.heap (slice_set a.places x v) s.masters (λ rooms holds. HasRoom rooms × RunsOn known k rooms holds) → Stepped known s.heap Quiet (owned (declared x) (running k (record a { places = slice_set a.places x v; operands = vs }) rest s))
+  declares_fine x v vs w = runs_on known k (record a { places = slice_set a.places x v; operands = vs }) rest (owned (declared x) s) (record { rooms = w.rooms; holds = w.holds; stored = stored_owning (declared x) w.stored; roomed = roomed_declares (below known) _ x s.masters w.rooms w.rest.0 w.roomed; fit = w.fit; rest = w.rest.1 }) Quiet tt
 
   pub writes_fine : (i : Option ℤ) (vs : List Value) → Working known s.heap a.places s.masters (RunsOn known k) → Fine known s.heap s.masters (line_next named i (running k (record a { operands = vs }) rest s))
   writes_fine None vs w = tt

@@ -73,6 +73,7 @@ exceptions = no_name ∷ []
 abbrev pub handled_program_of : (statements : List Stmt) → length statements ≤ 8 → (handlers : List Handler) → length handlers ≤ 8 → Program
 handled_program_of statements le handlers few = record {
   types = vec types (omega arith);
+  procedures = vec [] (omega arith);
   variables = vec (link ∷ link ∷ []) (omega arith);
   texts = vec [] (omega arith);
   exceptions = vec exceptions (omega arith);
@@ -221,6 +222,7 @@ n_declared = declaration.Variable (record { 0 = 2 }) (Some (right.Value (Integer
 abbrev counting_program_of : (statements : List Stmt) → length statements ≤ 8 → Program
 counting_program_of statements le = record {
   types = vec types (omega arith);
+  procedures = vec [] (omega arith);
   variables = vec (link ∷ link ∷ record { name = no_name; spot = spot; kind = variable.Integer; borrows = false } ∷ []) (omega arith);
   texts = vec [] (omega arith);
   exceptions = vec [] (omega arith);

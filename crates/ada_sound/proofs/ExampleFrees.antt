@@ -90,6 +90,7 @@ freeing_all =
 abbrev pub freeing : Program
 freeing = record {
   types = vec leaf_types (omega arith);
+  procedures = vec [] (omega arith);
   variables = vec (of_access 3 ∷ of_access 1 ∷ []) (omega arith);
   texts = vec [] (omega arith);
   exceptions = vec [] (omega arith);

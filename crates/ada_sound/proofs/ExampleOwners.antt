@@ -48,6 +48,7 @@ an_access access = component.Access (record { 0 = access })
 abbrev program_with : (types : List TypeDefinition) → length types ≤ 8 → (statements : List Stmt) → length statements ≤ 8 → Program
 program_with types few statements le = record {
   types = vec types few;
+  procedures = vec [] (omega arith);
   variables = vec (link ∷ link ∷ []) (omega arith);
   texts = vec [] (omega arith);
   exceptions = vec [] (omega arith);
@@ -188,6 +189,7 @@ outlasting_all = outlasting_block ∷ stmt.PutImage (Reads (path 0 (record { 0 =
 abbrev pub outlasting : Program
 outlasting = record {
   types = vec outlasting_types (omega arith);
+  procedures = vec [] (omega arith);
   variables = vec (of_access 2 ∷ of_access 3 ∷ []) (omega arith);
   texts = vec [] (omega arith);
   exceptions = vec [] (omega arith);
@@ -259,6 +261,7 @@ record_all = default_news (of_r 1) ∷ moves (whole 1) (of_r 1) ∷ clears (of_r
 abbrev pub recording : Program
 recording = record {
   types = vec record_types (omega arith);
+  procedures = vec [] (omega arith);
   variables = vec record_variables (omega arith);
   texts = vec [] (omega arith);
   exceptions = vec [] (omega arith);

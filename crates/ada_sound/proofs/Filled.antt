@@ -28,7 +28,7 @@ use Rattle.ada_owners.proofs.Kernel as kernel
 use Rattle.ada_owners.proofs.Kernel.{same_or_not}
 use Rattle.ada_owners.proofs.Objects.{read_other, listed_at}
 use Rattle.ada_typed.specs.Holding.{HasKind, HaveKinds, cells_of}
-use Rattle.ada_sound.proofs.Fits.{Fit, IsBlank, IsOwn, kinds_of, bare, none_spared, hold_in, place_at}
+use Rattle.ada_sound.proofs.Fits.{Outer, Fit, IsBlank, IsOwn, kinds_of, stacked, none_spared, hold_in, place_at}
 use Rattle.ada_sound.proofs.Assigned.{kind_names}
 use Rattle.ada_sound.proofs.Taken.{selectors_are}
 use Rattle.ada_sound.proofs.Invariant.{NoneBroken, back_onto, named_of, ItemsKeep, DoneKeep, FilledBy, Filled}
@@ -209,24 +209,24 @@ filled_length types variables heap places components done operands filled fits =
 
 -- What is relied on while a new object is made, once its items are moved: no more than before; nothing of the variables that are moved; and where an
 -- item is the target, the component that it leads to is the one that the object goes to, on which nothing relies.
-pub record Lends (heap : List Object) (places : List Value) (holds : Holds) (target : Option PathForm) (xs : List ℕ) (after : Place → Hold) : Type 0 where
+pub record Lends (outer : List Outer) (heap : List Object) (places : List Value) (holds : Holds) (target : Option PathForm) (xs : List ℕ) (after : Place → Hold) : Type 0 where
   pub h : Id
   pub d : ℕ
-  pub worse : (q : Place) → Owns (after q) → Owns (hold_in none_spared holds q)
+  pub worse : (q : Place) → Owns (after q) → Owns (hold_in outer none_spared holds q)
   pub moved_gone : (x : ℕ) → is_one_of xs x ≡ true → Owns (after (variable x)) → ⊥
   pub lent_gone : (path : PathForm) → is_target target path ≡ true → Owns (after (component h d)) → ⊥
   pub leads : (path : PathForm) (v : Value) (o : Id) → is_target target path ≡ true → path.selectors ≢ [] → walk heap (place_at places path.root) path.selectors ≡ finds v → v ≡ Names o
-      → value_at heap (bare places) (component h d) ≡ Names o
+      → value_at heap (stacked places outer) (component h d) ≡ Names o
 
 -- An item whose value names an object moves the place that its path names, which owns the object.
-pub record Moves (heap : List Object) (places : List Value) (holds : Holds) (target : Option PathForm) (h : Id) (d : ℕ) (earlier named : List PathForm) (moved : List ℕ) (o : Id) : Type 0 where
+pub record Moves (outer : List Outer) (heap : List Object) (places : List Value) (holds : Holds) (target : Option PathForm) (h : Id) (d : ℕ) (earlier named : List PathForm) (moved : List ℕ) (o : Id) : Type 0 where
   pub path : PathForm
   pub place : Place
   pub is : named ≡ path ∷ []
   pub once : is_named earlier path ≡ false
   pub is_place : IsPlaceOf target h d path place
-  pub own : Owns (hold_in none_spared holds place)
-  pub names : value_at heap (bare places) place ≡ Names o
+  pub own : Owns (hold_in outer none_spared holds place)
+  pub names : value_at heap (stacked places outer) place ≡ Names o
   pub of_moved : (x : ℕ) → place ≡ variable x → moved ≡ x ∷ []
 
 -- What is among numbers, and among paths.
@@ -247,8 +247,8 @@ named_parts (p ∷ ps) qs path e =
 named_twice : (named : List PathForm) (p q : PathForm) → named ≡ p ∷ [] → same_path p q ≡ true → is_named named q ≡ false → ⊥
 named_twice named p q is same once = let one : is_named (p ∷ []) q ≡ true = rw same refl in cc (is, one, once)
 
-module _ (types : List TypeForm) (variables : List VariableForm) (heap : List Object) (places : List Value) (holds : Holds) (spot : Spot) (target : Option PathForm) (xs : List ℕ) (after : Place → Hold) (fit : Fit types variables none_spared heap places holds) (lends : Lends heap places holds target xs after) where
-  path_moves : (earlier : List PathForm) (path : PathForm) (cs : List ℕ) (v : Value) (o : Id) → path.selectors ≡ cs → is_named earlier path ≡ false → moved_behind (is_target target path) cs (hold_at holds path.root) path.spot ≡ None → walk heap (place_at places path.root) cs ≡ finds v → v ≡ Names o → Moves heap places holds target lends.h lends.d earlier (path ∷ []) (variable_of cs path.root) o
+module _ (types : List TypeForm) (variables : List VariableForm) (outer : List Outer) (heap : List Object) (places : List Value) (holds : Holds) (spot : Spot) (target : Option PathForm) (xs : List ℕ) (after : Place → Hold) (fit : Fit types variables outer none_spared heap places holds) (lends : Lends outer heap places holds target xs after) where
+  path_moves : (earlier : List PathForm) (path : PathForm) (cs : List ℕ) (v : Value) (o : Id) → path.selectors ≡ cs → is_named earlier path ≡ false → moved_behind (is_target target path) cs (hold_at holds path.root) path.spot ≡ None → walk heap (place_at places path.root) cs ≡ finds v → v ≡ Names o → Moves outer heap places holds target lends.h lends.d earlier (path ∷ []) (variable_of cs path.root) o
   path_moves earlier path [] v o whole once kept is names =
       let same : place_at places path.root ≡ v = cc is in
       let held : place_at places path.root ≡ Names o = same ∙ names in
@@ -275,7 +275,7 @@ module _ (types : List TypeForm) (variables : List VariableForm) (heap : List Ob
         of_moved = λ x e. absurd (cc e);
       }
 
-  item_moves : (earlier : List PathForm) (kind : ComponentKind) (item : ItemForm) (v : Value) (o : Id) → component_item_fits types variables kind item ≡ true → NoneBroken holds (uses_in_item types spot target earlier item) → FilledBy heap places item v → HasKind (cells_of heap) (held_kind kind) v → v ≡ Names o → Moves heap places holds target lends.h lends.d earlier (named_by_item item) (moved_by_item item) o
+  item_moves : (earlier : List PathForm) (kind : ComponentKind) (item : ItemForm) (v : Value) (o : Id) → component_item_fits types variables kind item ≡ true → NoneBroken holds (uses_in_item types spot target earlier item) → FilledBy heap places item v → HasKind (cells_of heap) (held_kind kind) v → v ≡ Names o → Moves outer heap places holds target lends.h lends.d earlier (named_by_item item) (moved_by_item item) o
   item_moves earlier kind null_item v o fits keep is has names = absurd (cc (is, names))
   item_moves earlier (component_kinds.Integer initial) (item_of_value e) v o fits keep is has names = absurd (rw names at has)
   item_moves earlier (component_kinds.Boolean initial) (item_of_value e) v o fits keep is has names = absurd (rw names at has)
@@ -293,10 +293,10 @@ module _ (types : List TypeForm) (variables : List VariableForm) (heap : List Ob
     pub place : Place
     pub once : is_named earlier path ≡ false
     pub is_place : IsPlaceOf target lends.h lends.d path place
-    pub own : Owns (hold_in none_spared holds place)
-    pub names : value_at heap (bare places) place ≡ Names o
+    pub own : Owns (hold_in outer none_spared holds place)
+    pub names : value_at heap (stacked places outer) place ≡ Names o
 
-  one_moved : {earlier named : List PathForm} {moved : List ℕ} {o : Id} → Moves heap places holds target lends.h lends.d earlier named moved o → IsMoved earlier o
+  one_moved : {earlier named : List PathForm} {moved : List ℕ} {o : Id} → Moves outer heap places holds target lends.h lends.d earlier named moved o → IsMoved earlier o
   one_moved m = record { path = m.path; place = m.place; once = m.once; is_place = m.is_place; own = m.own; names = m.names }
 
   later_moved : (cs : List ComponentKind) (items : List ItemForm) (vs : List Value) (earlier : List PathForm) → items_fit types variables cs items ≡ true → ItemsKeep types spot target holds earlier items → FilledInOrder heap places items vs → HaveKinds (cells_of heap) cs vs → (i : ℕ) (o : Id) → slice_index_or vs i Null ≡ Names o → IsMoved earlier o
@@ -310,7 +310,7 @@ module _ (types : List TypeForm) (variables : List VariableForm) (heap : List Ob
       record { path = m.path; place = m.place; once = (named_parts (named_by_item item) earlier m.path m.once).1; is_place = m.is_place; own = m.own; names = m.names }
 
   -- Once the places are lost, the value of an item is in hand.
-  moved_in_hand : (kind : Option ℕ) (v : Value) → ((o : Id) → v ≡ Names o → IsOf (access_at heap) kind o) → ((o : Id) → v ≡ Names o → (place : Place) × Owns (hold_in none_spared holds place) × (value_at heap (bare places) place ≡ Names o) × (Owns (after place) → ⊥)) → IsInHand heap (bare places) after kind v
+  moved_in_hand : (kind : Option ℕ) (v : Value) → ((o : Id) → v ≡ Names o → IsOf (access_at heap) kind o) → ((o : Id) → v ≡ Names o → (place : Place) × Owns (hold_in outer none_spared holds place) × (value_at heap (stacked places outer) place ≡ Names o) × (Owns (after place) → ⊥)) → IsInHand heap (stacked places outer) after kind v
   moved_in_hand kind v right moved = record {
     hand = record {
       right = right;
@@ -334,7 +334,7 @@ module _ (types : List TypeForm) (variables : List VariableForm) (heap : List Ob
       rw (same, there.found, there.listed) refl
 
   -- All values of items are, from one component on.
-  items_in_hand : (kind : ℕ → Option ℕ) (c : ℕ) (cs : List ComponentKind) (items : List ItemForm) (vs : List Value) (earlier : List PathForm) → ((n : ℕ) → kind (n + c) ≡ access_of (component_kind (slice_get cs n))) → ((x : ℕ) → is_one_of (moved_by_items items) x ≡ true → is_one_of xs x ≡ true) → items_fit types variables cs items ≡ true → ItemsKeep types spot target holds earlier items → FilledInOrder heap places items vs → HaveKinds (cells_of heap) cs vs → AreInHand heap (bare places) after kind c vs
+  items_in_hand : (kind : ℕ → Option ℕ) (c : ℕ) (cs : List ComponentKind) (items : List ItemForm) (vs : List Value) (earlier : List PathForm) → ((n : ℕ) → kind (n + c) ≡ access_of (component_kind (slice_get cs n))) → ((x : ℕ) → is_one_of (moved_by_items items) x ≡ true → is_one_of xs x ≡ true) → items_fit types variables cs items ≡ true → ItemsKeep types spot target holds earlier items → FilledInOrder heap places items vs → HaveKinds (cells_of heap) cs vs → AreInHand heap (stacked places outer) after kind c vs
   items_in_hand kind c cs items [] earlier kinds_are among fits keep filled kinds = tt
   items_in_hand kind c [] items (v ∷ vs) earlier kinds_are among fits keep filled kinds = absurd kinds
   items_in_hand kind c (f ∷ cs) [] (v ∷ vs) earlier kinds_are among fits keep filled kinds = absurd (cc fits)
@@ -350,9 +350,9 @@ module _ (types : List TypeForm) (variables : List VariableForm) (heap : List Ob
       right : component_item_fits types variables f item ≡ true → (o : Id) → v ≡ Names o → IsOf (access_at heap) (kind c) o
       right here o e =
           let m = item_moves earlier f item v o here keep.0 filled.0 kinds.0 e in
-          rw at_c (right_kind (kind_of (kinds_of types variables) (access_at heap) m.place) (held_kind f) o (kernel.owned_at fit.owners.fit m.place m.own o m.names) (rw e at kinds.0))
+          rw at_c (right_kind (kind_of (kinds_of types variables outer) (access_at heap) m.place) (held_kind f) o (kernel.owned_at fit.owners.fit m.place m.own o m.names) (rw e at kinds.0))
 
-      moved : component_item_fits types variables f item ≡ true → (o : Id) → v ≡ Names o → (place : Place) × Owns (hold_in none_spared holds place) × (value_at heap (bare places) place ≡ Names o) × (Owns (after place) → ⊥)
+      moved : component_item_fits types variables f item ≡ true → (o : Id) → v ≡ Names o → (place : Place) × Owns (hold_in outer none_spared holds place) × (value_at heap (stacked places outer) place ≡ Names o) × (Owns (after place) → ⊥)
       moved here o e =
           let m = item_moves earlier f item v o here keep.0 filled.0 kinds.0 e in
           (m.place, m.own, m.names, place_gone m.path m.place m.is_place (λ x is. among x (rw (m.of_moved x is) (first_one x (moved_by_items items)))))
@@ -370,7 +370,7 @@ module _ (types : List TypeForm) (variables : List VariableForm) (heap : List Ob
       shifted n = let e : n + suc c ≡ suc n + c = omega arith in ap kind e ∙ kinds_are (suc n)
 
   -- The newest operands, in order, are in hand.
-  pub filled_in_hand : (access : ℕ) (components : List ComponentKind) (done : List ItemForm) (operands : List Value) → ((x : ℕ) → is_one_of (moved_by_items (back_onto done [])) x ≡ true → is_one_of xs x ≡ true) → reached_components types access ≡ Some components → items_fit types variables components (back_onto done []) ≡ true → DoneKeep types spot target holds done → Filled heap places done operands → HaveKinds (cells_of heap) components (reverse (take (length (back_onto done [])) operands)) → AreInHand heap (bare places) after (λ c. access_of (kind_among (reached_components types access) c)) 0 (reverse (take (length (back_onto done [])) operands))
+  pub filled_in_hand : (access : ℕ) (components : List ComponentKind) (done : List ItemForm) (operands : List Value) → ((x : ℕ) → is_one_of (moved_by_items (back_onto done [])) x ≡ true → is_one_of xs x ≡ true) → reached_components types access ≡ Some components → items_fit types variables components (back_onto done []) ≡ true → DoneKeep types spot target holds done → Filled heap places done operands → HaveKinds (cells_of heap) components (reverse (take (length (back_onto done [])) operands)) → AreInHand heap (stacked places outer) after (λ c. access_of (kind_among (reached_components types access) c)) 0 (reverse (take (length (back_onto done [])) operands))
   filled_in_hand access components done operands among reached fits keep filled kinds =
       let all = back_onto done [] in
       let counted : length all ≡ length done = let h = back_length done [] in omega (arith, h) in

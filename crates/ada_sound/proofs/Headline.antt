@@ -28,7 +28,7 @@ module _ (program : Program) (accepted : IsChecked program) where
   sound_last input events last run = runs.sound_run run (first input)
 
   pub agrees : AgreesWithFlow program
-  agrees input events last run begins = agrees_at program last accepted.well_formed (sound_last input events last run) begins
+  agrees input events last run begins = agrees_at program last (sound_last input events last run) begins
 
   pub never : (why : Why) → NeverErroneous why program
   never why input events last run halted = runs.never_erroneous program last why (sound_last input events last run) halted
@@ -116,4 +116,4 @@ mutual
       one_way_to (rw here' at a) b
 
 pub one_flow : OneFlow
-one_flow program way place others holds other a b = one_way_inside a b
+one_flow program procedure rest way place others holds other a b = one_way_inside a b

@@ -3,19 +3,19 @@
 use Rattle.std.proofs.Common.{◌≡◌, ◌≢◌, ℕ, suc, ◌≤◌, Bool, true, false, ◌&&◌, ◌||◌, List, [], ◌∷◌, ◌++◌, length, take, drop, ◌⊎◌}
 use Rattle.std.specs.Prelude.{ℤ, Option, Some, None}
 use Rattle.ada_text.specs.declared.spot.Spot.{Spot}
-use Rattle.std.specs.List.{list_any, slice_set}
+use Rattle.std.specs.List.{list_any, slice_get, slice_set}
 use Rattle.ada_program.specs.declared.program.Exception.{Exception}
 use Rattle.ada_program.specs.declared.program.Exception.TheVariants.{ConstraintError, StorageError, EndError}
 use Rattle.ada_program.specs.Form.{PathForm, ExpressionForm, ItemForm, null_item, item_of_path, item_of_value, item_of_record, RightForm, nothing, value_of, allocates, allocates_default, computes, assigns, StmtsForm, a_stmt, BranchesForm, HandlersForm, DeclarationForm}
 use Rattle.ada_program.specs.declared.program.ComponentKind.{ComponentKind}
-use Rattle.ada_program.specs.ProgramForm.{TypeForm, VariableForm, ProgramForm}
+use Rattle.ada_program.specs.ProgramForm.{TypeForm, VariableForm, BodyForm, ProgramForm, main_body}
 use Rattle.ada_program.specs.declared.program.VariableKind.{VariableKind}
 use Rattle.ada_program.specs.WellFormed.{is_access, access_of, selectors_kind, variable_kind, record_components, reached_components, items_fit, is_record_object}
 use Rattle.ada_program.specs.Handling.{is_same, handler_of}
-use Rattle.ada_effects.specs.Effects.{expression_raises, links_raise, items_raise, path_raises, condition_raises, unary_raises, binary_raises, right_raises, declaration_raises, stmts_raise, branches_raise, handlers_raise}
+use Rattle.ada_effects.specs.Effects.{expression_raises, links_raise, items_raise, path_raises, condition_raises, unary_raises, binary_raises, right_raises, declaration_raises, stmts_raise, branches_raise, handlers_raise, call_raises, body_raises, stmts_free, branches_free, handlers_free, call_frees, effects_of}
 use Rattle.ada_flow.specs.declared.rule.Hold.TheVariants as hold
 use Rattle.ada_flow.specs.declared.rule.Region.TheVariants.{Whole}
-use Rattle.ada_flow.specs.Flow.{Holds, hold_at, variable_access, Outcome, faults, goes, Use, uses_in, uses_in_links, uses_in_item, named_by_item, is_owning, is_owning_record, owns_at_first, broken_among, without_values, moved_by_items, passes_type, behind_end, gives, gives_component, clears, are_as_good, have_exit, branches_have_exit, handlers_have_exit, is_left, condition_flow, stmts_flow, branches_flow, handlers_flow, declaration_flow, Gone as GoneWith, collected, is_among, left, Around, in_loop}
+use Rattle.ada_flow.specs.Flow.{Holds, hold_at, variable_access, Outcome, faults, goes, Use, uses_in, uses_in_links, uses_in_item, named_by_item, is_owning, is_owning_record, owns_at_first, broken_among, without_values, moved_by_items, passes_type, behind_end, gives, gives_component, clears, are_as_good, have_exit, branches_have_exit, handlers_have_exit, is_left, condition_flow, stmts_flow, branches_flow, handlers_flow, declaration_flow, Gone as GoneWith, collected, is_among, left, left_by_call, nothing_gone, Around}
 use Rattle.ada_meaning.specs.declared.state.Id.{Id}
 use Rattle.ada_meaning.specs.declared.state.Value.{Value}
 use Rattle.ada_meaning.specs.declared.state.Value.TheVariants.{Null, Names, Scalar}
@@ -26,9 +26,9 @@ use Rattle.ada_meaning.specs.declared.event.Cause.{Cause}
 use Rattle.ada_meaning.specs.declared.event.Cause.TheVariants.{Leaving, Freeing, Assigning, Undoing}
 use Rattle.ada_meaning.specs.declared.event.Halt.{Halt}
 use Rattle.ada_meaning.specs.declared.event.Halt.TheVariants.{Finished, Unhandled, Erroneous, Stuck, Memory}
-use Rattle.ada_meaning.specs.Frame.{Frame, Elaborates, Does, Decides, Repeats, Turns, Ranges, Counts, Exits, Handles, Closes, Leaves, Evaluates, Computes, Follows, TestsNull, Continues, Applies, AppliesAlone, Fills, Copies, Creates, Stores, Targets, StoresIn, TargetsRecord, StoresRecord, Receives, FreesIn, Declares, DeclaresRecord, Writes, Ends, GivesBack, Clears, ClearsIn}
+use Rattle.ada_meaning.specs.Frame.{Frame, Elaborates, Does, Decides, Repeats, Turns, Ranges, Counts, Exits, Handles, Closes, Leaves, Calls, Returns, Evaluates, Computes, Follows, TestsNull, Continues, Applies, AppliesAlone, Fills, Copies, Creates, Stores, Targets, StoresIn, TargetsRecord, StoresRecord, Receives, FreesIn, Declares, DeclaresRecord, Writes, Ends, GivesBack, Clears, ClearsIn}
 use Rattle.ada_meaning.specs.Event.{Born, Finalized, Back, Followed, Left, Line, Quiet}
-use Rattle.ada_meaning.specs.State.{Activation, Owned, declared, collection, record_object, Item, Master}
+use Rattle.ada_meaning.specs.State.{Activation, Owned, declared, collection, record_object, Item, Master, height}
 use Rattle.ada_meaning.specs.Heap.{Home, finds}
 use Rattle.ada_meaning.specs.Step.{halts, moves, tells, asks, picks, first_or, older, in_front, before_last, last_of, places, operands}
 use Rattle.ada_meaning.specs.Named.{Object, State, Next, object_at, store}
@@ -40,18 +40,13 @@ use Rattle.ada_sound.proofs.Stored.{Stored}
 use Rattle.ada_owners.specs.Keeping.{IsThere}
 use Rattle.ada_owners.specs.Places.{component_in}
 use Rattle.ada_owners.specs.Walks.{walk}
-use Rattle.ada_sound.proofs.Fits.{Fit, IsRelied, MayFollow, component_access, is_object, none_spared, going, place_at}
+use Rattle.ada_sound.proofs.Fits.{Outer, NoOuterAlias, IsBlank, place_at, Fit, IsRelied, MayFollow, component_access, is_object, none_spared, going}
 use Rattle.ada_sound.proofs.Orderings.{AsGood}
 use Rattle.ada_sound.proofs.Alters.{BackIn, Alters}
 
 -- What is left to do, over names.
 abbrev pub Control : Type 0
 Control = List (Frame Value)
-
--- The program, and what is known where flow comes to a place.
-pub record Known : Type 1 where
-  pub program : ProgramForm
-  pub At : Control → Holds → Type 0
 
 -- What goes with each master: the types of the collections and the record objects that it may own, and its variables, innermost first.
 abbrev pub Rooms : Type 0
@@ -66,11 +61,47 @@ abbrev pub ItemsAmong : List Item → List ℕ → Type 0
 ItemsAmong [] types = Unit {0}
 ItemsAmong (i ∷ is) types = OwnedAmong i.owned types × ItemsAmong is types
 
-abbrev pub Roomed : List Master → Rooms → Type 0
-Roomed [] [] = Unit {0}
-Roomed [] (gone ∷ rooms) = ⊥
-Roomed (m ∷ ms) [] = ⊥
-Roomed (m ∷ ms) (gone ∷ rooms) = ItemsAmong m.items gone.types × Roomed ms rooms
+-- The masters of the running activation have these rooms; below them are those of its callers.
+abbrev pub Roomed : (below : List Master) → List Master → Rooms → Type 0
+Roomed below ms [] = ms ≡ below
+Roomed below [] (gone ∷ rooms) = ⊥
+Roomed below (m ∷ ms) (gone ∷ rooms) = ItemsAmong m.items gone.types × Roomed below ms rooms
+
+-- A caller, whose activation is suspended: the program as its body sees it, and what is known where flow comes to a place in it; what is left to do once
+-- its call has come to its end, the masters that are entered then, and their rooms; what its variables hold, and what is known of them behind the call.
+pub record Caller : Type 1 where
+  pub program : ProgramForm
+  pub At : Control → Holds → Type 0
+  pub control : Control
+  pub masters : List Master
+  pub rooms : Rooms
+  pub places : List Value
+  pub holds : Holds
+
+-- The program as the running body sees it, what is known where flow comes to a place in it, and its callers, the nearest one first.
+pub record Known : Type 1 where
+  pub program : ProgramForm
+  pub At : Control → Holds → Type 0
+  pub callers : List Caller
+
+abbrev pub outer_of : Caller → Outer
+outer_of w = record { variables = w.program.variables; places = w.places; holds = w.holds }
+
+-- What the variables of suspended activations hold, and are relied on for.
+abbrev pub outer_in : List Caller → List Outer
+outer_in [] = []
+outer_in (w ∷ ws) = outer_of w ∷ outer_in ws
+
+abbrev pub outers : Known → List Outer
+outers known = outer_in known.callers
+
+-- The masters that the callers have entered.
+abbrev pub below_callers : List Caller → List Master
+below_callers [] = []
+below_callers (w ∷ ws) = w.masters
+
+abbrev pub below : Known → List Master
+below known = below_callers known.callers
 
 abbrev pub AllAmong : List ℕ → List ℕ → Type 0
 AllAmong [] types = Unit {0}
@@ -125,31 +156,51 @@ OnExit variables has_one around exited = has_one ≡ true → (holds : Holds) �
 abbrev pub OnReturn : Ways → Type 0
 OnReturn w = (holds : Holds) → w.returned holds
 
+-- Objects may be freed only of access types of which no suspended activation has an alias.
+abbrev pub Spares : Known → (may : ℕ → Bool) → Type 0
+Spares known may = (t : ℕ) → may t ≡ true → NoOuterAlias (outers known) t
+
+-- Where a statement of the running body stands: the start of the innermost loop around it, if there is one, and what goes with the blocks since.
+pub record Where : Type 0 where
+  pub start : Option Holds
+  pub inside : GoneWith
+
+abbrev pub around_at : Known → Where → Around
+around_at known at = record { effects = effects_of known.program; start = at.start; inside = at.inside }
+
+-- In a turn of a loop with this start.
+abbrev pub in_turn : Holds → Where
+in_turn start = record { start = Some start; inside = nothing_gone }
+
 -- Statements before a control run from these holds, and end in these ways.
 abbrev pub Doing : Known → StmtsForm → Control → Ways → Holds → Type 0
 Doing known fs k w holds =
-    (around : Around) × From known around k fs holds
-    × Goes (stmts_flow known.program.types known.program.variables around fs holds) (To w.normal) (Raised (λ e. stmts_raise (is_same e) fs) w)
-    × OnExit known.program.variables (have_exit fs) around w.exited × OnReturn w
+    (at : Where) × From known (around_at known at) k fs holds
+    × Goes (stmts_flow known.program.types known.program.variables (around_at known at) fs holds) (To w.normal) (Raised (λ e. stmts_raise (effects_of known.program) (is_same e) fs) w)
+    × OnExit known.program.variables (have_exit fs) (around_at known at) w.exited × OnReturn w
+    × Spares known (λ t. stmts_free known.program.types known.program.variables (effects_of known.program) t fs)
 
 -- The same of branches, and of handlers.
 abbrev pub Choosing : Known → BranchesForm → Control → Ways → Holds → Type 0
 Choosing known branches k w holds =
-    (around : Around) × FromBy known around k branches holds
-    × Goes (branches_flow known.program.types known.program.variables around branches holds) (To w.normal) (Raised (λ e. branches_raise (is_same e) branches) w)
-    × OnExit known.program.variables (branches_have_exit branches) around w.exited × OnReturn w
+    (at : Where) × FromBy known (around_at known at) k branches holds
+    × Goes (branches_flow known.program.types known.program.variables (around_at known at) branches holds) (To w.normal) (Raised (λ e. branches_raise (effects_of known.program) (is_same e) branches) w)
+    × OnExit known.program.variables (branches_have_exit branches) (around_at known at) w.exited × OnReturn w
+    × Spares known (λ t. branches_free known.program.types known.program.variables (effects_of known.program) t branches)
 
 abbrev pub Handling : Known → HandlersForm → Control → Ways → Holds → Type 0
 Handling known hs k w holds =
-    (around : Around) × FromTo known around k hs holds
-    × Goes (handlers_flow known.program.types known.program.variables around hs holds) (To w.normal) (Raised (λ e. handlers_raise (is_same e) hs) w)
-    × OnExit known.program.variables (handlers_have_exit hs) around w.exited × OnReturn w
+    (at : Where) × FromTo known (around_at known at) k hs holds
+    × Goes (handlers_flow known.program.types known.program.variables (around_at known at) hs holds) (To w.normal) (Raised (λ e. handlers_raise (effects_of known.program) (is_same e) hs) w)
+    × OnExit known.program.variables (handlers_have_exit hs) (around_at known at) w.exited × OnReturn w
+    × Spares known (λ t. handlers_free known.program.types known.program.variables (effects_of known.program) t hs)
 
 -- A turn of a loop: it leads back to the start with no less known.
 abbrev pub TurnsTo : Known → StmtsForm → Control → Ways → (start mid : Holds) → Type 0
 TurnsTo known body k w start mid =
-    From known (in_loop (Some start)) k body mid
-    × Goes (stmts_flow known.program.types known.program.variables (in_loop (Some start)) body mid) (λ after. AsGood after start) (Raised (λ e. stmts_raise (is_same e) body) w)
+    From known (around_at known (in_turn start)) k body mid
+    × Goes (stmts_flow known.program.types known.program.variables (around_at known (in_turn start)) body mid) (λ after. AsGood after start) (Raised (λ e. stmts_raise (effects_of known.program) (is_same e) body) w)
+    × Spares known (λ t. stmts_free known.program.types known.program.variables (effects_of known.program) t body)
 
 -- The condition of a loop may raise an exception.
 abbrev pub condition_among : Option ExpressionForm → Exception → Bool
@@ -213,10 +264,31 @@ nowhere = record { normal = λ holds. ⊥; raised = λ e holds. ⊥; exited = λ
 abbrev pub anywhere : Ways
 anywhere = record { normal = λ holds. Unit {0}; raised = λ e holds. Unit {0}; exited = λ holds. Unit {0}; returned = λ holds. Unit {0} }
 
+-- Nothing is left to do where the main body has no caller.
+abbrev pub at_end : List Caller → Ways
+at_end [] = anywhere
+at_end (w ∷ ws) = nowhere
+
+-- Which exceptions the running body may raise.
+abbrev pub body_among : ProgramForm → Exception → Bool
+body_among p e = body_raises (effects_of p) (main_body p) (is_same e)
+
+-- The body of a call comes to its end: its caller goes on with what it was to do.
+abbrev pub returning : ProgramForm → List Caller → Control → Ways
+returning p [] k = nowhere
+returning p (w ∷ ws) k = record {
+  normal = λ holds. k ≡ w.control;
+  raised = λ e holds. (body_among p e ≡ true) × (k ≡ w.control);
+  exited = λ holds. ⊥;
+  returned = λ holds. k ≡ w.control;
+}
+
 -- What is left to do, by the mode that it is come to in. A form that waits for a value is passed by a jump alone.
 abbrev pub ways : Known → Control → Rooms → Ways
-ways known [] [] = anywhere
+ways known [] [] = at_end known.callers
 ways known [] (gone ∷ rooms) = nowhere
+ways known (Returns ∷ k) [] = returning known.program known.callers k
+ways known (Returns ∷ k) (gone ∷ rooms) = nowhere
 ways known (Elaborates ds fs hs ∷ k) [] = nowhere
 ways known (Elaborates ds fs hs ∷ k) (gone ∷ rooms) = record (Outside known.program.variables gone (ways known k rooms)) {
   normal = λ holds. AllAmong (collected ds) gone.types × Elaborating known ds (Doing known fs (Handles hs ∷ Closes ∷ k) (Handled known hs (Closes ∷ k) (Outside known.program.variables gone (ways known k rooms)))) (Outside known.program.variables gone (ways known k rooms)) holds;
@@ -302,10 +374,15 @@ abbrev pub IsAlone : (cleared : Bool) → Type 0
 IsAlone false = Unit {0}
 IsAlone true = ⊥
 
+-- The running activation has entered a master.
+abbrev pub HasRoom : Rooms → Type 0
+HasRoom [] = ⊥
+HasRoom (gone ∷ rooms) = Unit {0}
+
 -- A variable is declared with what is assigned.
 abbrev pub DeclaresTo : Known → RightForm → Rooms → Holds → ℕ → Control → Type 0
 DeclaresTo known right rooms holds x k =
-    (cleared : Bool)
+    HasRoom rooms × (cleared : Bool)
     × ((spot : Spot) × Goes (gives known.program.types known.program.variables spot cleared x right holds) (RunsOn known k rooms) (Raised (λ e. right_raises (is_same e) right) (ways known k rooms)))
     × IsAlone cleared
 
@@ -385,6 +462,12 @@ abbrev pub GoesInto : List Object → List Value → (target : Option PathForm) 
 GoesInto heap places None k = Unit {0}
 GoesInto heap places (Some path) k = StoresTo k (λ x k'. ⊥) (λ o c k'. LeadsTo heap places o [] c path)
 
+-- Where a variable is declared, the running activation has entered a master.
+abbrev pub RoomFor : Control → Rooms → Type 0
+RoomFor [] rooms = Unit {0}
+RoomFor (Declares x ∷ k) rooms = HasRoom rooms
+RoomFor (f ∷ k) rooms = Unit {0}
+
 -- What an allocator with all these items leads to.
 pub record Allocating (known : Known) (heap : List Object) (access : ℕ) (all : List ItemForm) (k : Control) (rooms : Rooms) (holds : Holds) : Type 0 where
   pub components : List ComponentKind
@@ -392,6 +475,7 @@ pub record Allocating (known : Known) (heap : List Object) (access : ℕ) (all :
   pub fit : items_fit known.program.types known.program.variables components all ≡ true
   pub fails : MayRaise known (items_raise all) ConstraintError k rooms holds
   pub refused : MayRaise known true StorageError k rooms holds
+  pub room : RoomFor k rooms
   pub to : StoresTo k
       (λ x k'. ((variable_access known.program.variables x ≡ Some access) × (is_object known.program.variables x ≡ false))
       × RunsOn known k' rooms (slice_set (without_values (moved_by_items all) holds) x (hold.Own Whole)))
@@ -493,6 +577,7 @@ pub record Releasing (known : Known) (heap : List Object) (v : Value) (cs : List
   pub passes : PassesNone known.program.types from (cs ++ c ∷ []) access
   pub of_type : access_of (selectors_kind known.program.types from (cs ++ c ∷ [])) ≡ access
   pub own : (t : ℕ) → access ≡ Some t → is_access known.program.types t ≡ true
+  pub spares : (t : ℕ) → access ≡ Some t → NoOuterAlias (outers known) t
   pub raises : RaisesAt known v cs k rooms (behind_end known.program.variables access holds)
   pub runs : RunsOn known k rooms (behind_end known.program.variables access holds)
 
@@ -506,6 +591,15 @@ TurningOn known e body k rooms holds =
 
 abbrev pub ExitingTo : Known → Control → Rooms → Holds → Type 0
 ExitingTo known k rooms holds = RunsOn known k rooms holds × (ways known k rooms).exited holds
+
+-- A call is next (6.4): of a procedure that the running body may call. Behind it, and where it raises an exception, aliases of what it frees are lost.
+abbrev pub CallsOn : Known → (procedure : ℕ) → BodyForm → Control → Rooms → Holds → Type 0
+CallsOn known procedure b k rooms holds =
+    (slice_get known.program.bodies procedure ≡ Some b)
+    × RunsOn known k rooms (left_by_call known.program.variables (slice_get (effects_of known.program) procedure) holds)
+    × ((e : Exception) → call_raises (slice_get (effects_of known.program) procedure) (is_same e) ≡ true
+    → To ((ways known k rooms).raised e) (left_by_call known.program.variables (slice_get (effects_of known.program) procedure) holds))
+    × Spares known (call_frees (slice_get (effects_of known.program) procedure))
 
 -- What is left of an expression, or of an allocator's items, breaks no rule; and nothing relies on an expression's value. These are the operands
 -- below the one that is awaited.
@@ -527,7 +621,8 @@ Awaits known heap places below (AppliesAlone operator ∷ k) rooms holds =
     MayRaise known (unary_raises operator) ConstraintError k rooms holds × Awaits known heap places below k rooms holds
 Awaits known heap places below (Fills items ∷ k) rooms holds = (v : Value) → FillsTo known heap places items k (v ∷ below) rooms holds
 Awaits known heap places below (Stores x ∷ k) rooms holds = RunsOn known k rooms (slice_set holds x hold.Lost)
-Awaits known heap places below (Declares x ∷ k) rooms holds = RunsOn known k rooms (slice_set holds x hold.Lost)
+Awaits known heap places below (Declares x ∷ k) rooms holds = HasRoom rooms × RunsOn known k rooms (slice_set holds x hold.Lost)
+Awaits known heap places below (Calls procedure b count ∷ k) rooms holds = CallsOn known procedure b k rooms holds
 Awaits known heap places below (StoresIn o c ∷ k) rooms holds = Accepts known heap o c None × RunsOn known k rooms holds
 Awaits known heap places below (Writes ∷ k) rooms holds = RunsOn known k rooms holds
 Awaits known heap places below (f ∷ k) rooms holds = ⊥
@@ -542,8 +637,8 @@ pub record Working (known : Known) (heap : List Object) (places : List Value) (m
   pub rooms : Rooms
   pub holds : Holds
   pub stored : Stored None heap masters
-  pub roomed : Roomed masters rooms
-  pub fit : Fit known.program.types known.program.variables none_spared heap places holds
+  pub roomed : Roomed (below known) masters rooms
+  pub fit : Fit known.program.types known.program.variables (outers known) none_spared heap places holds
   pub rest : more rooms holds
 
 -- The items of the innermost master.
@@ -556,16 +651,16 @@ pub record Parting (known : Known) (heap : List Object) (places : List Value) (m
   pub rooms : Rooms
   pub holds : Holds
   pub stored : Stored None heap masters
-  pub roomed : Roomed masters rooms
-  pub fit : Fit known.program.types known.program.variables (going heap (innermost masters)) heap places holds
+  pub roomed : Roomed (below known) masters rooms
+  pub fit : Fit known.program.types known.program.variables (outers known) (going heap (innermost masters)) heap places holds
   pub rest : more rooms holds
 
 -- The same while an object is under way, which nothing relies on.
 pub record Freed (known : Known) (spared : Id → Bool) (heap : List Object) (places : List Value) (masters : List Master) (more : Rooms → Holds → Type 0) : Type 0 where
   pub rooms : Rooms
   pub holds : Holds
-  pub roomed : Roomed masters rooms
-  pub fit : Fit known.program.types known.program.variables spared heap places holds
+  pub roomed : Roomed (below known) masters rooms
+  pub fit : Fit known.program.types known.program.variables (outers known) spared heap places holds
   pub rest : more rooms holds
 
 -- What is behind an object under way, by what ends it: a Free, whose variable or component becomes null; or the leaving of a master, at the object's
@@ -720,6 +815,8 @@ ReadyBy known (Counts x next last body) k heap places operands masters = Working
 ReadyBy known Exits k heap places operands masters = Working known heap places masters (ExitingTo known k)
 ReadyBy known (Handles hs) k heap places operands masters = Working known heap places masters (RunsOn known (Handles hs ∷ k))
 ReadyBy known Closes k heap places operands masters = Working known heap places masters (RunsOn known (Closes ∷ k))
+ReadyBy known (Calls procedure b count) k heap places operands masters = Working known heap places masters (CallsOn known procedure b k)
+ReadyBy known Returns k heap places operands masters = Working known heap places masters (RunsOn known (Returns ∷ k))
 ReadyBy known (Leaves mode) k heap places operands masters = Parting known heap places masters (RunsOn known (Leaves mode ∷ k))
 ReadyBy known (Evaluates right) k heap places operands masters = EvaluatesTo known right k heap places masters
 ReadyBy known (Computes e) k heap places operands masters = Working known heap places masters (Computing known heap places operands e k)
@@ -746,7 +843,8 @@ ReadyBy known (StoresRecord o first count) k heap places operands masters =
 ReadyBy known (Receives c) k heap places operands masters = Working known heap places masters (Receiving known heap (first_or Null operands) k)
 ReadyBy known (FreesIn access c) k heap places operands masters =
     Working known heap places masters (λ rooms holds. MayFollow heap (first_or Null operands) × Releasing known heap (first_or Null operands) [] c k rooms holds)
-ReadyBy known (Declares x) k heap places operands masters = Working known heap (slice_set places x (first_or Null operands)) masters (RunsOn known k)
+ReadyBy known (Declares x) k heap places operands masters =
+    Working known heap (slice_set places x (first_or Null operands)) masters (λ rooms holds. HasRoom rooms × RunsOn known k rooms holds)
 ReadyBy known (DeclaresRecord x t) k heap places operands masters = Working known heap places masters (Recording known x t k)
 ReadyBy known Writes k heap places operands masters = Working known heap places masters (RunsOn known k)
 ReadyBy known (Ends v) k heap places operands masters = EndingBy known v k heap places masters
@@ -768,6 +866,45 @@ IsActive (a ∷ rest) = Unit {0}
 -- What every step keeps.
 abbrev pub Ready : Known → State → Type 0
 Ready known s = IsActive s.activations × ReadyIn known s.mode s.control s.heap (places s) (operands s) s.masters
+
+-- A caller as the body at work.
+abbrev pub known_of : Caller → List Caller → Known
+known_of w ws = record { program = w.program; At = w.At; callers = ws }
+
+-- A caller waits for a body: it goes on with what is known of its variables, behind the call and where the body raises an exception; its masters have their
+-- rooms; what is called null is null, and a record object that is not lost is there.
+pub record Waits (body : ProgramForm) (w : Caller) (ws : List Caller) : Type 0 where
+  pub goes_on : To (RunsOn (known_of w ws) w.control w.rooms) w.holds
+  pub raises : (e : Exception) → body_among body e ≡ true → To ((ways (known_of w ws) w.control w.rooms).raised e) w.holds
+  pub roomed : Roomed (below_callers ws) w.masters w.rooms
+  pub nulls : (x : ℕ) → IsBlank (hold_at w.holds x) (place_at w.places x)
+  pub objects : (x : ℕ) → is_object w.program.variables x ≡ true → hold_at w.holds x ≢ hold.Lost → place_at w.places x ≢ Null
+
+-- So does each caller, for the body that it called.
+abbrev pub AllWait : ProgramForm → List Caller → Type 0
+AllWait body [] = Unit {0}
+AllWait body (w ∷ ws) = Waits body w ws × AllWait w.program ws
+
+-- The suspended activations are those of the callers: no form of them waits for a value.
+abbrev pub AreSuspended : List (Activation Value) → List Caller → Type 0
+AreSuspended [] [] = Unit {0}
+AreSuspended [] (w ∷ ws) = ⊥
+AreSuspended (a ∷ rest) [] = ⊥
+AreSuspended (a ∷ rest) (w ∷ ws) = (a.places ≡ w.places) × (a.operands ≡ []) × AreSuspended rest ws
+
+-- What a caller's variable is relied on to name lies in an item of a master that was entered before its call.
+abbrev pub LieBelow : List Object → List Caller → Type 0
+LieBelow heap [] = Unit {0}
+LieBelow heap (w ∷ ws) =
+    ((x : ℕ) (o : Id) → IsRelied (hold_at w.holds x) → place_at w.places x ≡ Names o
+    → (object : Object) × (object_at heap o ≡ Some object) × (suc object.cell.home.item ≤ height w.masters))
+    × LieBelow heap ws
+
+-- The callers of a state are as they are known.
+pub record Standing (known : Known) (s : State) : Type 0 where
+  pub suspended : AreSuspended (older s.activations) known.callers
+  pub waiting : AllWait known.program known.callers
+  pub low : LieBelow s.heap known.callers
 
 -- The words of an object go back.
 pub record GoesBack (v : Value) (access number : ℕ) (pool subpool : Option ℕ) (leaving : Option AtItem) (before : List Object) (after : State) : Type 0 where

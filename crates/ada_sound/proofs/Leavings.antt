@@ -18,7 +18,7 @@ use Rattle.ada_scopes.specs.Scopes.{is_innermost, Holds as HoldsName}
 use Rattle.ada_owners.specs.Places.{Place, variable, component, elsewhere, component_in, value_at, access_at}
 use Rattle.ada_owners.specs.Reliance.{IsOf, Says, Owns, Borrows, component_hold}
 use Rattle.ada_owners.proofs.Ends.{IsUnnamed}
-use Rattle.ada_sound.proofs.Fits.{Fit, IsRelied, hold_in, bare, place_at, going, lies_among, hand_is_unnamed}
+use Rattle.ada_sound.proofs.Fits.{Outer, Fit, IsRelied, outer_hold, hold_in, stacked, outer_value, outer_value_at, place_at, going, lies_among, hand_is_unnamed}
 use Rattle.ada_sound.proofs.Orderings.{AsGood, good_here, good_lost}
 use Rattle.ada_sound.proofs.Values.{read_other, same_or_not, lost_here}
 use Rattle.ada_sound.proofs.Invariant.{AllAmong, NamesNone}
@@ -173,9 +173,15 @@ component_borrows : (b : Bool) → Borrows (component_hold b) → ⊥
 component_borrows true b = b
 component_borrows false b = b
 
+-- What a variable of a suspended activation is relied on to name has no home in the innermost master.
+abbrev pub NamedBelow : List Outer → List Object → List Master → Type 0
+NamedBelow outer heap ms =
+    (d x : ℕ) (o : Id) (object : Object) → IsRelied (outer_hold (slice_get outer d) x) → outer_value (slice_get outer d) x ≡ Names o
+    → object_at heap o ≡ Some object → is_innermost ms object.cell.home.item ≡ true → ⊥
+
 -- A member of the newest collection of the innermost master, of a type of which no variable is relied on to name an object, is in hand where nothing relies on the
 -- components of that master's objects.
-module _ (types : List TypeForm) (variables : List VariableForm) (heap : List Object) (places : List Value) (holds : Holds) (number : ℕ) (item : Item) (items : List Item) (ms : List Master) (gone : List ℕ) (fit : Fit types variables (going heap (item ∷ items)) heap places holds) (none : NamesNone variables gone holds) (held : HeldIn heap (record { number = number; items = item ∷ items } ∷ ms)) (o : Id) (x : Object) (found : object_at heap o ≡ Some x) (listed : x.listed ≡ true) (home : x.cell.home.item ≡ item.number) (among : is_among gone (Some x.cell.access) ≡ true) where
+module _ (types : List TypeForm) (variables : List VariableForm) (outer : List Outer) (heap : List Object) (places : List Value) (holds : Holds) (number : ℕ) (item : Item) (items : List Item) (ms : List Master) (gone : List ℕ) (fit : Fit types variables outer (going heap (item ∷ items)) heap places holds) (none : NamesNone variables gone holds) (held : HeldIn heap (record { number = number; items = item ∷ items } ∷ ms)) (below : NamedBelow outer heap (record { number = number; items = item ∷ items } ∷ ms)) (o : Id) (x : Object) (found : object_at heap o ≡ Some x) (listed : x.listed ≡ true) (home : x.cell.home.item ≡ item.number) (among : is_among gone (Some x.cell.access) ≡ true) where
   access_here : access_at heap o ≡ Some x.cell.access
   access_here = rw (found, listed) refl
 
@@ -199,18 +205,23 @@ module _ (types : List TypeForm) (variables : List VariableForm) (heap : List Ob
       no_variable y (variable_access variables y) refl is
       (says_of heap (hold_at holds y) (variable_access variables y) o is (fit.owners.fit.relied (variable y) o names))
 
-  no_borrower : (q : Place) → Borrows (hold_in (going heap (item ∷ items)) holds q) → value_at heap (bare places) q ≡ Names o → ⊥
+  -- Nor does a suspended activation's variable name it.
+  no_elsewhere : (d y : ℕ) → IsRelied (outer_hold (slice_get outer d) y) → value_at heap (stacked places outer) (elsewhere d y) ≡ Names o → ⊥
+  no_elsewhere d y is names =
+      below d y o x is (sym (outer_value_at heap places outer d y) ∙ names) found (rw (eq-eqb item.number x.cell.home.item (sym home)) refl)
+
+  no_borrower : (q : Place) → Borrows (hold_in outer (going heap (item ∷ items)) holds q) → value_at heap (stacked places outer) q ≡ Names o → ⊥
   no_borrower (variable y) b names = no_name y (borrows_relied (hold_at holds y) b) names
   no_borrower (component p c) b names = component_borrows (lies_among (object_at heap p) (item ∷ items)) b
-  no_borrower (elsewhere d y) b names = b
+  no_borrower (elsewhere d y) b names = no_elsewhere d y (borrows_relied (outer_hold (slice_get outer d) y) b) names
 
-  no_owner : (q : Place) → Owns (hold_in (going heap (item ∷ items)) holds q) → value_at heap (bare places) q ≡ Names o → ⊥
+  no_owner : (q : Place) → Owns (hold_in outer (going heap (item ∷ items)) holds q) → value_at heap (stacked places outer) q ≡ Names o → ⊥
   no_owner (variable y) own names = no_name y (owns_relied (hold_at holds y) own) names
   no_owner (component p c) own names = no_component p c (object_at heap p) refl own names
-  no_owner (elsewhere d y) own names = own
+  no_owner (elsewhere d y) own names = no_elsewhere d y (owns_relied (outer_hold (slice_get outer d) y) own) names
 
-  pub taken_unnamed : IsUnnamed heap (bare places) (hold_in (going heap (item ∷ items)) holds) o
-  taken_unnamed = hand_is_unnamed types variables (going heap (item ∷ items)) heap places holds (Some x.cell.access) o (record {
+  pub taken_unnamed : IsUnnamed heap (stacked places outer) (hold_in outer (going heap (item ∷ items)) holds) o
+  taken_unnamed = hand_is_unnamed outer types variables (going heap (item ∷ items)) heap places holds (Some x.cell.access) o (record {
     hand = record {
       right = λ p e. let same : o ≡ p = name_is o p e in rw (← same) access_here;
       free = λ p e q own names. let same : o ≡ p = name_is o p e in no_owner q own (rw (← same) at names);

@@ -19,7 +19,7 @@ use Rattle.ada_meaning.specs.Named.{Object, object_at}
 use Rattle.ada_owners.specs.Places.{Place, variable, component, elsewhere, value_at}
 use Rattle.ada_owners.specs.Reliance.{Owns, component_hold, hold_of, with_lent}
 use Rattle.ada_owners.specs.Walks.{then_found, behind, walk}
-use Rattle.ada_sound.proofs.Fits.{bare, none_spared, hold_in, place_at, as_reliance, component_value}
+use Rattle.ada_sound.proofs.Fits.{Outer, stacked, none_spared, hold_in, place_at, as_reliance, component_value}
 use Rattle.ada_sound.proofs.Invariant.{front, final, LeadsTo}
 use Rattle.ada_sound.proofs.Filled.{Lends, hold_left, without_is, target_is, paths_are}
 use Rattle.ada_sound.proofs.Walks.{passes}
@@ -40,7 +40,7 @@ split_at heap v u c cs d first last =
     walk_split heap v c cs ∙ (ap (λ (f : Found Value). then_found f (λ w. walk heap w (last_of c cs ∷ []))) first ∙ ap (λ (e : ℕ). walk heap u (e ∷ [])) last)
 
 -- The value of a component that a path leads to.
-component_found : (heap : List Object) (places : List Value) (path : PathForm) (cs : List ℕ) (o : Id) (object : Object) (d : ℕ) (v : Value) → path.selectors ≡ cs → object_at heap o ≡ Some object → object.listed ≡ true → LeadsTo heap places (Names o) [] d path → walk heap (place_at places path.root) cs ≡ finds v → value_at heap (bare places) (component o d) ≡ v
+component_found : (heap : List Object) (places : List Value) (path : PathForm) (cs : List ℕ) (o : Id) (object : Object) (d : ℕ) (v : Value) → path.selectors ≡ cs → object_at heap o ≡ Some object → object.listed ≡ true → LeadsTo heap places (Names o) [] d path → walk heap (place_at places path.root) cs ≡ finds v → value_at heap [] (component o d) ≡ v
 component_found heap places path [] o object d v whole found listed leads walks = let e = ap final (sym whole) ∙ leads.1 in absurd (cc e)
 component_found heap places path (c ∷ cs) o object d v whole found listed leads walks =
     let first : walk heap (place_at places path.root) (before_last c cs) ≡ finds (Names o) = ap (λ (ds : List ℕ). walk heap (place_at places path.root) (front ds)) (sym whole) ∙ leads.0 in
@@ -50,7 +50,7 @@ component_found heap places path (c ∷ cs) o object d v whole found listed lead
     let same : p.o ≡ o = let n = p.names in cc n in
     let one : p.object ≡ object = let at = p.at in cc (rw same at at, found) in
     let value : p.w ≡ v = let e = p.goes_on in cc e in
-    component_value heap (bare places) o object d v found listed (ap (λ (x : Object). slice_get x.cell.values d) (sym one) ∙ (p.holds ∙ ap Some value))
+    component_value heap [] o object d v found listed (ap (λ (x : Object). slice_get x.cell.values d) (sym one) ∙ (p.holds ∙ ap Some value))
 
 -- What owned something before it was moved.
 left_owns : (b : Bool) (h : Hold) → Owns (hold_left b h) → (b ≡ false) × Owns h
@@ -67,8 +67,8 @@ variable_gone : (xs : List ℕ) (holds : Holds) (x : ℕ) → is_one_of xs x ≡
 variable_gone xs holds x is own = let before = (variable_before xs holds x own).0 in cc (is, before)
 
 -- Where a variable gets the object, no component is an item.
-pub lends_none : (heap : List Object) (places : List Value) (holds : Holds) (target : Option PathForm) (xs : List ℕ) → target ≡ None → Lends heap places holds target xs (hold_in none_spared (without_values xs holds))
-lends_none heap places holds target xs none = record {
+pub lends_none : (outer : List Outer) (heap : List Object) (places : List Value) (holds : Holds) (target : Option PathForm) (xs : List ℕ) → target ≡ None → Lends outer heap places holds target xs (hold_in outer none_spared (without_values xs holds))
+lends_none outer heap places holds target xs none = record {
   h = record { 0 = 0 };
   d = 0;
   worse = worse;
@@ -80,7 +80,7 @@ lends_none heap places holds target xs none = record {
     nowhere : (path : PathForm) → is_target target path ≡ true → ⊥
     nowhere path is = cc (rw none at is)
 
-    worse : (q : Place) → Owns (hold_in none_spared (without_values xs holds) q) → Owns (hold_in none_spared holds q)
+    worse : (q : Place) → Owns (hold_in outer none_spared (without_values xs holds) q) → Owns (hold_in outer none_spared holds q)
     worse (variable x) own = (variable_before xs holds x own).1
     worse (component k c) own = own
     worse (elsewhere d x) own = own
@@ -89,8 +89,8 @@ lends_none heap places holds target xs none = record {
 lent_owns : (o : Id) (d : ℕ) → Owns (component_hold ((((o.0 == o.0) && (d == d)) || false))) → ⊥
 lent_owns o d own = rw (eq-eqb o.0 o.0 refl, eq-eqb d d refl) at own
 
-pub lends_some : (heap : List Object) (places : List Value) (holds : Holds) (target : Option PathForm) (xs : List ℕ) (o : Id) (object : Object) (d : ℕ) → object_at heap o ≡ Some object → object.listed ≡ true → ((path : PathForm) → target ≡ Some path → LeadsTo heap places (Names o) [] d path) → Lends heap places holds target xs (hold_of (with_lent o d (as_reliance (without_values xs holds))))
-lends_some heap places holds target xs o object d found listed into = record {
+pub lends_some : (outer : List Outer) (heap : List Object) (places : List Value) (holds : Holds) (target : Option PathForm) (xs : List ℕ) (o : Id) (object : Object) (d : ℕ) → object_at heap o ≡ Some object → object.listed ≡ true → ((path : PathForm) → target ≡ Some path → LeadsTo heap places (Names o) [] d path) → Lends outer heap places holds target xs (hold_of (with_lent o d (as_reliance outer (without_values xs holds))))
+lends_some outer heap places holds target xs o object d found listed into = record {
   h = o;
   d = d;
   worse = worse;
@@ -99,12 +99,12 @@ lends_some heap places holds target xs o object d found listed into = record {
   leads = leads;
 }
   where
-    worse : (q : Place) → Owns (hold_of (with_lent o d (as_reliance (without_values xs holds))) q) → Owns (hold_in none_spared holds q)
+    worse : (q : Place) → Owns (hold_of (with_lent o d (as_reliance outer (without_values xs holds))) q) → Owns (hold_in outer none_spared holds q)
     worse (variable x) own = (variable_before xs holds x own).1
     worse (component k c) own = tt
     worse (elsewhere e x) own = own
 
-    leads : (path : PathForm) (v : Value) (p : Id) → is_target target path ≡ true → path.selectors ≢ [] → walk heap (place_at places path.root) path.selectors ≡ finds v → v ≡ Names p → value_at heap (bare places) (component o d) ≡ Names p
+    leads : (path : PathForm) (v : Value) (p : Id) → is_target target path ≡ true → path.selectors ≢ [] → walk heap (place_at places path.root) path.selectors ≡ finds v → v ≡ Names p → value_at heap (stacked places outer) (component o d) ≡ Names p
     leads path v p is ne walks names =
         let t = target_is target path is in
         let same = paths_are t.0 path t.2 in

@@ -4,6 +4,10 @@ pub mod Fits
 pub mod Objects
 -- items and masters
 pub mod Items
+-- what a call and its return do
+pub mod Activations
+-- procedures, and what is known of their calls
+pub mod Bodies
 -- objects and their homes
 pub mod Stored
 -- back from a heap in which a component was written
@@ -66,6 +70,8 @@ pub mod Releases
 pub mod Records
 -- records are copied and assigned to as wholes
 pub mod Wholes
+-- calls begin
+pub mod CallStatements
 -- declarations and statements
 pub mod Statements
 -- jumps on their way
@@ -90,8 +96,22 @@ pub mod Borrowing
 pub mod Freed
 -- what is copied as a whole
 pub mod Plain
+-- what calls leave
+pub mod Callees
 -- runs by their choices
 pub mod Choices
+-- what callers rely on
+pub mod Below
+-- no exit leads out of a body
+pub mod Exits
+-- bodies that have called one another
+pub mod Callers
+-- the end of a call
+pub mod Returns
+-- its beginning
+pub mod Calls
+-- bodies run
+pub mod BodyRuns
 -- programs that meet the premises, and that need the rules
 pub mod Example
 -- the same with exceptions, handlers, blocks and counting loops
@@ -106,6 +126,8 @@ pub mod ExampleBorrowers
 pub mod ExampleFrees
 -- the same with records that are copied as wholes
 pub mod ExampleRecords
+-- the same with procedures
+pub mod ExampleCalls
 -- where a statement begins
 pub mod Agreeing
 -- the laws

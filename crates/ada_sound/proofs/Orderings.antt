@@ -1,14 +1,16 @@
 -- What is known of variables, from most to least: what is joined, and what a loop's start is opened to.
 
 use Rattle.std.proofs.Common.{◌≡◌, ◌≢◌, ℕ, zero, suc, Bool, true, false, ◌&&◌, List, [], ◌∷◌, refl, ◌⊎◌, inl, inr}
+use Rattle.std.specs.Prelude.{Option, Some, None}
 use Rattle.std.specs.List.{slice_set}
-use Rattle.ada_program.specs.Form.{StmtForm, skips, assigns, assigns_record, frees, gets, writes, writes_text, chooses, repeats, counts, exits, returns, raises, encloses, StmtsForm, no_stmts, a_stmt, BranchesForm, otherwise, a_branch, HandlersForm, no_handlers, a_handler}
+use Rattle.ada_program.specs.Form.{StmtForm, skips, assigns, assigns_record, frees, gets, writes, writes_text, chooses, repeats, counts, exits, calls, returns, raises, encloses, StmtsForm, no_stmts, a_stmt, BranchesForm, otherwise, a_branch, HandlersForm, no_handlers, a_handler}
 use Rattle.ada_program.specs.ProgramForm.{VariableForm}
-use Rattle.ada_program.specs.WellFormed.{is_borrower}
+use Rattle.ada_program.specs.WellFormed.{access_of, is_borrower}
+use Rattle.ada_effects.specs.Effects.{Effect}
 use Rattle.ada_flow.specs.declared.rule.Hold.{Hold}
 use Rattle.ada_flow.specs.declared.rule.Hold.TheVariants.{Null, Own, Alias, Lost}
 use Rattle.ada_flow.specs.declared.rule.Region.TheVariants.{Whole}
-use Rattle.ada_flow.specs.Flow.{Holds, hold_at, join_hold, join, is_as_good, are_as_good, opened_hold, opened, opened_target, opened_by, opened_by_all, opened_by_branches, opened_by_handlers}
+use Rattle.ada_flow.specs.Flow.{Holds, hold_at, join_hold, join, is_as_good, are_as_good, opened_hold, opened, opened_target, opened_by, opened_by_all, opened_by_branches, opened_by_handlers, without_alias, is_freed, without_freed, left_by_call}
 use Rattle.ada_sound.proofs.Values.{read_other, same_or_not, lost_here}
 
 pub good_here : (h : Hold) → is_as_good h h ≡ true
@@ -139,6 +141,7 @@ mutual
   by_good variables (repeats condition fs end_spot) holds = all_good variables fs holds
   by_good variables (counts x low high fs end_spot) holds = all_good variables fs holds
   by_good variables (exits condition spot) holds = as_good holds
+  by_good variables (calls procedure actuals) holds = as_good holds
   by_good variables (returns spot) holds = as_good holds
   by_good variables (raises e) holds = as_good holds
   by_good variables (encloses ds fs hs) holds = as_good_then holds (opened_by_all variables fs holds) (opened_by_handlers variables hs (opened_by_all variables fs holds)) (all_good variables fs holds) (handlers_good variables hs (opened_by_all variables fs holds))
@@ -169,3 +172,21 @@ good_to_lost x holds other good y = go (same_or_not y x)
     go : (y ≡ x) ⊎ (y ≢ x) → is_as_good (hold_at holds y) (hold_at (slice_set other x Lost) y) ≡ true
     go (inl e) = rw (e, lost_here other x) (good_lost (hold_at holds x))
     go (inr ne) = rw (read_other other x y Lost Lost ne) (good y)
+
+-- What is known behind a call is no better than before it.
+alias_good : (b : Bool) (h : Hold) → is_as_good h (without_alias b h) ≡ true
+alias_good false h = good_here h
+alias_good true Null = refl
+alias_good true (Own r) = good_here (Own r)
+alias_good true (Alias r) = good_lost (Alias r)
+alias_good true Lost = refl
+
+without_freed_good : (variables : List VariableForm) (may : ℕ → Bool) (holds : Holds) → AsGood holds (without_freed variables may holds)
+without_freed_good [] may holds x = good_lost (hold_at holds x)
+without_freed_good (v ∷ vs) may [] x = refl
+without_freed_good (v ∷ vs) may (h ∷ hs) zero = alias_good (is_freed may (access_of (Some v.kind))) h
+without_freed_good (v ∷ vs) may (h ∷ hs) (suc x) = without_freed_good vs may hs x
+
+pub called_good : (variables : List VariableForm) (effect : Option Effect) (holds : Holds) → AsGood holds (left_by_call variables effect holds)
+called_good variables None holds = as_good holds
+called_good variables (Some effect) holds = without_freed_good variables effect.frees holds

@@ -1,8 +1,9 @@
 -- Which exceptions may be raised: what asks for fewer finds fewer, and operators raise only what they may.
 
-use Rattle.std.proofs.Common.{◌≡◌, Bool, true, false, ◌&&◌, ◌||◌, not, List, [], ◌∷◌, refl, ap}
+use Rattle.std.proofs.Common.{◌≡◌, ℕ, zero, suc, Bool, true, false, ◌&&◌, ◌||◌, not, List, [], ◌∷◌, ◌++◌, refl, ap}
 use Rattle.std.proofs.lemmas.Bool.{eqb-true, eq-eqb}
 use Rattle.std.specs.Prelude.{ℤ, None, Result, Ok, Err}
+use Rattle.std.specs.List.{slice_get}
 use Rattle.ada_values.specs.declared.operator.UnaryOperator.{UnaryOperator}
 use Rattle.ada_values.specs.declared.operator.UnaryOperator.TheVariants as unary
 use Rattle.ada_values.specs.declared.operator.BinaryOperator.{BinaryOperator}
@@ -14,9 +15,10 @@ use Rattle.ada_values.specs.declared.fault.OperatorFault.TheVariants.{Overflow, 
 use Rattle.ada_values.specs.Outcome.{outcome_of, outcome_of_integers, outcome_of_booleans, unary_outcome_of}
 use Rattle.ada_program.specs.declared.program.Exception.{Exception}
 use Rattle.ada_program.specs.declared.program.Exception.TheVariants.{ConstraintError, ProgramError, StorageError, EndError, Declared}
-use Rattle.ada_program.specs.Form.{RightForm, nothing, value_of, allocates, allocates_default, computes, DeclarationForm, collects, declares, declares_record, StmtForm, skips, assigns, assigns_record, frees, gets, writes, writes_text, chooses, repeats, counts, exits, returns, raises, encloses, StmtsForm, no_stmts, a_stmt, BranchesForm, otherwise, a_branch, HandlersForm, no_handlers, a_handler}
+use Rattle.ada_program.specs.Form.{RightForm, nothing, value_of, allocates, allocates_default, computes, DeclarationForm, collects, declares, declares_record, StmtForm, skips, assigns, assigns_record, frees, gets, writes, writes_text, chooses, repeats, counts, exits, calls, returns, raises, encloses, StmtsForm, no_stmts, a_stmt, BranchesForm, otherwise, a_branch, HandlersForm, no_handlers, a_handler}
 use Rattle.ada_program.specs.Handling.{is_same, handler_of, is_taken}
-use Rattle.ada_effects.specs.Effects.{expression_raises, condition_raises, items_raise, path_raises, record_path_raises, initial_raises, untaken, unary_raises, binary_raises, right_raises, declaration_raises, declarations_raise, stmt_raises, stmts_raise, branches_raise, handlers_raise}
+use Rattle.ada_program.specs.ProgramForm.{TypeForm, BodyForm, ProgramForm}
+use Rattle.ada_effects.specs.Effects.{Effect, effect_of, effects_from, effects_of, call_raises, expressions_raise, expression_raises, condition_raises, items_raise, path_raises, record_path_raises, initial_raises, untaken, unary_raises, binary_raises, right_raises, declaration_raises, declarations_raise, stmt_raises, stmts_raise, branches_raise, handlers_raise}
 use Rattle.ada_meaning.specs.declared.state.Value.{Value}
 use Rattle.ada_meaning.specs.declared.state.Value.TheVariants.{Null, Names, Scalar}
 use Rattle.ada_meaning.specs.Named.{as_value, unary_given, binary_given}
@@ -88,61 +90,100 @@ declarations_more among more m (d ∷ ds) is =
     one (declares x right) i = right_more among more m right i
     one (declares_record x t initial) i = and_first (among ConstraintError) (initial_raises initial) (more ConstraintError) (m ConstraintError) i
 
+-- Whether a call raises one of some exceptions, it does where more are asked for.
+abbrev pub AsksEach : Effect → Type 0
+AsksEach effect = (among more : Exception → Bool) → IsAmong among more → effect.raises among ≡ true → effect.raises more ≡ true
+
+abbrev pub AllAsk : List Effect → Type 0
+AllAsk [] = Unit {0}
+AllAsk (e ∷ es) = AsksEach e × AllAsk es
+
+pub call_more : (effects : List Effect) → AllAsk effects → (procedure : ℕ) (among more : Exception → Bool) → IsAmong among more → call_raises (slice_get effects procedure) among ≡ true → call_raises (slice_get effects procedure) more ≡ true
+call_more [] all procedure among more m is = absurd (cc is)
+call_more (e ∷ es) all zero among more m is = all.0 among more m is
+call_more (e ∷ es) all (suc procedure) among more m is = call_more es all.1 procedure among more m is
+
 mutual
-  stmt_more : (f : StmtForm) (among more : Exception → Bool) → IsAmong among more → stmt_raises among f ≡ true → stmt_raises more f ≡ true
-  stmt_more skips among more m is = is
-  stmt_more (assigns target right) among more m is =
+  stmt_more : (effects : List Effect) → AllAsk effects → (f : StmtForm) (among more : Exception → Bool) → IsAmong among more → stmt_raises effects among f ≡ true → stmt_raises effects more f ≡ true
+  stmt_more effects all skips among more m is = is
+  stmt_more effects all (assigns target right) among more m is =
       let follows = path_raises target in
       or_map (among ConstraintError && follows) (right_raises among right) (more ConstraintError && follows) (right_raises more right)
       (λ i. and_first (among ConstraintError) follows (more ConstraintError) (m ConstraintError) i) (right_more among more m right) is
-  stmt_more (assigns_record target items) among more m is =
+  stmt_more effects all (assigns_record target items) among more m is =
       and_first (among ConstraintError) (record_path_raises target || items_raise items) (more ConstraintError) (m ConstraintError) is
-  stmt_more (frees access path) among more m is = and_first (among ConstraintError) (path_raises path) (more ConstraintError) (m ConstraintError) is
-  stmt_more (gets target) among more m is =
+  stmt_more effects all (frees access path) among more m is = and_first (among ConstraintError) (path_raises path) (more ConstraintError) (m ConstraintError) is
+  stmt_more effects all (gets target) among more m is =
       let follows = path_raises target in
       or_map (among EndError) (among ConstraintError && follows) (more EndError) (more ConstraintError && follows)
       (m EndError) (λ i. and_first (among ConstraintError) follows (more ConstraintError) (m ConstraintError) i) is
-  stmt_more (writes e) among more m is = and_first (among ConstraintError) (expression_raises e) (more ConstraintError) (m ConstraintError) is
-  stmt_more (writes_text text) among more m is = is
-  stmt_more (chooses branches) among more m is = branches_more branches among more m is
-  stmt_more (repeats condition fs end_spot) among more m is =
-      or_map (among ConstraintError && condition_raises condition) (stmts_raise among fs) (more ConstraintError && condition_raises condition) (stmts_raise more fs)
-      (λ i. and_first (among ConstraintError) (condition_raises condition) (more ConstraintError) (m ConstraintError) i) (stmts_more fs among more m) is
-  stmt_more (counts x low high fs end_spot) among more m is =
-      or_map (among ConstraintError && (expression_raises low || expression_raises high)) (stmts_raise among fs) (more ConstraintError && (expression_raises low || expression_raises high)) (stmts_raise more fs)
-      (λ i. and_first (among ConstraintError) (expression_raises low || expression_raises high) (more ConstraintError) (m ConstraintError) i) (stmts_more fs among more m) is
-  stmt_more (exits condition spot) among more m is = and_first (among ConstraintError) (condition_raises condition) (more ConstraintError) (m ConstraintError) is
-  stmt_more (returns spot) among more m is = is
-  stmt_more (raises e) among more m is = m e is
-  stmt_more (encloses ds fs hs) among more m is =
-      or_map (declarations_raise among ds || stmts_raise (untaken hs among) fs) (handlers_raise among hs) (declarations_raise more ds || stmts_raise (untaken hs more) fs) (handlers_raise more hs)
-      (λ i. or_map (declarations_raise among ds) (stmts_raise (untaken hs among) fs) (declarations_raise more ds) (stmts_raise (untaken hs more) fs) (declarations_more among more m ds) (stmts_more fs (untaken hs among) (untaken hs more) (untaken_more hs among more m)) i)
-      (handlers_more hs among more m) is
+  stmt_more effects all (writes e) among more m is = and_first (among ConstraintError) (expression_raises e) (more ConstraintError) (m ConstraintError) is
+  stmt_more effects all (writes_text text) among more m is = is
+  stmt_more effects all (chooses branches) among more m is = branches_more effects all branches among more m is
+  stmt_more effects all (repeats condition fs end_spot) among more m is =
+      or_map (among ConstraintError && condition_raises condition) (stmts_raise effects among fs) (more ConstraintError && condition_raises condition) (stmts_raise effects more fs)
+      (λ i. and_first (among ConstraintError) (condition_raises condition) (more ConstraintError) (m ConstraintError) i) (stmts_more effects all fs among more m) is
+  stmt_more effects all (counts x low high fs end_spot) among more m is =
+      or_map (among ConstraintError && (expression_raises low || expression_raises high)) (stmts_raise effects among fs) (more ConstraintError && (expression_raises low || expression_raises high)) (stmts_raise effects more fs)
+      (λ i. and_first (among ConstraintError) (expression_raises low || expression_raises high) (more ConstraintError) (m ConstraintError) i) (stmts_more effects all fs among more m) is
+  stmt_more effects all (exits condition spot) among more m is = and_first (among ConstraintError) (condition_raises condition) (more ConstraintError) (m ConstraintError) is
+  stmt_more effects all (calls procedure actuals) among more m is =
+      or_map (among ConstraintError && expressions_raise actuals) (call_raises (slice_get effects procedure) among) (more ConstraintError && expressions_raise actuals) (call_raises (slice_get effects procedure) more)
+      (λ i. and_first (among ConstraintError) (expressions_raise actuals) (more ConstraintError) (m ConstraintError) i) (call_more effects all procedure among more m) is
+  stmt_more effects all (returns spot) among more m is = is
+  stmt_more effects all (raises e) among more m is = m e is
+  stmt_more effects all (encloses ds fs hs) among more m is =
+      or_map (declarations_raise among ds || stmts_raise effects (untaken hs among) fs) (handlers_raise effects among hs) (declarations_raise more ds || stmts_raise effects (untaken hs more) fs) (handlers_raise effects more hs)
+      (λ i. or_map (declarations_raise among ds) (stmts_raise effects (untaken hs among) fs) (declarations_raise more ds) (stmts_raise effects (untaken hs more) fs) (declarations_more among more m ds) (stmts_more effects all fs (untaken hs among) (untaken hs more) (untaken_more hs among more m)) i)
+      (handlers_more effects all hs among more m) is
 
-  pub stmts_more : (fs : StmtsForm) (among more : Exception → Bool) → IsAmong among more → stmts_raise among fs ≡ true → stmts_raise more fs ≡ true
-  stmts_more no_stmts among more m is = is
-  stmts_more (a_stmt f fs) among more m is = or_map (stmt_raises among f) (stmts_raise among fs) (stmt_raises more f) (stmts_raise more fs) (stmt_more f among more m) (stmts_more fs among more m) is
+  pub stmts_more : (effects : List Effect) → AllAsk effects → (fs : StmtsForm) (among more : Exception → Bool) → IsAmong among more → stmts_raise effects among fs ≡ true → stmts_raise effects more fs ≡ true
+  stmts_more effects all no_stmts among more m is = is
+  stmts_more effects all (a_stmt f fs) among more m is = or_map (stmt_raises effects among f) (stmts_raise effects among fs) (stmt_raises effects more f) (stmts_raise effects more fs) (stmt_more effects all f among more m) (stmts_more effects all fs among more m) is
 
-  branches_more : (branches : BranchesForm) (among more : Exception → Bool) → IsAmong among more → branches_raise among branches ≡ true → branches_raise more branches ≡ true
-  branches_more (otherwise fs) among more m is = stmts_more fs among more m is
-  branches_more (a_branch e fs branches) among more m is =
-      or_map ((among ConstraintError && expression_raises e) || stmts_raise among fs) (branches_raise among branches) ((more ConstraintError && expression_raises e) || stmts_raise more fs) (branches_raise more branches)
-      (λ i. or_map (among ConstraintError && expression_raises e) (stmts_raise among fs) (more ConstraintError && expression_raises e) (stmts_raise more fs) (λ j. and_first (among ConstraintError) (expression_raises e) (more ConstraintError) (m ConstraintError) j) (stmts_more fs among more m) i)
-      (branches_more branches among more m) is
+  branches_more : (effects : List Effect) → AllAsk effects → (branches : BranchesForm) (among more : Exception → Bool) → IsAmong among more → branches_raise effects among branches ≡ true → branches_raise effects more branches ≡ true
+  branches_more effects all (otherwise fs) among more m is = stmts_more effects all fs among more m is
+  branches_more effects all (a_branch e fs branches) among more m is =
+      or_map ((among ConstraintError && expression_raises e) || stmts_raise effects among fs) (branches_raise effects among branches) ((more ConstraintError && expression_raises e) || stmts_raise effects more fs) (branches_raise effects more branches)
+      (λ i. or_map (among ConstraintError && expression_raises e) (stmts_raise effects among fs) (more ConstraintError && expression_raises e) (stmts_raise effects more fs) (λ j. and_first (among ConstraintError) (expression_raises e) (more ConstraintError) (m ConstraintError) j) (stmts_more effects all fs among more m) i)
+      (branches_more effects all branches among more m) is
 
-  handlers_more : (hs : HandlersForm) (among more : Exception → Bool) → IsAmong among more → handlers_raise among hs ≡ true → handlers_raise more hs ≡ true
-  handlers_more no_handlers among more m is = is
-  handlers_more (a_handler choices fs hs) among more m is = or_map (stmts_raise among fs) (handlers_raise among hs) (stmts_raise more fs) (handlers_raise more hs) (stmts_more fs among more m) (handlers_more hs among more m) is
+  handlers_more : (effects : List Effect) → AllAsk effects → (hs : HandlersForm) (among more : Exception → Bool) → IsAmong among more → handlers_raise effects among hs ≡ true → handlers_raise effects more hs ≡ true
+  handlers_more effects all no_handlers among more m is = is
+  handlers_more effects all (a_handler choices fs hs) among more m is = or_map (stmts_raise effects among fs) (handlers_raise effects among hs) (stmts_raise effects more fs) (handlers_raise effects more hs) (stmts_more effects all fs among more m) (handlers_more effects all hs among more m) is
+
+-- Of a body, and of all procedures of a program.
+body_more : (effects : List Effect) → AllAsk effects → (types : List TypeForm) (b : BodyForm) → AsksEach (effect_of types effects b)
+body_more effects all types b among more m is =
+    or_map (declarations_raise among b.declarations || stmts_raise effects (untaken b.handlers among) b.statements) (handlers_raise effects among b.handlers)
+    (declarations_raise more b.declarations || stmts_raise effects (untaken b.handlers more) b.statements) (handlers_raise effects more b.handlers)
+    (λ i. or_map (declarations_raise among b.declarations) (stmts_raise effects (untaken b.handlers among) b.statements)
+    (declarations_raise more b.declarations) (stmts_raise effects (untaken b.handlers more) b.statements)
+    (declarations_more among more m b.declarations)
+    (stmts_more effects all b.statements (untaken b.handlers among) (untaken b.handlers more) (untaken_more b.handlers among more m)) i)
+    (handlers_more effects all b.handlers among more m) is
+
+one_asks_more : (effects : List Effect) (e : Effect) → AllAsk effects → AsksEach e → AllAsk (effects ++ e ∷ [])
+one_asks_more [] e all one = (one, tt)
+one_asks_more (f ∷ fs) e all one = (all.0, one_asks_more fs e all.1 one)
+
+from_ask : (types : List TypeForm) (effects : List Effect) (bodies : List BodyForm) → AllAsk effects → AllAsk (effects_from types effects bodies)
+from_ask types effects [] all = all
+from_ask types effects (b ∷ bs) all =
+    from_ask types (effects ++ effect_of types effects b ∷ []) bs (one_asks_more effects (effect_of types effects b) all (body_more effects all types b))
+
+pub program_asks : (p : ProgramForm) → AllAsk (effects_of p)
+program_asks p = from_ask p.types [] p.bodies tt
 
 -- An exception that no handler takes.
 pub not_taken : (hs : HandlersForm) (e : Exception) → handler_of e hs ≡ None → (f : Exception) → is_same e f ≡ true → not (is_taken hs f) ≡ true
 not_taken hs e none f is = rw (← same_is e f is, none) refl
 
-pub raises_untaken : (fs : StmtsForm) (hs : HandlersForm) (e : Exception) → handler_of e hs ≡ None → stmts_raise (is_same e) fs ≡ true → stmts_raise (untaken hs (is_same e)) fs ≡ true
-raises_untaken fs hs e none is = stmts_more fs (is_same e) (untaken hs (is_same e)) (λ f same. both (is_same e f) (not (is_taken hs f)) same (not_taken hs e none f same)) is
+pub raises_untaken : (p : ProgramForm) (fs : StmtsForm) (hs : HandlersForm) (e : Exception) → handler_of e hs ≡ None → stmts_raise (effects_of p) (is_same e) fs ≡ true → stmts_raise (effects_of p) (untaken hs (is_same e)) fs ≡ true
+raises_untaken p fs hs e none is = stmts_more (effects_of p) (program_asks p) fs (is_same e) (untaken hs (is_same e)) (λ f same. both (is_same e f) (not (is_taken hs f)) same (not_taken hs e none f same)) is
 
-pub raises_past : (fs : StmtsForm) (hs : HandlersForm) (e : Exception) → handler_of e hs ≡ None → stmts_raise (is_same e) fs ≡ true → stmts_raise (λ f. not (is_taken hs f)) fs ≡ true
-raises_past fs hs e none is = stmts_more fs (is_same e) (λ f. not (is_taken hs f)) (not_taken hs e none) is
+pub raises_past : (p : ProgramForm) (fs : StmtsForm) (hs : HandlersForm) (e : Exception) → handler_of e hs ≡ None → stmts_raise (effects_of p) (is_same e) fs ≡ true → stmts_raise (effects_of p) (λ f. not (is_taken hs f)) fs ≡ true
+raises_past p fs hs e none is = stmts_more (effects_of p) (program_asks p) fs (is_same e) (λ f. not (is_taken hs f)) (not_taken hs e none) is
 
 -- An operator raises an exception only where it may.
 abbrev pub RaisesOnly : {X : Type 0} → Bool → Result X OperatorFault → Type 0

@@ -1,13 +1,13 @@
 -- What is left of the program is ready to run, or to be passed by a jump.
 
-use Rattle.std.proofs.Common.{ℕ, List, [], ◌∷◌, inl, inr}
+use Rattle.std.proofs.Common.{◌≡◌, ℕ, List, [], ◌∷◌, inl, inr}
 use Rattle.std.specs.List.{slice_set}
 use Rattle.ada_flow.specs.declared.rule.Hold.TheVariants as hold
 use Rattle.ada_flow.specs.Flow.{Holds}
 use Rattle.ada_meaning.specs.declared.state.Value.{Value}
 use Rattle.ada_meaning.specs.declared.state.Mode.{Mode}
 use Rattle.ada_meaning.specs.declared.state.Mode.TheVariants.{Running, Raising, Exiting, Returning}
-use Rattle.ada_meaning.specs.Frame.{Elaborates, Does, Decides, Repeats, Turns, Ranges, Counts, Exits, Handles, Closes, Leaves, Computes, TestsNull, Continues, Applies, AppliesAlone, Fills, Stores, StoresIn, Declares, Writes}
+use Rattle.ada_meaning.specs.Frame.{Elaborates, Does, Decides, Repeats, Turns, Ranges, Counts, Exits, Handles, Closes, Leaves, Calls, Returns, Computes, TestsNull, Continues, Applies, AppliesAlone, Fills, Stores, StoresIn, Declares, Writes}
 use Rattle.ada_meaning.specs.Event.{Quiet}
 use Rattle.ada_meaning.specs.State.{Activation, Master}
 use Rattle.ada_meaning.specs.Step.{jumping}
@@ -17,7 +17,7 @@ use Rattle.ada_sound.proofs.Items.{NoMaster}
 use Rattle.ada_sound.proofs.Fits.{weaker_fit, spare_fit, put_lost, going}
 use Rattle.ada_sound.proofs.Orderings.{AsGood}
 use Rattle.ada_sound.proofs.Alters.{alters_same}
-use Rattle.ada_sound.proofs.Invariant.{Known, Control, Rooms, Roomed, To, RunsOn, GoesOn, Awaits, Working, Parting, HalfBy, Resumes, ReadyIn, Ready, Says, Stepped, By, innermost, ways}
+use Rattle.ada_sound.proofs.Invariant.{Caller, below_callers, below, at_end, nowhere, Known, Control, Rooms, Roomed, To, RunsOn, GoesOn, Awaits, Working, Parting, HalfBy, Resumes, ReadyIn, Ready, Says, Stepped, By, innermost, ways}
 
 -- The state at work on something, with a running activation; and in another mode.
 abbrev pub running : Control → Activation Value → List (Activation Value) → State → State
@@ -38,14 +38,19 @@ abbrev pub at_less : {known : Known} {heap : List Object} {places : List Value} 
 at_less w rest = with_less w rest.0 rest.1 rest.2
 
 -- Where nothing is left to do, no master is left.
-pub none_left : (known : Known) (mode : Mode) (ms : List Master) (rooms : Rooms) (holds : Holds) → Roomed ms rooms → GoesOn known mode [] rooms holds → NoMaster ms
-none_left known mode [] [] holds r g = tt
-none_left known mode [] (gone ∷ rooms) holds r g = absurd r
-none_left known mode (m ∷ ms) [] holds r g = absurd r
-none_left known Running (m ∷ ms) (gone ∷ rooms) holds r g = absurd g
-none_left known (Raising e) (m ∷ ms) (gone ∷ rooms) holds r g = absurd g
-none_left known Exiting (m ∷ ms) (gone ∷ rooms) holds r g = absurd g
-none_left known Returning (m ∷ ms) (gone ∷ rooms) holds r g = absurd g
+nowhere_goes : {X : Type 0} (mode : Mode) (holds : Holds) → By mode nowhere holds → X
+nowhere_goes Running holds g = absurd g
+nowhere_goes (Raising e) holds g = absurd g
+nowhere_goes Exiting holds g = absurd g
+nowhere_goes Returning holds g = absurd g
+
+none_by : (callers : List Caller) (mode : Mode) (ms : List Master) (holds : Holds) → ms ≡ below_callers callers → By mode (at_end callers) holds → NoMaster ms
+none_by [] mode ms holds r g = rw r tt
+none_by (w ∷ ws) mode ms holds r g = nowhere_goes mode holds g
+
+pub none_left : (known : Known) (mode : Mode) (ms : List Master) (rooms : Rooms) (holds : Holds) → Roomed (below known) ms rooms → GoesOn known mode [] rooms holds → NoMaster ms
+none_left known mode ms [] holds r g = none_by known.callers mode ms holds r g
+none_left known mode ms (gone ∷ rooms) holds r g = nowhere_goes mode holds g
 
 module _ (known : Known) where
   -- A step that leaves objects as they are.
@@ -65,6 +70,7 @@ module _ (known : Known) where
   runs_ready (Handles hs ∷ k) heap places operands ms w = w
   runs_ready (Closes ∷ k) heap places operands ms w = w
   runs_ready (Leaves mode ∷ k) heap places operands ms w = parts w
+  runs_ready (Returns ∷ k) heap places operands ms w = w
   runs_ready (f ∷ k) heap places operands ms w = absurd (w.rest)
 
   -- What is left goes on in a mode.
@@ -106,7 +112,15 @@ module _ (known : Known) where
   awaits_ready (Fills items ∷ k) heap places v below ms w = at_work w (w.rest v)
   awaits_ready (Stores x ∷ k) heap places v below ms w = inl (lost_stored x k v heap places ms w)
   awaits_ready (StoresIn o c ∷ k) heap places v below ms w = inr w
-  awaits_ready (Declares x ∷ k) heap places v below ms w = lost_stored x k v heap places ms w
+  awaits_ready (Declares x ∷ k) heap places v below ms w = record {
+    rooms = w.rooms;
+    holds = slice_set w.holds x hold.Lost;
+    stored = w.stored;
+    roomed = w.roomed;
+    fit = put_lost x v w.fit;
+    rest = w.rest;
+  }
+  awaits_ready (Calls procedure b count ∷ k) heap places v below ms w = w
   awaits_ready (Writes ∷ k) heap places v below ms w = w
   awaits_ready (f ∷ k) heap places v below ms w = absurd (w.rest)
 

@@ -37,9 +37,9 @@ use Rattle.ada_sound.proofs.Stored.{stored_new, stored_owning}
 use Rattle.ada_typed.specs.Holding.{Cells, HasKind, HaveKinds, cells_of}
 use Rattle.ada_typed.proofs.Values.{AreComputed, AreHeld, active_placed}
 use Rattle.ada_typed.proofs.Control as typed
-use Rattle.ada_sound.proofs.Fits.{bare, none_spared, place_at, hold_in, put_owner, create_fit}
+use Rattle.ada_sound.proofs.Fits.{Outer, bare, stacked, none_spared, place_at, hold_in, put_owner, create_fit}
 use Rattle.ada_sound.proofs.Alters.{alters_new}
-use Rattle.ada_sound.proofs.Invariant.{Known, Control, Rooms, Roomed, Raised, Doing, Handled, Outside, Elaborating, Giving, MayOwn, Recording, RunsOn, Working, Stepped, Fine, ways}
+use Rattle.ada_sound.proofs.Invariant.{outers, below, Known, Control, Rooms, Roomed, Raised, Doing, Handled, Outside, Elaborating, Giving, MayOwn, Recording, RunsOn, Working, Stepped, Fine, ways}
 use Rattle.ada_sound.proofs.Ready.{running, at_work, runs_ready, ready_on}
 use Rattle.ada_sound.proofs.Outcomes.{using_goes, ends_goes}
 use Rattle.ada_sound.proofs.Followings.{first_kept}
@@ -52,14 +52,14 @@ first_blank (component.Integer initial) o e = cc e
 first_blank (component.Boolean initial) o e = cc e
 first_blank (component.Access access) o e = cc e
 
-blanks_in_hand : (heap : List Object) (places : List Value) (holding : Place → Hold) (kind : ℕ → Option ℕ) (c : ℕ) (kinds : List ComponentKind) → AreInHand heap (bare places) holding kind c (map (initial_value named) kinds)
-blanks_in_hand heap places holding kind c [] = tt
-blanks_in_hand heap places holding kind c (one ∷ kinds) =
-    (record { hand = blank (first_blank one) }, (λ o i e f. first_blank one o e), blanks_in_hand heap places holding kind (suc c) kinds)
+blanks_in_hand : (outer : List Outer) (heap : List Object) (places : List Value) (holding : Place → Hold) (kind : ℕ → Option ℕ) (c : ℕ) (kinds : List ComponentKind) → AreInHand heap (stacked places outer) holding kind c (map (initial_value named) kinds)
+blanks_in_hand outer heap places holding kind c [] = tt
+blanks_in_hand outer heap places holding kind c (one ∷ kinds) =
+    (record { hand = blank (first_blank one) }, (λ o i e f. first_blank one o e), blanks_in_hand outer heap places holding kind (suc c) kinds)
 
-initials_in_hand : (heap : List Object) (places : List Value) (holding : Place → Hold) (kind : ℕ → Option ℕ) (found : Option (List ComponentKind)) → AreInHand heap (bare places) holding kind 0 (initial_values named found)
-initials_in_hand heap places holding kind None = tt
-initials_in_hand heap places holding kind (Some kinds) = blanks_in_hand heap places holding kind 0 kinds
+initials_in_hand : (outer : List Outer) (heap : List Object) (places : List Value) (holding : Place → Hold) (kind : ℕ → Option ℕ) (found : Option (List ComponentKind)) → AreInHand heap (stacked places outer) holding kind 0 (initial_values named found)
+initials_in_hand outer heap places holding kind None = tt
+initials_in_hand outer heap places holding kind (Some kinds) = blanks_in_hand outer heap places holding kind 0 kinds
 
 -- A record object is known by this type.
 pub record_access : (k : Option VariableKind) (t : ℕ) → is_record_object t k ≡ true → access_of k ≡ Some t
@@ -96,10 +96,10 @@ plain_names_nothing cells (kind ∷ kinds) (v ∷ vs) plain have =
     let two = neither (is_owning kind) (list_any is_owning kinds) plain in
     (plain_blank cells kind v two.0 have.0, plain_names_nothing cells kinds vs two.1 have.1)
 
-nothing_in_hand : (heap : List Object) (places : List Value) (holding : Place → Hold) (kind : ℕ → Option ℕ) (c : ℕ) (vs : List Value) → NameNothing vs → AreInHand heap (bare places) holding kind c vs
-nothing_in_hand heap places holding kind c [] none = tt
-nothing_in_hand heap places holding kind c (v ∷ vs) none =
-    (record { hand = blank none.0 }, (λ o i e f. none.0 o e), nothing_in_hand heap places holding kind (suc c) vs none.1)
+nothing_in_hand : (outer : List Outer) (heap : List Object) (places : List Value) (holding : Place → Hold) (kind : ℕ → Option ℕ) (c : ℕ) (vs : List Value) → NameNothing vs → AreInHand heap (stacked places outer) holding kind c vs
+nothing_in_hand outer heap places holding kind c [] none = tt
+nothing_in_hand outer heap places holding kind c (v ∷ vs) none =
+    (record { hand = blank none.0 }, (λ o i e f. none.0 o e), nothing_in_hand outer heap places holding kind (suc c) vs none.1)
 
 -- The variable of a record object has a place.
 pub has_place : (cells : Cells) (variables : List VariableForm) (places : List Value) (x t : ℕ) → AreHeld cells variables places → is_record_object t (variable_kind variables x) ≡ true → (u : Value) × (slice_get places x ≡ Some u)
@@ -107,34 +107,34 @@ has_place cells variables places x t held is = by (variable_kind variables x) re
   where
     by : (kind : Option VariableKind) → variable_kind variables x ≡ kind → is_record_object t kind ≡ true → (u : Value) × (slice_get places x ≡ Some u)
     by None of e = absurd (cc e)
-    by (Some kind) of e = (slice_index_or places x Null, active_placed cells variables [] (record { places = places; operands = [] } ∷ []) x kind (held, tt) of)
+    by (Some kind) of e = (slice_index_or places x Null, active_placed cells variables [] (bare places ∷ []) x kind (held, tt) of)
 
 module _ (known : Known) (rest : List (Activation Value)) (s : State) (types : List TypeDefinition) (x t : ℕ) where
   -- The new item is the object's home, and is one that the master may own.
-  has_own : (ms : List Master) (rooms : Rooms) → Roomed ms rooms → MayOwn rooms t → HasItem (height ms) t None (items_of (owning (record { number = height ms; owned = record_object t }) ms))
-  has_own [] [] r e = absurd e
-  has_own [] (gone ∷ rooms) r e = absurd r
-  has_own (m ∷ ms) rooms r e = inl (refl, (refl, refl))
+  has_own : (under ms : List Master) (rooms : Rooms) → Roomed under ms rooms → MayOwn rooms t → HasItem (height ms) t None (items_of (owning (record { number = height ms; owned = record_object t }) ms))
+  has_own under ms [] r e = absurd e
+  has_own under [] (gone ∷ rooms) r e = absurd r
+  has_own under (m ∷ ms) (gone ∷ rooms) r e = inl (refl, (refl, refl))
 
-  roomed_more : (item : ℕ) (ms : List Master) (rooms : Rooms) → Roomed ms rooms → MayOwn rooms t → Roomed (owning (record { number = item; owned = record_object t }) ms) rooms
-  roomed_more item [] rooms r e = r
-  roomed_more item (m ∷ ms) [] r e = r
-  roomed_more item (m ∷ ms) (gone ∷ rooms) r e = ((e, r.0), r.1)
+  roomed_more : (item : ℕ) (under ms : List Master) (rooms : Rooms) → Roomed under ms rooms → MayOwn rooms t → Roomed under (owning (record { number = item; owned = record_object t }) ms) rooms
+  roomed_more item under ms [] r e = absurd e
+  roomed_more item under [] (gone ∷ rooms) r e = absurd r
+  roomed_more item under (m ∷ ms) (gone ∷ rooms) r e = ((e, r.0), r.1)
 
   -- An object comes to be whose components name nothing, and its variable owns it.
-  pub made_fine : (a : Activation Value) (k : Control) (values : List Value) (u : Value) → is_record_object t (variable_kind known.program.variables x) ≡ true → slice_get a.places x ≡ Some u → ((holding : Place → Hold) (kind : ℕ → Option ℕ) → AreInHand s.heap (bare a.places) holding kind 0 values) → Working known s.heap a.places s.masters (λ rooms holds. MayOwn rooms t × RunsOn known k rooms (slice_set holds x (hold.Own Whole))) → Stepped known s.heap Quiet (made named types x t values (running k a rest s))
+  pub made_fine : (a : Activation Value) (k : Control) (values : List Value) (u : Value) → is_record_object t (variable_kind known.program.variables x) ≡ true → slice_get a.places x ≡ Some u → ((holding : Place → Hold) (kind : ℕ → Option ℕ) → AreInHand s.heap (stacked a.places (outers known)) holding kind 0 values) → Working known s.heap a.places s.masters (λ rooms holds. MayOwn rooms t × RunsOn known k rooms (slice_set holds x (hold.Own Whole))) → Stepped known s.heap Quiet (made named types x t values (running k a rest s))
   made_fine a k values u is there in_hand w =
       let cell = record_cell named t (height s.masters) values in
       let words = words_of types t in
       let kinds = λ (c : ℕ). access_of (kind_among (reached_components known.program.types t) c) in
-      let both = create_fit words cell (in_hand (hold_in none_spared w.holds) kinds) w.fit in
+      let both = create_fit words cell (in_hand (hold_in (outers known) none_spared w.holds) kinds) w.fit in
       let own : variable_access known.program.variables x ≡ Some t = record_access (variable_kind known.program.variables x) t is in
       let placed = put_there a.places x u (created s.heap words) there in
       let after : Working known (create s.heap words cell) (slice_set a.places x (created s.heap words)) (owning (record { number = height s.masters; owned = record_object t }) s.masters) (RunsOn known k) = record {
         rooms = w.rooms;
         holds = slice_set w.holds x (hold.Own Whole);
-        stored = stored_new cell (has_own s.masters w.rooms w.roomed w.rest.0) (stored_owning (record_object t) w.stored);
-        roomed = roomed_more (height s.masters) s.masters w.rooms w.roomed w.rest.0;
+        stored = stored_new cell (has_own (below known) s.masters w.rooms w.roomed w.rest.0) (stored_owning (record_object t) w.stored);
+        roomed = roomed_more (height s.masters) (below known) s.masters w.rooms w.roomed w.rest.0;
         fit = put_owner x (created s.heap words) Whole (λ object null. (let names : Null ≡ created s.heap words = sym null ∙ placed in absurd (cc names))) (rw own both.1) both.0;
         rest = w.rest.1;
       } in
@@ -176,7 +176,7 @@ module _ (known : Known) (a : Activation Value) (rest : List (Activation Value))
   pub record_fine : (initial : Option (List ItemForm)) (u : Value) → slice_get a.places x ≡ Some u → is_record_object t (variable_kind known.program.variables x) ≡ true → Working known s.heap a.places s.masters (RunsOn known (Elaborates (declares_record x t initial ∷ ds) fs hs ∷ k)) → Fine known s.heap s.masters (record_next named types x t initial (running (Elaborates ds fs hs ∷ k) a rest s))
   record_fine None u there is w =
       made_fine known rest s types x t a (Elaborates ds fs hs ∷ k) (initial_values named (reached_of types t)) u is there
-      (λ holding kind. initials_in_hand s.heap a.places holding kind (reached_of types t)) (at_work w (by_default w.holds w.rooms w.rest))
+      (λ holding kind. initials_in_hand (outers known) s.heap a.places holding kind (reached_of types t)) (at_work w (by_default w.holds w.rooms w.rest))
   record_fine (Some items) u there is w =
       ready_on known (Fills items ∷ DeclaresRecord x t ∷ Elaborates ds fs hs ∷ k) a rest s a.operands (at_work w (by_items items w.holds w.rooms is w.rest))
 
@@ -189,4 +189,4 @@ recorded_fine known k a rest s types reaches x t kinds (ks, object, cs, is, of, 
     let none = plain_names_nothing (cells_of s.heap) cs (reverse (take (length cs) a.operands)) plain have in
     let place = has_place (cells_of s.heap) known.program.variables a.places x t held w.rest.1 in
     made_fine known rest s types x t (record a { operands = drop (words_of types t) a.operands }) k (reverse (take (words_of types t) a.operands)) place.0 w.rest.1 place.1
-    (λ holding kind. nothing_in_hand s.heap a.places holding kind 0 (reverse (take (words_of types t) a.operands)) (rw counted none)) (at_work w (w.rest.2, w.rest.3))
+    (λ holding kind. nothing_in_hand (outers known) s.heap a.places holding kind 0 (reverse (take (words_of types t) a.operands)) (rw counted none)) (at_work w (w.rest.2, w.rest.3))

@@ -28,12 +28,12 @@ use Rattle.ada_owners.specs.Keeping.{IsThere}
 use Rattle.ada_owners.specs.Places.{access_at}
 use Rattle.ada_owners.specs.Reliance.{IsOf}
 use Rattle.ada_owners.proofs.Objects.{listed_at}
-use Rattle.ada_sound.proofs.Fits.{MayFollow, place_at, component_access, root_follows, component_is, behind_fit, component_unnamed, part_fit}
+use Rattle.ada_sound.proofs.Fits.{NoOuterAlias, MayFollow, place_at, component_access, root_follows, component_is, behind_fit, component_unnamed, part_fit}
 use Rattle.ada_sound.proofs.Objects.{set_here}
 use Rattle.ada_sound.proofs.Stored.{stored_part}
 use Rattle.ada_sound.proofs.Alters.{alters_set}
 use Rattle.ada_sound.proofs.Assigned.{freed_at}
-use Rattle.ada_sound.proofs.Invariant.{Pooled, Known, Control, Goes, Raised, RunsOn, PassesNone, Releasing, Working, Stepped, Fine, ways}
+use Rattle.ada_sound.proofs.Invariant.{outers, Pooled, Known, Control, Goes, Raised, RunsOn, PassesNone, Releasing, Working, Stepped, Fine, ways}
 use Rattle.ada_sound.proofs.Ready.{running, at_work, stays, runs_ready, jumps_less}
 use Rattle.ada_sound.proofs.Outcomes.{ends_goes}
 use Rattle.ada_sound.proofs.Roots.{access_leads, root_object, object_there, front_raises}
@@ -73,8 +73,8 @@ passes_none types variables path cs (Some t) is e = rw is at e
 
 module _ (known : Known) (a : Activation Value) (rest : List (Activation Value)) (s : State) where
   -- A Free of a component begins: its object is found first.
-  pub free_begins : (c : ℕ) (cs : List ℕ) (access : ℕ) (path : PathForm) (fs : StmtsForm) (k : Control) (among : Exception → Bool) → (path_raises path ≡ true → among ConstraintError ≡ true) → is_freed_by known.program.types access (path_access known.program.types known.program.variables path) ≡ true → path.selectors ≡ c ∷ cs → Working known s.heap a.places s.masters (λ rooms holds. Goes (frees_path known.program.types known.program.variables (c ∷ cs) path holds) (RunsOn known (Does fs ∷ k) rooms) (Raised among (ways known k rooms))) → Fine known s.heap s.masters (path_next named (before_last c cs) (place_at a.places path.root) (running (FreesIn access (last_of c cs) ∷ Does fs ∷ k) a rest s))
-  free_begins c cs access path fs k among may freed is w =
+  pub free_begins : (c : ℕ) (cs : List ℕ) (access : ℕ) (path : PathForm) (fs : StmtsForm) (k : Control) (among : Exception → Bool) → (path_raises path ≡ true → among ConstraintError ≡ true) → is_freed_by known.program.types access (path_access known.program.types known.program.variables path) ≡ true → ((t : ℕ) → is_this t (path_access known.program.types known.program.variables path) ≡ true → NoOuterAlias (outers known) t) → path.selectors ≡ c ∷ cs → Working known s.heap a.places s.masters (λ rooms holds. Goes (frees_path known.program.types known.program.variables (c ∷ cs) path holds) (RunsOn known (Does fs ∷ k) rooms) (Raised among (ways known k rooms))) → Fine known s.heap s.masters (path_next named (before_last c cs) (place_at a.places path.root) (running (FreesIn access (last_of c cs) ∷ Does fs ∷ k) a rest s))
+  free_begins c cs access path fs k among may freed spares is w =
       let types = known.program.types in
       let variables = known.program.variables in
       let own = path_access types variables path in
@@ -91,6 +91,7 @@ module _ (known : Known) (a : Activation Value) (rest : List (Activation Value))
         passes = passes_none types variables path (before_last c cs ++ last_of c cs ∷ []) own all kept.1;
         of_type = ap (λ (ds : List ℕ). access_of (selectors_kind types (variable_kind variables path.root) ds)) (sym all) ∙ (at.2 ∙ sym at.1);
         own = λ t same. (let one : at.0 ≡ t = let other = at.1 in cc (same, other) in rw (← one) at.3);
+        spares = λ t same. spares t (ap (is_this t) same ∙ eq-eqb t t refl);
         raises = front_raises known (place_at a.places path.root) (Does fs ∷ k) w.rooms (behind_end variables own w.holds) path.of_record c cs
             (λ whole. object_there path.root path.spot kept.0 (root_object types variables path leads.0 leads.1 whole) w.fit)
             (λ raises. (let follows : path_raises path ≡ true = rw is raises in g.2 follows ConstraintError (may follows)));
@@ -126,7 +127,7 @@ module _ (known : Known) (a : Activation Value) (rest : List (Activation Value))
         let one : object ≡ there.object = let f = there.found in cc (rw same at found, f) in
         other_type object.cell.access w.rest.from t (w.rest.is_from o object refl found) (rw is_t at w.rest.passes) (ap (λ (x : Object). x.cell.access) one ∙ there.access)
         ) in
-        let unnamed = component_unnamed o object c p (Some t) found listed at of_t w.fit in
+        let unnamed = component_unnamed o object c p (Some t) (λ u e. w.rest.spares u (is_t ∙ e)) found listed at of_t w.fit in
         let elsewhere = stored_elsewhere s.heap o object c p there.object (parted there.object) found there.found apart in
         let after = part_fit p there.object elsewhere.1 unnamed.1 unnamed.0 in
         let runs = rw is_t at w.rest.runs in

@@ -3,10 +3,10 @@
 use Rattle.std.proofs.Common.{ℕ, List, [], ◌∷◌}
 use Rattle.ada_meaning.specs.State.{declared, Master}
 use Rattle.ada_meaning.specs.Step.{owning}
-use Rattle.ada_sound.proofs.Invariant.{Rooms, Roomed}
+use Rattle.ada_sound.proofs.Invariant.{Rooms, Roomed, HasRoom}
 
--- A variable more, which any master may own.
-pub roomed_declares : (item : ℕ) (x : ℕ) (ms : List Master) (rooms : Rooms) → Roomed ms rooms → Roomed (owning (record { number = item; owned = declared x }) ms) rooms
-roomed_declares item x [] rooms r = r
-roomed_declares item x (m ∷ ms) [] r = r
-roomed_declares item x (m ∷ ms) (gone ∷ rooms) r = ((tt, r.0), r.1)
+-- A variable more, which any master of the running activation may own.
+pub roomed_declares : (below : List Master) (item : ℕ) (x : ℕ) (ms : List Master) (rooms : Rooms) → HasRoom rooms → Roomed below ms rooms → Roomed below (owning (record { number = item; owned = declared x }) ms) rooms
+roomed_declares below item x ms [] has r = absurd has
+roomed_declares below item x [] (gone ∷ rooms) has r = r
+roomed_declares below item x (m ∷ ms) (gone ∷ rooms) has r = ((tt, r.0), r.1)

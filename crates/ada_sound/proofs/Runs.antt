@@ -1,13 +1,16 @@
 -- Runs keep the invariant, and what each step tells of objects adds up.
 
-use Rattle.std.proofs.Common.{◌≡◌, ℕ, Bool, true, false, List, [], ◌∷◌, refl, ◌∙◌, ◌⊎◌, inl, inr, arith}
+use Rattle.std.proofs.Common.{◌≡◌, ℕ, suc, ◌≤◌, Bool, true, false, List, [], ◌∷◌, refl, sym, ap, subst, ◌∙◌, ◌⊎◌, inl, inr, arith}
 use Rattle.std.specs.Prelude.{◌↔◌, Option, Some, None}
-use Rattle.std.specs.List.{All, AllPairs, slice_index_or}
+use Rattle.std.specs.List.{All, AllPairs, slice_get, slice_index_or}
 use Rattle.std.proofs.lemmas.Option.{slice_get-get_or}
 use Rattle.std.proofs.lemmas.List.Elements.{All-nil, All-cons}
 use Rattle.std.proofs.lemmas.List.Kept.{AllPairs-cons}
 use Rattle.ada_program.specs.declared.program.Program.{Program}
-use Rattle.ada_program.specs.ProgramForm.{ProgramForm, program_form}
+use Rattle.ada_program.specs.ProgramForm.{TypeForm, BodyForm, ProgramForm, program_form, body_forms, main_body, seen_by, seen_in}
+use Rattle.ada_program.specs.WellFormed.{IsWellFormed}
+use Rattle.ada_effects.specs.Effects.{body_frees, effects_of}
+use Rattle.ada_flow.specs.Flow.{first_holds, gone_with, ObeysRules}
 use Rattle.ada_meaning.specs.declared.state.Id.{Id}
 use Rattle.ada_meaning.specs.declared.state.Value.{Value}
 use Rattle.ada_meaning.specs.declared.state.Value.TheVariants.{Names}
@@ -15,27 +18,43 @@ use Rattle.ada_meaning.specs.declared.event.Halt.{Halt}
 use Rattle.ada_meaning.specs.declared.event.Halt.TheVariants.{Finished, Unhandled, Erroneous, Stuck, Memory}
 use Rattle.ada_meaning.specs.declared.event.Why.{Why}
 use Rattle.ada_meaning.specs.Event.{Born, Finalized, Back, Followed, Left, Line, Quiet}
-use Rattle.ada_meaning.specs.State.{Master}
-use Rattle.ada_meaning.specs.Step.{halts, moves, tells, asks, picks}
-use Rattle.ada_meaning.specs.Named.{Object, State, Next, object_at, next}
+use Rattle.ada_meaning.specs.State.{Activation, Master}
+use Rattle.ada_meaning.specs.declared.state.Mode.{Mode}
+use Rattle.ada_meaning.specs.declared.state.Mode.TheVariants.{Running, Raising, Exiting, Returning}
+use Rattle.ada_meaning.specs.Frame.{Frame, Elaborates, Calls, Returns, is_master, landing}
+use Rattle.ada_sound.specs.Agreement.{IsBehind, running_procedure}
+use Rattle.ada_program.specs.declared.program.Exception.{Exception}
+use Rattle.ada_program.specs.WellFormed.{record_components, reached_components}
+use Rattle.ada_program.specs.Typed.{components_of, reached_of}
+use Rattle.ada_meaning.specs.Step.{halts, moves, tells, asks, picks, older, frame_next, pass_next, jump_next, mode_next}
+use Rattle.ada_meaning.specs.Named.{Object, State, Next, named, object_at, next}
 use Rattle.ada_meaning.specs.Run.{Event, Choice, settled, grants, takes, Leads, Step, Run, here, there, Halts}
 use Rattle.ada_meaning.specs.Law.{named_by, back_of, followed_of, finalized_of, Differ, BackTwoObjects, FinalizedTwoValues, FollowedBeforeBack, leaving_by, IsBackHome, GoesHome, GivesBackOf, Happened, IsBack, HasEnded, items_of}
 use Rattle.ada_typed.specs.Holding.{cells_of}
 use Rattle.ada_typed.proofs.Values.{AreFilled, filled_at}
 use Rattle.ada_typed.proofs.Control as typed
 use Rattle.ada_typed.proofs.Evaluations as typing
-use Rattle.ada_typed.proofs.Steps.{next_fine}
+use Rattle.ada_typed.proofs.Bodies.{sees}
+use Rattle.ada_typed.proofs.Kept.{crosses, Keeps, Each}
+use Rattle.ada_typed.proofs.KeptSteps.{frame_keeps, pass_keeps}
+use Rattle.ada_typed.proofs.Runs.{step_typed}
 use Rattle.ada_scopes.specs.Scopes.{InnermostHeldInside}
 use Rattle.ada_scopes.proofs.Components.{AreOfKinds, held_outside, held_inside}
 use Rattle.ada_scopes.proofs.Runs.{step_nested}
-use Rattle.ada_sound.proofs.Defaults.{reached_same}
+use Rattle.ada_sound.proofs.Defaults.{reached_same, Reaches}
 use Rattle.ada_sound.proofs.Items.{NoMaster, items_fall}
 use Rattle.ada_sound.proofs.Stored.{Stored}
-use Rattle.ada_sound.proofs.Alters.{BackIn, StaysItself}
-use Rattle.ada_sound.proofs.Invariant.{Known, Says, Stepped, EndsWell, Fine}
-use Rattle.ada_sound.proofs.Steps.{fine}
+use Rattle.ada_sound.proofs.Alters.{BackIn, StaysItself, Alters}
+use Rattle.ada_sound.proofs.Invariant.{Known, Control, Caller, AreSuspended, Working, RunsOn, CallsOn, Spares, AllWait, LieBelow, ReadyIn, Says, Stepped, EndsWell, Fine, outers}
+use Rattle.ada_sound.proofs.Callers.{Suspension, rest_of, callers_of, known_in, AreOf, Stands}
+use Rattle.ada_sound.proofs.Bodies.{IsBody, seen_is, callee_get}
+use Rattle.ada_sound.proofs.Returns.{Crosses, same_types, left_fine}
+use Rattle.ada_sound.proofs.Calls.{callee, waiting, freed_by_call, calls_fine}
+use Rattle.ada_sound.proofs.BodyRuns.{body_runs, call_spares}
+use Rattle.ada_sound.proofs.Below.{named_below}
+use Rattle.ada_sound.proofs.Steps as inside
 use Rattle.ada_sound.proofs.StoredStates.{IsStored, ready_stored}
-use Rattle.ada_sound.proofs.Starts.{reached, Sound}
+use Rattle.ada_sound.proofs.Starts.{Sound, body_obeys, none_out, none_on}
 
 -- An object whose words are out.
 OutIn : List Object → Id → Type 0
@@ -139,69 +158,225 @@ home_kept before after (Left master) keeps h = tt
 home_kept before after (Line line) keeps h = tt
 home_kept before after Quiet keeps h = tt
 
--- What a typed state leads to is typed, and its objects have values of the kinds of their components.
-typed_led : (p : ProgramForm) (coming : Next) (choice : Choice) (e : Event) (after : State) → typing.Fine p coming → Leads coming choice e after → typed.Typed p after
-typed_led p (halts halt) choice e after d l = absurd l
-typed_led p (moves shown s) settled e after d l = rw (l.1) d
-typed_led p (tells request shown s) settled e after d l = rw (l.1) d
-typed_led p (asks request answers) (grants granted) e after d l = rw (l.1) (d granted)
-typed_led p (picks n taking) (takes i) e after d l = rw (l.2) (d i l.0)
-typed_led p (moves shown s) (grants granted) e after d l = absurd l
-typed_led p (moves shown s) (takes i) e after d l = absurd l
-typed_led p (tells request shown s) (grants granted) e after d l = absurd l
-typed_led p (tells request shown s) (takes i) e after d l = absurd l
-typed_led p (asks request answers) settled e after d l = absurd l
-typed_led p (asks request answers) (takes i) e after d l = absurd l
-typed_led p (picks n taking) settled e after d l = absurd l
-typed_led p (picks n taking) (grants granted) e after d l = absurd l
+-- What a step does to objects, and what its event says of them.
+pub record Does (before : List Object) (e : Event) (after : State) : Type 0 where
+  pub alters : Alters before e after.heap
+  pub says : Says e before after
 
-filled_in : (p : ProgramForm) (s : State) → typed.Typed p s → AreFilled p.types (cells_of s.heap) (cells_of s.heap)
+-- From one state to the other the same body runs, and what waits for it stays as it is.
+pub record SameBody (s after : State) : Type 0 where
+  pub procedure : running_procedure after ≡ running_procedure s
+  pub suspended : older after.activations ≡ older s.activations
+
+each_same : (s mid : State) (n : Next) → running_procedure mid ≡ running_procedure s → older mid.activations ≡ older s.activations → Each (Keeps mid) n → Each (SameBody s) n
+each_same s mid (halts halt) p r e = tt
+each_same s mid (moves shown after) p r e = record { procedure = e.procedure ∙ p; suspended = e.suspended ∙ r }
+each_same s mid (tells request shown after) p r e = record { procedure = e.procedure ∙ p; suspended = e.suspended ∙ r }
+each_same s mid (asks request answers) p r e = λ granted. record { procedure = (e granted).procedure ∙ p; suspended = (e granted).suspended ∙ r }
+each_same s mid (picks n taking) p r e = λ i lt. record { procedure = (e i lt).procedure ∙ p; suspended = (e i lt).suspended ∙ r }
+
+-- A step that begins no call and ends none keeps what is known of callers.
+module _ (program : Program) (s after : State) (gs : List Suspension) (stands : Stands program gs s) (e : Event) (same : SameBody s after) (alters : Alters s.heap e after.heap) where
+  -- What callers rely on lies where it lay.
+  low_kept : (callers : List Caller) → LieBelow s.heap callers → LieBelow after.heap callers
+  low_kept [] low = tt
+  low_kept (w ∷ ws) low = (
+    (λ x o relied names.
+        let lies = low.0 x o relied names in
+        let y = alters.kept o lies.0 lies.1 in
+        (y.0, y.1, rw y.2.2 lies.2)),
+    low_kept ws low.1,
+  )
+
+  stands_kept : Stands program gs after
+  stands_kept = record {
+    body = subst (λ (procedure : Option ℕ). IsBody (program_form program) procedure) (sym same.procedure) stands.body;
+    behind = subst (λ (procedure : Option ℕ). IsBehind procedure (rest_of gs)) (sym same.procedure) stands.behind;
+    bodies = subst (λ (rest : List (Activation Value)). AreOf program rest gs) (sym same.suspended) stands.bodies;
+    standing = record {
+      suspended = subst (λ (rest : List (Activation Value)). AreSuspended rest (callers_of program gs)) (sym same.suspended) stands.standing.suspended;
+      waiting = subst (λ (procedure : Option ℕ). AllWait (seen_in procedure (program_form program)) (callers_of program gs)) (sym same.procedure) stands.standing.waiting;
+      low = low_kept (callers_of program gs) stands.standing.low;
+    };
+  }
+
+  pub kept_on : Stepped (known_in program (running_procedure s) gs) s.heap e after → Crosses program s.heap e after
+  kept_on st = record {
+    suspensions = gs;
+    stepped = subst (λ (procedure : Option ℕ). Stepped (known_in program procedure gs) s.heap e after) (sym same.procedure) st;
+    stands = stands_kept;
+  }
+
+-- What comes next is known, whichever body runs then.
+abbrev pub FineIn : Program → State → Next → Type 0
+FineIn program s (halts halt) = EndsWell halt s.heap s.masters
+FineIn program s (moves e after) = Crosses program s.heap e after
+FineIn program s (tells request e after) = Crosses program s.heap e after
+FineIn program s (asks request answered) = (granted : Bool) → Crosses program s.heap Quiet (answered granted)
+FineIn program s (picks n taken) = (i : ℕ) → suc i ≤ n → Crosses program s.heap Quiet (taken i)
+
+fine_in : (program : Program) (s : State) (gs : List Suspension) → Stands program gs s → (n : Next) → Each (SameBody s) n → Fine (known_in program (running_procedure s) gs) s.heap s.masters n → FineIn program s n
+fine_in program s gs stands (halts halt) same fine = fine
+fine_in program s gs stands (moves e after) same fine = kept_on program s after gs stands e same fine.alters fine
+fine_in program s gs stands (tells request e after) same fine = kept_on program s after gs stands e same fine.alters fine
+fine_in program s gs stands (asks request answered) same fine = λ granted. kept_on program s (answered granted) gs stands Quiet (same granted) (fine granted).alters (fine granted)
+fine_in program s gs stands (picks n taken) same fine = λ i lt. kept_on program s (taken i) gs stands Quiet (same i lt) (fine i lt).alters (fine i lt)
+
+-- The body of a procedure runs when it is called.
+module _ (program : Program) (number : ℕ) (b : BodyForm) (k : Control) (a : Activation Value) (gs : List Suspension) (s : State) (well : IsWellFormed (program_form program)) (obeys : ObeysRules program)
+    (w : Working (known_in program a.procedure gs) s.heap a.places s.masters (CallsOn (known_in program a.procedure gs) number b k)) (is : IsBody (program_form program) a.procedure) where
+  abbrev called : Known
+  called = callee program number b k a [] gs s w
+
+  seen_body : slice_get (program_form program).bodies number ≡ Some b
+  seen_body = callee_get (program_form program) a.procedure number b is w.rest.0
+
+  same_body : main_body called.program ≡ main_body (seen_by number b (program_form program))
+  same_body = ap main_body (seen_is (program_form program) number b seen_body)
+
+  spares_called : (rest : List (Activation Value)) → Stands program gs (record s { activations = a ∷ rest }) → Spares called (body_frees called.program.types (effects_of called.program) (main_body called.program))
+  spares_called rest stands t may =
+      let freed = freed_by_call program number b k a rest gs s w stands t may in
+      let caller = known_in program a.procedure gs in
+      call_spares caller.program.variables (slice_get (effects_of caller.program) number) a.places w.holds (outers caller) t freed (w.rest.3 t freed)
+
+  runs_called : (rest : List (Activation Value)) → Stands program gs (record s { activations = a ∷ rest }) → RunsOn called (Elaborates b.declarations b.statements b.handlers ∷ Returns ∷ k) (gone_with b.declarations ∷ []) (first_holds b.variables)
+  runs_called rest stands =
+      subst (λ (c : BodyForm). RunsOn called (Elaborates c.declarations c.statements c.handlers ∷ Returns ∷ k) (gone_with c.declarations ∷ []) (first_holds c.variables)) same_body
+      (body_runs program (Some number) (waiting program number b k a [] gs s w ∷ gs) (body_obeys program (Some number) (b, seen_body) obeys) (none_out program (Some number) well) (none_on program (Some number) well) (spares_called rest stands))
+
+filled_in : (p : ProgramForm) (s : State) → typed.TypedIn p s → AreFilled p.types (cells_of s.heap) (cells_of s.heap)
 filled_in p s (typed.running kinds ready fits) = ready.filled
 filled_in p s (typed.on_jump mode jumps goes) = jumps.filled
 
-are_of_kinds : (p : ProgramForm) (s : State) → typed.Typed p s → AreOfKinds p.types s
+are_of_kinds : (p : ProgramForm) (s : State) → typed.TypedIn p s → AreOfKinds p.types s
 are_of_kinds p s t o x found = filled_at p.types (cells_of s.heap) (cells_of s.heap) o.0 x.cell (filled_in p s t) (typing.cell_at s.heap o.0 x found)
-
-module _ (known : Known) where
-  -- Where a choice leads, the invariant holds.
-  leads_fine : (heap : List Object) (ms : List Master) (n : Next) (choice : Choice) (e : Event) (after : State) → Fine known heap ms n → Leads n choice e after → Stepped known heap e after
-  leads_fine heap ms (halts halt) choice e after f l = absurd l
-  leads_fine heap ms (moves d s) settled e after f l = rw (l.0, l.1) f
-  leads_fine heap ms (moves d s) (grants granted) e after f l = absurd l
-  leads_fine heap ms (moves d s) (takes i) e after f l = absurd l
-  leads_fine heap ms (tells request d s) settled e after f l = rw (l.0, l.1) f
-  leads_fine heap ms (tells request d s) (grants granted) e after f l = absurd l
-  leads_fine heap ms (tells request d s) (takes i) e after f l = absurd l
-  leads_fine heap ms (asks request answered) settled e after f l = absurd l
-  leads_fine heap ms (asks request answered) (grants granted) e after f l = rw (l.0, l.1) (f granted)
-  leads_fine heap ms (asks request answered) (takes i) e after f l = absurd l
-  leads_fine heap ms (picks n taken) settled e after f l = absurd l
-  leads_fine heap ms (picks n taken) (grants granted) e after f l = absurd l
-  leads_fine heap ms (picks n taken) (takes i) e after f l = rw (l.1, l.2) (f i l.0)
 
 -- Objects are stored in a sound state, and none of an outer master names one of the innermost.
 pub stored_in : (program : Program) (s : State) → Sound program s → IsStored s.heap s.masters
-stored_in program s sound = ready_stored (reached program) s sound.ready
+stored_in program s sound = ready_stored (known_in program (running_procedure s) sound.suspensions) s sound.ready
 
 held_inside_it : (program : Program) (s : State) → Sound program s → InnermostHeldInside s
 held_inside_it program s sound =
-    let types = (program_form program).types in
-    held_inside s (items_fall (items_of s.masters) (stored_in program s sound).1.counted) (held_outside types s sound.nested (are_of_kinds (program_form program) s sound.typed))
+    let own = seen_in (running_procedure s) (program_form program) in
+    held_inside s (items_fall (items_of s.masters) (stored_in program s sound).1.counted)
+    (held_outside (program_form program) s sound.nested (subst (λ (ts : List TypeForm). AreOfKinds ts s) (same_types (running_procedure s) (program_form program)) (are_of_kinds own s sound.typed.inside)))
+
+-- A state with these parts.
+abbrev state_with : Mode → Control → List (Activation Value) → State → State
+state_with mode k all s = record s { mode = mode; control = k; activations = all }
+
+-- The types that a body sees are those of the program.
+reaches_in : (program : Program) (procedure : Option ℕ) (gs : List Suspension) → Reaches (known_in program procedure gs) program.types.items
+reaches_in program procedure gs =
+    subst (λ (types : List TypeForm). ((access : ℕ) → reached_of program.types.items access ≡ reached_components types access) × ((t : ℕ) → components_of program.types.items t ≡ record_components types t))
+    (sym (same_types procedure (program_form program))) (reached_same program.types.items)
+
+-- A step that begins no call and ends none.
+ordinary : (program : Program) (s : State) (sound : Sound program s) → inside.crosses s.mode s.control ≡ false → (n : Next) → mode_next named program.types.items (body_forms program) s.mode s ≡ n → Each (SameBody s) n → FineIn program s n
+unfolding next
+ordinary program s sound inner n is same =
+    let known = known_in program (running_procedure s) sound.suspensions in
+    fine_in program s sound.suspensions sound.stands n same
+    (subst (λ (coming : Next). Fine known s.heap s.masters coming) is (inside.fine known program.types.items (reaches_in program (running_procedure s) sound.suspensions) (body_forms program) (sees (program_form program) (running_procedure s)) s inner sound.typed.inside (held_inside_it program s sound)
+    (λ left behind runs at_leaving. named_below known s.heap sound.stands.standing.waiting sound.stands.standing.low left behind s.masters (rw (runs, at_leaving) at (sound.ready.1)))
+    sound.ready))
+
+module _ (program : Program) (a : Activation Value) (rest : List (Activation Value)) (k : Control) (s : State) where
+  -- What is known of callers is so whatever is left to do.
+  restand : (mode : Mode) (f : Frame Value) (gs : List Suspension) → Stands program gs (state_with mode (f ∷ k) (a ∷ rest) s) → Stands program gs (record s { activations = a ∷ rest })
+  restand mode f gs stands = record {
+    body = stands.body;
+    behind = stands.behind;
+    bodies = stands.bodies;
+    standing = record { suspended = stands.standing.suspended; waiting = stands.standing.waiting; low = stands.standing.low };
+  }
+
+  -- A frame at which no call begins, and none ends.
+  crossing_none : (f : Frame Value) → crosses f ≡ false → Sound program (state_with Running (f ∷ k) (a ∷ rest) s) → FineIn program (state_with Running (f ∷ k) (a ∷ rest) s) (frame_next named program.types.items (body_forms program) f (state_with Running k (a ∷ rest) s))
+  crossing_none f none sound =
+      ordinary program (state_with Running (f ∷ k) (a ∷ rest) s) sound none _ refl
+      (each_same (state_with Running (f ∷ k) (a ∷ rest) s) (state_with Running k (a ∷ rest) s) _ refl refl (frame_keeps program.types.items (body_forms program) f (state_with Running k (a ∷ rest) s) none))
+
+  passing_none : (mode : Mode) (f : Frame Value) → inside.crosses mode (f ∷ k) ≡ false → (n : Next) → mode_next named program.types.items (body_forms program) mode (state_with mode (f ∷ k) (a ∷ rest) s) ≡ n → n ≡ pass_next named (is_master f) (landing mode f) mode (state_with mode k (a ∷ rest) s) → Sound program (state_with mode (f ∷ k) (a ∷ rest) s) → FineIn program (state_with mode (f ∷ k) (a ∷ rest) s) n
+  passing_none mode f none n is passes sound =
+      ordinary program (state_with mode (f ∷ k) (a ∷ rest) s) sound none n is
+      (each_same (state_with mode (f ∷ k) (a ∷ rest) s) (state_with mode k (a ∷ rest) s) n refl refl
+      (subst (λ (coming : Next). Each (Keeps (state_with mode k (a ∷ rest) s)) coming) (sym passes) (pass_keeps (is_master f) (landing mode f) mode (state_with mode k (a ∷ rest) s))))
+
+  -- The step of a frame, where no jump is on its way.
+  running_step : (f : Frame Value) → Sound program (state_with Running (f ∷ k) (a ∷ rest) s) → FineIn program (state_with Running (f ∷ k) (a ∷ rest) s) (mode_next named program.types.items (body_forms program) Running (state_with Running (f ∷ k) (a ∷ rest) s))
+  running_step (Calls number b count) sound =
+      let w = sound.ready.1 in
+      let stands = restand Running (Calls number b count) sound.suspensions sound.stands in
+      calls_fine program number b k a rest sound.suspensions s w stands (runs_called program number b k a sound.suspensions s sound.well sound.obeys w stands.body rest stands) _
+  running_step Returns sound = left_fine program a k s Running rest sound.suspensions (restand Running Returns sound.suspensions sound.stands) sound.ready.1
+  running_step f sound = crossing_none f refl sound
+
+  -- While a jump is on its way.
+  raising_step : (e : Exception) (f : Frame Value) → Sound program (state_with (Raising e) (f ∷ k) (a ∷ rest) s) → FineIn program (state_with (Raising e) (f ∷ k) (a ∷ rest) s) (jump_next named (Raising e) (f ∷ k) (state_with (Raising e) (f ∷ k) (a ∷ rest) s))
+  raising_step e Returns sound = left_fine program a k s (Raising e) rest sound.suspensions (restand (Raising e) Returns sound.suspensions sound.stands) sound.ready.1
+  raising_step e f sound = passing_none (Raising e) f refl _ refl refl sound
+
+  exiting_step : (f : Frame Value) → Sound program (state_with Exiting (f ∷ k) (a ∷ rest) s) → FineIn program (state_with Exiting (f ∷ k) (a ∷ rest) s) (jump_next named Exiting (f ∷ k) (state_with Exiting (f ∷ k) (a ∷ rest) s))
+  exiting_step Returns sound = left_fine program a k s Exiting rest sound.suspensions (restand Exiting Returns sound.suspensions sound.stands) sound.ready.1
+  exiting_step f sound = passing_none Exiting f refl _ refl refl sound
+
+  returning_step : (f : Frame Value) → Sound program (state_with Returning (f ∷ k) (a ∷ rest) s) → FineIn program (state_with Returning (f ∷ k) (a ∷ rest) s) (jump_next named Returning (f ∷ k) (state_with Returning (f ∷ k) (a ∷ rest) s))
+  returning_step Returns sound = left_fine program a k s Returning rest sound.suspensions (restand Returning Returns sound.suspensions sound.stands) sound.ready.1
+  returning_step f sound = passing_none Returning f refl _ refl refl sound
+
+-- Any step.
+step_by : (program : Program) (mode : Mode) (k : Control) (all : List (Activation Value)) (s : State) → Sound program (state_with mode k all s) → FineIn program (state_with mode k all s) (mode_next named program.types.items (body_forms program) mode (state_with mode k all s))
+step_by program mode k [] s sound = absurd (sound.ready.0)
+step_by program Running [] (a ∷ rest) s sound = sound.ready.1
+step_by program (Raising e) [] (a ∷ rest) s sound = sound.ready.1
+step_by program Exiting [] (a ∷ rest) s sound = tt
+step_by program Returning [] (a ∷ rest) s sound = sound.ready.1
+step_by program Running (f ∷ k) (a ∷ rest) s sound = running_step program a rest k s f sound
+step_by program (Raising e) (f ∷ k) (a ∷ rest) s sound = raising_step program a rest k s e f sound
+step_by program Exiting (f ∷ k) (a ∷ rest) s sound = exiting_step program a rest k s f sound
+step_by program Returning (f ∷ k) (a ∷ rest) s sound = returning_step program a rest k s f sound
 
 -- So what comes next keeps the invariant, and each state that a sound one steps to is sound.
-step_fine : (program : Program) (s : State) → Sound program s → Fine (reached program) s.heap s.masters (next program.types.items s)
-step_fine program s sound = fine (reached program) program.types.items (reached_same program.types.items) s sound.typed (held_inside_it program s sound) sound.ready
+step_fine : (program : Program) (s : State) → Sound program s → FineIn program s (next program.types.items (body_forms program) s)
+unfolding next
+step_fine program s sound = step_by program s.mode s.control s.activations s sound
 
-pub stepped : (program : Program) (s : State) (choice : Choice) (e : Event) (after : State) → Sound program s → Step program s choice e after → Stepped (reached program) s.heap e after
-stepped program s choice e after r step = leads_fine (reached program) s.heap s.masters (next program.types.items s) choice e after (step_fine program s r) step
+-- Where a choice leads, the invariant holds.
+leads_fine : (program : Program) (s : State) (n : Next) (choice : Choice) (e : Event) (after : State) → FineIn program s n → Leads n choice e after → Crosses program s.heap e after
+leads_fine program s (halts halt) choice e after f l = absurd l
+leads_fine program s (moves d t) settled e after f l = rw (l.0, l.1) f
+leads_fine program s (moves d t) (grants granted) e after f l = absurd l
+leads_fine program s (moves d t) (takes i) e after f l = absurd l
+leads_fine program s (tells request d t) settled e after f l = rw (l.0, l.1) f
+leads_fine program s (tells request d t) (grants granted) e after f l = absurd l
+leads_fine program s (tells request d t) (takes i) e after f l = absurd l
+leads_fine program s (asks request answered) settled e after f l = absurd l
+leads_fine program s (asks request answered) (grants granted) e after f l = rw (l.0, l.1) (f granted)
+leads_fine program s (asks request answered) (takes i) e after f l = absurd l
+leads_fine program s (picks n taken) settled e after f l = absurd l
+leads_fine program s (picks n taken) (grants granted) e after f l = absurd l
+leads_fine program s (picks n taken) (takes i) e after f l = rw (l.1, l.2) (f i l.0)
+
+crossed : (program : Program) (s : State) (choice : Choice) (e : Event) (after : State) → Sound program s → Step program s choice e after → Crosses program s.heap e after
+crossed program s choice e after r step = leads_fine program s (next program.types.items (body_forms program) s) choice e after (step_fine program s r) step
+
+pub stepped : (program : Program) (s : State) (choice : Choice) (e : Event) (after : State) → Sound program s → Step program s choice e after → Does s.heap e after
+stepped program s choice e after r step = let st = (crossed program s choice e after r step).stepped in record { alters = st.alters; says = st.says }
 
 pub sound_step : (program : Program) (s : State) (choice : Choice) (e : Event) (after : State) → Sound program s → Step program s choice e after → Sound program after
-sound_step program s choice e after r step = record {
-  ready = (stepped program s choice e after r step).ready;
-  typed = typed_led (program_form program) (next program.types.items s) choice e after (next_fine (program_form program) r.well program.types.items refl s r.typed) step;
-  well = r.well;
-  nested = step_nested (program_form program).types program s after choice e r.nested step;
-}
+sound_step program s choice e after r step =
+    let c = crossed program s choice e after r step in
+    record {
+      well = r.well;
+      obeys = r.obeys;
+      suspensions = c.suspensions;
+      ready = c.stepped.ready;
+      stands = c.stands;
+      typed = step_typed program r.well s after choice e r.typed step;
+      nested = step_nested program s after choice e r.nested step;
+    }
 
 pub sound_run : {program : Program} {s last : State} {events : List Event} → Run program s events last → Sound program s → Sound program last
 sound_run here r = r
@@ -250,7 +425,7 @@ back_kept : {program : Program} {s last : State} {events : List Event} (o : Id) 
 back_kept o run r b = let y = objects_kept run r o b.0 b.1 in (y.0, y.1, y.3 b.2)
 
 -- Laws of two events: what the first leaves behind lasts, and the second keeps to it.
-module _ (R : Event → Event → Type 0) (K : Event → State → Type 0) (born : (program : Program) (e : Event) (before : List Object) (after : State) → Stepped (reached program) before e after → K e after) (kept : (program : Program) (d : Event) (s : State) (choice : Choice) (e : Event) (after : State) → Sound program s → Step program s choice e after → K d s → R d e × K d after) where
+module _ (R : Event → Event → Type 0) (K : Event → State → Type 0) (born : (program : Program) (e : Event) (before : List Object) (after : State) → Does before e after → K e after) (kept : (program : Program) (d : Event) (s : State) (choice : Choice) (e : Event) (after : State) → Sound program s → Step program s choice e after → K d s → R d e × K d after) where
   all_after : {program : Program} {s last : State} {events : List Event} (d : Event) → Run program s events last → Sound program s → K d s → All (R d) events
   all_after d here r h = All-nil (R d)
   all_after {program} {s = s} d (there {event = e} {events = es} choice mid step run) r h =
@@ -267,11 +442,11 @@ module _ (R : Event → Event → Type 0) (K : Event → State → Type 0) (born
 WentBack : Event → State → Type 0
 WentBack e s = (o : Id) → back_of e ≡ Some o → BackIn s.heap o
 
-went_born : (program : Program) (e : Event) (before : List Object) (after : State) → Stepped (reached program) before e after → WentBack e after
+went_born : (program : Program) (e : Event) (before : List Object) (after : State) → Does before e after → WentBack e after
 unfolding WentBack
 went_born program e before after st = λ o is. back_in e before after o st.says is
 
-went_kept : (program : Program) (d : Event) (s : State) (e : Event) (after : State) → Stepped (reached program) s.heap e after → WentBack d s → WentBack d after
+went_kept : (program : Program) (d : Event) (s : State) (e : Event) (after : State) → Does s.heap e after → WentBack d s → WentBack d after
 unfolding WentBack
 went_kept program d s e after st h = λ o is. let b = h o is in let y = st.alters.kept o b.0 b.1 in (y.0, y.1, y.3 b.2)
 

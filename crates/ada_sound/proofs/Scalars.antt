@@ -2,22 +2,23 @@
 
 use Rattle.std.proofs.Common.{◌≡◌, ◌≢◌, ℕ, zero, suc, Bool, true, false, ◌||◌, List, [], ◌∷◌, ◌++◌, length, refl, ◌⊎◌, inl, inr}
 use Rattle.std.specs.Prelude.{Option, Some, None, if◌then◌else◌}
-use Rattle.std.specs.List.{list_all, slice_set}
+use Rattle.std.specs.List.{list_all, slice_get, slice_set}
 use Rattle.std.proofs.Math.ListN.{replicate}
 use Rattle.std.proofs.lemmas.Bool.{and_parts}
 use Rattle.ada_text.specs.declared.spot.Spot.{Spot}
 use Rattle.ada_program.specs.declared.program.Program.{Program}
 use Rattle.ada_program.specs.declared.program.VariableKind.{VariableKind}
 use Rattle.ada_program.specs.declared.program.VariableKind.TheVariants as variable
-use Rattle.ada_program.specs.Form.{PathForm, ExpressionForm, RightForm, computes, DeclarationForm, collects, declares, declares_record, StmtForm, skips, assigns, assigns_record, frees, gets, writes, writes_text, chooses, repeats, counts, exits, returns, raises, encloses, StmtsForm, no_stmts, a_stmt, BranchesForm, otherwise, a_branch, HandlersForm, no_handlers, a_handler}
-use Rattle.ada_program.specs.ProgramForm.{TypeForm, VariableForm, program_form}
-use Rattle.ada_program.specs.WellFormed.{access_of, variable_kind, is_borrower, selectors_kind, path_access, right_fits, initial_fits, is_freed_by, statement_fits, stmts_fit, branches_fit, handlers_fit, IsWellFormed, value_access, root_kind, is_record_object}
-use Rattle.ada_effects.specs.Effects.{expression_raises, path_raises, record_path_raises, items_raise, initial_raises, passes}
+use Rattle.ada_program.specs.Form.{PathForm, ExpressionForm, RightForm, computes, DeclarationForm, collects, declares, declares_record, StmtForm, skips, assigns, assigns_record, frees, gets, writes, writes_text, chooses, repeats, counts, exits, calls, returns, raises, encloses, StmtsForm, no_stmts, a_stmt, BranchesForm, otherwise, a_branch, HandlersForm, no_handlers, a_handler}
+use Rattle.ada_program.specs.ProgramForm.{TypeForm, VariableForm, program_form, seen_in}
+use Rattle.ada_program.specs.WellFormed.{access_of, variable_kind, is_borrower, selectors_kind, path_access, right_fits, initial_fits, is_freed_by, statement_fits, stmts_fit, branches_fit, handlers_fit, callable_in, value_access, root_kind, is_record_object}
+use Rattle.ada_effects.specs.Effects.{expression_raises, path_raises, record_path_raises, items_raise, expressions_raise, initial_raises, Effect, call_raises, passes}
 use Rattle.ada_flow.specs.declared.rule.Hold.{Hold}
 use Rattle.ada_flow.specs.declared.rule.Region.TheVariants.{Whole}
 use Rattle.ada_flow.specs.declared.rule.Hold.TheVariants.{Null, Own, Alias, Lost}
 use Rattle.ada_flow.specs.declared.rule.Rule.TheVariants.{LoopState}
-use Rattle.ada_flow.specs.Flow.{Holds, hold_at, variable_access, join, join_option, Outcome, faults, goes, also_raises, then_flow, raising_if, ends_with, Use, uses_in, uses_in_right, uses_in_target, Breach, broken_among, unless_broken, using_paths, computed, left_by_move, without_value, without_values, moved_by_right, right_hold, evaluation_raises, gives, gives_path, without_alias, without_aliases, behind_end, freed, released, passes_own, freed_behind, frees_path, gets_path, either_of, are_as_good, opened_hold, opened, opened_target, opened_by, opened_by_all, opened_by_branches, opened_by_handlers, ends_turn, left_with, is_left, condition_flow, loop_flow, Gone, gone_with, declared_at, uses_in_initial, uses_in_record, reaches_it, without_types, without_variables, if_own, left, left_option, leaves_block, handled, Around, in_loop, in_block, exit_of, exit_flow, declaration_flow, declarations_flow, bounds_flow, counting_start, begins_pair, stmt_flow, stmts_flow, branches_flow, handlers_flow, variables_of}
+use Rattle.ada_flow.specs.Flow.{Holds, hold_at, variable_access, join, join_option, Outcome, faults, goes, also_raises, then_flow, raising_if, ends_with, Use, uses_in, uses_in_right, uses_in_target, Breach, broken_among, unless_broken, using_paths, computed, left_by_move, without_value, without_values, moved_by_right, right_hold, evaluation_raises, gives, gives_path, without_alias, without_aliases, without_freed, left_by_call, uses_in_all, behind_end, freed, released, passes_own, freed_behind, frees_path, gets_path, either_of, are_as_good, opened_hold, opened, opened_target, opened_by, opened_by_all, opened_by_branches, opened_by_handlers, ends_turn, left_with, is_left, condition_flow, loop_flow, Gone, gone_with, declared_at, uses_in_initial, uses_in_record, reaches_it, without_types, without_variables, if_own, left, left_option, leaves_block, handled, Around, in_loop, in_block, exit_of, exit_flow, declaration_flow, declarations_flow, bounds_flow, counting_start, begins_pair, stmt_flow, stmts_flow, branches_flow, handlers_flow}
+use Rattle.ada_typed.proofs.Bodies.{SeenFits}
 use Rattle.ada_sound.proofs.Assigned.{root_or_none}
 use Rattle.ada_sound.specs.Agreement.{Place, Turning, Comes, here, behind, in_branches, in_body, in_count, in_enclosed, ComesBy, in_others, in_this, in_next, ComesTo, to_this, to_next, ComesInside, in_statements, in_handlers, IsFlowAt}
 use Rattle.ada_sound.proofs.Values.{read_same, read_other, same_or_not}
@@ -29,7 +30,18 @@ join_lost (g ∷ gs) [] x e f = refl
 join_lost (g ∷ gs) (h ∷ hs) zero e f = rw e refl
 join_lost (g ∷ gs) (h ∷ hs) (suc x) e f = join_lost gs hs x e f
 
--- It does so behind a block.
+-- It does so behind a call.
+alias_lost : (b : Bool) → without_alias b Lost ≡ Lost
+alias_lost true = refl
+alias_lost false = refl
+
+freed_lost : (variables : List VariableForm) (may : ℕ → Bool) (holds : Holds) (x : ℕ) → hold_at holds x ≡ Lost → hold_at (without_freed variables may holds) x ≡ Lost
+freed_lost [] may holds x e = refl
+freed_lost (v ∷ vs) may [] x e = refl
+freed_lost (v ∷ vs) may (h ∷ hs) zero e = rw e (alias_lost _)
+freed_lost (v ∷ vs) may (h ∷ hs) (suc x) e = freed_lost vs may hs x e
+
+-- And behind a block.
 own_lost : (b : Bool) → if_own b Lost ≡ Lost
 own_lost true = refl
 own_lost false = refl
@@ -56,10 +68,6 @@ left_lost variables gone holds x e =
     variables_lost gone.variables (without_types variables gone.types holds) x (types_lost variables gone.types holds x e)
 
 -- It does so behind the end of an object.
-alias_lost : (b : Bool) → without_alias b Lost ≡ Lost
-alias_lost true = refl
-alias_lost false = refl
-
 aliases_lost : (variables : List VariableForm) (t : ℕ) (holds : Holds) (x : ℕ) → hold_at holds x ≡ Lost → hold_at (without_aliases variables t holds) x ≡ Lost
 aliases_lost [] t holds x e = refl
 aliases_lost (v ∷ vs) t [] x e = refl
@@ -99,7 +107,7 @@ none_value false (Some variable.Boolean) none = refl
 none_value b (Some (variable.Access access)) none = absurd (cc none)
 none_value b (Some (variable.Record object)) none = absurd (cc none)
 
-module _ (types : List TypeForm) (variables : List VariableForm) (texts exceptions : List (List ℕ)) where
+module _ (types : List TypeForm) (variables : List VariableForm) (texts exceptions : List (List ℕ)) (callable : List (List VariableKind)) where
   -- All variables without an access type are lost.
   abbrev Scalars : Holds → Type 0
   Scalars holds = (x : ℕ) → variable_access variables x ≡ None → hold_at holds x ≡ Lost
@@ -236,6 +244,7 @@ module _ (types : List TypeForm) (variables : List VariableForm) (texts exceptio
     opens (repeats condition fs end_spot) holds s = opens_all fs holds s
     opens (counts x low high fs end_spot) holds s = opens_all fs holds s
     opens (exits condition spot) holds s = s
+    opens (calls procedure actuals) holds s = s
     opens (returns spot) holds s = s
     opens (raises e) holds s = s
     opens (encloses ds fs hs) holds s = opens_handlers hs (opened_by_all variables fs holds) (opens_all fs holds s)
@@ -320,9 +329,14 @@ module _ (types : List TypeForm) (variables : List VariableForm) (texts exceptio
   bounds_keep : (low high : ExpressionForm) (holds : Holds) → Scalars holds → Keeps (bounds_flow low high holds)
   bounds_keep low high holds s = then_keeps (computed low holds) (computed high) (computed_keeps low holds s) (λ hs k. computed_keeps high hs k)
 
+  -- Behind a call what was lost is lost.
+  call_keeps : (effect : Option Effect) (holds : Holds) → Scalars holds → Scalars (left_by_call variables effect holds)
+  call_keeps None holds s = s
+  call_keeps (Some effect) holds s = λ x none. freed_lost variables effect.frees holds x (s x none)
+
   -- Statements.
   mutual
-    stmt_keeps : (around : Around) (inside cleared : Bool) (f : StmtForm) (holds : Holds) → statement_fits types variables texts exceptions inside f ≡ true → Scalars holds → Keeps (stmt_flow types variables around cleared f holds)
+    stmt_keeps : (around : Around) (inside cleared : Bool) (f : StmtForm) (holds : Holds) → statement_fits types variables texts exceptions callable inside f ≡ true → Scalars holds → Keeps (stmt_flow types variables around cleared f holds)
     stmt_keeps around inside cleared skips holds fits s = (s, tt)
     stmt_keeps around inside cleared (assigns target right) holds fits s = path_keeps cleared target.selectors target right holds (and_parts _ _ fits).0 s
     stmt_keeps around inside cleared (assigns_record target items) holds fits s =
@@ -334,14 +348,19 @@ module _ (types : List TypeForm) (variables : List VariableForm) (texts exceptio
     stmt_keeps around inside cleared (writes_text text) holds fits s = (s, tt)
     stmt_keeps around inside cleared (chooses branches) holds fits s = branches_keep around inside branches holds fits s
     stmt_keeps around inside cleared (repeats condition fs end_spot) holds fits s =
-        loop_keeps condition (is_left condition fs) end_spot (λ start hs. stmts_flow types variables (in_loop start) fs hs) (opened_by_all variables fs holds) (opens_all fs holds s)
-        (λ hs k. stmts_keep (in_loop (Some (opened_by_all variables fs holds))) true fs hs (and_parts _ _ fits).1 k)
+        loop_keeps condition (is_left condition fs) end_spot (λ start hs. stmts_flow types variables (in_loop start around) fs hs) (opened_by_all variables fs holds) (opens_all fs holds s)
+        (λ hs k. stmts_keep (in_loop (Some (opened_by_all variables fs holds)) around) true fs hs (and_parts _ _ fits).1 k)
     stmt_keeps around inside cleared (counts x low high fs end_spot) holds fits s =
         then_keeps (bounds_flow low high holds) _ (bounds_keep low high holds s)
         (λ hs k.
-        loop_keeps None true end_spot (λ start gs. stmts_flow types variables (in_loop start) fs gs) (counting_start variables x fs hs) (counting_keeps x fs hs k)
-        (λ gs m. stmts_keep (in_loop (Some (counting_start variables x fs hs))) true fs gs (and_parts _ _ fits).1 m))
+        loop_keeps None true end_spot (λ start gs. stmts_flow types variables (in_loop start around) fs gs) (counting_start variables x fs hs) (counting_keeps x fs hs k)
+        (λ gs m. stmts_keep (in_loop (Some (counting_start variables x fs hs)) around) true fs gs (and_parts _ _ fits).1 m))
     stmt_keeps around inside cleared (exits condition spot) holds fits s = exit_keeps around.start around.inside condition spot holds s
+    stmt_keeps around inside cleared (calls procedure actuals) holds fits s =
+        let effect = slice_get around.effects procedure in
+        let after = left_by_call variables effect holds in
+        let may = expressions_raise actuals || call_raises effect (λ e. true) in
+        using_keeps (uses_in_all actuals) holds (ends_with may after after) (ends_keep may after after (call_keeps effect holds s) (call_keeps effect holds s))
     stmt_keeps around inside cleared (returns spot) holds fits s = (tt, tt)
     stmt_keeps around inside cleared (raises e) holds fits s = (tt, s)
     stmt_keeps around inside cleared (encloses ds fs hs) holds fits s =
@@ -350,18 +369,18 @@ module _ (types : List TypeForm) (variables : List VariableForm) (texts exceptio
         block_keeps (gone_with ds) _
         (then_keeps (declarations_flow types variables ds holds) _ (declarations_keep ds holds (and_parts _ _ more.0).1 s)
         (λ at k.
-        handled_keeps (passes fs hs) (handlers_flow types variables (in_block (gone_with ds) around) hs) (stmts_flow types variables (in_block (gone_with ds) around) fs at)
+        handled_keeps (passes around.effects fs hs) (handlers_flow types variables (in_block (gone_with ds) around) hs) (stmts_flow types variables (in_block (gone_with ds) around) fs at)
         (stmts_keep (in_block (gone_with ds) around) inside fs at more.1 k)
         (λ gs m. handlers_keep (in_block (gone_with ds) around) inside hs gs parts.1 m)))
 
-    stmts_keep : (around : Around) (inside : Bool) (fs : StmtsForm) (holds : Holds) → stmts_fit types variables texts exceptions inside fs ≡ true → Scalars holds → Keeps (stmts_flow types variables around fs holds)
+    stmts_keep : (around : Around) (inside : Bool) (fs : StmtsForm) (holds : Holds) → stmts_fit types variables texts exceptions callable inside fs ≡ true → Scalars holds → Keeps (stmts_flow types variables around fs holds)
     stmts_keep around inside no_stmts holds fits s = (s, tt)
     stmts_keep around inside (a_stmt f fs) holds fits s =
         let parts = and_parts _ _ fits in
         then_keeps (stmt_flow types variables around (begins_pair f fs) f holds) (stmts_flow types variables around fs)
         (stmt_keeps around inside (begins_pair f fs) f holds parts.0 s) (λ hs k. stmts_keep around inside fs hs parts.1 k)
 
-    branches_keep : (around : Around) (inside : Bool) (branches : BranchesForm) (holds : Holds) → branches_fit types variables texts exceptions inside branches ≡ true → Scalars holds → Keeps (branches_flow types variables around branches holds)
+    branches_keep : (around : Around) (inside : Bool) (branches : BranchesForm) (holds : Holds) → branches_fit types variables texts exceptions callable inside branches ≡ true → Scalars holds → Keeps (branches_flow types variables around branches holds)
     branches_keep around inside (otherwise fs) holds fits s = stmts_keep around inside fs holds fits s
     branches_keep around inside (a_branch e fs branches) holds fits s =
         let parts = and_parts _ _ fits in
@@ -370,7 +389,7 @@ module _ (types : List TypeForm) (variables : List VariableForm) (texts exceptio
         either_keeps (stmts_flow types variables around fs hs) (branches_flow types variables around branches hs)
         (stmts_keep around inside fs hs (and_parts _ _ parts.0).1 k) (branches_keep around inside branches hs parts.1 k))
 
-    handlers_keep : (around : Around) (inside : Bool) (hs : HandlersForm) (holds : Holds) → handlers_fit types variables texts exceptions inside hs ≡ true → Scalars holds → Keeps (handlers_flow types variables around hs holds)
+    handlers_keep : (around : Around) (inside : Bool) (hs : HandlersForm) (holds : Holds) → handlers_fit types variables texts exceptions callable inside hs ≡ true → Scalars holds → Keeps (handlers_flow types variables around hs holds)
     handlers_keep around inside no_handlers holds fits s = (tt, tt)
     handlers_keep around inside (a_handler choices fs hs) holds fits s =
         let parts = and_parts _ _ fits in
@@ -386,7 +405,7 @@ module _ (types : List TypeForm) (variables : List VariableForm) (texts exceptio
 
   -- Wherever flow comes to.
   mutual
-    comes_keep : {around : Around} {outer place : Place} {fs : StmtsForm} {holds at : Holds} {way : List Turning} (inside : Bool) → stmts_fit types variables texts exceptions inside fs ≡ true → Scalars holds → Comes types variables around outer fs holds way place at → Scalars at
+    comes_keep : {around : Around} {outer place : Place} {fs : StmtsForm} {holds at : Holds} {way : List Turning} (inside : Bool) → stmts_fit types variables texts exceptions callable inside fs ≡ true → Scalars holds → Comes types variables around outer fs holds way place at → Scalars at
     comes_keep inside fits s here = s
     comes_keep {around = around} inside fits s (behind {raising = raising} {f = f} {fs = fs} {holds = holds} mid is more) =
         let parts = and_parts _ _ fits in
@@ -403,26 +422,26 @@ module _ (types : List TypeForm) (variables : List VariableForm) (texts exceptio
         let others = and_parts _ _ parts.0 in
         inside_comes inside (and_parts _ _ others.0).1 others.1 parts.1 s more
 
-    branches_comes : {around : Around} {outer place : Place} {branches : BranchesForm} {holds at : Holds} {way : List Turning} (inside : Bool) → branches_fit types variables texts exceptions inside branches ≡ true → Scalars holds → ComesBy types variables around outer branches holds way place at → Scalars at
+    branches_comes : {around : Around} {outer place : Place} {branches : BranchesForm} {holds at : Holds} {way : List Turning} (inside : Bool) → branches_fit types variables texts exceptions callable inside branches ≡ true → Scalars holds → ComesBy types variables around outer branches holds way place at → Scalars at
     branches_comes inside fits s (in_others more) = comes_keep inside fits s more
     branches_comes inside fits s (in_this {raising = raising} {e = e} {holds = holds} mid is more) =
         comes_keep inside (and_parts _ _ (and_parts _ _ fits).0).1 (normal_of _ mid raising is (computed_keeps e holds s)) more
     branches_comes inside fits s (in_next {raising = raising} {e = e} {holds = holds} mid is more) =
         branches_comes inside (and_parts _ _ fits).1 (normal_of _ mid raising is (computed_keeps e holds s)) more
 
-    handlers_comes : {around : Around} {outer place : Place} {hs : HandlersForm} {holds at : Holds} {way : List Turning} (inside : Bool) → handlers_fit types variables texts exceptions inside hs ≡ true → Scalars holds → ComesTo types variables around outer hs holds way place at → Scalars at
+    handlers_comes : {around : Around} {outer place : Place} {hs : HandlersForm} {holds at : Holds} {way : List Turning} (inside : Bool) → handlers_fit types variables texts exceptions callable inside hs ≡ true → Scalars holds → ComesTo types variables around outer hs holds way place at → Scalars at
     handlers_comes inside fits s (to_this more) = comes_keep inside (and_parts _ _ (and_parts _ _ fits).0).1 s more
     handlers_comes inside fits s (to_next more) = handlers_comes inside (and_parts _ _ fits).1 s more
 
-    inside_comes : {around : Around} {outer place : Place} {ds : List DeclarationForm} {fs : StmtsForm} {hs : HandlersForm} {holds at : Holds} {way : List Turning} (inside : Bool) → list_all (initial_fits types variables) ds ≡ true → stmts_fit types variables texts exceptions inside fs ≡ true → handlers_fit types variables texts exceptions inside hs ≡ true → Scalars holds → ComesInside types variables around outer ds fs hs holds way place at → Scalars at
+    inside_comes : {around : Around} {outer place : Place} {ds : List DeclarationForm} {fs : StmtsForm} {hs : HandlersForm} {holds at : Holds} {way : List Turning} (inside : Bool) → list_all (initial_fits types variables) ds ≡ true → stmts_fit types variables texts exceptions callable inside fs ≡ true → handlers_fit types variables texts exceptions callable inside hs ≡ true → Scalars holds → ComesInside types variables around outer ds fs hs holds way place at → Scalars at
     inside_comes inside initials statements handlers s (in_statements {raising = raising} {ds = ds} {holds = holds} mid is more) =
         comes_keep inside statements (normal_of _ mid raising is (declarations_keep ds holds initials s)) more
     inside_comes {around = around} inside initials statements handlers s (in_handlers {raising = raising} {normal = normal} {ds = ds} {body = body} {holds = holds} mid raised is at more) =
         handlers_comes inside handlers
         (raised_of _ normal raised at (stmts_keep around inside body mid statements (normal_of _ mid raising is (declarations_keep ds holds initials s)))) more
 
--- In a well-formed program flow calls each Integer and Boolean lost.
-pub scalars_lost : (program : Program) (way : List Turning) (place : Place) (holds : Holds) → IsWellFormed (program_form program) → IsFlowAt program way place holds → (x : ℕ) → variable_access (variables_of program) x ≡ None → hold_at holds x ≡ Lost
-scalars_lost program way place holds w at =
-    inside_comes (program_form program).types (variables_of program) (program_form program).texts (program_form program).exceptions false
-    w.initials_fit w.statements_fit w.handlers_fit (λ x none. first_lost (length program.variables.items) x) at
+-- In a body of a well-formed program flow calls each Integer and Boolean lost.
+pub scalars_lost : (program : Program) (procedure : Option ℕ) (rest : Place) (way : List Turning) (place : Place) (holds : Holds) → SeenFits (seen_in procedure (program_form program)) → IsFlowAt program procedure rest way place holds → (x : ℕ) → variable_access (seen_in procedure (program_form program)).variables x ≡ None → hold_at holds x ≡ Lost
+scalars_lost program procedure rest way place holds w at =
+    let p = seen_in procedure (program_form program) in
+    inside_comes p.types p.variables p.texts p.exceptions (callable_in p) false w.initials_fit w.statements_fit w.handlers_fit (λ x none. first_lost (length p.variables) x) at

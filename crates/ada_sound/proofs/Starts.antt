@@ -1,97 +1,79 @@
 -- The first state of a program that is well formed, whose collections nest, and that obeys the rules keeps the invariant.
 
-use Rattle.std.proofs.Common.{◌≡◌, ℕ, zero, suc, true, false, List, [], ◌∷◌, length, map, refl, arith}
+use Rattle.std.proofs.Common.{◌≡◌, ℕ, true, false, List, [], ◌∷◌, length, map, refl, sym, subst}
 use Rattle.std.specs.Prelude.{ℤ, Option, Some, None}
-use Rattle.std.proofs.Math.ListN.{replicate}
 use Rattle.ada_program.specs.declared.program.Program.{Program}
-use Rattle.ada_program.specs.Form.{declaration_forms, stmt_forms, handler_forms}
-use Rattle.ada_program.specs.ProgramForm.{program_form}
+use Rattle.ada_program.specs.ProgramForm.{TypeForm, ProgramForm, program_form, main_body, seen_in}
 use Rattle.ada_program.specs.WellFormed.{IsWellFormed}
 use Rattle.ada_program.specs.Nested.{CollectionsNest}
-use Rattle.ada_flow.specs.declared.rule.Hold.TheVariants as hold
-use Rattle.ada_flow.specs.Flow.{Holds, hold_at, left, collected, gone_with, outermost, first_holds, variables_of, program_flow, ObeysRules}
-use Rattle.ada_meaning.specs.Frame.{Elaborates}
-use Rattle.ada_meaning.specs.Named.{State}
-use Rattle.ada_meaning.specs.Run.{blank_of, first_state}
-use Rattle.ada_sound.specs.Agreement.{Turning, IsFlowAt}
-use Rattle.ada_typed.proofs.Values.{held_blank}
+use Rattle.ada_effects.specs.Effects.{body_frees, effects_of}
+use Rattle.ada_flow.specs.Flow.{Holds, body_flow, first_holds, gone_with, have_exit, handlers_have_exit, variables_of, flow_of, ObeysRules}
+use Rattle.ada_meaning.specs.Step.{blanks}
+use Rattle.ada_meaning.specs.Named.{State, named}
+use Rattle.ada_meaning.specs.Run.{first_state}
+use Rattle.ada_sound.specs.Agreement.{running_procedure}
+use Rattle.ada_typed.proofs.Bodies.{seen_fits}
 use Rattle.ada_typed.proofs.Control as typed
-use Rattle.ada_scopes.proofs.Control as scoped
-use Rattle.ada_scopes.proofs.Runs.{first_nested}
+use Rattle.ada_typed.proofs.Runs.{first_typed}
+use Rattle.ada_scopes.proofs.Runs.{Scoped, first_nested}
 use Rattle.ada_sound.proofs.Fits.{first_fit}
-use Rattle.ada_sound.proofs.Outcomes.{goes_map, to_here}
-use Rattle.ada_sound.proofs.Leavings.{all_among}
-use Rattle.ada_sound.proofs.Nestings.{part_from}
-use Rattle.ada_sound.proofs.Invariant.{Known, Control, GoesBy, Goes, Ways, Outside, RunsOn, Ready, anywhere}
+use Rattle.ada_sound.proofs.Calls.{lost_at}
+use Rattle.ada_sound.proofs.Bodies.{IsBody, IsFine, obeys_in}
+use Rattle.ada_sound.proofs.BodyRuns.{body_runs, none_suspended}
+use Rattle.ada_sound.proofs.Exits.{no_exits, no_exit_handlers}
+use Rattle.ada_sound.proofs.Invariant.{RunsOn, Ready}
+use Rattle.ada_sound.proofs.Callers.{Suspension, known_in, Stands}
+use Rattle.ada_sound.proofs.Returns.{same_types}
 
--- Flow comes to a place on some way from the program's declarations.
-abbrev pub Reaches : Program → Control → Holds → Type 0
-Reaches program rest holds = (way : List Turning) × IsFlowAt program way rest holds
-
-abbrev pub reached : Program → Known
-reached program = record { program = program_form program; At = Reaches program }
-
--- What every state of a run keeps: the invariant, that values are of their kinds, and that collections nest.
+-- What every state of a run keeps: the invariant, for the body that runs and those that have called it, that values are of their kinds, and that
+-- collections nest.
 pub record Sound (program : Program) (s : State) : Type 0 where
   pub well : IsWellFormed (program_form program)
-  pub ready : Ready (reached program) s
+  pub obeys : ObeysRules program
+  pub suspensions : List Suspension
+  pub ready : Ready (known_in program (running_procedure s) suspensions) s
+  pub stands : Stands program suspensions s
   pub typed : typed.Typed (program_form program) s
-  pub nested : scoped.Nested (program_form program).types s
+  pub nested : Scoped (program_form program) s
 
--- What obeys the rules breaks none.
-goes_anywhere : (normal : Option Holds) → GoesBy normal (λ holds. Unit {0})
-goes_anywhere None = tt
-goes_anywhere (Some holds) = tt
+-- Each body of a program breaks no rule, and no exit leads out of it.
+pub body_obeys : (program : Program) (procedure : Option ℕ) → IsBody (program_form program) procedure → ObeysRules program → IsFine (seen_in procedure (program_form program)).types (body_flow (seen_in procedure (program_form program)).types (effects_of (seen_in procedure (program_form program))) (main_body (seen_in procedure (program_form program))))
+body_obeys program procedure is obeys =
+    let own = seen_in procedure (program_form program) in
+    subst (λ (types : List TypeForm). IsFine types (body_flow types (effects_of own) (main_body own))) (sym (same_types procedure (program_form program))) (obeys_in (program_form program) procedure is obeys)
 
--- Behind the main procedure nothing is asked for.
-abbrev behind_main : Program → Ways
-behind_main program = Outside (variables_of program) (gone_with (declaration_forms program)) anywhere
+pub none_out : (program : Program) (procedure : Option ℕ) → IsWellFormed (program_form program) → have_exit (seen_in procedure (program_form program)).statements ≡ false
+none_out program procedure well =
+    let p = seen_in procedure (program_form program) in
+    no_exits p.types p.variables p.texts p.exceptions _ p.statements (seen_fits (program_form program) well procedure).statements_fit
 
-ends_main : (program : Program) (holds : Holds) → (behind_main program).normal holds
-ends_main program holds = to_here (λ h. Unit {0}) (left (variables_of program) (gone_with (declaration_forms program)) holds) tt
-
-program_runs : (program : Program) → ObeysRules program → RunsOn (reached program) (Elaborates (declaration_forms program) (stmt_forms program) (handler_forms program) ∷ []) (gone_with (declaration_forms program) ∷ []) (first_holds program)
-program_runs program (normal, raising, is) =
-    let all : Goes (program_flow program) (λ holds. Unit {0}) (λ holds. Unit {0}) = rw is (goes_anywhere normal, goes_anywhere raising) in (
-      all_among (collected (declaration_forms program)),
-      part_from (reached program) outermost [] (declaration_forms program) (stmt_forms program) (handler_forms program) (behind_main program) (λ e. true) (first_holds program)
-          (record { by_declarations = λ e i. refl; by_statements = λ e i. refl; by_handlers = λ e i. refl })
-          (λ way place at comes. (way, comes))
-          (goes_map (program_flow program) (λ holds. Unit {0}) (λ holds. Unit {0}) _ _ (λ h u. to_here (behind_main program).normal h (ends_main program h)) (λ h u. λ e i. to_here ((behind_main program).raised e) h (ends_main program h)) all)
-          (λ one h may. ends_main program h)
-          (λ one h may. ends_main program h)
-          (λ h. ends_main program h),
-    )
-
-lost_at : (n x : ℕ) → hold_at (replicate n hold.Lost) x ≡ hold.Lost
-lost_at zero x = refl
-lost_at (suc n) zero = refl
-lost_at (suc n) (suc x) = lost_at n x
+pub none_on : (program : Program) (procedure : Option ℕ) → IsWellFormed (program_form program) → handlers_have_exit (seen_in procedure (program_form program)).handlers ≡ false
+none_on program procedure well =
+    let p = seen_in procedure (program_form program) in
+    no_exit_handlers p.types p.variables p.texts p.exceptions _ p.handlers (seen_fits (program_form program) well procedure).handlers_fit
 
 -- The first state.
-ready_first : (program : Program) (input : List ℤ) → ObeysRules program → Ready (reached program) (first_state program input)
-ready_first program input obeys = (
-  tt,
-  record {
-    rooms = gone_with (declaration_forms program) ∷ [];
-    holds = first_holds program;
-    stored = record { counted = tt; sane = λ o x e. absurd (cc e) };
-    roomed = (tt, tt);
-    fit = first_fit (program_form program).types (variables_of program) (map blank_of program.variables.items) (first_holds program) (lost_at (length program.variables.items));
-    rest = program_runs program obeys;
-  },
-)
-
--- Values are of their kinds there: each place holds a value of its variable's kind.
-typed_first : (program : Program) (input : List ℤ) → IsWellFormed (program_form program) → typed.Typed (program_form program) (first_state program input)
-typed_first program input well =
-    typed.running [] (record { filled = tt; active = (held_blank [] program.variables.items, tt); runs = refl; deep = omega arith })
-    (refl, false, well.initials_fit, well.statements_fit, well.handlers_fit, tt, tt)
+ready_first : (program : Program) (input : List ℤ) → IsWellFormed (program_form program) → ObeysRules program → Ready (known_in program None []) (first_state program input)
+ready_first program input well obeys =
+    let p = program_form program in (
+      tt,
+      record {
+        rooms = gone_with p.declarations ∷ [];
+        holds = first_holds p.variables;
+        stored = record { counted = tt; sane = λ o x e. absurd (cc e) };
+        roomed = (tt, refl);
+        fit = first_fit p.types p.variables (blanks named p.variables) (first_holds p.variables) (lost_at (length p.variables));
+        rest = body_runs program None [] (body_obeys program None tt obeys) (none_out program None well) (none_on program None well) (none_suspended program None (body_frees p.types (effects_of p) (main_body p)));
+      },
+    )
 
 pub sound_first : (program : Program) (input : List ℤ) → IsWellFormed (program_form program) → CollectionsNest (program_form program) → ObeysRules program → Sound program (first_state program input)
 sound_first program input well nest obeys = record {
-  ready = ready_first program input obeys;
-  typed = typed_first program input well;
   well = well;
+  obeys = obeys;
+  suspensions = [];
+  ready = ready_first program input well obeys;
+  stands = record { body = tt; behind = refl; bodies = tt; standing = record { suspended = tt; waiting = tt; low = tt } };
+  typed = first_typed program input well;
   nested = first_nested program well nest input;
 }

@@ -5,13 +5,14 @@ use Rattle.std.specs.Prelude.{ℤ, pos, ◌+ℤ◌, int_le, ◌==◌, if◌then�
 use Rattle.std.specs.List.{slice_set, list_all}
 use Rattle.std.proofs.lemmas.Bool.{eq-eqb, and_parts}
 use Rattle.ada_program.specs.declared.program.TypeDefinition.{TypeDefinition}
-use Rattle.ada_program.specs.WellFormed.{access_of, selectors_kind, variable_kind, path_kind, path_access, reached_components, right_fits, lends_to, names_borrower, is_freed_by, is_record_object, record_initial_fits, initial_fits, statement_fits, stmts_fit}
+use Rattle.ada_program.specs.WellFormed.{callable_in, is_this, access_of, selectors_kind, variable_kind, path_kind, path_access, reached_components, right_fits, lends_to, names_borrower, is_freed_by, is_record_object, record_initial_fits, initial_fits, statement_fits, stmts_fit}
 use Rattle.ada_program.specs.declared.program.Exception.{Exception}
 use Rattle.ada_program.specs.declared.program.Exception.TheVariants.{ConstraintError, EndError}
-use Rattle.ada_program.specs.Form.{PathForm, ExpressionForm, RightForm, nothing, value_of, allocates, allocates_default, computes, StmtForm, skips, assigns, assigns_record, frees, gets, writes, writes_text, chooses, repeats, counts, exits, returns, raises, encloses, StmtsForm, no_stmts, a_stmt, BranchesForm, otherwise, a_branch, HandlersForm, DeclarationForm, collects, declares, declares_record}
+use Rattle.ada_program.specs.Form.{PathForm, ExpressionForm, RightForm, nothing, value_of, allocates, allocates_default, computes, StmtForm, skips, assigns, assigns_record, frees, gets, writes, writes_text, chooses, repeats, counts, exits, calls, returns, raises, encloses, StmtsForm, no_stmts, a_stmt, BranchesForm, otherwise, a_branch, HandlersForm, DeclarationForm, collects, declares, declares_record}
 use Rattle.ada_program.specs.Handling.{is_same}
+use Rattle.ada_program.specs.ProgramForm.{BodyForm}
 use Rattle.ada_effects.specs.Effects.{expression_raises, path_raises, condition_raises, right_raises}
-use Rattle.ada_flow.specs.Flow.{Holds, uses_in_target, ends_with, bounds_flow, gives, gives_path, gets_path, frees_path, leaves_path, clears, begins_pair, exit_of, declared_at, collected, gone_with, computed, Around}
+use Rattle.ada_flow.specs.Flow.{Holds, uses_in_target, ends_with, bounds_flow, gives, gives_path, gets_path, frees_path, leaves_path, clears, begins_pair, exit_of, declared_at, collected, gone_with, computed}
 use Rattle.ada_meaning.specs.declared.state.Value.{Value}
 use Rattle.ada_meaning.specs.declared.state.Mode.TheVariants.{Raising, Exiting, Returning}
 use Rattle.ada_meaning.specs.Frame.{Elaborates, Does, Decides, Repeats, Turns, Ranges, Counts, Exits, Handles, Closes, Evaluates, Computes, Stores, Declares, Writes}
@@ -22,14 +23,14 @@ use Rattle.ada_meaning.specs.Named.{Object, State, named}
 use Rattle.ada_sound.proofs.Stored.{stored_owning, stored_entered}
 use Rattle.ada_typed.specs.Holding.{cells_of}
 use Rattle.ada_typed.proofs.Values.{AreHeld}
-use Rattle.ada_sound.proofs.Fits.{is_object, weaker_fit, put_lost}
+use Rattle.ada_sound.proofs.Fits.{NoOuterAlias, is_object, weaker_fit, put_lost}
 use Rattle.ada_sound.proofs.Orderings.{good_losing}
 use Rattle.ada_sound.proofs.Assigned.{freed_at}
 use Rattle.ada_sound.proofs.Roots.{root_object, value_root, right_leads, integer_leads}
 use Rattle.ada_sound.proofs.Copied.{record_there}
 use Rattle.ada_sound.proofs.Records.{has_place, record_fine}
 use Rattle.ada_sound.proofs.Wholes.{record_begins}
-use Rattle.ada_sound.proofs.Invariant.{Pooled, Known, Control, Rooms, Roomed, Goes, Raised, Doing, Choosing, TurnsTo, condition_among, component_among, Counting, Elaborating, Handled, Outside, RunsOn, Deciding, TurningOn, ExitingTo, Computing, IsOne, Pairs, Takes, Working, Resumes, EvaluatesTo, Fine, ways}
+use Rattle.ada_sound.proofs.Invariant.{Pooled, Known, Where, outers, below, Control, Rooms, Roomed, Goes, Raised, Doing, Choosing, TurnsTo, condition_among, component_among, Counting, Elaborating, Handled, Outside, RunsOn, Deciding, TurningOn, ExitingTo, Computing, IsOne, Pairs, Takes, Working, Resumes, EvaluatesTo, Fine, ways}
 use Rattle.ada_sound.proofs.Ready.{running, at_work, with_less, at_less, stays, lost_stored, ready_on, runs_on, jumps, jumps_less}
 use Rattle.ada_sound.proofs.Nestings.{Starting, starts, others_do, branch_does, chooses_from, repeats_from, turn_runs, counts_from, count_runs, exit_parts, encloses_from}
 use Rattle.ada_sound.proofs.Outcomes.{goes_map, to_before, raised_before, raised_less, then_goes, using_goes, computed_goes}
@@ -38,6 +39,7 @@ use Rattle.ada_sound.proofs.Leavings.{all_among}
 use Rattle.ada_sound.proofs.Targets.{component_begins, get_begins, half_begins}
 use Rattle.ada_sound.proofs.Frees.{free_fine}
 use Rattle.ada_sound.proofs.Releases.{free_begins}
+use Rattle.ada_sound.proofs.CallStatements.{AreAmong, call_begins}
 
 -- Which exceptions a Free may raise, and which Get may.
 abbrev free_among : PathForm → Exception → Bool
@@ -81,9 +83,9 @@ pairs_component c cs target (allocates_default access) fs k is = tt
 pairs_component c cs target (computes e) fs k is = tt
 
 module _ (known : Known) where
-  roomed_collects : (item access : ℕ) (ds : List DeclarationForm) (fs : StmtsForm) (hs : HandlersForm) (k : Control) (holds : Holds) (ms : List Master) (rooms : Rooms) → Roomed ms rooms → RunsOn known (Elaborates (collects access ∷ ds) fs hs ∷ k) rooms holds → Roomed (owning (record { number = item; owned = collection access }) ms) rooms
-  roomed_collects item access ds fs hs k holds [] rooms r e = r
-  roomed_collects item access ds fs hs k holds (m ∷ ms) [] r e = r
+  roomed_collects : (item access : ℕ) (ds : List DeclarationForm) (fs : StmtsForm) (hs : HandlersForm) (k : Control) (holds : Holds) (ms : List Master) (rooms : Rooms) → Roomed (below known) ms rooms → RunsOn known (Elaborates (collects access ∷ ds) fs hs ∷ k) rooms holds → Roomed (below known) (owning (record { number = item; owned = collection access }) ms) rooms
+  roomed_collects item access ds fs hs k holds ms [] r e = absurd e
+  roomed_collects item access ds fs hs k holds [] (gone ∷ rooms) r e = absurd r
   roomed_collects item access ds fs hs k holds (m ∷ ms) (gone ∷ rooms) r e = ((e.0.0, r.0), r.1)
 
   -- What declarations go on with.
@@ -95,6 +97,7 @@ module _ (known : Known) where
   declares_more heap places x right ds fs hs k holds [] e = absurd e
   declares_more heap places x right ds fs hs k holds (gone ∷ rooms) e =
       let o = Outside known.program.variables gone (ways known k rooms) in (
+        tt,
         false,
         (
           declared_at known.program.variables x,
@@ -172,11 +175,11 @@ module _ (known : Known) where
         let cleared = begins_pair (assigns target right) fs in
         component_begins known a rest s cleared c cs target right fs k is whole (at_work w (w.rest, pairs_component c cs target right fs k is))
 
-    frees_fine : (cs : List ℕ) (access : ℕ) (path : PathForm) (fs : StmtsForm) (k : Control) → Pooled known.program.types s.heap → is_freed_by known.program.types access (path_access known.program.types known.program.variables path) ≡ true → path.selectors ≡ cs → Working known s.heap a.places s.masters (λ rooms holds. Goes (frees_path known.program.types known.program.variables cs path holds) (RunsOn known (Does fs ∷ k) rooms) (Raised (free_among path) (ways known k rooms))) → Fine known s.heap s.masters (frees_next named cs access path.root (running (Does fs ∷ k) a rest s))
-    frees_fine [] access path fs k pooled freed is w =
+    frees_fine : (cs : List ℕ) (access : ℕ) (path : PathForm) (fs : StmtsForm) (k : Control) → Pooled known.program.types s.heap → is_freed_by known.program.types access (path_access known.program.types known.program.variables path) ≡ true → ((t : ℕ) → is_this t (path_access known.program.types known.program.variables path) ≡ true → NoOuterAlias (outers known) t) → path.selectors ≡ cs → Working known s.heap a.places s.masters (λ rooms holds. Goes (frees_path known.program.types known.program.variables cs path holds) (RunsOn known (Does fs ∷ k) rooms) (Raised (free_among path) (ways known k rooms))) → Fine known s.heap s.masters (frees_next named cs access path.root (running (Does fs ∷ k) a rest s))
+    frees_fine [] access path fs k pooled freed spares is w =
         let own = freed_at known.program.types known.program.variables access path freed in
-        free_fine known a rest s access path.root (value_root known.program.types known.program.variables path own.0 is own.1) path.spot fs k (λ rooms. Raised (free_among path) (ways known k rooms)) pooled own.0 (sym (ap (λ (cs : List ℕ). access_of (selectors_kind known.program.types (variable_kind known.program.variables path.root) cs)) is) ∙ own.2) own.3 w
-    frees_fine (c ∷ cs) access path fs k pooled freed is w = free_begins known a rest s c cs access path fs k (free_among path) (λ may. may) freed is w
+        free_fine known a rest s access path.root (value_root known.program.types known.program.variables path own.0 is own.1) path.spot fs k (λ rooms. Raised (free_among path) (ways known k rooms)) pooled own.0 (sym (ap (λ (cs : List ℕ). access_of (selectors_kind known.program.types (variable_kind known.program.variables path.root) cs)) is) ∙ own.2) own.3 (spares own.0 (ap (is_this own.0) own.1 ∙ eq-eqb own.0 own.0 refl)) w
+    frees_fine (c ∷ cs) access path fs k pooled freed spares is w = free_begins known a rest s c cs access path fs k (free_among path) (λ may. may) freed spares is w
 
     gets_fine : (cs : List ℕ) (target : PathForm) (input : List ℤ) (fs : StmtsForm) (k : Control) → target.selectors ≡ cs → (target.of_record ≡ true → is_object known.program.variables target.root ≡ true) → Working known s.heap a.places s.masters (λ rooms holds. Goes (gets_path cs target holds) (RunsOn known (Does fs ∷ k) rooms) (Raised (get_among target) (ways known k rooms))) → Fine known s.heap s.masters (gets_next named cs target.root input (running (Does fs ∷ k) a rest s))
     gets_fine (c ∷ cs) target input fs k is whole w =
@@ -271,38 +274,39 @@ module _ (known : Known) where
         (first.0, (λ may. first.2 may ConstraintError (or_left (expression_raises low) (expression_raises high) may)), (second.0, (λ may. second.2 may ConstraintError (or_right (expression_raises low) (expression_raises high) may)), (λ v. second.1)))
 
     -- Statements.
-    stmt_fine : (inside : Bool) (around : Around) (f : StmtForm) (fs : StmtsForm) (k : Control) → Pooled known.program.types s.heap → statement_fits known.program.types known.program.variables known.program.texts known.program.exceptions inside f ≡ true → Working known s.heap a.places s.masters (λ rooms holds. Starting known around f fs k (ways known k rooms) holds) → Fine known s.heap s.masters (stmt_next named f (running (Does fs ∷ k) a rest s))
-    stmt_fine inside around skips fs k pooled fits w = runs_on known (Does fs ∷ k) a rest s (at_work w w.rest.1.0) Quiet tt
-    stmt_fine inside around (assigns target right) fs k pooled fits w =
+    stmt_fine : (bodies : List BodyForm) → AreAmong known.program.bodies bodies → (inside : Bool) (here : Where) (f : StmtForm) (fs : StmtsForm) (k : Control) → Pooled known.program.types s.heap → statement_fits known.program.types known.program.variables known.program.texts known.program.exceptions (callable_in known.program) inside f ≡ true → Working known s.heap a.places s.masters (λ rooms holds. Starting known here f fs k (ways known k rooms) holds) → Fine known s.heap s.masters (stmt_next named bodies f (running (Does fs ∷ k) a rest s))
+    stmt_fine bodies among inside here skips fs k pooled fits w = runs_on known (Does fs ∷ k) a rest s (at_work w w.rest.1.0) Quiet tt
+    stmt_fine bodies among inside here (assigns target right) fs k pooled fits w =
         let types = known.program.types in
         let variables = known.program.variables in
         let leads = right_leads types variables (path_kind types variables target) right (and_parts (right_fits types variables (path_kind types variables target) right) (lends_to variables (names_borrower variables target) right) fits).0 in
         assign_fine target.selectors target right fs k refl (root_object types variables target leads.0 leads.1) (at_work w w.rest.1)
-    stmt_fine inside around (assigns_record target items) fs k pooled fits w =
+    stmt_fine bodies among inside here (assigns_record target items) fs k pooled fits w =
         let there = record_there known.program.types known.program.variables target (and_parts _ _ fits).0 in
         record_begins known a rest s target items fs k there (at_work w w.rest.1)
-    stmt_fine inside around (frees access path) fs k pooled fits w = frees_fine path.selectors access path fs k pooled (and_parts _ _ fits).0 refl (at_work w w.rest.1)
-    stmt_fine inside around (gets target) fs k pooled fits w = (
+    stmt_fine bodies among inside here (frees access path) fs k pooled fits w = frees_fine path.selectors access path fs k pooled (and_parts _ _ fits).0 w.rest.4 refl (at_work w w.rest.1)
+    stmt_fine bodies among inside here (gets target) fs k pooled fits w = (
         let types = known.program.types in
         let variables = known.program.variables in
         let leads = integer_leads (path_kind types variables target) fits in
         gets_fine target.selectors target s.input fs k refl (root_object types variables target leads.0 leads.1) (at_work w w.rest.1)
         )
-    stmt_fine inside around (writes e) fs k pooled fits w =
+    stmt_fine bodies among inside here (writes e) fs k pooled fits w =
         let h = computed_goes e w.holds (RunsOn known (Does fs ∷ k) w.rooms) (Raised (λ x. is_same x ConstraintError && expression_raises e) (ways known k w.rooms)) w.rest.1 in
         ready_on known (Computes e ∷ Writes ∷ Does fs ∷ k) a rest s a.operands (at_work w (h.0, (λ may. h.2 may ConstraintError may), h.1))
-    stmt_fine inside around (writes_text text) fs k pooled fits w = runs_on known (Does fs ∷ k) a rest s (at_work w w.rest.1.0) (Line _) tt
-    stmt_fine inside around (chooses branches) fs k pooled fits w = branches_fine branches (Does fs ∷ k) (at_work w (chooses_from known around branches fs k (ways known k w.rooms) w.holds w.rest))
-    stmt_fine inside around (repeats condition body end_spot) fs k pooled fits w =
-        runs_on known (Repeats condition body ∷ Does fs ∷ k) a rest s (at_work w (repeats_from known around condition body end_spot fs k (ways known k w.rooms) w.holds w.rest)) Quiet tt
-    stmt_fine inside around (counts x low high body end_spot) fs k pooled fits w =
+    stmt_fine bodies among inside here (writes_text text) fs k pooled fits w = runs_on known (Does fs ∷ k) a rest s (at_work w w.rest.1.0) (Line _) tt
+    stmt_fine bodies among inside here (chooses branches) fs k pooled fits w = branches_fine branches (Does fs ∷ k) (at_work w (chooses_from known here branches fs k (ways known k w.rooms) w.holds w.rest))
+    stmt_fine bodies among inside here (repeats condition body end_spot) fs k pooled fits w =
+        runs_on known (Repeats condition body ∷ Does fs ∷ k) a rest s (at_work w (repeats_from known here condition body end_spot fs k (ways known k w.rooms) w.holds w.rest)) Quiet tt
+    stmt_fine bodies among inside here (counts x low high body end_spot) fs k pooled fits w =
         ready_on known (Computes low ∷ Computes high ∷ Ranges x body ∷ Does fs ∷ k) a rest s a.operands
-        (at_work w (bounds_fine x low high body fs k w.rooms w.holds (counts_from known around x low high body end_spot fs k (ways known k w.rooms) w.holds w.rest)))
-    stmt_fine inside around (exits condition spot) fs k pooled fits w =
-        exit_fine condition (Does fs ∷ k) (at_work w (exit_parts known around.start around.inside condition spot w.holds (RunsOn known (Does fs ∷ k) w.rooms) (Raised (λ e. is_same e ConstraintError && condition_raises condition) (ways known k w.rooms)) (ways known k w.rooms).exited w.rest.1 (w.rest.2 refl)))
-    stmt_fine inside around (returns spot) fs k pooled fits w = jumps known (Does fs ∷ k) a rest s Returning (at_work w (w.rest.3 w.holds))
-    stmt_fine inside around (raises e) fs k pooled fits w = jumps_less known (Does fs ∷ k) a rest s (Raising e) (at_work w (w.rest.1.1 e (same_here e)))
-    stmt_fine inside around (encloses ds body hs) fs k pooled fits w =
+        (at_work w (bounds_fine x low high body fs k w.rooms w.holds (counts_from known here x low high body end_spot fs k (ways known k w.rooms) w.holds w.rest)))
+    stmt_fine bodies among inside here (exits condition spot) fs k pooled fits w =
+        exit_fine condition (Does fs ∷ k) (at_work w (exit_parts known here.start here.inside condition spot w.holds (RunsOn known (Does fs ∷ k) w.rooms) (Raised (λ e. is_same e ConstraintError && condition_raises condition) (ways known k w.rooms)) (ways known k w.rooms).exited w.rest.1 (w.rest.2 refl)))
+    stmt_fine bodies among inside here (calls procedure actuals) fs k pooled fits w = call_begins known bodies among here procedure actuals fs k a rest s fits w
+    stmt_fine bodies among inside here (returns spot) fs k pooled fits w = jumps known (Does fs ∷ k) a rest s Returning (at_work w (w.rest.3 w.holds))
+    stmt_fine bodies among inside here (raises e) fs k pooled fits w = jumps_less known (Does fs ∷ k) a rest s (Raising e) (at_work w (w.rest.1.1 e (same_here e)))
+    stmt_fine bodies among inside here (encloses ds body hs) fs k pooled fits w =
         stays known Quiet _ (
           tt,
           record {
@@ -311,11 +315,11 @@ module _ (known : Known) where
             stored = stored_entered s.next w.stored;
             roomed = (tt, w.roomed);
             fit = w.fit;
-            rest = (all_among (collected ds), encloses_from known around ds body hs fs k (ways known k w.rooms) w.holds w.rest);
+            rest = (all_among (collected ds), encloses_from known here ds body hs fs k (ways known k w.rooms) w.holds w.rest);
           },
         ) tt
 
-    pub stmts_fine : (inside : Bool) (fs : StmtsForm) (k : Control) → Pooled known.program.types s.heap → stmts_fit known.program.types known.program.variables known.program.texts known.program.exceptions inside fs ≡ true → Resumes known s.heap a.places s.masters (Does fs ∷ k) → Fine known s.heap s.masters (stmts_next named fs (running k a rest s))
-    stmts_fine inside fs k pooled fits (inr h) = half_begins known a rest s fs k h
-    stmts_fine inside no_stmts k pooled fits (inl w) = runs_on known k a rest s (at_less w w.rest.2.0) Quiet tt
-    stmts_fine inside (a_stmt f fs) k pooled fits (inl w) = stmt_fine inside w.rest.0 f fs k pooled (and_parts _ _ fits).0 (at_work w (starts known f fs k (ways known k w.rooms) w.holds w.rest))
+    pub stmts_fine : (bodies : List BodyForm) → AreAmong known.program.bodies bodies → (inside : Bool) (fs : StmtsForm) (k : Control) → Pooled known.program.types s.heap → stmts_fit known.program.types known.program.variables known.program.texts known.program.exceptions (callable_in known.program) inside fs ≡ true → Resumes known s.heap a.places s.masters (Does fs ∷ k) → Fine known s.heap s.masters (stmts_next named bodies fs (running k a rest s))
+    stmts_fine bodies among inside fs k pooled fits (inr h) = half_begins known a rest s bodies fs k h
+    stmts_fine bodies among inside no_stmts k pooled fits (inl w) = runs_on known k a rest s (at_less w w.rest.2.0) Quiet tt
+    stmts_fine bodies among inside (a_stmt f fs) k pooled fits (inl w) = stmt_fine bodies among inside w.rest.0 f fs k pooled (and_parts _ _ fits).0 (at_work w (starts known f fs k (ways known k w.rooms) w.holds w.rest))

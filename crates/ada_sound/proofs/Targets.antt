@@ -7,9 +7,9 @@ use Rattle.ada_program.specs.declared.program.Exception.TheVariants.{ConstraintE
 use Rattle.ada_program.specs.declared.program.VariableKind.{VariableKind}
 use Rattle.ada_program.specs.declared.program.VariableKind.TheVariants as variable
 use Rattle.ada_program.specs.Form.{PathForm, RightForm, nothing, value_of, allocates, allocates_default, computes, StmtsForm, a_stmt, assigns}
-use Rattle.ada_program.specs.ProgramForm.{TypeForm, VariableForm}
+use Rattle.ada_program.specs.ProgramForm.{TypeForm, VariableForm, BodyForm}
 use Rattle.ada_program.specs.Handling.{is_same}
-use Rattle.ada_effects.specs.Effects.{path_raises, right_raises, stmt_raises}
+use Rattle.ada_effects.specs.Effects.{effects_of, path_raises, right_raises, stmt_raises}
 use Rattle.ada_flow.specs.Flow.{Holds, reads_it, gives_component, gives_path, uses_in_target, uses_in_right, evaluation_raises, ends_with, without_values, moved_by_right}
 use Rattle.ada_meaning.specs.declared.state.Id.{Id}
 use Rattle.ada_meaning.specs.declared.state.Value.{Value}
@@ -105,7 +105,7 @@ module _ (known : Known) (a : Activation Value) (rest : List (Activation Value))
   cleared_runs o c d ds path later k is w =
       let runs = ways known k w.rooms in
       let first = starts known (assigns path nothing) later k runs w.holds w.rest in
-      at_work w (cleared_goes known.program.types known.program.variables path.selectors d ds path w.holds (Doing known later k runs) (Raised (λ e. stmt_raises (is_same e) (assigns path nothing)) runs) is first.1)
+      at_work w (cleared_goes known.program.types known.program.variables path.selectors d ds path w.holds (Doing known later k runs) (Raised (λ e. stmt_raises (effects_of known.program) (is_same e) (assigns path nothing)) runs) is first.1)
 
   -- Its object is found first, which is known to be there.
   pair_ends : (path : PathForm) (cs : List ℕ) (later : StmtsForm) (k : Control) (o : Id) (c : ℕ) → path.selectors ≡ cs → final path.selectors ≡ Some c → walk s.heap (place_at a.places path.root) (front path.selectors) ≡ finds (Names o) → IsThere s.heap o → Working known (store s.heap (Names o) c Null) a.places s.masters (RunsOn known (Does (a_stmt (assigns path nothing) later) ∷ k)) → Fine known s.heap s.masters (assign_next named cs path.root nothing (running (Does later ∷ k) a rest s))
@@ -117,8 +117,8 @@ module _ (known : Known) (a : Activation Value) (rest : List (Activation Value))
       (refl, o, walks, rw same (there, cleared_runs o c d ds path later k is w))
 
   -- The second half of a take pair begins.
-  pub half_begins : (fs : StmtsForm) (k : Control) → Half known fs k s.heap a.places s.masters → Fine known s.heap s.masters (stmts_next named fs (running k a rest s))
-  half_begins fs k h = rw h.is (pair_ends h.path h.path.selectors h.later k h.o h.c refl h.last h.found h.there (rw h.is at h.works))
+  pub half_begins : (bodies : List BodyForm) (fs : StmtsForm) (k : Control) → Half known fs k s.heap a.places s.masters → Fine known s.heap s.masters (stmts_next named bodies fs (running k a rest s))
+  half_begins bodies fs k h = rw h.is (pair_ends h.path h.path.selectors h.later k h.o h.c refl h.last h.found h.there (rw h.is at h.works))
 
 module _ (known : Known) (k : Control) (a : Activation Value) (rest : List (Activation Value)) (s : State) where
   -- What goes into the component of the object that was found is evaluated next: null counts as stored already.

@@ -28,7 +28,7 @@ use Rattle.ada_owners.specs.Walks.{then_found, value_found, behind, walk}
 use Rattle.ada_sound.proofs.Stored.{Stored, exists_out}
 use Rattle.ada_sound.proofs.Fits.{Fit, MayFollow, none_spared, place_at, component_access, component_is, component_follows, behind_good}
 use Rattle.ada_sound.proofs.Orderings.{as_good_then}
-use Rattle.ada_sound.proofs.Invariant.{Known, Control, Rooms, To, RaisesAt, Working, Clearing, PassesNone, FillsTo, FindsFor, FillsOn, WalksOn, HalfFollows, ReadyIn, Stepped, Fine, front, final, ways}
+use Rattle.ada_sound.proofs.Invariant.{outers, Known, Control, Rooms, To, RaisesAt, Working, Clearing, PassesNone, FillsTo, FindsFor, FillsOn, WalksOn, HalfFollows, ReadyIn, Stepped, Fine, front, final, ways}
 use Rattle.ada_sound.proofs.Roots.{raises_null, raises_next}
 use Rattle.ada_sound.proofs.Ready.{running, at_work, stays, jumps_less}
 use Rattle.ada_sound.proofs.Back.{stored_before}
@@ -154,7 +154,7 @@ raises_less known k rooms holds access less =
 
 module _ (known : Known) (heap : List Object) (places : List Value) where
   -- What a path is followed for is known one selector on.
-  finds_next : (k : Control) (v : Value) (below : List Value) (c : ℕ) (cs : List ℕ) (o : Id) (object : Object) (w : Value) (rooms : Rooms) (holds : Holds) → v ≡ Names o → object_at heap o ≡ Some object → object.listed ≡ true → object.stage ≡ Existing → slice_get object.cell.values c ≡ Some w → Fit known.program.types known.program.variables none_spared heap places holds → FindsFor known heap places v below (c ∷ cs) k rooms holds → FindsFor known heap places w below cs k rooms holds
+  finds_next : (k : Control) (v : Value) (below : List Value) (c : ℕ) (cs : List ℕ) (o : Id) (object : Object) (w : Value) (rooms : Rooms) (holds : Holds) → v ≡ Names o → object_at heap o ≡ Some object → object.listed ≡ true → object.stage ≡ Existing → slice_get object.cell.values c ≡ Some w → Fit known.program.types known.program.variables (outers known) none_spared heap places holds → FindsFor known heap places v below (c ∷ cs) k rooms holds → FindsFor known heap places w below cs k rooms holds
   finds_next [] v below c cs o object w rooms holds is found listed exists at fit f = absurd f
   finds_next (Targets d right ∷ k) v below c cs o object w rooms holds is found listed exists at fit f =
       let on : behind heap v c ≡ finds w = rw is (behind_is heap o object c w found exists at) in
@@ -173,6 +173,7 @@ module _ (known : Known) (heap : List Object) (places : List Value) where
         passes = passes_behind types f.from c (cs ++ d ∷ []) f.access f.passes;
         of_type = f.of_type;
         own = f.own;
+        spares = f.spares;
         raises = raises_next known v w c cs k rooms (behind_end known.program.variables f.access holds) f.raises;
         runs = f.runs;
       }

@@ -14,7 +14,7 @@ use Rattle.ada_program.specs.Form.{RecordPathForm, ItemForm, StmtsForm, assigns_
 use Rattle.ada_program.specs.Handling.{is_same}
 use Rattle.ada_program.specs.Typed.{count_of, width_of}
 use Rattle.ada_program.specs.WellFormed.{record_components, reached_components, is_alike, begins_with, has_record_at}
-use Rattle.ada_effects.specs.Effects.{record_path_raises, items_raise, stmt_raises}
+use Rattle.ada_effects.specs.Effects.{effects_of, record_path_raises, items_raise, stmt_raises}
 use Rattle.ada_flow.specs.Flow.{Holds, is_owning, is_owning_record, reaches_it, copies_to, uses_in_items, uses_in_record, gives_record, ends_with}
 use Rattle.ada_meaning.specs.declared.state.Id.{Id}
 use Rattle.ada_meaning.specs.declared.state.Value.{Value}
@@ -35,7 +35,7 @@ use Rattle.ada_sound.proofs.Objects.{set_here}
 use Rattle.ada_sound.proofs.Stored.{Stored, stored_filled}
 use Rattle.ada_sound.proofs.Fits.{Fit, MayFollow, none_spared, place_at, root_follows, store_blank}
 use Rattle.ada_sound.proofs.Alters.{Alters, alters_same, alters_set, alters_then}
-use Rattle.ada_sound.proofs.Invariant.{Known, Control, Goes, Raised, RunsOn, RaisesAt, IsPlainIn, CopiesTo, RecordIn, Working, Fine, ways}
+use Rattle.ada_sound.proofs.Invariant.{outers, Known, Control, Goes, Raised, RunsOn, RaisesAt, IsPlainIn, CopiesTo, RecordIn, Working, Fine, ways}
 use Rattle.ada_sound.proofs.Ready.{running, at_work, stays, runs_ready, jumps_less}
 use Rattle.ada_sound.proofs.Outcomes.{using_goes, ends_goes}
 use Rattle.ada_sound.proofs.Followings.{first_kept}
@@ -100,10 +100,10 @@ whole_length count values vs e = go (length values == count) refl e
 -- An object of which components get values that name nothing is still there, objects are stored, and all places are as they are relied on to be.
 pub record Stores (known : Known) (heap : List Object) (places : List Value) (ms : List Master) (holds : Holds) (o : Id) (after : List Object) : Type 0 where
   pub stored : Stored None after ms
-  pub fit : Fit known.program.types known.program.variables none_spared after places holds
+  pub fit : Fit known.program.types known.program.variables (outers known) none_spared after places holds
   pub alters : Alters heap (Followed (Names o)) after
 
-store_all : (known : Known) (heap : List Object) (places : List Value) (ms : List Master) (holds : Holds) (o : Id) (object : Object) (c : ℕ) (vs : List Value) → object_at heap o ≡ Some object → NameNothing vs → Stored None heap ms → Fit known.program.types known.program.variables none_spared heap places holds → Stores known heap places ms holds o (stored_from named heap (Names o) c vs)
+store_all : (known : Known) (heap : List Object) (places : List Value) (ms : List Master) (holds : Holds) (o : Id) (object : Object) (c : ℕ) (vs : List Value) → object_at heap o ≡ Some object → NameNothing vs → Stored None heap ms → Fit known.program.types known.program.variables (outers known) none_spared heap places holds → Stores known heap places ms holds o (stored_from named heap (Names o) c vs)
 store_all known heap places ms holds o object c [] found none stored fit = record { stored = stored; fit = fit; alters = alters_same heap (Followed (Names o)) }
 store_all known heap places ms holds o object c (v ∷ vs) found none stored fit =
     let one = store_is heap o object found c v in
@@ -190,7 +190,7 @@ module _ (known : Known) (types : List TypeDefinition) (reaches : Reaches known 
   store_record_fine (Scalar n) first count kinds fits computed w = absurd w.rest.0
 
 -- A record is assigned to: its object is found first.
-pub record_begins : (known : Known) (a : Activation Value) (rest : List (Activation Value)) (s : State) (target : RecordPathForm) (items : List ItemForm) (fs : StmtsForm) (k : Control) → RecordThere known.program.types known.program.variables target → Working known s.heap a.places s.masters (λ rooms holds. Goes (gives_record known.program.types target items holds) (RunsOn known (Does fs ∷ k) rooms) (Raised (λ e. stmt_raises (is_same e) (assigns_record target items)) (ways known k rooms))) → Fine known s.heap s.masters (path_next named target.object.selectors (place_at a.places target.object.root) (running (TargetsRecord target.first target.record_type items ∷ Does fs ∷ k) a rest s))
+pub record_begins : (known : Known) (a : Activation Value) (rest : List (Activation Value)) (s : State) (target : RecordPathForm) (items : List ItemForm) (fs : StmtsForm) (k : Control) → RecordThere known.program.types known.program.variables target → Working known s.heap a.places s.masters (λ rooms holds. Goes (gives_record known.program.types target items holds) (RunsOn known (Does fs ∷ k) rooms) (Raised (λ e. stmt_raises (effects_of known.program) (is_same e) (assigns_record target items)) (ways known k rooms))) → Fine known s.heap s.masters (path_next named target.object.selectors (place_at a.places target.object.root) (running (TargetsRecord target.first target.record_type items ∷ Does fs ∷ k) a rest s))
 record_begins known a rest s target items fs k there w =
     let program = known.program in
     let path = target.object in
@@ -198,7 +198,7 @@ record_begins known a rest s target items fs k there w =
     let owning = is_owning_record program.types target.record_type in
     let used = uses_in_items program.types path.spot None [] items in
     let may = record_path_raises target || items_raise items in
-    let raised' = Raised (λ e. stmt_raises (is_same e) (assigns_record target items)) (ways known k w.rooms) in
+    let raised' = Raised (λ e. stmt_raises (effects_of known.program) (is_same e) (assigns_record target items)) (ways known k w.rooms) in
     let u = using_goes (reaches_it path ∷ uses_in_record program.types path.spot target.record_type items) w.holds (ends_with may w.holds w.holds) (RunsOn known (Does fs ∷ k) w.rooms) raised' w.rest in
     let n = ends_goes may w.holds w.holds (RunsOn known (Does fs ∷ k) w.rooms) raised' u.1 in
     let reached = first_kept w.holds (reaches_it path) (uses_in_record program.types path.spot target.record_type items) u.0 in

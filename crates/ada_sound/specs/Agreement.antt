@@ -1,19 +1,20 @@
 -- What flow says of a variable, and what the variable then holds; and what components hold.
 
-use Rattle.std.specs.Prelude.{◌≡◌, ◌≢◌, ◌⊎◌, ℕ, ℤ, true, List, [], ◌∷◌, Option, Some, Contains}
+use Rattle.std.specs.Prelude.{◌≡◌, ◌≢◌, ◌⊎◌, ℕ, ℤ, true, List, [], ◌∷◌, Option, Some, None, Contains}
 use Rattle.std.specs.List.{slice_get}
 use Rattle.ada_program.specs.declared.program.Choice.{Choice}
 use Rattle.ada_program.specs.declared.program.Program.{Program}
 use Rattle.ada_text.specs.declared.spot.Spot.{Spot}
-use Rattle.ada_program.specs.Form.{PathForm, ExpressionForm, nothing, DeclarationForm, StmtForm, assigns, chooses, repeats, counts, encloses, StmtsForm, a_stmt, BranchesForm, otherwise, a_branch, HandlersForm, a_handler, declaration_forms, stmt_forms, handler_forms}
-use Rattle.ada_program.specs.ProgramForm.{TypeForm, VariableForm}
+use Rattle.ada_program.specs.Form.{PathForm, ExpressionForm, nothing, DeclarationForm, StmtForm, assigns, chooses, repeats, counts, encloses, StmtsForm, a_stmt, BranchesForm, otherwise, a_branch, HandlersForm, a_handler}
+use Rattle.ada_program.specs.ProgramForm.{TypeForm, VariableForm, ProgramForm, program_form, seen_in}
 use Rattle.ada_program.specs.declared.program.TypeNo.{TypeNo}
 use Rattle.ada_program.specs.declared.program.VariableKind.TheVariants as variable
 use Rattle.ada_program.specs.WellFormed.{access_of, variable_kind, reached_components, kind_among}
 use Rattle.ada_flow.specs.declared.rule.Hold.{Hold}
 use Rattle.ada_flow.specs.declared.rule.Hold.TheVariants as hold
 use Rattle.ada_flow.specs.declared.rule.Region.{Region}
-use Rattle.ada_flow.specs.Flow.{Holds, goes, hold_at, variable_access, declarations_flow, computed, bounds_flow, condition_flow, opened_by_all, counting_start, gone_with, Around, outermost, in_loop, in_block, begins_pair, stmt_flow, stmts_flow, first_holds, types_of, variables_of}
+use Rattle.ada_flow.specs.Flow.{Holds, goes, hold_at, variable_access, declarations_flow, computed, bounds_flow, condition_flow, opened_by_all, counting_start, gone_with, Around, outermost, in_loop, in_block, begins_pair, stmt_flow, stmts_flow, first_holds}
+use Rattle.ada_effects.specs.Effects.{effects_of}
 use Rattle.ada_meaning.specs.declared.state.Id.{Id}
 use Rattle.ada_meaning.specs.declared.state.Value.{Value}
 use Rattle.ada_meaning.specs.declared.state.Value.TheVariants.{Null, Names, Scalar}
@@ -22,7 +23,7 @@ use Rattle.ada_meaning.specs.Frame.{Frame}
 use Rattle.ada_meaning.specs.Frame as frame
 use Rattle.ada_meaning.specs.State.{type_housed, Item, Master}
 use Rattle.ada_meaning.specs.Heap.{finds}
-use Rattle.ada_meaning.specs.Step.{before_last, last_of, held}
+use Rattle.ada_meaning.specs.Step.{before_last, last_of, held, procedure_of}
 use Rattle.ada_meaning.specs.Named.{Object, State, object_at, named}
 use Rattle.ada_meaning.specs.Law.{items_of}
 use Rattle.ada_owners.specs.Places as owners
@@ -85,12 +86,12 @@ mutual
     in_body : {around : Around} {raising : Option Holds} {outer place : Place}
         {condition : Option ExpressionForm} {body fs : StmtsForm} {end_spot : Spot} {holds at : Holds} {way : List Turning}
         (mid : Holds) → condition_flow condition (opened_by_all variables body holds) ≡ goes (Some mid) raising
-        → Comes types variables (in_loop (Some (opened_by_all variables body holds))) (frame.Repeats condition body ∷ frame.Does fs ∷ outer) body mid way place at
+        → Comes types variables (in_loop (Some (opened_by_all variables body holds)) around) (frame.Repeats condition body ∷ frame.Does fs ∷ outer) body mid way place at
         → Comes types variables around outer (a_stmt (repeats condition body end_spot) fs) holds (into ∷ way) place at
     in_count : {around : Around} {raising : Option Holds} {outer place : Place}
         {x : ℕ} {low high : ExpressionForm} {body fs : StmtsForm} {end_spot : Spot} {holds at : Holds} {next last : ℤ} {way : List Turning}
         (mid : Holds) → bounds_flow low high holds ≡ goes (Some mid) raising
-        → Comes types variables (in_loop (Some (counting_start variables x body mid))) (frame.Counts x next last body ∷ frame.Does fs ∷ outer)
+        → Comes types variables (in_loop (Some (counting_start variables x body mid)) around) (frame.Counts x next last body ∷ frame.Does fs ∷ outer)
         body (counting_start variables x body mid) way place at
         → Comes types variables around outer (a_stmt (counts x low high body end_spot) fs) holds (counting next last ∷ way) place at
     in_enclosed : {around : Around} {outer place : Place}
@@ -133,17 +134,29 @@ mutual
         → ComesTo types variables around (frame.Closes ∷ outer) hs raised way place at
         → ComesInside types variables around outer ds body hs holds (past ∷ way) place at
 
--- The holds that flow gives at a place, on this way from the program's declarations.
-abbrev pub IsFlowAt : (program : Program) (way : List Turning) (place : Place) (holds : Holds) → Type 0
-IsFlowAt program way place holds =
-    ComesInside (types_of program) (variables_of program) outermost [] (declaration_forms program) (stmt_forms program) (handler_forms program) (first_holds program)
-    way place holds
+-- The procedure whose body runs: none, where it is the main one.
+abbrev pub running_procedure : State → Option ℕ
+running_procedure s = procedure_of s.activations
+
+-- What is left to do behind a body: nothing behind the main one, and what its caller was to do behind that of a procedure (6.5).
+abbrev pub IsBehind : (procedure : Option ℕ) → (rest : Place) → Type 0
+IsBehind None rest = rest ≡ []
+IsBehind (Some number) rest = (k : Place) × (rest ≡ frame.Returns ∷ k)
+
+-- The holds that flow gives at a place, on this way from the declarations of a program's main body.
+abbrev pub IsFlowIn : (p : ProgramForm) (rest : Place) (way : List Turning) (place : Place) (holds : Holds) → Type 0
+IsFlowIn p rest way place holds =
+    ComesInside p.types p.variables (outermost (effects_of p)) rest p.declarations p.statements p.handlers (first_holds p.variables) way place holds
+
+-- So it is from the declarations of a procedure's body, or the main one, on.
+abbrev pub IsFlowAt : (program : Program) (procedure : Option ℕ) (rest : Place) (way : List Turning) (place : Place) (holds : Holds) → Type 0
+IsFlowAt program procedure rest way place holds = IsFlowIn (seen_in procedure (program_form program)) rest way place holds
 
 -- A way leads to one place, and flow says one thing there.
 abbrev pub OneFlow : Type 0
 OneFlow =
-    (program : Program) (way : List Turning) (place others : Place) (holds other : Holds)
-    → IsFlowAt program way place holds → IsFlowAt program way others other → (place ≡ others) × (holds ≡ other)
+    (program : Program) (procedure : Option ℕ) (rest : Place) (way : List Turning) (place others : Place) (holds other : Holds)
+    → IsFlowAt program procedure rest way place holds → IsFlowAt program procedure rest way others other → (place ≡ others) × (holds ≡ other)
 
 -- What a variable holds in the running activation.
 abbrev pub value_in : State → ℕ → Value

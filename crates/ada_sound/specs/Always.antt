@@ -6,9 +6,10 @@ use Rattle.ada_program.specs.declared.program.Program.{Program}
 use Rattle.ada_text.specs.declared.spot.Spot.{Spot}
 use Rattle.ada_flow.specs.declared.rule.Rule.{Rule}
 use Rattle.ada_program.specs.Form.{declaration_forms, stmt_forms, handler_forms}
-use Rattle.ada_program.specs.ProgramForm.{program_form}
+use Rattle.ada_program.specs.ProgramForm.{program_form, seen_in}
 use Rattle.ada_program.specs.WellFormed.{IsWellFormed}
 use Rattle.ada_program.specs.Nested.{CollectionsNest}
+use Rattle.ada_effects.specs.Effects.{effects_of}
 use Rattle.ada_flow.specs.Flow.{Holds, goes, faults, outermost, declarations_flow, stmts_flow, handlers_flow, first_holds, program_flow, types_of, variables_of, ObeysRules}
 use Rattle.ada_meaning.specs.declared.state.Id.{Id}
 use Rattle.ada_meaning.specs.declared.event.Halt.{Halt}
@@ -19,7 +20,7 @@ use Rattle.ada_meaning.specs.Beginning.{BeginsStatement}
 use Rattle.ada_meaning.specs.Named.{Object, State, object_at}
 use Rattle.ada_meaning.specs.Run.{Event, Run, Halts, first_state}
 use Rattle.ada_meaning.specs.Law.{IsBackHome, items_of, Falls, MastersFall, GivesBackOf, Happened, IsHoused, IsBack, HasEnded}
-use Rattle.ada_sound.specs.Agreement.{Agrees, Turning, IsFlowAt}
+use Rattle.ada_sound.specs.Agreement.{Agrees, Place, Turning, IsFlowAt, IsBehind, running_procedure}
 
 -- Of the events of each run, and the state that it comes to.
 abbrev pub InEveryRun : Program → (List Event → State → Type 0) → Type 0
@@ -46,11 +47,13 @@ NeverHalts halt program = InEveryRun program (λ events last. Halts program last
 abbrev pub NeverErroneous : Why → Program → Type 0
 NeverErroneous why program = NeverHalts (Erroneous why) program
 
--- Wherever a statement begins, flow comes to what is left to do there, each variable holds what flow says, and components own what they name.
+-- Wherever a statement begins, in the main body or in that of a procedure, flow through the body comes to what is left to do there, each variable of the
+-- body holds what flow says, and components own what they name.
 abbrev pub AgreesWithFlow : Program → Type 0
 AgreesWithFlow program = InEveryRun program
-    (λ events last. BeginsStatement last → (way : List Turning) × (holds : Holds) × IsFlowAt program way last.control holds
-    × Agrees (program_form program).types (variables_of program) last holds)
+    (λ events last. BeginsStatement last → (rest : Place) × (way : List Turning) × (holds : Holds) × IsBehind (running_procedure last) rest
+    × IsFlowAt program (running_procedure last) rest way last.control holds
+    × Agrees (program_form program).types (seen_in (running_procedure last) (program_form program)).variables last holds)
 
 -- Any two events, the first before the second.
 abbrev pub InPairs : (Event → Event → Type 0) → List Event → State → Type 0
@@ -128,9 +131,9 @@ pub record IsIllNested (program : Program) : Type 0 where
 abbrev pub IsFineAtEnds : Holds → Program → Type 0
 IsFineAtEnds holds program =
     (before within normal raising : Option Holds)
-    × (declarations_flow (types_of program) (variables_of program) (declaration_forms program) (first_holds program) ≡ goes (Some holds) before)
-    × (stmts_flow (types_of program) (variables_of program) outermost (stmt_forms program) holds ≡ goes (Some holds) within)
-    × (handlers_flow (types_of program) (variables_of program) outermost (handler_forms program) holds ≡ goes normal raising)
+    × (declarations_flow (types_of program) (variables_of program) (declaration_forms program) (first_holds (variables_of program)) ≡ goes (Some holds) before)
+    × (stmts_flow (types_of program) (variables_of program) (outermost (effects_of (program_form program))) (stmt_forms program) holds ≡ goes (Some holds) within)
+    × (handlers_flow (types_of program) (variables_of program) (outermost (effects_of (program_form program))) (handler_forms program) holds ≡ goes normal raising)
 
 -- A run of the program comes to this end.
 abbrev pub HaltsSomewhere : Halt → Program → Type 0

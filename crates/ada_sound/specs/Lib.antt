@@ -14,5 +14,9 @@ pub mod BorrowerExamples
 pub mod FreeExamples
 -- the same where records are copied as wholes
 pub mod RecordExamples
+-- the same where procedures are called
+pub mod CallExamples
 -- what the rules let through
 pub mod Owners
+-- what they say of calls
+pub mod Callees

@@ -3,6 +3,7 @@
 ghost use Rattle.std.specs.Prelude.{◌≡◌, [], ◌∷◌};
 ghost use Rattle.ada_program.specs.declared.program.Program.{Program};
 ghost use Rattle.ada_program.specs.Form.{declaration_forms, stmt_forms, handler_forms};
+ghost use Rattle.ada_program.specs.ProgramForm.{body_forms};
 ghost use Rattle.ada_flow.specs.declared.rule.Hold.TheVariants.{Null};
 ghost use Rattle.ada_flow.specs.declared.rule.Rule.TheVariants.{LostValue, TakePair, LoopState, UnsafePath, RecordCopied};
 ghost use Rattle.ada_program.specs.declared.program.Exception.TheVariants.{ConstraintError};
@@ -18,13 +19,16 @@ ghost use Rattle.ada_sound.specs.BorrowerExamples as borrower_examples;
 ghost use Rattle.ada_sound.specs.FreeExamples as free_examples;
 ghost use Rattle.ada_sound.specs.OwnerExamples as owner_examples;
 ghost use Rattle.ada_sound.specs.RecordExamples as record_examples;
+ghost use Rattle.ada_sound.specs.CallExamples as call_examples;
 ghost use Rattle.ada_sound.specs.Owners as owners;
+ghost use Rattle.ada_sound.specs.Callees as callees;
 
-/// In every run of a program that is accepted, wherever a statement begins, flow comes to what is left to do there, and
-/// each variable holds what flow says of it: null, or null or an object that exists; and a record object that flow does not
-/// call lost is there. Components of objects in their collections hold null, or name objects that exist. No object has two
-/// owners among variables and components, but for a component that the statement sets to null. A way through the
-/// statements leads to one place, and flow says one thing there.
+/// In every run of a program that is accepted, wherever a statement begins, in the main procedure's body or in that of
+/// one that is called, flow comes to what is left to do in that body, and each of its variables holds what flow says of
+/// it: null, or null or an object that exists; and a record object that flow does not call lost is there. Components of
+/// objects in their collections hold null, or name objects that exist. No object has two owners among variables and
+/// components, but for a component that the statement sets to null. A way through the statements leads to one place,
+/// and flow says one thing there.
 pub fn flow_invariant()
     ensures agrees { (program : Program) → IsChecked program → AgreesWithFlow program }
     ensures one_flow { OneFlow }
@@ -71,7 +75,8 @@ pub fn leaves_in_reverse()
     ensures { always.InEveryCheckedRun (always.InPairs InReverseOrder) }
 {}
 
-/// Words go back to the pool that they came from, and at a leaving with the item that is the object's home (13.11, 7.6.1).
+/// Words go back to the pool that they came from, and at a leaving with the item that is the object's home (13.11,
+/// 7.6.1).
 pub fn words_go_back_home()
     ensures { always.InEveryCheckedRun always.BacksGoHome }
 {}
@@ -93,8 +98,8 @@ pub fn objects_are_housed()
     ensures { always.InEveryCheckedRun always.OutsAreHoused }
 {}
 
-/// Where a run has come to its end, finished or by an exception that left the main procedure, no master is left over, and
-/// the words of each object are back.
+/// Where a run has come to its end, finished or by an exception that left the main procedure, no master is left over,
+/// and the words of each object are back.
 pub fn ends_clean()
     ensures { (program : Program) → IsChecked program → EndsClean program }
 {}
@@ -105,14 +110,16 @@ pub fn rules_imply_safety()
     ensures { (program : Program) → IsChecked program → Safe program }
 {}
 
-/// The rules let Free through only where the variable owns what it names, or holds null (13.11.2); it owns nothing after.
+/// The rules let Free through only where the variable owns what it names, or holds null (13.11.2); it owns nothing
+/// after.
 pub fn only_owners_are_freed()
     ensures owner { owners.OnlyOwnersAreFreed }
     ensures nothing_after { owners.FreedOwnsNothing }
 {}
 
-/// Behind a Free that the rules let through no variable of the same access type relies on the value of another (13.11.2):
-/// whoever borrowed the object that is gone follows it no more. Where Free raises an exception, as little is said.
+/// Behind a Free that the rules let through no variable of the same access type relies on the value of another
+/// (13.11.2): whoever borrowed the object that is gone follows it no more. Where Free raises an exception, as little is
+/// said.
 pub fn free_leaves_no_alias()
     ensures behind { owners.FreeLeavesNoAlias }
     ensures where_raised { owners.RaisedFreeLeavesNoAlias }
@@ -151,9 +158,9 @@ pub fn only_pairs_take()
     ensures is_one { owners.PairsAreTakePairs }
 {}
 
-/// The rules let a record be assigned or declared by its value, or be copied as an item of an aggregate, only where none of
-/// its elementary components is of an access type, at any depth (3.3.1, 4.3.1, 4.8, 5.2). So an assignment of a record
-/// moves nothing: each variable holds what it did, also where it raises an exception.
+/// The rules let a record be assigned or declared by its value, or be copied as an item of an aggregate, only where
+/// none of its elementary components is of an access type, at any depth (3.3.1, 4.3.1, 4.8, 5.2). So an assignment of a
+/// record moves nothing: each variable holds what it did, also where it raises an exception.
 pub fn records_are_copied_plain()
     ensures assigned { owners.AssignedRecordsArePlain }
     ensures assigned_items { owners.AssignedItemsArePlain }
@@ -163,9 +170,9 @@ pub fn records_are_copied_plain()
     ensures unchanged_where_raised { owners.CopiesStayWhereRaised }
 {}
 
-/// A borrower takes part in no ownership (3.10). An assignment to it, and its declaration, leave what each other variable
-/// holds as it was; it owns nothing of what it gets; and the rules let it borrow nothing that is lost, or is found behind
-/// what is lost.
+/// A borrower takes part in no ownership (3.10). An assignment to it, and its declaration, leave what each other
+/// variable holds as it was; it owns nothing of what it gets; and the rules let it borrow nothing that is lost, or is
+/// found behind what is lost.
 pub fn borrowers_only_borrow()
     ensures moves_nothing { owners.BorrowersMoveNothing }
     ensures owns_nothing { owners.BorrowersOwnNothing }
@@ -174,26 +181,47 @@ pub fn borrowers_only_borrow()
     ensures lost_is_refused { owners.LostIsNotBorrowed }
 {}
 
+/// A call leaves the caller's variables as they are (6.4), but for those that hold an alias of an access type of which
+/// the procedure may free an object (13.11.2): these are lost behind the call, and where it raises an exception. So it
+/// moves nothing: what is owned before it is owned after.
+pub fn calls_forget_aliases()
+    ensures no_alias { callees.CallLeavesNoAlias }
+    ensures no_alias_where_raised { callees.RaisedCallLeavesNoAlias }
+    ensures owners_stay { callees.CallMovesNothing }
+    ensures owners_stay_where_raised { callees.RaisedCallMovesNothing }
+    ensures others_stay { callees.CallKeepsOthers }
+    ensures others_stay_where_raised { callees.RaisedCallKeepsOthers }
+{}
+
+/// No actual parameter follows a value that is lost, or compares it with null (4.1, 4.5.2, 6.4.1).
+pub fn lost_is_no_actual()
+    ensures { callees.LostIsNoActual }
+{}
+
 /// The laws are not empty: a program is accepted and comes to a statement; it finishes after it has followed an access
 /// value, written a line, freed an object, and left its main procedure, with which another object went. And one is
 /// accepted whose main procedure is left by an exception. And one whose loop goes two turns: in the first one an object
-/// is allocated, in the second one it is followed and freed, and an exit leaves the loop. And one with a condition of its
-/// loop, one of its exit, and a return. And one with nested loops, `elsif` and a return inside a loop, whose lines and
-/// objects tell each turn, each branch, and where each jump lands. And one whose loop raises an exception of its own in
-/// its second turn: the handler that names it follows and frees the object of the first one. And one whose loop is left
-/// by an exit out of a block: the object of the block's collection goes with the block, and an outer one stays until the
-/// end. And one where an exception leaves a block before the handler behind it begins, which returns. And one with a
-/// `for` loop that reads numbers until there is none. And one that reads a number into a component of an object, adds to
-/// it in a loop, and writes what the component then holds. And one that makes a list, each new node of which owns the one
-/// before it, takes its tail by take pairs, and frees it node by node. And one whose borrower walks such a list, which
-/// keeps its owners. And one whose borrower is null where a loop begins that gives it a value. And one that puts two nodes
-/// into a list behind its first one: each of them takes what the component held that it goes to, and so a borrower meets
-/// the newer one before the older one. And one that frees a component, whose access type is not the one on the way to it:
-/// the component is null then, and to free it once more has no effect. And one whose objects have no items: it reads what
-/// a component holds at first. And one with a record object, which is an object, too: a component of it gets a new object,
-/// which a take pair takes and which is freed, and the record object goes back with its own item, to no pool. And one
-/// that copies records of Integers: into a record object that is declared, into a new object, from an aggregate, and from
-/// the object that an access value gives access to.
+/// is allocated, in the second one it is followed and freed, and an exit leaves the loop. And one with a condition of
+/// its loop, one of its exit, and a return. And one with nested loops, `elsif` and a return inside a loop, whose lines
+/// and objects tell each turn, each branch, and where each jump lands. And one whose loop raises an exception of its
+/// own in its second turn: the handler that names it follows and frees the object of the first one. And one whose loop
+/// is left by an exit out of a block: the object of the block's collection goes with the block, and an outer one stays
+/// until the end. And one where an exception leaves a block before the handler behind it begins, which returns. And one
+/// with a `for` loop that reads numbers until there is none. And one that reads a number into a component of an object,
+/// adds to it in a loop, and writes what the component then holds. And one that makes a list, each new node of which
+/// owns the one before it, takes its tail by take pairs, and frees it node by node. And one whose borrower walks such a
+/// list, which keeps its owners. And one whose borrower is null where a loop begins that gives it a value. And one that
+/// puts two nodes into a list behind its first one: each of them takes what the component held that it goes to, and so
+/// a borrower meets the newer one before the older one. And one that frees a component, whose access type is not the
+/// one on the way to it: the component is null then, and to free it once more has no effect. And one whose objects have
+/// no items: it reads what a component holds at first. And one with a record object, which is an object, too: a
+/// component of it gets a new object, which a take pair takes and which is freed, and the record object goes back with
+/// its own item, to no pool. And one that copies records of Integers: into a record object that is declared, into a new
+/// object, from an aggregate, and from the object that an access value gives access to. And one that calls procedures,
+/// one of which calls the other one twice: a call returns early, the two nested ones make an object each and free it, and
+/// the second of these raises an exception, which leaves both procedures; the handler in the main procedure follows and
+/// frees what that one still owns. And one whose borrower has a value where it calls a procedure that frees an object of
+/// the same access type, and gets its value once more behind it.
 pub fn premises_are_met()
     ensures begins { (program : Program) × IsChecked program × ReachesStatement program }
     ensures finishes { (program : Program) × IsChecked program × FinishesAfter examples.example_events program }
@@ -238,26 +266,34 @@ pub fn premises_are_met()
     ensures frees_components { (program : Program)
         × (stmt_forms program ≡ free_examples.freeing_stmts)
         × IsChecked program × FinishesAfter free_examples.freeing_events program }
+    ensures calls { (program : Program) × (body_forms program ≡ call_examples.calling_bodies)
+        × (stmt_forms program ≡ call_examples.calling_stmts)
+        × (handler_forms program ≡ call_examples.calling_handlers)
+        × IsChecked program × FinishesAfter call_examples.calling_events program }
+    ensures borrows_around_calls { (program : Program) × (body_forms program ≡ call_examples.showing_body ∷ [])
+        × (stmt_forms program ≡ call_examples.relending_stmts) × borrower_examples.HasBorrower program
+        × IsChecked program × FinishesAfter call_examples.relending_events program }
 {}
 
 /// The rules are needed. Of programs that are well formed and whose collections nest, one that breaks the rules follows
 /// an access value whose object is gone, and one ends an object twice. So is the rule of loops: of a program that breaks
 /// it at the end of a loop's body, an object is freed in one turn and followed in the next one; of a program that breaks
 /// it at an exit, it is followed behind the loop. A handler begins with what is known where the exception is raised: by
-/// what is known where its statements begin, or where they end, a program's handler would be fine, yet it follows what is
-/// gone. It would follow it, too, if what an operator may raise did not count: `-` raises, of the first Integer (4.5).
-/// Behind a block its collections are gone, also where an exit leaves it: of a program whose outer variable names an
-/// object of one of them, that object is followed there. To assign to a component follows the value before it (4.1, 5.2):
-/// a lost one would reach into an object that is gone. A value is moved out of a component by a take pair: else both name
-/// an object that only one of them frees. And two items of an allocator move two paths: else two components name one
+/// what is known where its statements begin, or where they end, a program's handler would be fine, yet it follows what
+/// is gone. It would follow it, too, if what an operator may raise did not count: `-` raises, of the first Integer
+/// (4.5); or if what the body of a procedure may raise did not count where it is called (6.4, 11.4). Behind a block its
+/// collections are gone, also where an exit leaves it: of a program whose outer variable names an object of one of
+/// them, that object is followed there. To assign to a component follows the value before it (4.1, 5.2): a lost one
+/// would reach into an object that is gone. A value is moved out of a component by a take pair: else both name an
+/// object that only one of them frees. And two items of an allocator move two paths: else two components name one
 /// object, which ends twice. Behind Free a borrower of the same access type is lost: else it follows the object that is
 /// gone. And the target of a take pair is not on the way to what is taken: else the statement that is to clear the
-/// component clears another one, and a borrower that still names the object takes the value out of it once more. The path
-/// of a component to be freed does not pass the component's own access type: else it may free the object in which that
-/// component lies, which is gone where the component is to become null. And of components an item moves the one alone
-/// that the new object goes to: else two of them name one object, which one gives to a variable that frees it, and the
-/// other one is followed. And a record with a component of an access type is not copied: else a component of the copy
-/// names the same object, which is freed by way of one record and followed by way of the other.
+/// component clears another one, and a borrower that still names the object takes the value out of it once more. The
+/// path of a component to be freed does not pass the component's own access type: else it may free the object in which
+/// that component lies, which is gone where the component is to become null. And of components an item moves the one
+/// alone that the new object goes to: else two of them name one object, which one gives to a variable that frees it,
+/// and the other one is followed. And a record with a component of an access type is not copied: else a component of
+/// the copy names the same object, which is freed by way of one record and followed by way of the other.
 ///
 /// So are the other premises. A variable relies on values of its own access type alone: of a program that is not well
 /// formed, one of another type names what goes with a block. And components name what lasts as long as their objects: of
@@ -276,6 +312,11 @@ pub fn rules_are_needed()
     ensures operators { (program : Program) × (stmt_forms program ≡ examples.overflowing_stmts)
         × (handler_forms program ≡ examples.overflowing_handlers)
         × always.Breaks LostValue program × always.HaltsAfter examples.raising_events (Erroneous FollowsGone) program }
+    ensures calls { (program : Program) × (body_forms program ≡ call_examples.stopping_bodies)
+        × (stmt_forms program ≡ call_examples.stopping_stmts)
+        × (handler_forms program ≡ examples.raising_handlers)
+        × always.Breaks LostValue program × always.IsFineAtEnds (Null ∷ Null ∷ []) program
+        × always.HaltsAfter call_examples.stopping_events (Erroneous FollowsGone) program }
     ensures outlives { (program : Program) × (stmt_forms program ≡ examples.outliving_stmts)
         × always.Breaks LostValue program × always.HaltsAfter examples.outliving_events (Erroneous FollowsGone) program }
     ensures escapes { (program : Program) × (stmt_forms program ≡ examples.escaping_stmts)

@@ -151,7 +151,7 @@ fn limits_are_kept(rt: HostRuntime) -> Result<(), Fail> {
         blocks(
             62,
             "declare procedure Q is begin null; end; begin null; end;",
-            "refused 2:381 F23 not-in-profile\n",
+            "finished\n",
         ),
         blocks(
             62,
@@ -166,7 +166,7 @@ fn limits_are_kept(rt: HostRuntime) -> Result<(), Fail> {
         blocks(
             61,
             "declare procedure Q (X : T) is begin null; end; begin null; end;",
-            "refused 2:375 F23 not-in-profile\n",
+            "refused 2:392 F20 unknown-name\n",
         ),
         blocks(
             63,

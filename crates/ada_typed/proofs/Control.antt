@@ -1,25 +1,27 @@
 -- What is left to do fits what is there: each frame finds operands of the kinds that it waits for, and leaves one of the kind that is waited for.
 
-use Rattle.ada_typed.specs.Holding.{Cells, IsAccess, HaveKinds, cells_of}
+use Rattle.ada_typed.specs.Holding.{Cells, IsAccess, HaveKinds, cells_of, seen_now}
 use Rattle.std.proofs.Common.{◌≡◌, ℕ, zero, suc, ◌+◌, ◌≤◌, Bool, true, false, List, [], ◌∷◌, ◌++◌, length, take, drop, reverse, Option, Some, None, arith, refl, sym, ap, ◌∙◌, subst}
 use Rattle.std.proofs.lemmas.List.{reverse-append}
-use Rattle.std.specs.List.{list_all}
+use Rattle.std.specs.List.{list_all, slice_get}
 use Rattle.ada_program.specs.declared.program.ComponentKind.{ComponentKind}
 use Rattle.ada_program.specs.declared.program.ScalarType.{ScalarType}
 use Rattle.ada_program.specs.declared.program.TypeNo.{TypeNo}
 use Rattle.ada_program.specs.declared.program.VariableKind.{VariableKind}
 use Rattle.ada_program.specs.declared.program.VariableKind.TheVariants as variable
 use Rattle.ada_program.specs.Form.{HandlersForm}
-use Rattle.ada_program.specs.ProgramForm.{ProgramForm}
-use Rattle.ada_program.specs.WellFormed.{is_access, reached_components, record_components, held_kind, variable_kind, selected_kind, selectors_kind, unary_type, binary_type, type_of, chain_type, has_record_at, items_fit, kind_takes, initial_fits, condition_fits, has_statement, stmts_fit, branches_fit, handlers_fit}
+use Rattle.ada_program.specs.ProgramForm.{ProgramForm, seen_in}
+use Rattle.ada_program.specs.WellFormed.{is_access, reached_components, record_components, held_kind, variable_kind, selected_kind, selectors_kind, unary_type, binary_type, type_of, chain_type, has_record_at, items_fit, kind_takes, initial_fits, condition_fits, has_statement, stmts_fit, branches_fit, handlers_fit, profile_of, callable_in}
 use Rattle.ada_meaning.specs.declared.state.Value.{Value}
 use Rattle.ada_meaning.specs.declared.state.Value.TheVariants.{Null, Names, Scalar}
 use Rattle.ada_meaning.specs.declared.state.Mode.{Mode}
 use Rattle.ada_meaning.specs.declared.state.Mode.TheVariants.{Running, Raising, Exiting, Returning}
-use Rattle.ada_meaning.specs.Frame.{Frame, is_loop}
+use Rattle.ada_meaning.specs.Frame.{Frame, is_loop, is_return}
 use Rattle.ada_meaning.specs.Frame as frame
 use Rattle.ada_meaning.specs.Named.{State}
-use Rattle.ada_typed.proofs.Values.{AreFilled, AreComputed, IsActive, kind_of}
+use Rattle.ada_meaning.specs.State.{Activation}
+use Rattle.ada_meaning.specs.Step.{in_front, older}
+use Rattle.ada_typed.proofs.Values.{AreFilled, AreHeld, AreComputed, IsActive, kind_of}
 
 -- The kinds of operands, newest first, once values for these components have been computed in order.
 abbrev pub onto : List ComponentKind → List VariableKind → List VariableKind
@@ -30,6 +32,11 @@ abbrev pub IsName : Value → Type 0
 IsName Null = ⊥
 IsName (Names o) = Unit {0}
 IsName (Scalar v) = ⊥
+
+-- What holds at the end of the body of a call (6.5), and at each other frame.
+abbrev pub AtReturn : (return : Bool) → (ends further : Type 0) → Type 0
+AtReturn true ends further = ends
+AtReturn false ends further = further
 
 -- What is left to do behind a frame to which an exit comes (5.7): a loop stops it.
 abbrev pub AtLoop : (loop : Bool) → (behind further : Type 0) → Type 0
@@ -49,7 +56,7 @@ handlers_in f = None
 -- What is left to do behind a frame to which an exception comes (11.4): where there are handlers, they fit, and what is behind them does.
 abbrev pub AtHandlers : ProgramForm → Option HandlersForm → (lands behind further : Type 0) → Type 0
 AtHandlers p None lands behind further = further
-AtHandlers p (Some hs) lands behind further = (inside : Bool) × (handlers_fit p.types p.variables p.texts p.exceptions inside hs ≡ true) × WhereInside inside lands × behind
+AtHandlers p (Some hs) lands behind further = (inside : Bool) × (handlers_fit p.types p.variables p.texts p.exceptions (callable_in p) inside hs ≡ true) × WhereInside inside lands × behind
 
 -- How it goes on behind a master that is left: what is behind it fits; or an exception comes to handlers that fit, and an exit to a loop.
 abbrev pub FitsBehind : Mode → (behind lands catches : Type 0) → Type 0
@@ -59,20 +66,22 @@ FitsBehind Exiting behind lands catches = lands × catches
 FitsBehind Returning behind lands catches = catches
 
 abbrev mutual
-  -- Operands of these kinds are there; what is left to do fits them. Where statements begin, no operand is there.
+  -- Operands of these kinds are there; what is left of the running body fits them. Where statements begin, no operand is there.
   pub Fits : ProgramForm → Cells → List VariableKind → List (Frame Value) → Type 0
   Fits p cells kinds [] = Unit {0}
-  Fits p cells kinds (frame.Elaborates ds fs hs ∷ k) = (kinds ≡ []) × (inside : Bool) × (list_all (initial_fits p.types p.variables) ds ≡ true) × (stmts_fit p.types p.variables p.texts p.exceptions inside fs ≡ true) × (handlers_fit p.types p.variables p.texts p.exceptions inside hs ≡ true) × WhereInside inside (Lands p cells k) × Fits p cells [] k
-  Fits p cells kinds (frame.Does fs ∷ k) = (kinds ≡ []) × (inside : Bool) × (stmts_fit p.types p.variables p.texts p.exceptions inside fs ≡ true) × WhereInside inside (Lands p cells k) × Fits p cells [] k
-  Fits p cells kinds (frame.Decides fs branches ∷ k) = (kinds ≡ variable.Boolean ∷ []) × (inside : Bool) × (stmts_fit p.types p.variables p.texts p.exceptions inside fs ≡ true) × (branches_fit p.types p.variables p.texts p.exceptions inside branches ≡ true) × WhereInside inside (Lands p cells k) × Fits p cells [] k
-  Fits p cells kinds (frame.Repeats condition fs ∷ k) = (kinds ≡ []) × (condition_fits p.types p.variables condition ≡ true) × (has_statement fs ≡ true) × (stmts_fit p.types p.variables p.texts p.exceptions true fs ≡ true) × Fits p cells [] k
-  Fits p cells kinds (frame.Turns e fs ∷ k) = (kinds ≡ variable.Boolean ∷ []) × (condition_fits p.types p.variables (Some e) ≡ true) × (has_statement fs ≡ true) × (stmts_fit p.types p.variables p.texts p.exceptions true fs ≡ true) × Fits p cells [] k
-  Fits p cells kinds (frame.Ranges x fs ∷ k) = (kinds ≡ variable.Integer ∷ variable.Integer ∷ []) × (variable_kind p.variables x ≡ Some variable.Integer) × (has_statement fs ≡ true) × (stmts_fit p.types p.variables p.texts p.exceptions true fs ≡ true) × Fits p cells [] k
-  Fits p cells kinds (frame.Counts x value last fs ∷ k) = (kinds ≡ []) × (variable_kind p.variables x ≡ Some variable.Integer) × (has_statement fs ≡ true) × (stmts_fit p.types p.variables p.texts p.exceptions true fs ≡ true) × Fits p cells [] k
+  Fits p cells kinds (frame.Elaborates ds fs hs ∷ k) = (kinds ≡ []) × (inside : Bool) × (list_all (initial_fits p.types p.variables) ds ≡ true) × (stmts_fit p.types p.variables p.texts p.exceptions (callable_in p) inside fs ≡ true) × (handlers_fit p.types p.variables p.texts p.exceptions (callable_in p) inside hs ≡ true) × WhereInside inside (Lands p cells k) × Fits p cells [] k
+  Fits p cells kinds (frame.Does fs ∷ k) = (kinds ≡ []) × (inside : Bool) × (stmts_fit p.types p.variables p.texts p.exceptions (callable_in p) inside fs ≡ true) × WhereInside inside (Lands p cells k) × Fits p cells [] k
+  Fits p cells kinds (frame.Decides fs branches ∷ k) = (kinds ≡ variable.Boolean ∷ []) × (inside : Bool) × (stmts_fit p.types p.variables p.texts p.exceptions (callable_in p) inside fs ≡ true) × (branches_fit p.types p.variables p.texts p.exceptions (callable_in p) inside branches ≡ true) × WhereInside inside (Lands p cells k) × Fits p cells [] k
+  Fits p cells kinds (frame.Repeats condition fs ∷ k) = (kinds ≡ []) × (condition_fits p.types p.variables condition ≡ true) × (has_statement fs ≡ true) × (stmts_fit p.types p.variables p.texts p.exceptions (callable_in p) true fs ≡ true) × Fits p cells [] k
+  Fits p cells kinds (frame.Turns e fs ∷ k) = (kinds ≡ variable.Boolean ∷ []) × (condition_fits p.types p.variables (Some e) ≡ true) × (has_statement fs ≡ true) × (stmts_fit p.types p.variables p.texts p.exceptions (callable_in p) true fs ≡ true) × Fits p cells [] k
+  Fits p cells kinds (frame.Ranges x fs ∷ k) = (kinds ≡ variable.Integer ∷ variable.Integer ∷ []) × (variable_kind p.variables x ≡ Some variable.Integer) × (has_statement fs ≡ true) × (stmts_fit p.types p.variables p.texts p.exceptions (callable_in p) true fs ≡ true) × Fits p cells [] k
+  Fits p cells kinds (frame.Counts x value last fs ∷ k) = (kinds ≡ []) × (variable_kind p.variables x ≡ Some variable.Integer) × (has_statement fs ≡ true) × (stmts_fit p.types p.variables p.texts p.exceptions (callable_in p) true fs ≡ true) × Fits p cells [] k
   Fits p cells kinds (frame.Exits ∷ k) = (kinds ≡ variable.Boolean ∷ []) × Lands p cells k × Fits p cells [] k
-  Fits p cells kinds (frame.Handles hs ∷ k) = (kinds ≡ []) × (inside : Bool) × (handlers_fit p.types p.variables p.texts p.exceptions inside hs ≡ true) × WhereInside inside (Lands p cells k) × Fits p cells [] k
+  Fits p cells kinds (frame.Handles hs ∷ k) = (kinds ≡ []) × (inside : Bool) × (handlers_fit p.types p.variables p.texts p.exceptions (callable_in p) inside hs ≡ true) × WhereInside inside (Lands p cells k) × Fits p cells [] k
   Fits p cells kinds (frame.Closes ∷ k) = Fits p cells kinds k
   Fits p cells kinds (frame.Leaves mode ∷ k) = FitsBehind mode (Fits p cells kinds k) (Lands p cells k) (Catches p cells k)
+  Fits p cells kinds (frame.Calls procedure b count ∷ k) = (slice_get p.bodies procedure ≡ Some b) × (kinds ≡ in_front (profile_of b) []) × (count ≡ length (profile_of b)) × Fits p cells [] k
+  Fits p cells kinds (frame.Returns ∷ k) = (kinds ≡ [])
   Fits p cells kinds (frame.Evaluates right ∷ k) = (kind : VariableKind) × (kind_takes p.types p.variables kind right ≡ true) × Fits p cells (kind ∷ kinds) k
   Fits p cells kinds (frame.Computes e ∷ k) = (t : ScalarType) × (type_of p.types p.variables e ≡ Some t) × Fits p cells (kind_of t ∷ kinds) k
   Fits p cells kinds (frame.Follows cs ∷ k) = (ks : List VariableKind) × (from : VariableKind) × (to : VariableKind) × (kinds ≡ from ∷ ks) × (selectors_kind p.types (Some from) cs ≡ Some to) × Fits p cells (to ∷ ks) k
@@ -98,15 +107,15 @@ abbrev mutual
   Fits p cells kinds (frame.Clears x ∷ k) = (access : TypeNo) × (variable_kind p.variables x ≡ Some (variable.Access access)) × Fits p cells kinds k
   Fits p cells kinds (frame.ClearsIn object c ∷ k) = (holder : TypeNo) × (own : TypeNo) × IsName object × IsAccess cells holder.0 object × (selected_kind p.types (Some (variable.Access holder)) c ≡ Some (variable.Access own)) × Fits p cells kinds k
 
-  -- There is a loop; behind it, what is left to do fits where no operand is there (5.7).
+  -- There is a loop in the running body; behind it, what is left of the body fits where no operand is there (5.7).
   pub Lands : ProgramForm → Cells → List (Frame Value) → Type 0
   Lands p cells [] = ⊥
-  Lands p cells (f ∷ k) = AtLoop (is_loop f) (Fits p cells [] k) (Lands p cells k)
+  Lands p cells (f ∷ k) = AtReturn (is_return f) ⊥ (AtLoop (is_loop f) (Fits p cells [] k) (Lands p cells k))
 
-  -- Behind the first handlers, if there are some, what is left to do fits where no operand is there (11.4).
+  -- Behind the first handlers of the running body, if there are some, what is left of it fits where no operand is there (11.4).
   pub Catches : ProgramForm → Cells → List (Frame Value) → Type 0
   Catches p cells [] = Unit {0}
-  Catches p cells (f ∷ k) = AtHandlers p (handlers_in f) (Lands p cells k) (Fits p cells [] k) (Catches p cells k)
+  Catches p cells (f ∷ k) = AtReturn (is_return f) (Unit {0}) (AtHandlers p (handlers_in f) (Lands p cells k) (Fits p cells [] k) (Catches p cells k))
 
 -- How many masters what is left to do belongs to.
 abbrev pub depth : List (Frame Value) → ℕ
@@ -122,6 +131,8 @@ depth (frame.Exits ∷ k) = depth k
 depth (frame.Handles hs ∷ k) = depth k
 depth (frame.Closes ∷ k) = 1 + depth k
 depth (frame.Leaves mode ∷ k) = 1 + depth k
+depth (frame.Calls procedure b count ∷ k) = depth k
+depth (frame.Returns ∷ k) = depth k
 depth (frame.Evaluates right ∷ k) = depth k
 depth (frame.Computes e ∷ k) = depth k
 depth (frame.Follows cs ∷ k) = depth k
@@ -159,6 +170,8 @@ depth_behind frame.Exits k = omega arith
 depth_behind (frame.Handles hs) k = omega arith
 depth_behind frame.Closes k = omega arith
 depth_behind (frame.Leaves mode) k = omega arith
+depth_behind (frame.Calls procedure b count) k = omega arith
+depth_behind frame.Returns k = omega arith
 depth_behind (frame.Evaluates right) k = omega arith
 depth_behind (frame.Computes e) k = omega arith
 depth_behind (frame.Follows cs) k = omega arith
@@ -198,14 +211,41 @@ pub record Jumps (p : ProgramForm) (mode : Mode) (s : State) : Type 0 where
   pub jumps : s.mode ≡ mode
   pub deep : depth s.control ≤ length s.masters
 
--- What is left to do while a jump is on its way.
+-- What is left of the running body while a jump is on its way.
 abbrev pub Goes : ProgramForm → Cells → Mode → List (Frame Value) → Type 0
 Goes p cells mode k = FitsBehind mode ⊥ (Lands p cells k) (Catches p cells k)
 
--- A state of a run of a well-formed program: what is left to do fits it, or a jump is on its way.
-pub data Typed (p : ProgramForm) (s : State) : Type 0 where
-  running : (kinds : List VariableKind) → Ready p kinds s → Fits p (cells_of s.heap) kinds s.control → Typed p s
-  on_jump : (mode : Mode) → Jumps p mode s → Goes p (cells_of s.heap) mode s.control → Typed p s
+-- What holds of the running body, by the program as it sees it: what is left of it fits, or a jump is on its way.
+pub data TypedIn (own : ProgramForm) (s : State) : Type 0 where
+  running : (kinds : List VariableKind) → Ready own kinds s → Fits own (cells_of s.heap) kinds s.control → TypedIn own s
+  on_jump : (mode : Mode) → Jumps own mode s → Goes own (cells_of s.heap) mode s.control → TypedIn own s
+
+-- What holds of an activation that waits for the end of a call, by the program as its body sees it: no form of it waits for a value, its variables hold
+-- values of their kinds, and what is left of its body fits.
+pub record Suspended (own : ProgramForm) (cells : Cells) (k : List (Frame Value)) (a : Activation Value) : Type 0 where
+  pub no_operands : a.operands ≡ []
+  pub held : AreHeld cells own.variables a.places
+  pub fits : Fits own cells [] k
+
+-- The first of these activations waits so for the end of a call behind which this is left to do, and the others wait, too.
+abbrev pub WaitsFirst : ProgramForm → Cells → (behind : List (Frame Value)) → List (Activation Value) → (others : Type 0) → Type 0
+WaitsFirst p cells k [] others = ⊥
+WaitsFirst p cells k (a ∷ suspended) others = Suspended (seen_in a.procedure p) cells k a × others
+
+-- For each end of a call there is one activation that waits for it, the innermost first (6.4).
+abbrev pub Waiting : ProgramForm → Cells → List (Frame Value) → (suspended : List (Activation Value)) → Type 0
+Waiting p cells [] suspended = (suspended ≡ [])
+Waiting p cells (f ∷ k) suspended =
+    AtReturn (is_return f) (WaitsFirst p cells k suspended (Waiting p cells k (older suspended))) (Waiting p cells k suspended)
+
+-- A state of a run of a well-formed program: what holds of the running body, and of the activations that wait for it.
+pub record Typed (p : ProgramForm) (s : State) : Type 0 where
+  pub inside : TypedIn (seen_now p s) s
+  pub waiting : Waiting p (cells_of s.heap) s.control (older s.activations)
+
+-- What holds of the running body.
+pub inside_of : (p : ProgramForm) (s : State) → Typed p s → TypedIn (seen_now p s) s
+inside_of p s typed = typed.inside
 
 -- Wherever an exception is raised, it finds handlers behind which what is left to do fits, or none.
 module _ (p : ProgramForm) where
@@ -225,6 +265,8 @@ module _ (p : ProgramForm) where
   catches cells (frame.Leaves (Raising e) ∷ k) kinds fits = fits
   catches cells (frame.Leaves Exiting ∷ k) kinds fits = fits.1
   catches cells (frame.Leaves Returning ∷ k) kinds fits = fits
+  catches cells (frame.Calls procedure b count ∷ k) kinds fits = catches cells k [] fits.3
+  catches cells (frame.Returns ∷ k) kinds fits = tt
   catches cells (frame.Evaluates right ∷ k) kinds fits = catches cells k (fits.0 ∷ kinds) fits.2
   catches cells (frame.Computes e ∷ k) kinds fits = catches cells k (kind_of fits.0 ∷ kinds) fits.2
   catches cells (frame.Follows cs ∷ k) kinds fits = catches cells k (fits.2 ∷ fits.0) fits.5
@@ -256,7 +298,7 @@ module _ (p : ProgramForm) where
   catches_behind cells (Some hs) k h = catches cells k [] h.3
 
 -- Of the operands that have been computed for an allocator, the newest are its components, in reverse.
-next_taken : {X : Type 0} (m : ℕ) (ops : List X) (v : X) (rest : List X) → drop m ops ≡ v ∷ rest → (take (suc m) ops ≡ take m ops ++ v ∷ []) × (drop (suc m) ops ≡ rest)
+pub next_taken : {X : Type 0} (m : ℕ) (ops : List X) (v : X) (rest : List X) → drop m ops ≡ v ∷ rest → (take (suc m) ops ≡ take m ops ++ v ∷ []) × (drop (suc m) ops ≡ rest)
 next_taken zero [] v rest h = absurd (cc)
 next_taken zero (x ∷ ops) v rest h = (cc, cc)
 next_taken (suc m) [] v rest h = absurd (cc)

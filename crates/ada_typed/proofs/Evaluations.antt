@@ -42,15 +42,19 @@ use Rattle.ada_typed.proofs.Records.{onto_record, active_front, record_found}
 use Rattle.ada_typed.proofs.Shown.{same_record, same_components}
 use Rattle.ada_typed.proofs.Later.{fits_later}
 use Rattle.ada_typed.proofs.Operators.{and_left, and_right, typed, unary_operand, binary_operand, chain_left, decided_same, GivesKind}
-use Rattle.ada_typed.proofs.Control.{onto, Fits, depth, Ready, Jumps, Typed, running, on_jump, catches, split}
+use Rattle.ada_typed.proofs.Control.{onto, Fits, depth, Ready, Jumps, TypedIn, running, on_jump, catches, split}
 
--- What comes next is typed, whatever is answered, or the run ends in a way that the language knows.
+-- What comes next is as this says, whatever is answered, or the run ends in a way that the language knows.
+abbrev pub Comes : (State → Type 0) → Next → Type 0
+Comes After (halts halt) = EndsByTheLanguage halt
+Comes After (moves e s) = After s
+Comes After (tells request e s) = After s
+Comes After (asks request answers) = (granted : Bool) → After (answers granted)
+Comes After (picks n taking) = (i : ℕ) → i < n → After (taking i)
+
+-- The running body is typed then.
 abbrev pub Fine : ProgramForm → Next → Type 0
-Fine p (halts halt) = EndsByTheLanguage halt
-Fine p (moves e s) = Typed p s
-Fine p (tells request e s) = Typed p s
-Fine p (asks request answers) = (granted : Bool) → Typed p (answers granted)
-Fine p (picks n taking) = (i : ℕ) → i < n → Typed p (taking i)
+Fine own = Comes (TypedIn own)
 
 -- Objects keep what lies in them.
 cells_set : (xs : List Object) (i : ℕ) (x y : Object) → slice_get xs i ≡ Some x → y.cell ≡ x.cell → cells_of (slice_set xs i y) ≡ cells_of xs
@@ -67,7 +71,7 @@ cells_on change xs Null keeps = refl
 cells_on change xs (Names o) keeps = cells_changed change (slice_get xs o.0) xs o keeps refl
 cells_on change xs (Scalar v) keeps = refl
 
-cells_more : (xs : List Object) (x : Object) → cells_of (xs ++ x ∷ []) ≡ cells_of xs ++ x.cell ∷ []
+pub cells_more : (xs : List Object) (x : Object) → cells_of (xs ++ x ∷ []) ≡ cells_of xs ++ x.cell ∷ []
 cells_more [] x = refl
 cells_more (y ∷ xs) x = ap (λ (cs : Cells). y.cell ∷ cs) (cells_more xs x)
 
@@ -229,11 +233,11 @@ module _ (p : ProgramForm) where
     deep = ready.deep;
   }
 
-  pub raises : (kinds ks : List VariableKind) (e : Exception) (s : State) → Ready p kinds s → Fits p (cells_of s.heap) ks s.control → Typed p (raised e s)
+  pub raises : (kinds ks : List VariableKind) (e : Exception) (s : State) → Ready p kinds s → Fits p (cells_of s.heap) ks s.control → TypedIn p (raised e s)
   raises kinds ks e s ready fits = on_jump (Raising e) (jumped kinds (Raising e) s ready) (catches p (cells_of s.heap) s.control ks fits)
 
   -- Paths.
-  reading_fine : (cs : List ℕ) (v : Value) (kind to : VariableKind) (s : State) (kinds : List VariableKind) → Ready p kinds s → HasKind (cells_of s.heap) kind v → selectors_kind p.types (Some kind) cs ≡ Some to → Fits p (cells_of s.heap) (to ∷ kinds) s.control → Typed p (reading named cs v s)
+  reading_fine : (cs : List ℕ) (v : Value) (kind to : VariableKind) (s : State) (kinds : List VariableKind) → Ready p kinds s → HasKind (cells_of s.heap) kind v → selectors_kind p.types (Some kind) cs ≡ Some to → Fits p (cells_of s.heap) (to ∷ kinds) s.control → TypedIn p (reading named cs v s)
   reading_fine [] v kind to s kinds ready has is fits =
       let same : to ≡ kind = cc in
       running (kind ∷ kinds) (ready_push kinds s kind v ready has) (subst (λ (q : VariableKind). Fits p (cells_of s.heap) (q ∷ kinds) s.control) same fits)
@@ -442,7 +446,7 @@ module _ (p : ProgramForm) where
       let more : IsActive (cells ++ cell ∷ []) p.variables ks (record a { operands = drop (length cs) a.operands } ∷ suspended) = active_later cells (cells ++ cell ∷ []) (designated_more cells cell) p.variables ks (record a { operands = drop (length cs) a.operands } ∷ suspended) (active.0, (split cells cs ks a.operands active.1).1) in
       (more.0, ((cell, ap (slice_get (cells ++ cell ∷ [])) is ∙ newest_name cells cell, own), more.1))
 
-  answered_fine : (access item words : ℕ) (s : State) (ks : List VariableKind) (cs : List ComponentKind) → Ready p (onto cs ks) s → reached_components p.types access ≡ Some cs → Fits p (cells_of s.heap) (variable.Access (record { 0 = access }) ∷ ks) s.control → (granted : Bool) → Typed p (answered named access (length cs) item words s granted)
+  answered_fine : (access item words : ℕ) (s : State) (ks : List VariableKind) (cs : List ComponentKind) → Ready p (onto cs ks) s → reached_components p.types access ≡ Some cs → Fits p (cells_of s.heap) (variable.Access (record { 0 = access }) ∷ ks) s.control → (granted : Bool) → TypedIn p (answered named access (length cs) item words s granted)
   answered_fine access item words s ks cs ready reached fits true =
       let cell = new_cell named access (length cs) item s in
       let same : cells_of (s.heap ++ new_object cell ∷ []) ≡ cells_of s.heap ++ cell ∷ [] = cells_more s.heap (new_object cell) in

@@ -1,6 +1,6 @@
 -- A well-formed program and a run of it to its end; and programs that are not well formed, which get stuck.
 
-use Rattle.std.proofs.Common.{◌<◌, ◌≤◌, ℤ, Bool, true, false, List, [], ◌∷◌, ◌++◌, length, map, refl, sym, ap, subst, ◌≡◌, arith}
+use Rattle.std.proofs.Common.{◌<◌, ◌≤◌, ℤ, Bool, true, false, List, [], ◌∷◌, ◌++◌, length, map, refl, sym, ap, ◌∙◌, subst, ◌≡◌, arith}
 use Rattle.std.specs.Prelude.{Some, None, pos, String}
 use Rattle.std.specs.Global.{Vec, Global}
 use Rattle.ada_text.specs.declared.spot.Spot.{Spot}
@@ -20,14 +20,15 @@ use Rattle.ada_program.specs.declared.program.Declaration.{Declaration}
 use Rattle.ada_program.specs.declared.program.Declaration.TheVariants as declaration
 use Rattle.ada_program.specs.declared.program.Variable.{Variable}
 use Rattle.ada_program.specs.declared.program.VariableKind.TheVariants as variable
+use Rattle.ada_program.specs.declared.program.Procedure.{Procedure}
 use Rattle.ada_program.specs.declared.program.Program.{Program}
 use Rattle.ada_program.specs.declared.program.Choice.TheVariants as choice
 use Rattle.ada_program.specs.declared.program.Exception.{Exception}
 use Rattle.ada_program.specs.declared.program.Exception.TheVariants.{ProgramError, Declared}
 use Rattle.ada_program.specs.declared.program.Handler.{Handler}
-use Rattle.ada_program.specs.Form.{expression_form, stmt_form, path_form, record_path_form, item_of_record, integer, reads, is_null, StmtsForm, no_stmts, a_stmt, assigns, assigns_record, allocates_default, computes, gets, writes, frees, chooses, repeats, counts, exits, raises, encloses, otherwise, a_branch, HandlersForm, no_handlers, a_handler, declaration_forms, stmt_forms, handler_forms, statement_rules, expression_rules}
-use Rattle.ada_program.specs.ProgramForm.{program_form}
-use Rattle.ada_program.specs.WellFormed.{Creation, creation, created_by_all, created_by_handlers, creates_from, has_collections, IsWellFormed, stmts_fit}
+use Rattle.ada_program.specs.Form.{expression_form, stmt_form, path_form, record_path_form, item_of_record, integer, reads, is_null, StmtsForm, no_stmts, a_stmt, assigns, assigns_record, allocates_default, computes, gets, writes, frees, chooses, repeats, counts, exits, calls, returns, raises, encloses, otherwise, a_branch, HandlersForm, no_handlers, a_handler, declaration_forms, stmt_forms, handler_forms, statement_rules, expression_rules}
+use Rattle.ada_program.specs.ProgramForm.{BodyForm, body_form, body_forms, program_form}
+use Rattle.ada_program.specs.WellFormed.{Creation, creation, created_by_all, created_by_handlers, created_in_all, creates_from, has_collections, IsWellFormed, stmts_fit, bodies_fit, callable_in}
 use Rattle.ada_meaning.specs.declared.event.Halt.TheVariants.{Finished}
 use Rattle.ada_meaning.specs.Frame as frame
 use Rattle.ada_meaning.specs.Named.{State, next}
@@ -124,18 +125,39 @@ handlers = record { choices = vec (choice.Exception failure ∷ []) (omega arith
 abbrev counted : List Stmt
 counted = stmt.Block (vec [] (omega arith)) (vec (stmt.Get n_path ∷ stmt.Raise failure ∷ []) (omega arith)) (vec handlers (omega arith)) ∷ []
 
--- loop .. end loop; for I in 1 .. 1 loop .. end loop; X := new Cell; Free (X);
+-- loop .. end loop; for I in 1 .. 1 loop .. end loop; X := new Cell; Free (X); Show (N);
 abbrev statements : List Stmt
 statements =
     stmt.Loop None (vec body (omega arith)) spot
     ∷ stmt.For (record { 0 = 3 }) (Integer (pos 1)) (Integer (pos 1)) (vec counted (omega arith)) spot
     ∷ stmt.Assign x_path (right.Default (record { 0 = 1 }))
     ∷ stmt.Free (record { 0 = 1 }) x_path
+    ∷ stmt.Call (record { 0 = 0 }) (vec (Reads n_path ∷ []) (omega arith))
     ∷ []
+
+-- P; Q: the variables of a procedure have numbers of their own.
+abbrev p_path : Path
+p_path = x_path
+
+abbrev q_path : Path
+q_path = n_path
+
+-- procedure Show (P : in Integer) is Q : Integer := P; begin Put_Line (Integer'Image (Q)); return; end Show;
+abbrev show : Procedure
+show = record {
+  formals = 1;
+  variables =
+      vec (record { name = no_name; spot = spot; kind = variable.Integer; borrows = false } ∷ record { name = no_name; spot = spot; kind = variable.Integer; borrows = false } ∷ [])
+      (omega arith);
+  declarations = vec (declaration.Variable (record { 0 = 1 }) (Some (right.Value (Reads p_path))) ∷ []) (omega arith);
+  statements = vec (stmt.PutImage (Reads q_path) ∷ stmt.Return spot ∷ []) (omega arith);
+  handlers = vec [] (omega arith);
+}
 
 abbrev pub program : Program
 program = record {
   types = vec types (omega arith);
+  procedures = vec (show ∷ []) (omega arith);
   variables = vec variables (omega arith);
   texts = vec [] (omega arith);
   exceptions = vec (no_name ∷ []) (omega arith);
@@ -152,8 +174,8 @@ chosen_forms =
     a_stmt (assigns (path_form value_path) (computes (reads (path_form n_path)))) (
     a_stmt (writes (reads (path_form n_path))) (a_stmt (frees 1 (path_form x_path)) no_stmts))))
 
-abbrev body_forms : StmtsForm
-body_forms = a_stmt (chooses (a_branch (is_null false (path_form x_path)) chosen_forms (otherwise no_stmts))) (a_stmt (exits (Some (is_null true (path_form x_path))) spot) no_stmts)
+abbrev turn_forms : StmtsForm
+turn_forms = a_stmt (chooses (a_branch (is_null false (path_form x_path)) chosen_forms (otherwise no_stmts))) (a_stmt (exits (Some (is_null true (path_form x_path))) spot) no_stmts)
 
 abbrev handled_forms : HandlersForm
 handled_forms = a_handler (choice.Exception failure ∷ []) (a_stmt (writes (reads (path_form i_path))) no_stmts) no_handlers
@@ -163,12 +185,22 @@ counted_forms = a_stmt (encloses [] (a_stmt (gets (path_form n_path)) (a_stmt (r
 
 abbrev forms : StmtsForm
 forms =
-    a_stmt (repeats None body_forms spot) (
+    a_stmt (repeats None turn_forms spot) (
     a_stmt (counts 3 (integer (pos 1)) (integer (pos 1)) counted_forms spot) (
-    a_stmt (assigns (path_form x_path) (allocates_default 1)) (a_stmt (frees 1 (path_form x_path)) no_stmts)))
+    a_stmt (assigns (path_form x_path) (allocates_default 1)) (a_stmt (frees 1 (path_form x_path)) (a_stmt (calls 0 (reads (path_form n_path) ∷ [])) no_stmts))))
 
 statements_are : stmt_forms program ≡ forms
 statements_are = simp (statement_rules, expression_rules)
+
+-- The body of the procedure as plain data.
+abbrev show_forms : StmtsForm
+show_forms = a_stmt (writes (reads (path_form q_path))) (a_stmt (returns spot) no_stmts)
+
+abbrev shown : List BodyForm
+shown = record (body_form show) { statements = show_forms } ∷ []
+
+bodies_are : body_forms program ≡ shown
+bodies_are = ap (λ (fs : StmtsForm). record (body_form show) { statements = fs } ∷ []) (simp (statement_rules, expression_rules))
 
 -- What the program creates, with these statements.
 abbrev creations_with : StmtsForm → List Creation
@@ -182,10 +214,13 @@ well_formed = record {
   creates_in_order = ap (λ (fs : StmtsForm). creates_from 4 0 (creations_with fs)) statements_are;
   collections_first = refl;
   collections_fit = refl;
-  has_one_each = ap (λ (fs : StmtsForm). has_collections (creations_with fs) 0 (program_form program).types) statements_are;
+  has_one_each =
+      ap (λ (bs : List BodyForm). has_collections (created_in_all bs ++ creations_with (stmt_forms program)) 0 (program_form program).types) bodies_are ∙
+      ap (λ (fs : StmtsForm). has_collections (created_in_all shown ++ creations_with fs) 0 (program_form program).types) statements_are;
   initials_fit = refl;
-  statements_fit = ap (λ (fs : StmtsForm). stmts_fit (program_form program).types (program_form program).variables (program_form program).texts (program_form program).exceptions false fs) statements_are;
+  statements_fit = ap (λ (fs : StmtsForm). stmts_fit (program_form program).types (program_form program).variables (program_form program).texts (program_form program).exceptions (callable_in (program_form program)) false fs) statements_are;
   handlers_fit = refl;
+  bodies_fit = ap (bodies_fit (program_form program).types (program_form program).texts (program_form program).exceptions []) bodies_are;
 }
 
 -- The input of the run: two numbers.
@@ -201,8 +236,8 @@ some_member : 0 < 1
 some_member = omega arith
 
 finishes_from : FinishesFrom forms
-unfolding next expression_form
-finishes_from = (_, _, there settled _ (refl, refl) (there settled _ (refl, refl) (there settled _ (refl, refl) (there settled _ (refl, refl) (there settled _ (refl, refl) (there settled _ (refl, refl) (there (grants true) _ (refl, refl) (there settled _ (refl, refl) (there settled _ (refl, refl) (there settled _ (refl, refl) (there settled _ (refl, refl) (there settled _ (refl, refl) (there settled _ (refl, refl) (there settled _ (refl, refl) (there settled _ (refl, refl) (there settled _ (refl, refl) (there settled _ (refl, refl) (there settled _ (refl, refl) (there settled _ (refl, refl) (there settled _ (refl, refl) (there settled _ (refl, refl) (there settled _ (refl, refl) (there settled _ (refl, refl) (there settled _ (refl, refl) (there settled _ (refl, refl) (there settled _ (refl, refl) (there settled _ (refl, refl) (there settled _ (refl, refl) (there settled _ (refl, refl) (there settled _ (refl, refl) (there settled _ (refl, refl) (there settled _ (refl, refl) (there settled _ (refl, refl) (there settled _ (refl, refl) (there settled _ (refl, refl) (there settled _ (refl, refl) (there settled _ (refl, refl) (there settled _ (refl, refl) (there settled _ (refl, refl) (there settled _ (refl, refl) (there settled _ (refl, refl) (there settled _ (refl, refl) (there settled _ (refl, refl) (there settled _ (refl, refl) (there settled _ (refl, refl) (there settled _ (refl, refl) (there settled _ (refl, refl) (there settled _ (refl, refl) (there settled _ (refl, refl) (there settled _ (refl, refl) (there settled _ (refl, refl) (there settled _ (refl, refl) (there settled _ (refl, refl) (there settled _ (refl, refl) (there settled _ (refl, refl) (there settled _ (refl, refl) (there settled _ (refl, refl) (there settled _ (refl, refl) (there settled _ (refl, refl) (there settled _ (refl, refl) (there settled _ (refl, refl) (there settled _ (refl, refl) (there settled _ (refl, refl) (there settled _ (refl, refl) (there settled _ (refl, refl) (there settled _ (refl, refl) (there settled _ (refl, refl) (there settled _ (refl, refl) (there settled _ (refl, refl) (there settled _ (refl, refl) (there settled _ (refl, refl) (there (grants true) _ (refl, refl) (there settled _ (refl, refl) (there settled _ (refl, refl) (there settled _ (refl, refl) (there settled _ (refl, refl) (there settled _ (refl, refl) (there settled _ (refl, refl) (there settled _ (refl, refl) (there settled _ (refl, refl) (there (takes 0) _ (some_member, refl, refl) (there settled _ (refl, refl) (there settled _ (refl, refl) (there settled _ (refl, refl) (there settled _ (refl, refl) (there settled _ (refl, refl) (there settled _ (refl, refl) (there settled _ (refl, refl) here))))))))))))))))))))))))))))))))))))))))))))))))))))))))))))))))))))))))))))))))))))))), refl)
+unfolding next expression_form stmt_form
+finishes_from = (_, _, there settled _ (refl, refl) (there settled _ (refl, refl) (there settled _ (refl, refl) (there settled _ (refl, refl) (there settled _ (refl, refl) (there settled _ (refl, refl) (there (grants true) _ (refl, refl) (there settled _ (refl, refl) (there settled _ (refl, refl) (there settled _ (refl, refl) (there settled _ (refl, refl) (there settled _ (refl, refl) (there settled _ (refl, refl) (there settled _ (refl, refl) (there settled _ (refl, refl) (there settled _ (refl, refl) (there settled _ (refl, refl) (there settled _ (refl, refl) (there settled _ (refl, refl) (there settled _ (refl, refl) (there settled _ (refl, refl) (there settled _ (refl, refl) (there settled _ (refl, refl) (there settled _ (refl, refl) (there settled _ (refl, refl) (there settled _ (refl, refl) (there settled _ (refl, refl) (there settled _ (refl, refl) (there settled _ (refl, refl) (there settled _ (refl, refl) (there settled _ (refl, refl) (there settled _ (refl, refl) (there settled _ (refl, refl) (there settled _ (refl, refl) (there settled _ (refl, refl) (there settled _ (refl, refl) (there settled _ (refl, refl) (there settled _ (refl, refl) (there settled _ (refl, refl) (there settled _ (refl, refl) (there settled _ (refl, refl) (there settled _ (refl, refl) (there settled _ (refl, refl) (there settled _ (refl, refl) (there settled _ (refl, refl) (there settled _ (refl, refl) (there settled _ (refl, refl) (there settled _ (refl, refl) (there settled _ (refl, refl) (there settled _ (refl, refl) (there settled _ (refl, refl) (there settled _ (refl, refl) (there settled _ (refl, refl) (there settled _ (refl, refl) (there settled _ (refl, refl) (there settled _ (refl, refl) (there settled _ (refl, refl) (there settled _ (refl, refl) (there settled _ (refl, refl) (there settled _ (refl, refl) (there settled _ (refl, refl) (there settled _ (refl, refl) (there settled _ (refl, refl) (there settled _ (refl, refl) (there settled _ (refl, refl) (there settled _ (refl, refl) (there settled _ (refl, refl) (there settled _ (refl, refl) (there settled _ (refl, refl) (there settled _ (refl, refl) (there settled _ (refl, refl) (there (grants true) _ (refl, refl) (there settled _ (refl, refl) (there settled _ (refl, refl) (there settled _ (refl, refl) (there settled _ (refl, refl) (there settled _ (refl, refl) (there settled _ (refl, refl) (there settled _ (refl, refl) (there settled _ (refl, refl) (there settled _ (refl, refl) (there settled _ (refl, refl) (there settled _ (refl, refl) (there settled _ (refl, refl) (there settled _ (refl, refl) (there settled _ (refl, refl) (there settled _ (refl, refl) (there settled _ (refl, refl) (there settled _ (refl, refl) (there settled _ (refl, refl) (there settled _ (refl, refl) (there settled _ (refl, refl) (there settled _ (refl, refl) (there settled _ (refl, refl) (there settled _ (refl, refl) (there settled _ (refl, refl) (there settled _ (refl, refl) (there settled _ (refl, refl) (there (takes 0) _ (some_member, refl, refl) (there settled _ (refl, refl) (there settled _ (refl, refl) (there settled _ (refl, refl) (there settled _ (refl, refl) (there settled _ (refl, refl) (there settled _ (refl, refl) (there settled _ (refl, refl) here))))))))))))))))))))))))))))))))))))))))))))))))))))))))))))))))))))))))))))))))))))))))))))))))))))))))), refl)
 
 pub finishes : Finishes program
 finishes =
@@ -211,7 +246,7 @@ finishes =
 
 -- Put_Line (Integer'Image (True));
 abbrev pub ill_typed : Program
-ill_typed = record { types = vec [] (omega arith); variables = vec [] (omega arith); texts = vec [] (omega arith); exceptions = vec [] (omega arith); declarations = vec [] (omega arith); statements = vec (stmt.PutImage (Boolean true) ∷ []) (omega arith); handlers = vec [] (omega arith) }
+ill_typed = record { types = vec [] (omega arith); procedures = vec [] (omega arith); variables = vec [] (omega arith); texts = vec [] (omega arith); exceptions = vec [] (omega arith); declarations = vec [] (omega arith); statements = vec (stmt.PutImage (Boolean true) ∷ []) (omega arith); handlers = vec [] (omega arith) }
 
 pub gets_stuck : GetsStuck ill_typed
 unfolding next expression_form stmt_form
@@ -221,6 +256,7 @@ gets_stuck = ([], _, _, there settled _ (refl, refl) (there settled _ (refl, ref
 abbrev pub unhandling : Program
 unhandling = record {
   types = vec [] (omega arith);
+  procedures = vec [] (omega arith);
   variables = vec [] (omega arith);
   texts = vec [] (omega arith);
   exceptions = vec [] (omega arith);

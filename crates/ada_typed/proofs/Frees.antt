@@ -19,12 +19,12 @@ use Rattle.ada_meaning.specs.Frame as frame
 use Rattle.ada_meaning.specs.Step.{freeing, free_next, freed_next, free_component_next, free_in_next}
 use Rattle.ada_meaning.specs.Named.{Object, State, named, look, seen, existing, on_object, parted}
 use Rattle.ada_typed.proofs.Targets.{component_there}
-use Rattle.ada_typed.proofs.Control.{Fits, depth, Ready, Typed, running}
+use Rattle.ada_typed.proofs.Control.{Fits, depth, Ready, TypedIn, running}
 use Rattle.ada_typed.proofs.Evaluations.{Fine, cells_on, ready_heap, fits_heap, raises}
 
 module _ (p : ProgramForm) where
   -- A Free begins: its end clears what held the name.
-  freeing_fine : (o : Id) (access : ℕ) (clears : Frame Value) (s : State) (kinds : List VariableKind) → Ready p kinds s → depth (clears ∷ s.control) ≤ length s.masters → Fits p (cells_of s.heap) kinds (clears ∷ s.control) → Typed p (freeing named access (Names o) clears s)
+  freeing_fine : (o : Id) (access : ℕ) (clears : Frame Value) (s : State) (kinds : List VariableKind) → Ready p kinds s → depth (clears ∷ s.control) ≤ length s.masters → Fits p (cells_of s.heap) kinds (clears ∷ s.control) → TypedIn p (freeing named access (Names o) clears s)
   freeing_fine o access clears s kinds ready deep fits =
       let heap = on_object parted s.heap (Names o) in
       let same : cells_of heap ≡ cells_of s.heap = cells_on parted s.heap (Names o) (λ y. refl) in

@@ -5,17 +5,23 @@ use Rattle.std.proofs.Common.{Bool, true, false, List, [], ◌∷◌, Option, So
 use Rattle.ada_program.specs.declared.program.VariableKind.{VariableKind}
 use Rattle.ada_program.specs.declared.program.VariableKind.TheVariants as variable
 use Rattle.ada_program.specs.Form.{HandlersForm}
-use Rattle.ada_program.specs.ProgramForm.{ProgramForm}
+use Rattle.ada_program.specs.ProgramForm.{ProgramForm, seen_in}
 use Rattle.ada_meaning.specs.declared.state.Value.{Value}
 use Rattle.ada_meaning.specs.declared.state.Mode.TheVariants.{Running, Raising, Exiting, Returning}
-use Rattle.ada_meaning.specs.Frame.{Frame, is_loop}
+use Rattle.ada_meaning.specs.Frame.{Frame, is_loop, is_return}
 use Rattle.ada_meaning.specs.Frame as frame
-use Rattle.ada_typed.proofs.Values.{StayDesignated, access_later, kind_of}
-use Rattle.ada_typed.proofs.Control.{onto, AtLoop, WhereInside, handlers_in, AtHandlers, Fits, Lands, Catches}
+use Rattle.ada_meaning.specs.State.{Activation}
+use Rattle.ada_meaning.specs.Step.{older}
+use Rattle.ada_typed.proofs.Values.{StayDesignated, access_later, held_later, kind_of}
+use Rattle.ada_typed.proofs.Control.{onto, AtReturn, AtLoop, WhereInside, handlers_in, AtHandlers, Fits, Lands, Catches, WaitsFirst, Waiting}
 
 inside_later : (inside : Bool) (lands later : Type 0) → (lands → later) → WhereInside inside lands → WhereInside inside later
 inside_later true lands later f h = f h
 inside_later false lands later f h = tt
+
+return_later : (return : Bool) (ends further ends_after further_after : Type 0) → (ends → ends_after) → (further → further_after) → AtReturn return ends further → AtReturn return ends_after further_after
+return_later true ends further ends_after further_after f g h = f h
+return_later false ends further ends_after further_after f g h = g h
 
 loop_later : (loop : Bool) (behind further behind_later further_later : Type 0) → (behind → behind_later) → (further → further_later) → AtLoop loop behind further → AtLoop loop behind_later further_later
 loop_later true behind further behind_later further_later f g h = f h
@@ -43,6 +49,8 @@ module _ (p : ProgramForm) (cells after : Cells) (stay : StayDesignated cells af
     fits_later (frame.Leaves (Raising e) ∷ k) kinds h = catches_later k h
     fits_later (frame.Leaves Exiting ∷ k) kinds h = (lands_later k h.0, catches_later k h.1)
     fits_later (frame.Leaves Returning ∷ k) kinds h = catches_later k h
+    fits_later (frame.Calls procedure b count ∷ k) kinds h = (h.0, h.1, h.2, fits_later k [] h.3)
+    fits_later (frame.Returns ∷ k) kinds h = h
     fits_later (frame.Evaluates right ∷ k) kinds h = (h.0, h.1, fits_later k (h.0 ∷ kinds) h.2)
     fits_later (frame.Computes e ∷ k) kinds h = (h.0, h.1, fits_later k (kind_of h.0 ∷ kinds) h.2)
     fits_later (frame.Follows cs ∷ k) kinds h = (h.0, h.1, h.2, h.3, h.4, fits_later k (h.2 ∷ h.0) h.5)
@@ -70,8 +78,20 @@ module _ (p : ProgramForm) (cells after : Cells) (stay : StayDesignated cells af
 
     lands_later : (k : List (Frame Value)) → Lands p cells k → Lands p after k
     lands_later [] h = h
-    lands_later (f ∷ k) h = loop_later (is_loop f) (Fits p cells [] k) (Lands p cells k) (Fits p after [] k) (Lands p after k) (fits_later k []) (lands_later k) h
+    lands_later (f ∷ k) h = return_later (is_return f) ⊥ (AtLoop (is_loop f) (Fits p cells [] k) (Lands p cells k)) ⊥ (AtLoop (is_loop f) (Fits p after [] k) (Lands p after k)) (λ no. no) (loop_later (is_loop f) (Fits p cells [] k) (Lands p cells k) (Fits p after [] k) (Lands p after k) (fits_later k []) (lands_later k)) h
 
     catches_later : (k : List (Frame Value)) → Catches p cells k → Catches p after k
     catches_later [] h = tt
-    catches_later (f ∷ k) h = handlers_later p (handlers_in f) (Lands p cells k) (Fits p cells [] k) (Catches p cells k) (Lands p after k) (Fits p after [] k) (Catches p after k) (lands_later k) (fits_later k []) (catches_later k) h
+    catches_later (f ∷ k) h = return_later (is_return f) (Unit {0}) (AtHandlers p (handlers_in f) (Lands p cells k) (Fits p cells [] k) (Catches p cells k)) (Unit {0}) (AtHandlers p (handlers_in f) (Lands p after k) (Fits p after [] k) (Catches p after k)) (λ yes. yes) (handlers_later p (handlers_in f) (Lands p cells k) (Fits p cells [] k) (Catches p cells k) (Lands p after k) (Fits p after [] k) (Catches p after k) (lands_later k) (fits_later k []) (catches_later k)) h
+
+-- Activations wait as well.
+module _ (p : ProgramForm) (cells after : Cells) (stay : StayDesignated cells after) where
+  first_later : (k : List (Frame Value)) (suspended : List (Activation Value)) (others others_after : Type 0) → (others → others_after) → WaitsFirst p cells k suspended others → WaitsFirst p after k suspended others_after
+  first_later k [] others others_after f h = h
+  first_later k (a ∷ suspended) others others_after f h =
+      let own = seen_in a.procedure p in
+      (record { no_operands = h.0.no_operands; held = held_later cells after stay own.variables a.places h.0.held; fits = fits_later own cells after stay k [] h.0.fits }, f h.1)
+
+  pub waiting_later : (k : List (Frame Value)) (suspended : List (Activation Value)) → Waiting p cells k suspended → Waiting p after k suspended
+  waiting_later [] suspended h = h
+  waiting_later (f ∷ k) suspended h = return_later (is_return f) (WaitsFirst p cells k suspended (Waiting p cells k (older suspended))) (Waiting p cells k suspended) (WaitsFirst p after k suspended (Waiting p after k (older suspended))) (Waiting p after k suspended) (first_later k suspended (Waiting p cells k (older suspended)) (Waiting p after k (older suspended)) (waiting_later k (older suspended))) (waiting_later k suspended) h

@@ -10,6 +10,10 @@ pub mod Records
 pub mod Shown
 -- it fits as well once objects have come to be or have changed
 pub mod Later
+-- the program as each of its bodies sees it
+pub mod Bodies
+-- actual parameters, and the places of a body that begins
+pub mod Actuals
 -- paths, expressions, allocators and what is assigned
 pub mod Evaluations
 -- components that are assigned to
@@ -20,8 +24,16 @@ pub mod Wholes
 pub mod Frees
 -- record objects and their types
 pub mod Objects
--- each step leads from typed states to typed states
+-- what a step keeps around the running body
+pub mod Kept
+-- it keeps that unless a call begins or ends
+pub mod KeptSteps
+-- each step inside a body leads from typed states to typed states
 pub mod Steps
+-- and so does each jump inside a body
+pub mod Jumps
+-- calls, returns and jumps out of bodies
+pub mod Calls
 -- so no run is stuck
 pub mod Runs
 -- a program that is well formed, and one that is not

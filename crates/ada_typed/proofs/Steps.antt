@@ -1,7 +1,6 @@
--- Each step of a state that is typed leads to one that is typed, or ends the run in a way that the language knows.
+-- Each step inside the running body leads from typed states to typed states, or ends the run in a way that the language knows.
 
 use Rattle.ada_typed.specs.Holding.{Cells, HasKind, HaveKinds, cells_of}
-use Rattle.ada_typed.specs.Stuck.{EndsByTheLanguage}
 use Rattle.std.proofs.Common.{◌≡◌, ℕ, zero, suc, ◌+◌, ◌<◌, ◌≤◌, ◌&&◌, not, if◌then◌else◌, Bool, true, false, ℤ, ◌+ℤ◌, pos, int_le, List, [], ◌∷◌, length, map, Option, Some, None, arith, refl, sym, ap, ◌∙◌, subst}
 use Rattle.std.specs.List.{slice_get, slice_index_or, list_all}
 use Rattle.ada_program.specs.declared.program.ComponentKind.{ComponentKind}
@@ -10,11 +9,10 @@ use Rattle.ada_program.specs.declared.program.TypeDefinition.{TypeDefinition}
 use Rattle.ada_program.specs.declared.program.TypeNo.{TypeNo}
 use Rattle.ada_program.specs.declared.program.VariableKind.{VariableKind}
 use Rattle.ada_program.specs.declared.program.VariableKind.TheVariants as variable
-use Rattle.ada_program.specs.Form.{ExpressionForm, ItemForm, RightForm, StmtForm, skips, assigns, assigns_record, frees, gets, writes, writes_text, chooses, repeats, counts, exits, returns, raises as raises_it, encloses, StmtsForm, no_stmts, a_stmt, BranchesForm, otherwise, a_branch, HandlersForm, no_handlers, a_handler, DeclarationForm, collects, declares, declares_record}
-use Rattle.ada_program.specs.Handling.{some_takes, handler_of}
-use Rattle.ada_program.specs.ProgramForm.{VariableForm, ProgramForm, type_form}
+use Rattle.ada_program.specs.Form.{ExpressionForm, ItemForm, RightForm, StmtForm, skips, assigns, assigns_record, frees, gets, writes, writes_text, chooses, repeats, counts, exits, calls, returns, raises as raises_it, encloses, StmtsForm, no_stmts, a_stmt, BranchesForm, otherwise, a_branch, HandlersForm, DeclarationForm, collects, declares, declares_record}
+use Rattle.ada_program.specs.ProgramForm.{VariableForm, BodyForm, ProgramForm, type_form}
 use Rattle.ada_program.specs.Typed.{reached_of, words_of}
-use Rattle.ada_program.specs.WellFormed.{IsWellFormed, reached_components, record_components, is_access, is_object_type, value_access, root_kind, selectors_kind, variable_kind, path_access, scalar_of, is_type, type_of, kind_takes, right_fits, names_borrower, lends_to, is_borrower, item_owns, item_before, is_filled, is_record_path, is_record_object, record_fits, record_initial_fits, path_kind, is_freed_by, collections_first, collection_fits, initial_fits, declarations_fit, has_type, condition_fits, has_statement, choice_fits, statement_fits, stmts_fit, branches_fit, handlers_fit, names_before}
+use Rattle.ada_program.specs.WellFormed.{reached_components, record_components, is_access, is_object_type, value_access, root_kind, selectors_kind, variable_kind, path_access, scalar_of, is_type, type_of, kind_takes, right_fits, names_borrower, lends_to, is_borrower, item_owns, item_before, is_filled, is_record_path, is_record_object, record_fits, record_initial_fits, path_kind, is_freed_by, collections_first, collection_fits, initial_fits, declarations_fit, has_type, condition_fits, has_statement, statement_fits, stmts_fit, branches_fit, handlers_fit, names_before, profile_of, callable_in}
 use Rattle.ada_values.specs.declared.value.Value.TheVariants as scalar
 use Rattle.ada_meaning.specs.declared.state.Id.{Id}
 use Rattle.ada_meaning.specs.declared.state.Value.{Value}
@@ -25,17 +23,16 @@ use Rattle.ada_meaning.specs.declared.state.Mode.{Mode}
 use Rattle.ada_meaning.specs.declared.state.Mode.TheVariants.{Running, Raising, Exiting, Returning}
 use Rattle.ada_meaning.specs.declared.event.Cause.{Cause}
 use Rattle.ada_meaning.specs.declared.event.Cause.TheVariants.{Leaving}
-use Rattle.ada_program.specs.declared.program.Exception.{Exception}
 use Rattle.ada_program.specs.declared.program.Exception.TheVariants.{EndError}
 use Rattle.ada_meaning.specs.declared.event.Halt.TheVariants.{Erroneous}
 use Rattle.ada_meaning.specs.Event.{Back, Quiet}
 use Rattle.ada_meaning.specs.declared.event.Why.TheVariants.{GivesElsewhere}
-use Rattle.ada_meaning.specs.Frame.{Frame, is_master, is_loop, Landing, passes_on, goes_behind, handler_landing, exception_landing, landing}
+use Rattle.ada_meaning.specs.Frame.{Frame, is_master, is_loop, is_return, Landing, passes_on, goes_behind, handler_landing, exception_landing, landing}
 use Rattle.ada_meaning.specs.Frame as frame
 use Rattle.ada_meaning.specs.State.{Owned, declared, collection, record_object, Item, Master, height, home_of, pool_of}
 use Rattle.ada_meaning.specs.Heap.{Cell, on_gone, finds}
-use Rattle.ada_meaning.specs.Step.{halts, moves, at, older, shorter, popped, jumping, put, held, newest, new_next, end_next, same_pool, told_back, given_back, back_next, initial_values, copies_next, newest_ones, without_newest, record_target_next, store_record_next, record_cell, made, record_next, before_last, last_of, assign_next, frees_next, branches_next, decided_next, turn_next, repeats_next, turned_next, count_turn_next, ranges_next, gets_next, exit_next, exited_next, stmt_next, stmts_next, line_next, declarations_next, members_next, item_leave_next, master_leave_next, leave_next, frame_next, landed, pass_next, running_next, jump_next, mode_next, end_of}
-use Rattle.ada_meaning.specs.Named.{an_integer, Object, State, next, named, look, lent, lent_by, seen, existing, on_object, parted, finished, returned, reads_integer, reads_boolean, unary_given, binary_given, members, members_of}
+use Rattle.ada_meaning.specs.Step.{halts, moves, at, older, shorter, popped, jumping, put, held, newest, new_next, end_next, same_pool, told_back, given_back, back_next, initial_values, copies_next, newest_ones, without_newest, record_target_next, store_record_next, record_cell, made, record_next, before_last, last_of, assign_next, frees_next, branches_next, decided_next, turn_next, repeats_next, turned_next, count_turn_next, ranges_next, gets_next, exit_next, exited_next, computing, call_next, stmt_next, stmts_next, line_next, declarations_next, members_next, item_leave_next, master_leave_next, leave_next, frame_next}
+use Rattle.ada_meaning.specs.Named.{an_integer, Object, State, named, look, lent, lent_by, seen, existing, on_object, parted, finished, returned, reads_integer, reads_boolean, unary_given, binary_given, members, members_of}
 use Rattle.ada_typed.proofs.Evaluations.{Fine, initials_have, reached_shown, words_shown, width_shown, filled_items, cells_on, length_shorter, ready_kinds, ready_at, ready_pop, newest_of, held_of, put_in, ready_owning, ready_heap, fits_heap, jumped, raises, ready_made, fits_more, root_fine, path_fine, null_test_fine, expression_fine, links_fine, outcome_fine, items_fine, new_fine, right_fine}
 use Rattle.ada_typed.proofs.Values.{kind_of, root_same, active_none}
 use Rattle.ada_typed.proofs.Objects.{kind_there, object_reached, own_object, record_no_access}
@@ -44,7 +41,10 @@ use Rattle.ada_typed.proofs.Records.{record_found}
 use Rattle.ada_typed.proofs.Targets.{split_kind, target_fine, store_fine, receive_fine}
 use Rattle.ada_typed.proofs.Wholes.{newest_have, ready_without, copies_fine, record_target_fine, store_record_fine}
 use Rattle.ada_typed.proofs.Frees.{free_fine, free_in_fine}
-use Rattle.ada_typed.proofs.Control.{onto, IsName, AtLoop, WhereInside, handlers_in, AtHandlers, FitsBehind, Fits, Lands, Catches, depth, depth_behind, Ready, Jumps, Goes, Typed, running, on_jump, catches, catches_behind}
+use Rattle.ada_typed.proofs.Bodies.{SeenFits, Sees}
+use Rattle.ada_typed.proofs.Actuals.{profile_found, as_many, depth_computing, computing_fits}
+use Rattle.ada_typed.proofs.Kept.{crosses}
+use Rattle.ada_typed.proofs.Control.{onto, IsName, WhereInside, Fits, Lands, depth, Ready, Jumps, TypedIn, running, on_jump, catches}
 
 -- What is picked of a collection is a name.
 picked_name : (ids : List Id) (i : ℕ) → i < length (map Names ids) → IsName (slice_index_or (map Names ids) i Null)
@@ -55,7 +55,7 @@ picked_name (o ∷ ids) (suc i) lt = picked_name ids i (omega arith)
 picked : (ids : List Id) (vs : List Value) (i : ℕ) → map Names ids ≡ vs → i < length vs → IsName (slice_index_or vs i Null)
 picked ids vs i is lt = subst (λ (ws : List Value). IsName (slice_index_or ws i Null)) is (picked_name ids i (omega (arith, ap length is)))
 
-module _ (p : ProgramForm) (well : IsWellFormed p) where
+module _ (p : ProgramForm) (fit : SeenFits p) (bodies : List BodyForm) (sees : Sees bodies p) where
   -- What a Free leads to (13.11.2).
   end_stage : (stage : Stage) (o : Id) (object : Object) (s : State) (kinds : List VariableKind) → Ready p kinds s → Fits p (cells_of s.heap) kinds s.control → Fine p (end_next named (Names o) (existing object stage) s)
   end_stage Gone o object s kinds ready fits = tt
@@ -141,17 +141,17 @@ module _ (p : ProgramForm) (well : IsWellFormed p) where
       free_fine p (held named s x) access x own.0 s kinds ready (held_of p kinds s x (variable.Access own.0) ready there) there fits
 
   -- Branches (5.3).
-  branches_fine : (branches : BranchesForm) (inside : Bool) (s : State) → Ready p [] s → branches_fit p.types p.variables p.texts p.exceptions inside branches ≡ true → WhereInside inside (Lands p (cells_of s.heap) s.control) → Fits p (cells_of s.heap) [] s.control → Fine p (branches_next named branches s)
+  branches_fine : (branches : BranchesForm) (inside : Bool) (s : State) → Ready p [] s → branches_fit p.types p.variables p.texts p.exceptions (callable_in p) inside branches ≡ true → WhereInside inside (Lands p (cells_of s.heap) s.control) → Fits p (cells_of s.heap) [] s.control → Fine p (branches_next named branches s)
   branches_fine (otherwise fs) inside s ready is lands fits = running [] (ready_at p [] s (frame.Does fs ∷ s.control) ready ready.deep) (refl, inside, is, lands, fits)
   branches_fine (a_branch e fs branches) inside s ready is lands fits =
       let own = has_type p.types p.variables Boolean e in
-      let inner = stmts_fit p.types p.variables p.texts p.exceptions inside fs in
-      let others = branches_fit p.types p.variables p.texts p.exceptions inside branches in
+      let inner = stmts_fit p.types p.variables p.texts p.exceptions (callable_in p) inside fs in
+      let others = branches_fit p.types p.variables p.texts p.exceptions (callable_in p) inside branches in
       let former = and_left (own && inner) others is in
       running [] (ready_at p [] s (frame.Computes e ∷ frame.Decides fs branches ∷ s.control) ready ready.deep)
       (Boolean, typed Boolean (type_of p.types p.variables e) (and_left own inner former), (refl, inside, and_right own inner former, and_right (own && inner) others is, lands, fits))
 
-  decided_fine : (fs : StmtsForm) (branches : BranchesForm) (v : Value) (inside : Bool) (s : State) (cells : Cells) → HasKind cells variable.Boolean v → Ready p [] s → stmts_fit p.types p.variables p.texts p.exceptions inside fs ≡ true → branches_fit p.types p.variables p.texts p.exceptions inside branches ≡ true → WhereInside inside (Lands p (cells_of s.heap) s.control) → Fits p (cells_of s.heap) [] s.control → Fine p (decided_next named fs branches (reads_boolean v) s)
+  decided_fine : (fs : StmtsForm) (branches : BranchesForm) (v : Value) (inside : Bool) (s : State) (cells : Cells) → HasKind cells variable.Boolean v → Ready p [] s → stmts_fit p.types p.variables p.texts p.exceptions (callable_in p) inside fs ≡ true → branches_fit p.types p.variables p.texts p.exceptions (callable_in p) inside branches ≡ true → WhereInside inside (Lands p (cells_of s.heap) s.control) → Fits p (cells_of s.heap) [] s.control → Fine p (decided_next named fs branches (reads_boolean v) s)
   decided_fine fs branches Null inside s cells has ready is others lands fits = absurd has
   decided_fine fs branches (Names o) inside s cells has ready is others lands fits = absurd has
   decided_fine fs branches (Scalar (scalar.Integer i)) inside s cells has ready is others lands fits = absurd has
@@ -159,17 +159,17 @@ module _ (p : ProgramForm) (well : IsWellFormed p) where
   decided_fine fs branches (Scalar (scalar.Boolean false)) inside s cells has ready is others lands fits = branches_fine branches inside s ready others lands fits
 
   -- Loops (5.5).
-  turn_fine : (condition : Option ExpressionForm) (fs : StmtsForm) (s : State) → Ready p [] s → condition_fits p.types p.variables condition ≡ true → has_statement fs ≡ true → stmts_fit p.types p.variables p.texts p.exceptions true fs ≡ true → Fits p (cells_of s.heap) [] s.control → Fine p (turn_next named condition fs s)
+  turn_fine : (condition : Option ExpressionForm) (fs : StmtsForm) (s : State) → Ready p [] s → condition_fits p.types p.variables condition ≡ true → has_statement fs ≡ true → stmts_fit p.types p.variables p.texts p.exceptions (callable_in p) true fs ≡ true → Fits p (cells_of s.heap) [] s.control → Fine p (turn_next named condition fs s)
   turn_fine condition no_stmts s ready is some own fits = absurd (cc)
   turn_fine condition (a_stmt f fs) s ready is some own fits =
       running [] (ready_at p [] s (frame.Does (a_stmt f fs) ∷ frame.Repeats condition (a_stmt f fs) ∷ s.control) ready ready.deep) (refl, true, own, fits, (refl, is, refl, own, fits))
 
-  repeats_fine : (condition : Option ExpressionForm) (fs : StmtsForm) (s : State) → Ready p [] s → condition_fits p.types p.variables condition ≡ true → has_statement fs ≡ true → stmts_fit p.types p.variables p.texts p.exceptions true fs ≡ true → Fits p (cells_of s.heap) [] s.control → Fine p (repeats_next named condition fs s)
+  repeats_fine : (condition : Option ExpressionForm) (fs : StmtsForm) (s : State) → Ready p [] s → condition_fits p.types p.variables condition ≡ true → has_statement fs ≡ true → stmts_fit p.types p.variables p.texts p.exceptions (callable_in p) true fs ≡ true → Fits p (cells_of s.heap) [] s.control → Fine p (repeats_next named condition fs s)
   repeats_fine None fs s ready is some own fits = turn_fine None fs s ready is some own fits
   repeats_fine (Some e) fs s ready is some own fits =
       running [] (ready_at p [] s (frame.Computes e ∷ frame.Turns e fs ∷ s.control) ready ready.deep) (Boolean, typed Boolean (type_of p.types p.variables e) is, (refl, is, some, own, fits))
 
-  turned_fine : (e : ExpressionForm) (fs : StmtsForm) (v : Value) (s : State) (cells : Cells) → HasKind cells variable.Boolean v → Ready p [] s → condition_fits p.types p.variables (Some e) ≡ true → has_statement fs ≡ true → stmts_fit p.types p.variables p.texts p.exceptions true fs ≡ true → Fits p (cells_of s.heap) [] s.control → Fine p (turned_next named e fs (reads_boolean v) s)
+  turned_fine : (e : ExpressionForm) (fs : StmtsForm) (v : Value) (s : State) (cells : Cells) → HasKind cells variable.Boolean v → Ready p [] s → condition_fits p.types p.variables (Some e) ≡ true → has_statement fs ≡ true → stmts_fit p.types p.variables p.texts p.exceptions (callable_in p) true fs ≡ true → Fits p (cells_of s.heap) [] s.control → Fine p (turned_next named e fs (reads_boolean v) s)
   turned_fine e fs Null s cells has ready is some own fits = absurd has
   turned_fine e fs (Names o) s cells has ready is some own fits = absurd has
   turned_fine e fs (Scalar (scalar.Integer i)) s cells has ready is some own fits = absurd has
@@ -177,7 +177,7 @@ module _ (p : ProgramForm) (well : IsWellFormed p) where
   turned_fine e fs (Scalar (scalar.Boolean false)) s cells has ready is some own fits = running [] ready fits
 
   -- Exits (5.7): each has a loop.
-  exit_jump : (s : State) → Ready p [] s → Lands p (cells_of s.heap) s.control → Fits p (cells_of s.heap) [] s.control → Typed p (jumping Exiting s)
+  exit_jump : (s : State) → Ready p [] s → Lands p (cells_of s.heap) s.control → Fits p (cells_of s.heap) [] s.control → TypedIn p (jumping Exiting s)
   exit_jump s ready lands fits = on_jump Exiting (jumped p [] Exiting s ready) (lands, catches p (cells_of s.heap) s.control [] fits)
 
   exit_fine : (inside : Bool) (condition : Option ExpressionForm) (s : State) → Ready p [] s → (inside && condition_fits p.types p.variables condition) ≡ true → WhereInside inside (Lands p (cells_of s.heap) s.control) → Fits p (cells_of s.heap) [] s.control → Fine p (exit_next named condition s)
@@ -201,23 +201,23 @@ module _ (p : ProgramForm) (well : IsWellFormed p) where
   integer_kind (Some (variable.Access access)) h = absurd (cc)
   integer_kind (Some (variable.Record object)) h = absurd (cc)
 
-  count_turn_fine : (x : ℕ) (value last : ℤ) (fs : StmtsForm) (s : State) → Ready p [] s → variable_kind p.variables x ≡ Some variable.Integer → has_statement fs ≡ true → stmts_fit p.types p.variables p.texts p.exceptions true fs ≡ true → Fits p (cells_of s.heap) [] s.control → Fine p (count_turn_next named x value last fs s)
+  count_turn_fine : (x : ℕ) (value last : ℤ) (fs : StmtsForm) (s : State) → Ready p [] s → variable_kind p.variables x ≡ Some variable.Integer → has_statement fs ≡ true → stmts_fit p.types p.variables p.texts p.exceptions (callable_in p) true fs ≡ true → Fits p (cells_of s.heap) [] s.control → Fine p (count_turn_next named x value last fs s)
   count_turn_fine x value last no_stmts s ready is some own fits = absurd (cc)
   count_turn_fine x value last (a_stmt f fs) s ready is some own fits =
       running [] (ready_at p [] (put x (an_integer value) s) (frame.Does (a_stmt f fs) ∷ frame.Counts x (value +ℤ pos 1) last (a_stmt f fs) ∷ s.control) (put_in p [] s x variable.Integer (an_integer value) ready is tt) ready.deep)
       (refl, true, own, fits, (refl, is, refl, own, fits))
 
-  counts_fine : (again : Bool) (x : ℕ) (value last : ℤ) (fs : StmtsForm) (s : State) → Ready p [] s → variable_kind p.variables x ≡ Some variable.Integer → has_statement fs ≡ true → stmts_fit p.types p.variables p.texts p.exceptions true fs ≡ true → Fits p (cells_of s.heap) [] s.control → Fine p (if again then count_turn_next named x value last fs s else moves Quiet s)
+  counts_fine : (again : Bool) (x : ℕ) (value last : ℤ) (fs : StmtsForm) (s : State) → Ready p [] s → variable_kind p.variables x ≡ Some variable.Integer → has_statement fs ≡ true → stmts_fit p.types p.variables p.texts p.exceptions (callable_in p) true fs ≡ true → Fits p (cells_of s.heap) [] s.control → Fine p (if again then count_turn_next named x value last fs s else moves Quiet s)
   counts_fine true x value last fs s ready is some own fits = count_turn_fine x value last fs s ready is some own fits
   counts_fine false x value last fs s ready is some own fits = running [] ready fits
 
-  high_fine : (x : ℕ) (fs : StmtsForm) (low : ℤ) (high : Value) (s : State) (cells : Cells) → HasKind cells variable.Integer high → Ready p [] s → variable_kind p.variables x ≡ Some variable.Integer → has_statement fs ≡ true → stmts_fit p.types p.variables p.texts p.exceptions true fs ≡ true → Fits p (cells_of s.heap) [] s.control → Fine p (ranges_next named x fs (Some low) (reads_integer high) s)
+  high_fine : (x : ℕ) (fs : StmtsForm) (low : ℤ) (high : Value) (s : State) (cells : Cells) → HasKind cells variable.Integer high → Ready p [] s → variable_kind p.variables x ≡ Some variable.Integer → has_statement fs ≡ true → stmts_fit p.types p.variables p.texts p.exceptions (callable_in p) true fs ≡ true → Fits p (cells_of s.heap) [] s.control → Fine p (ranges_next named x fs (Some low) (reads_integer high) s)
   high_fine x fs low Null s cells has ready is some own fits = absurd has
   high_fine x fs low (Names o) s cells has ready is some own fits = absurd has
   high_fine x fs low (Scalar (scalar.Integer high)) s cells has ready is some own fits = counts_fine (int_le low high) x low high fs s ready is some own fits
   high_fine x fs low (Scalar (scalar.Boolean b)) s cells has ready is some own fits = absurd has
 
-  ranges_fine : (x : ℕ) (fs : StmtsForm) (low high : Value) (s : State) (cells : Cells) → HasKind cells variable.Integer low → HasKind cells variable.Integer high → Ready p [] s → variable_kind p.variables x ≡ Some variable.Integer → has_statement fs ≡ true → stmts_fit p.types p.variables p.texts p.exceptions true fs ≡ true → Fits p (cells_of s.heap) [] s.control → Fine p (ranges_next named x fs (reads_integer low) (reads_integer high) s)
+  ranges_fine : (x : ℕ) (fs : StmtsForm) (low high : Value) (s : State) (cells : Cells) → HasKind cells variable.Integer low → HasKind cells variable.Integer high → Ready p [] s → variable_kind p.variables x ≡ Some variable.Integer → has_statement fs ≡ true → stmts_fit p.types p.variables p.texts p.exceptions (callable_in p) true fs ≡ true → Fits p (cells_of s.heap) [] s.control → Fine p (ranges_next named x fs (reads_integer low) (reads_integer high) s)
   ranges_fine x fs Null high s cells has too ready is some own fits = absurd has
   ranges_fine x fs (Names o) high s cells has too ready is some own fits = absurd has
   ranges_fine x fs (Scalar (scalar.Integer low)) high s cells has too ready is some own fits = high_fine x fs low high s cells too ready is some own fits
@@ -236,7 +236,7 @@ module _ (p : ProgramForm) (well : IsWellFormed p) where
       let stored = put_in p [] s x variable.Integer (an_integer i) ready there tt in
       running [] (record { filled = stored.filled; active = stored.active; runs = stored.runs; deep = stored.deep }) fits
 
-  stmt_fine : (f : StmtForm) (inside : Bool) (s : State) → Ready p [] s → statement_fits p.types p.variables p.texts p.exceptions inside f ≡ true → WhereInside inside (Lands p (cells_of s.heap) s.control) → Fits p (cells_of s.heap) [] s.control → Fine p (stmt_next named f s)
+  stmt_fine : (f : StmtForm) (inside : Bool) (s : State) → Ready p [] s → statement_fits p.types p.variables p.texts p.exceptions (callable_in p) inside f ≡ true → WhereInside inside (Lands p (cells_of s.heap) s.control) → Fits p (cells_of s.heap) [] s.control → Fine p (stmt_next named bodies f s)
   stmt_fine skips inside s ready is lands fits = running [] ready fits
   stmt_fine (assigns target right) inside s ready is lands fits =
       let fitting = right_fits p.types p.variables (path_kind p.types p.variables target) right in
@@ -262,7 +262,7 @@ module _ (p : ProgramForm) (well : IsWellFormed p) where
   stmt_fine (chooses branches) inside s ready is lands fits = branches_fine branches inside s ready is lands fits
   stmt_fine (repeats condition fs end_spot) inside s ready is lands fits =
       let own = condition_fits p.types p.variables condition in
-      let inner = stmts_fit p.types p.variables p.texts p.exceptions true fs in
+      let inner = stmts_fit p.types p.variables p.texts p.exceptions (callable_in p) true fs in
       let former = and_left (own && has_statement fs) inner is in
       running [] (ready_at p [] s (frame.Repeats condition fs ∷ s.control) ready ready.deep)
       (refl, and_left own (has_statement fs) former, and_right own (has_statement fs) former, and_right (own && has_statement fs) inner is, fits)
@@ -272,7 +272,7 @@ module _ (p : ProgramForm) (well : IsWellFormed p) where
       let first = has_type p.types p.variables Integer low in
       let last = has_type p.types p.variables Integer high in
       let some = has_statement fs in
-      let inner = stmts_fit p.types p.variables p.texts p.exceptions true fs in
+      let inner = stmts_fit p.types p.variables p.texts p.exceptions (callable_in p) true fs in
       let four = and_left (kind && first && last && some) inner is in
       let three = and_left (kind && first && last) some four in
       let two = and_left (kind && first) last three in
@@ -285,22 +285,29 @@ module _ (p : ProgramForm) (well : IsWellFormed p) where
           (refl, integer_kind (variable_kind p.variables x) (and_left kind first two), and_right (kind && first && last) some four, and_right (kind && first && last && some) inner is, fits),
         ),
       )
+  stmt_fine (calls procedure actuals) inside s ready is lands fits =
+      let found = profile_found p.types p.variables p.bodies procedure actuals is in
+      let behind = frame.Calls procedure found.0 (length actuals) ∷ s.control in
+      let deep : depth (computing named actuals behind) ≤ length s.masters = omega (arith, ready.deep, depth_computing actuals behind) in
+      subst (λ (o : Option BodyForm). Fine p (call_next named procedure actuals o s)) (sym (sees procedure found.0 found.1))
+      (running [] (ready_at p [] s (computing named actuals behind) ready deep)
+      (computing_fits p (cells_of s.heap) (profile_of found.0) [] actuals behind found.2 (found.1, refl, as_many p.types p.variables (profile_of found.0) actuals found.2, fits)))
   stmt_fine (returns spot) inside s ready is lands fits = on_jump Returning (jumped p [] Returning s ready) (catches p (cells_of s.heap) s.control [] fits)
   stmt_fine (raises_it e) inside s ready is lands fits = raises p [] [] e s ready fits
   stmt_fine (encloses ds fs hs) inside s ready is lands fits =
       let own = declarations_fit p.types p.variables ds in
-      let inner = stmts_fit p.types p.variables p.texts p.exceptions inside fs in
-      let handled = handlers_fit p.types p.variables p.texts p.exceptions inside hs in
+      let inner = stmts_fit p.types p.variables p.texts p.exceptions (callable_in p) inside fs in
+      let handled = handlers_fit p.types p.variables p.texts p.exceptions (callable_in p) inside hs in
       let former = and_left (own && inner) handled is in
       let initials = and_right (collections_first ds && list_all (collection_fits p.types) ds) (list_all (initial_fits p.types p.variables) ds) (and_left own inner former) in
       running [] (record { filled = ready.filled; active = ready.active; runs = ready.runs; deep = omega (arith, ready.deep) })
       (refl, inside, initials, and_right own inner former, and_right (own && inner) handled is, lands, fits)
 
-  stmts_fine : (fs : StmtsForm) (inside : Bool) (s : State) → Ready p [] s → stmts_fit p.types p.variables p.texts p.exceptions inside fs ≡ true → WhereInside inside (Lands p (cells_of s.heap) s.control) → Fits p (cells_of s.heap) [] s.control → Fine p (stmts_next named fs s)
+  stmts_fine : (fs : StmtsForm) (inside : Bool) (s : State) → Ready p [] s → stmts_fit p.types p.variables p.texts p.exceptions (callable_in p) inside fs ≡ true → WhereInside inside (Lands p (cells_of s.heap) s.control) → Fits p (cells_of s.heap) [] s.control → Fine p (stmts_next named bodies fs s)
   stmts_fine no_stmts inside s ready is lands fits = running [] ready fits
   stmts_fine (a_stmt f fs) inside s ready is lands fits =
-      let own = statement_fits p.types p.variables p.texts p.exceptions inside f in
-      let others = stmts_fit p.types p.variables p.texts p.exceptions inside fs in
+      let own = statement_fits p.types p.variables p.texts p.exceptions (callable_in p) inside f in
+      let others = stmts_fit p.types p.variables p.texts p.exceptions (callable_in p) inside fs in
       stmt_fine f inside (at (frame.Does fs ∷ s.control) s) (ready_at p [] s (frame.Does fs ∷ s.control) ready ready.deep)
       (and_left own others is) lands (refl, inside, and_right own others is, lands, fits)
 
@@ -311,7 +318,7 @@ module _ (p : ProgramForm) (well : IsWellFormed p) where
   line_fine (Scalar (scalar.Boolean b)) s kinds cells has ready fits = absurd has
 
   -- Declarations (3.11): a record object, whose components have values of their kinds.
-  made_fine : (types : List TypeDefinition) (x t : ℕ) (object : TypeNo) (cs : List ComponentKind) (values : List Value) (kinds : List VariableKind) (s : State) → HaveKinds (cells_of s.heap) cs values → Ready p kinds s → variable_kind p.variables x ≡ Some (variable.Record object) → t ≡ object.0 → reached_components p.types t ≡ Some cs → is_access p.types t ≡ false → Fits p (cells_of s.heap) kinds s.control → Typed p (made named types x t values s)
+  made_fine : (types : List TypeDefinition) (x t : ℕ) (object : TypeNo) (cs : List ComponentKind) (values : List Value) (kinds : List VariableKind) (s : State) → HaveKinds (cells_of s.heap) cs values → Ready p kinds s → variable_kind p.variables x ≡ Some (variable.Record object) → t ≡ object.0 → reached_components p.types t ≡ Some cs → is_access p.types t ≡ false → Fits p (cells_of s.heap) kinds s.control → TypedIn p (made named types x t values s)
   made_fine types x t object cs values kinds s have ready is own reached never fits =
       running kinds (ready_made p types x t object cs values kinds s have ready is own reached never) (fits_more p kinds s.control s.heap (record_cell named t (height s.masters) values) fits)
 
@@ -320,11 +327,11 @@ module _ (p : ProgramForm) (well : IsWellFormed p) where
   record_fine types shown x t None s ready is fits =
       let named_so = and_left (is_record_object t (variable_kind p.variables x)) (record_initial_fits p.types p.variables x (reached_components p.types t) None) is in
       let own = own_object t (variable_kind p.variables x) named_so in
-      let known : is_object_type p.types own.0.0 ≡ true = kind_there p.types p.variables x (variable.Record own.0) well.variables_fit own.1 in
-      let there = object_reached p.types own.0.0 well.types_fit known in
+      let known : is_object_type p.types own.0.0 ≡ true = kind_there p.types p.variables x (variable.Record own.0) fit.variables_fit own.1 in
+      let there = object_reached p.types own.0.0 fit.types_fit known in
       let reached : reached_components p.types t ≡ Some there.0 = ap (reached_components p.types) own.2 ∙ there.1 in
       let have = initials_have (cells_of s.heap) (reached_of types t) there.0 (reached_shown types t there.0 shown reached) in
-      made_fine types x t own.0 there.0 (initial_values named (reached_of types t)) [] s have ready own.1 own.2 reached (record_no_access p.types p.variables x t well.variables_fit named_so) fits
+      made_fine types x t own.0 there.0 (initial_values named (reached_of types t)) [] s have ready own.1 own.2 reached (record_no_access p.types p.variables x t fit.variables_fit named_so) fits
   record_fine types shown x t (Some items) s ready is fits =
       let filled = is_filled p.types p.variables (reached_components p.types t) items in
       let fitting = record_fits p.types p.variables (reached_components p.types t) items in
@@ -333,7 +340,7 @@ module _ (p : ProgramForm) (well : IsWellFormed p) where
       let own = own_object t (variable_kind p.variables x) named_so in
       let later = and_right (is_record_object t (variable_kind p.variables x)) initial is in
       let found = filled_items p (reached_components p.types t) p.variables items (and_left filled (list_all (item_owns p.variables) items) (and_right (list_all (item_before x) items) fitting later)) in
-      let never : is_access p.types t ≡ false = record_no_access p.types p.variables x t well.variables_fit named_so in
+      let never : is_access p.types t ≡ false = record_no_access p.types p.variables x t fit.variables_fit named_so in
       running [] (ready_at p [] s (frame.Fills items ∷ frame.DeclaresRecord x t ∷ s.control) ready ready.deep)
       (found.0, found.2, ([], own.0, found.0, refl, own.1, own.2, found.1, never, fits))
 
@@ -381,7 +388,7 @@ module _ (p : ProgramForm) (well : IsWellFormed p) where
   left_jumps : (mode : Mode) (s : State) (kinds : List VariableKind) (ms : List Master) → Ready p kinds s → depth s.control ≤ length ms → Jumps p mode (record s { masters = ms; mode = mode })
   left_jumps mode s kinds ms ready deep = record { filled = ready.filled; active = active_none (cells_of s.heap) p.variables kinds s.activations ready.active; jumps = refl; deep = deep }
 
-  left_fine : (mode : Mode) (s : State) (kinds : List VariableKind) (ms : List Master) → Ready p kinds s → depth s.control ≤ length ms → Fits p (cells_of s.heap) kinds (frame.Leaves mode ∷ s.control) → Typed p (record s { masters = ms; mode = mode })
+  left_fine : (mode : Mode) (s : State) (kinds : List VariableKind) (ms : List Master) → Ready p kinds s → depth s.control ≤ length ms → Fits p (cells_of s.heap) kinds (frame.Leaves mode ∷ s.control) → TypedIn p (record s { masters = ms; mode = mode })
   left_fine Running s kinds ms ready deep fits = running kinds (record { filled = ready.filled; active = ready.active; runs = refl; deep = deep }) fits
   left_fine (Raising e) s kinds ms ready deep fits = on_jump (Raising e) (left_jumps (Raising e) s kinds ms ready deep) fits
   left_fine Exiting s kinds ms ready deep fits = on_jump Exiting (left_jumps Exiting s kinds ms ready deep) fits
@@ -399,262 +406,96 @@ module _ (p : ProgramForm) (well : IsWellFormed p) where
       let all : length s.masters ≡ 1 + length ms = ap length is ∙ omega arith in
       master_leave_fine mode m.number m.items s kinds ready deep (omega (arith, deep, same, all)) fits
 
-  -- Each frame that is taken off.
-  frame_fine : (types : List TypeDefinition) → map type_form types ≡ p.types → (f : Frame Value) (s : State) (kinds : List VariableKind) → Ready p kinds s → depth (f ∷ s.control) ≤ length s.masters → Fits p (cells_of s.heap) kinds (f ∷ s.control) → Fine p (frame_next named types f s)
-  frame_fine types shown (frame.Elaborates ds fs hs) s kinds ready deep fits =
+  -- Each frame that is taken off, where no call begins or ends.
+  pub frame_fine : (types : List TypeDefinition) → map type_form types ≡ p.types → (f : Frame Value) → crosses f ≡ false → (s : State) (kinds : List VariableKind) → Ready p kinds s → depth (f ∷ s.control) ≤ length s.masters → Fits p (cells_of s.heap) kinds (f ∷ s.control) → Fine p (frame_next named types bodies f s)
+  frame_fine types shown (frame.Elaborates ds fs hs) stays s kinds ready deep fits =
       declarations_fine types shown ds fs hs s (ready_kinds p kinds [] s fits.0 ready) deep (refl, fits.1, fits.2, fits.3, fits.4, fits.5, fits.6)
-  frame_fine types shown (frame.Does fs) s kinds ready deep fits = stmts_fine fs fits.1 s (ready_kinds p kinds [] s fits.0 ready) fits.2 fits.3 fits.4
-  frame_fine types shown (frame.Decides fs branches) s kinds ready deep fits =
+  frame_fine types shown (frame.Does fs) stays s kinds ready deep fits = stmts_fine fs fits.1 s (ready_kinds p kinds [] s fits.0 ready) fits.2 fits.3 fits.4
+  frame_fine types shown (frame.Decides fs branches) stays s kinds ready deep fits =
       let taken = ready_kinds p kinds (variable.Boolean ∷ []) s fits.0 ready in
       decided_fine fs branches (newest named s) fits.1 (popped s) (cells_of s.heap) (newest_of p variable.Boolean [] s taken) (ready_pop p variable.Boolean [] s taken) fits.2 fits.3 fits.4 fits.5
-  frame_fine types shown (frame.Repeats condition fs) s kinds ready deep fits = repeats_fine condition fs s (ready_kinds p kinds [] s fits.0 ready) fits.1 fits.2 fits.3 fits.4
-  frame_fine types shown (frame.Turns e fs) s kinds ready deep fits =
+  frame_fine types shown (frame.Repeats condition fs) stays s kinds ready deep fits = repeats_fine condition fs s (ready_kinds p kinds [] s fits.0 ready) fits.1 fits.2 fits.3 fits.4
+  frame_fine types shown (frame.Turns e fs) stays s kinds ready deep fits =
       let taken = ready_kinds p kinds (variable.Boolean ∷ []) s fits.0 ready in
       turned_fine e fs (newest named s) (popped s) (cells_of s.heap) (newest_of p variable.Boolean [] s taken) (ready_pop p variable.Boolean [] s taken) fits.1 fits.2 fits.3 fits.4
-  frame_fine types shown (frame.Ranges x fs) s kinds ready deep fits =
+  frame_fine types shown (frame.Ranges x fs) stays s kinds ready deep fits =
       let high = ready_kinds p kinds (variable.Integer ∷ variable.Integer ∷ []) s fits.0 ready in
       let low = ready_pop p variable.Integer (variable.Integer ∷ []) s high in
       ranges_fine x fs (newest named (popped s)) (newest named s) (popped (popped s)) (cells_of s.heap) (newest_of p variable.Integer [] (popped s) low) (newest_of p variable.Integer (variable.Integer ∷ []) s high)
       (ready_pop p variable.Integer [] (popped s) low) fits.1 fits.2 fits.3 fits.4
-  frame_fine types shown (frame.Counts x value last fs) s kinds ready deep fits =
+  frame_fine types shown (frame.Counts x value last fs) stays s kinds ready deep fits =
       counts_fine (int_le value last) x value last fs s (ready_kinds p kinds [] s fits.0 ready) fits.1 fits.2 fits.3 fits.4
-  frame_fine types shown (frame.Handles hs) s kinds ready deep fits = running [] (ready_kinds p kinds [] s fits.0 ready) fits.4
-  frame_fine types shown frame.Exits s kinds ready deep fits =
+  frame_fine types shown (frame.Handles hs) stays s kinds ready deep fits = running [] (ready_kinds p kinds [] s fits.0 ready) fits.4
+  frame_fine types shown frame.Exits stays s kinds ready deep fits =
       let taken = ready_kinds p kinds (variable.Boolean ∷ []) s fits.0 ready in
       exited_fine (newest named s) (popped s) (cells_of s.heap) (newest_of p variable.Boolean [] s taken) (ready_pop p variable.Boolean [] s taken) fits.1 fits.2
-  frame_fine types shown frame.Closes s kinds ready deep fits = running kinds (ready_at p kinds s (frame.Leaves Running ∷ s.control) ready deep) fits
-  frame_fine types shown (frame.Leaves mode) s kinds ready deep fits = leave_fine mode s.masters s kinds refl ready deep fits
-  frame_fine types shown (frame.Evaluates right) s kinds ready deep fits = right_fine p types shown right fits.0 s kinds ready fits.1 fits.2
-  frame_fine types shown (frame.Computes e) s kinds ready deep fits = expression_fine p e fits.0 s kinds ready fits.1 fits.2
-  frame_fine types shown (frame.Follows cs) s kinds ready deep fits =
+  frame_fine types shown frame.Closes stays s kinds ready deep fits = running kinds (ready_at p kinds s (frame.Leaves Running ∷ s.control) ready deep) fits
+  frame_fine types shown (frame.Leaves mode) stays s kinds ready deep fits = leave_fine mode s.masters s kinds refl ready deep fits
+  frame_fine types shown (frame.Calls procedure b count) stays s kinds ready deep fits = absurd (cc)
+  frame_fine types shown frame.Returns stays s kinds ready deep fits = absurd (cc)
+  frame_fine types shown (frame.Evaluates right) stays s kinds ready deep fits = right_fine p types shown right fits.0 s kinds ready fits.1 fits.2
+  frame_fine types shown (frame.Computes e) stays s kinds ready deep fits = expression_fine p e fits.0 s kinds ready fits.1 fits.2
+  frame_fine types shown (frame.Follows cs) stays s kinds ready deep fits =
       let taken = ready_kinds p kinds (fits.1 ∷ fits.0) s fits.3 ready in
       path_fine p cs (newest named s) fits.1 fits.2 (popped s) fits.0 (ready_pop p fits.1 fits.0 s taken) (newest_of p fits.1 fits.0 s taken) fits.4 fits.5
-  frame_fine types shown (frame.TestsNull equal) s kinds ready deep fits =
+  frame_fine types shown (frame.TestsNull equal) stays s kinds ready deep fits =
       let taken = ready_kinds p kinds (variable.Access fits.1 ∷ fits.0) s fits.2 ready in
       null_test_fine p equal fits.1 (newest named s) (popped s) fits.0 (cells_of s.heap) (newest_of p (variable.Access fits.1) fits.0 s taken) (ready_pop p (variable.Access fits.1) fits.0 s taken) fits.3
-  frame_fine types shown (frame.Continues links) s kinds ready deep fits =
+  frame_fine types shown (frame.Continues links) stays s kinds ready deep fits =
       links_fine p links fits.1 fits.2 s fits.0 (ready_kinds p kinds (kind_of fits.1 ∷ fits.0) s fits.3 ready) fits.4 fits.5
-  frame_fine types shown (frame.Applies operator) s kinds ready deep fits =
+  frame_fine types shown (frame.Applies operator) stays s kinds ready deep fits =
       let right = ready_kinds p kinds (kind_of fits.2 ∷ kind_of fits.1 ∷ fits.0) s fits.4 ready in
       let left = ready_pop p (kind_of fits.2) (kind_of fits.1 ∷ fits.0) s right in
       outcome_fine p (binary_given operator (newest named (popped s)) (newest named s)) fits.3 (popped (popped s)) fits.0 (ready_pop p (kind_of fits.1) fits.0 (popped s) left)
       (binary_gives (cells_of s.heap) operator fits.1 fits.2 fits.3 (newest named (popped s)) (newest named s) fits.5 (newest_of p (kind_of fits.1) fits.0 (popped s) left) (newest_of p (kind_of fits.2) (kind_of fits.1 ∷ fits.0) s right)) fits.6
-  frame_fine types shown (frame.AppliesAlone operator) s kinds ready deep fits =
+  frame_fine types shown (frame.AppliesAlone operator) stays s kinds ready deep fits =
       let taken = ready_kinds p kinds (kind_of fits.1 ∷ fits.0) s fits.3 ready in
       outcome_fine p (unary_given operator (newest named s)) fits.2 (popped s) fits.0 (ready_pop p (kind_of fits.1) fits.0 s taken)
       (unary_gives (cells_of s.heap) operator fits.1 fits.2 (newest named s) fits.4 (newest_of p (kind_of fits.1) fits.0 s taken)) fits.5
-  frame_fine types shown (frame.Fills items) s kinds ready deep fits = items_fine p items fits.0 s kinds ready fits.1 fits.2
-  frame_fine types shown (frame.Copies first t) s kinds ready deep fits =
+  frame_fine types shown (frame.Fills items) stays s kinds ready deep fits = items_fine p items fits.0 s kinds ready fits.1 fits.2
+  frame_fine types shown (frame.Copies first t) stays s kinds ready deep fits =
       let taken = ready_kinds p kinds (variable.Access fits.1 ∷ fits.0) s fits.3 ready in
       subst (λ (m : ℕ). Fine p (copies_next named (newest named s) first m (look s.heap (newest named s)) (popped s))) (sym (width_shown types t fits.2 shown fits.4))
       (copies_fine p (newest named s) fits.1 first fits.2 (popped s) fits.0 (ready_pop p (variable.Access fits.1) fits.0 s taken) (newest_of p (variable.Access fits.1) fits.0 s taken) fits.5 fits.6)
-  frame_fine types shown (frame.Creates access count) s kinds ready deep fits =
+  frame_fine types shown (frame.Creates access count) stays s kinds ready deep fits =
       let taken = ready_kinds p kinds (onto fits.1 fits.0) s fits.2 ready in
       subst (λ (m : ℕ). Fine p (new_next named access m (words_of types access) (home_of access s.masters) s)) (sym fits.4)
       (new_fine p (home_of access s.masters) access (words_of types access) s fits.0 fits.1 taken fits.3 fits.5)
-  frame_fine types shown (frame.Stores x) s kinds ready deep fits =
+  frame_fine types shown (frame.Stores x) stays s kinds ready deep fits =
       let taken = ready_kinds p kinds (fits.1 ∷ fits.0) s fits.2 ready in
       running fits.0 (put_in p fits.0 (popped s) x fits.1 (newest named s) (ready_pop p fits.1 fits.0 s taken) fits.3 (newest_of p fits.1 fits.0 s taken)) fits.4
-  frame_fine types shown (frame.Targets c right) s kinds ready deep fits =
+  frame_fine types shown (frame.Targets c right) stays s kinds ready deep fits =
       let taken = ready_kinds p kinds (variable.Access fits.1 ∷ fits.0) s fits.3 ready in
       target_fine p (newest named s) fits.1 c right fits.2 (popped s) fits.0 (ready_pop p (variable.Access fits.1) fits.0 s taken) (newest_of p (variable.Access fits.1) fits.0 s taken) fits.4 fits.5 fits.6
-  frame_fine types shown (frame.StoresIn object c) s kinds ready deep fits =
+  frame_fine types shown (frame.StoresIn object c) stays s kinds ready deep fits =
       let taken = ready_kinds p kinds (fits.2 ∷ fits.0) s fits.3 ready in
       store_fine p object fits.1 c (newest named s) fits.2 (popped s) fits.0 fits.4 (ready_pop p fits.2 fits.0 s taken) fits.5 fits.6 (newest_of p fits.2 fits.0 s taken) fits.7
-  frame_fine types shown (frame.TargetsRecord first t items) s kinds ready deep fits =
+  frame_fine types shown (frame.TargetsRecord first t items) stays s kinds ready deep fits =
       let taken = ready_kinds p kinds (variable.Access fits.1 ∷ fits.0) s fits.3 ready in
       subst (λ (m : ℕ). Fine p (record_target_next named (newest named s) first m items (look s.heap (newest named s)) (popped s))) (sym (width_shown types t fits.2 shown fits.4))
       (record_target_fine p (newest named s) fits.1 first fits.2 items (popped s) fits.0 (ready_pop p (variable.Access fits.1) fits.0 s taken) (newest_of p (variable.Access fits.1) fits.0 s taken) fits.5 fits.6 fits.7)
-  frame_fine types shown (frame.StoresRecord object first count) s kinds ready deep fits =
+  frame_fine types shown (frame.StoresRecord object first count) stays s kinds ready deep fits =
       let taken = ready_kinds p kinds (onto fits.2 fits.0) s fits.3 ready in
       subst (λ (m : ℕ). Fine p (store_record_next named object first m (look s.heap object) s)) (sym fits.4)
       (store_record_fine p object fits.1 first fits.2 s fits.0 fits.5 taken fits.6 fits.7 fits.8)
-  frame_fine types shown (frame.Receives c) s kinds ready deep fits =
+  frame_fine types shown (frame.Receives c) stays s kinds ready deep fits =
       let taken = ready_kinds p kinds (variable.Access fits.1 ∷ fits.0) s fits.2 ready in
       receive_fine p (newest named s) fits.1 c (popped s) fits.0 (ready_pop p (variable.Access fits.1) fits.0 s taken) (newest_of p (variable.Access fits.1) fits.0 s taken) fits.3 fits.4
-  frame_fine types shown (frame.FreesIn access c) s kinds ready deep fits =
+  frame_fine types shown (frame.FreesIn access c) stays s kinds ready deep fits =
       let taken = ready_kinds p kinds (variable.Access fits.1 ∷ fits.0) s fits.3 ready in
       free_in_fine p (newest named s) access fits.1 fits.2 c (popped s) fits.0 (ready_pop p (variable.Access fits.1) fits.0 s taken) (newest_of p (variable.Access fits.1) fits.0 s taken) fits.4 fits.5
-  frame_fine types shown (frame.Declares x) s kinds ready deep fits =
+  frame_fine types shown (frame.Declares x) stays s kinds ready deep fits =
       let taken = ready_kinds p kinds (fits.1 ∷ fits.0) s fits.2 ready in
       running fits.0 (ready_owning p fits.0 (put x (newest named s) (popped s)) (declared x) (put_in p fits.0 (popped s) x fits.1 (newest named s) (ready_pop p fits.1 fits.0 s taken) fits.3 (newest_of p fits.1 fits.0 s taken))) fits.4
-  frame_fine types shown (frame.DeclaresRecord x t) s kinds ready deep fits =
+  frame_fine types shown (frame.DeclaresRecord x t) stays s kinds ready deep fits =
       let taken = ready_kinds p kinds (onto fits.2 fits.0) s fits.3 ready in
       let words : words_of types t ≡ length fits.2 = words_shown types t fits.2 shown fits.6 in
-      subst (λ (m : ℕ). Typed p (made named types x t (newest_ones named m s) (without_newest named m s))) (sym words)
+      subst (λ (m : ℕ). TypedIn p (made named types x t (newest_ones named m s) (without_newest named m s))) (sym words)
       (made_fine types x t fits.1 fits.2 (newest_ones named (length fits.2) s) fits.0 (without_newest named (length fits.2) s) (newest_have p fits.2 fits.0 s taken) (ready_without p fits.2 fits.0 s taken) fits.4 fits.5 fits.6 fits.7 fits.8)
-  frame_fine types shown frame.Writes s kinds ready deep fits =
+  frame_fine types shown frame.Writes stays s kinds ready deep fits =
       let taken = ready_kinds p kinds (variable.Integer ∷ fits.0) s fits.1 ready in
       line_fine (newest named s) (popped s) fits.0 (cells_of s.heap) (newest_of p variable.Integer fits.0 s taken) (ready_pop p variable.Integer fits.0 s taken) fits.2
-  frame_fine types shown (frame.Ends v) s kinds ready deep fits = end_fine v s kinds fits.0 ready fits.1
-  frame_fine types shown (frame.GivesBack v cause pool) s kinds ready deep fits = back_fine v cause pool s kinds fits.0 ready fits.1
-  frame_fine types shown (frame.Clears x) s kinds ready deep fits = running kinds (put_in p kinds s x (variable.Access fits.0) Null ready fits.1 tt) fits.2
-  frame_fine types shown (frame.ClearsIn object c) s kinds ready deep fits = store_fine p object fits.0 c Null (variable.Access fits.1) s kinds fits.2 ready fits.3 fits.4 tt fits.5
-
-  running_fine : (types : List TypeDefinition) → map type_form types ≡ p.types → (k : List (Frame Value)) (s : State) (kinds : List VariableKind) → s.control ≡ k → Ready p kinds s → Fits p (cells_of s.heap) kinds k → Fine p (running_next named types k s)
-  running_fine types shown [] s kinds is ready fits = tt
-  running_fine types shown (f ∷ k) s kinds is ready fits =
-      let same : depth s.control ≡ depth (f ∷ k) = ap depth is in
-      frame_fine types shown f (at k s) kinds (ready_at p kinds s k ready (omega (arith, ready.deep, same, depth_behind f k))) (omega (arith, ready.deep, same)) fits
-
-  -- Jumps pass what is left to do (5.7, 6.5, 11.4).
-  master_deep : (f : Frame Value) (k : List (Frame Value)) → is_master f ≡ true → (1 + depth k ≤ depth (f ∷ k)) × (is_loop f ≡ false)
-  master_deep (frame.Elaborates ds fs hs) k is = (omega arith, refl)
-  master_deep frame.Closes k is = (omega arith, refl)
-  master_deep (frame.Does fs) k is = absurd (cc)
-  master_deep (frame.Decides fs branches) k is = absurd (cc)
-  master_deep (frame.Repeats condition fs) k is = absurd (cc)
-  master_deep (frame.Turns condition fs) k is = absurd (cc)
-  master_deep (frame.Ranges x fs) k is = absurd (cc)
-  master_deep (frame.Counts x value last fs) k is = absurd (cc)
-  master_deep frame.Exits k is = absurd (cc)
-  master_deep (frame.Handles hs) k is = absurd (cc)
-  master_deep (frame.Leaves mode) k is = absurd (cc)
-  master_deep (frame.Evaluates right) k is = absurd (cc)
-  master_deep (frame.Computes e) k is = absurd (cc)
-  master_deep (frame.Follows cs) k is = absurd (cc)
-  master_deep (frame.TestsNull equal) k is = absurd (cc)
-  master_deep (frame.Continues links) k is = absurd (cc)
-  master_deep (frame.Applies operator) k is = absurd (cc)
-  master_deep (frame.AppliesAlone operator) k is = absurd (cc)
-  master_deep (frame.Fills items) k is = absurd (cc)
-  master_deep (frame.Copies first t) k is = absurd (cc)
-  master_deep (frame.Creates access count) k is = absurd (cc)
-  master_deep (frame.Stores x) k is = absurd (cc)
-  master_deep (frame.Targets c right) k is = absurd (cc)
-  master_deep (frame.StoresIn object c) k is = absurd (cc)
-  master_deep (frame.TargetsRecord first t items) k is = absurd (cc)
-  master_deep (frame.StoresRecord object first count) k is = absurd (cc)
-  master_deep (frame.Receives c) k is = absurd (cc)
-  master_deep (frame.FreesIn access c) k is = absurd (cc)
-  master_deep (frame.Declares x) k is = absurd (cc)
-  master_deep (frame.DeclaresRecord x t) k is = absurd (cc)
-  master_deep frame.Writes k is = absurd (cc)
-  master_deep (frame.Ends v) k is = absurd (cc)
-  master_deep (frame.GivesBack v cause pool) k is = absurd (cc)
-  master_deep (frame.Clears x) k is = absurd (cc)
-  master_deep (frame.ClearsIn object c) k is = absurd (cc)
-
-  -- Where an exception lands at a frame, by the handlers that are there.
-  abbrev lands_by : Exception → Option HandlersForm → Landing
-  lands_by e None = passes_on
-  lands_by e (Some hs) = handler_landing (handler_of e hs)
-
-  landing_comes : (e : Exception) (f : Frame Value) → exception_landing e f ≡ lands_by e (handlers_in f)
-  landing_comes e (frame.Elaborates ds fs hs) = refl
-  landing_comes e frame.Closes = refl
-  landing_comes e (frame.Does fs) = refl
-  landing_comes e (frame.Decides fs branches) = refl
-  landing_comes e (frame.Repeats condition fs) = refl
-  landing_comes e (frame.Turns condition fs) = refl
-  landing_comes e (frame.Ranges x fs) = refl
-  landing_comes e (frame.Counts x value last fs) = refl
-  landing_comes e frame.Exits = refl
-  landing_comes e (frame.Handles hs) = refl
-  landing_comes e (frame.Leaves mode) = refl
-  landing_comes e (frame.Evaluates right) = refl
-  landing_comes e (frame.Computes x) = refl
-  landing_comes e (frame.Follows cs) = refl
-  landing_comes e (frame.TestsNull equal) = refl
-  landing_comes e (frame.Continues links) = refl
-  landing_comes e (frame.Applies operator) = refl
-  landing_comes e (frame.AppliesAlone operator) = refl
-  landing_comes e (frame.Fills items) = refl
-  landing_comes e (frame.Copies first t) = refl
-  landing_comes e (frame.Creates access count) = refl
-  landing_comes e (frame.Stores x) = refl
-  landing_comes e (frame.Targets c right) = refl
-  landing_comes e (frame.StoresIn object c) = refl
-  landing_comes e (frame.TargetsRecord first t items) = refl
-  landing_comes e (frame.StoresRecord object first count) = refl
-  landing_comes e (frame.Receives c) = refl
-  landing_comes e (frame.FreesIn access c) = refl
-  landing_comes e (frame.Declares x) = refl
-  landing_comes e (frame.DeclaresRecord x t) = refl
-  landing_comes e frame.Writes = refl
-  landing_comes e (frame.Ends v) = refl
-  landing_comes e (frame.GivesBack v cause pool) = refl
-  landing_comes e (frame.Clears x) = refl
-  landing_comes e (frame.ClearsIn object c) = refl
-
-  -- A jump that is left waiting while a master is left.
-  waits : (cells : Cells) (mode : Mode) (f : Frame Value) (k : List (Frame Value)) → is_loop f ≡ false → Goes p cells mode (f ∷ k) → FitsBehind mode (Fits p cells [] k) (Lands p cells k) (Catches p cells k)
-  waits cells Running f k no_loop goes = absurd goes
-  waits cells (Raising e) f k no_loop goes = catches_behind p cells (handlers_in f) k goes
-  waits cells Exiting f k no_loop goes = (subst (λ (loop : Bool). AtLoop loop (Fits p cells [] k) (Lands p cells k)) no_loop goes.0, catches_behind p cells (handlers_in f) k goes.1)
-  waits cells Returning f k no_loop goes = catches_behind p cells (handlers_in f) k goes
-
-  -- The first handler that takes an exception has a statement, and fits (11.2, 11.4).
-  abbrev IsAble : Bool → StmtsForm → Type 0
-  IsAble inside fs = (has_statement fs ≡ true) × (stmts_fit p.types p.variables p.texts p.exceptions inside fs ≡ true)
-
-  able_here : (here inside : Bool) (gs : StmtsForm) (later : Option StmtsForm) (fs : StmtsForm) → IsAble inside gs → (later ≡ Some fs → IsAble inside fs) → (if here then Some gs else later) ≡ Some fs → IsAble inside fs
-  able_here true inside gs later fs able others is = let same : gs ≡ fs = cc in subst (λ (ss : StmtsForm). IsAble inside ss) same able
-  able_here false inside gs later fs able others is = others is
-
-  handler_able : (inside : Bool) (hs : HandlersForm) (e : Exception) (fs : StmtsForm) → handlers_fit p.types p.variables p.texts p.exceptions inside hs ≡ true → handler_of e hs ≡ Some fs → IsAble inside fs
-  handler_able inside no_handlers e fs own is = absurd (cc)
-  handler_able inside (a_handler choices gs hs) e fs own is =
-      let chosen = list_all (choice_fits p.exceptions) choices in
-      let some = has_statement gs in
-      let inner = stmts_fit p.types p.variables p.texts p.exceptions inside gs in
-      let others = handlers_fit p.types p.variables p.texts p.exceptions inside hs in
-      let former = and_left (chosen && some && inner) others own in
-      able_here (some_takes e choices) inside gs (handler_of e hs) fs (and_right chosen some (and_left (chosen && some) inner former), and_right (chosen && some) inner former)
-      (λ later. handler_able inside hs e fs (and_right (chosen && some && inner) others own) later) is
-
-  -- An exception comes to handlers.
-  handler_fine : (o : Option StmtsForm) (e : Exception) (hs : HandlersForm) (s : State) → handler_of e hs ≡ o → AtHandlers p (Some hs) (Lands p (cells_of s.heap) s.control) (Fits p (cells_of s.heap) [] s.control) (Catches p (cells_of s.heap) s.control) → Jumps p (Raising e) s → Fine p (landed named (handler_landing o) s)
-  handler_fine None e hs s is caught jumps = on_jump (Raising e) jumps (catches p (cells_of s.heap) s.control [] caught.3)
-  handler_fine (Some no_stmts) e hs s is caught jumps = let own = handler_able caught.0 hs e no_stmts caught.1 is in absurd (cc)
-  handler_fine (Some (a_stmt f fs)) e hs s is caught jumps =
-      let own = handler_able caught.0 hs e (a_stmt f fs) caught.1 is in
-      running [] (record { filled = jumps.filled; active = jumps.active; runs = refl; deep = jumps.deep }) (refl, caught.0, own.1, caught.2, caught.3)
-
-  handlers_fine : (o : Option HandlersForm) (e : Exception) (s : State) → AtHandlers p o (Lands p (cells_of s.heap) s.control) (Fits p (cells_of s.heap) [] s.control) (Catches p (cells_of s.heap) s.control) → Jumps p (Raising e) s → Fine p (landed named (lands_by e o) s)
-  handlers_fine None e s caught jumps = on_jump (Raising e) jumps caught
-  handlers_fine (Some hs) e s caught jumps = handler_fine (handler_of e hs) e hs s refl caught jumps
-
-  -- An exit comes to a loop.
-  loop_fine : (loop : Bool) (s : State) → AtLoop loop (Fits p (cells_of s.heap) [] s.control) (Lands p (cells_of s.heap) s.control) → Catches p (cells_of s.heap) s.control → Jumps p Exiting s → Fine p (landed named (if loop then goes_behind else passes_on) s)
-  loop_fine true s lands caught jumps = running [] (record { filled = jumps.filled; active = jumps.active; runs = refl; deep = jumps.deep }) lands
-  loop_fine false s lands caught jumps = on_jump Exiting jumps (lands, caught)
-
-  landed_fine : (mode : Mode) (f : Frame Value) (s : State) → Goes p (cells_of s.heap) mode (f ∷ s.control) → Jumps p mode s → Fine p (landed named (landing mode f) s)
-  landed_fine Running f s goes jumps = absurd goes
-  landed_fine (Raising e) f s goes jumps = subst (λ (where_to : Landing). Fine p (landed named where_to s)) (sym (landing_comes e f)) (handlers_fine (handlers_in f) e s goes jumps)
-  landed_fine Exiting f s goes jumps = loop_fine (is_loop f) s goes.0 (catches_behind p (cells_of s.heap) (handlers_in f) s.control goes.1) jumps
-  landed_fine Returning f s goes jumps = on_jump Returning jumps (catches_behind p (cells_of s.heap) (handlers_in f) s.control goes)
-
-  pass_fine : (master : Bool) (mode : Mode) (f : Frame Value) (s : State) → is_master f ≡ master → Goes p (cells_of s.heap) mode (f ∷ s.control) → Jumps p mode s → depth (f ∷ s.control) ≤ length s.masters → Fine p (pass_next named master (landing mode f) mode s)
-  pass_fine true mode f s is goes jumps deep =
-      let own = master_deep f s.control is in
-      running [] (record { filled = jumps.filled; active = jumps.active; runs = refl; deep = omega (arith, deep, own.0) }) (waits (cells_of s.heap) mode f s.control own.1 goes)
-  pass_fine false mode f s is goes jumps deep = landed_fine mode f s goes jumps
-
-  ends_fine : (cells : Cells) (mode : Mode) → Goes p cells mode [] → EndsByTheLanguage (end_of mode)
-  ends_fine cells Running goes = absurd goes
-  ends_fine cells (Raising e) goes = tt
-  ends_fine cells Exiting goes = absurd goes.0
-  ends_fine cells Returning goes = tt
-
-  jump_fine : (mode : Mode) (k : List (Frame Value)) (s : State) → s.control ≡ k → Goes p (cells_of s.heap) mode k → Jumps p mode s → Fine p (jump_next named mode k s)
-  jump_fine mode [] s is goes jumps = ends_fine (cells_of s.heap) mode goes
-  jump_fine mode (f ∷ k) s is goes jumps =
-      let same : depth s.control ≡ depth (f ∷ k) = ap depth is in
-      pass_fine (is_master f) mode f (at k s) refl goes (record { filled = jumps.filled; active = jumps.active; jumps = jumps.jumps; deep = omega (arith, jumps.deep, same, depth_behind f k) }) (omega (arith, jumps.deep, same))
-
-  -- What comes next in a mode.
-  mode_fine : (types : List TypeDefinition) (mode : Mode) (s : State) → Goes p (cells_of s.heap) mode s.control → Jumps p mode s → Fine p (mode_next named types mode s)
-  mode_fine types Running s goes jumps = absurd goes
-  mode_fine types (Raising e) s goes jumps = jump_fine (Raising e) s.control s refl goes jumps
-  mode_fine types Exiting s goes jumps = jump_fine Exiting s.control s refl goes jumps
-  mode_fine types Returning s goes jumps = jump_fine Returning s.control s refl goes jumps
-
-  -- A typed state's next step is fine.
-  pub next_fine : (types : List TypeDefinition) → map type_form types ≡ p.types → (s : State) → Typed p s → Fine p (next types s)
-  unfolding next
-  next_fine types shown s (running kinds ready fits) =
-      subst (λ (mode : Mode). Fine p (mode_next named types mode s)) (sym ready.runs) (running_fine types shown s.control s kinds refl ready fits)
-  next_fine types shown s (on_jump mode jumps goes) =
-      subst (λ (now : Mode). Fine p (mode_next named types now s)) (sym jumps.jumps) (mode_fine types mode s goes jumps)
+  frame_fine types shown (frame.Ends v) stays s kinds ready deep fits = end_fine v s kinds fits.0 ready fits.1
+  frame_fine types shown (frame.GivesBack v cause pool) stays s kinds ready deep fits = back_fine v cause pool s kinds fits.0 ready fits.1
+  frame_fine types shown (frame.Clears x) stays s kinds ready deep fits = running kinds (put_in p kinds s x (variable.Access fits.0) Null ready fits.1 tt) fits.2
+  frame_fine types shown (frame.ClearsIn object c) stays s kinds ready deep fits = store_fine p object fits.0 c Null (variable.Access fits.1) s kinds fits.2 ready fits.3 fits.4 tt fits.5

@@ -1,24 +1,23 @@
 -- Values and their kinds: which value a variable or a component may hold, as objects come to be.
 
 use Rattle.ada_typed.specs.Holding.{Cells, Designates, IsAccess, HasKind, HaveKinds, IsPooled, IsFilled}
-use Rattle.std.proofs.Common.{◌≡◌, ℕ, zero, suc, Bool, true, false, List, [], ◌∷◌, ◌++◌, length, map, Option, Some, None, refl, sym, ap, ◌∙◌, subst}
+use Rattle.std.proofs.Common.{◌≡◌, ℕ, zero, suc, Bool, true, false, List, [], ◌∷◌, ◌++◌, length, Option, Some, None, refl, sym, ap, ◌∙◌, subst}
 use Rattle.std.specs.List.{slice_get, slice_set, slice_index_or}
 use Rattle.ada_program.specs.declared.program.ComponentKind.{ComponentKind}
 use Rattle.ada_program.specs.declared.program.ComponentKind.TheVariants as component
 use Rattle.ada_program.specs.declared.program.ScalarType.{ScalarType}
 use Rattle.ada_program.specs.declared.program.ScalarType.TheVariants.{Integer, Boolean}
-use Rattle.ada_program.specs.declared.program.Variable.{Variable}
 use Rattle.ada_program.specs.declared.program.VariableKind.{VariableKind}
 use Rattle.ada_program.specs.declared.program.VariableKind.TheVariants as variable
-use Rattle.ada_program.specs.ProgramForm.{TypeForm, VariableForm, variable_form}
+use Rattle.ada_program.specs.ProgramForm.{TypeForm, VariableForm}
 use Rattle.ada_program.specs.WellFormed.{reached_components, held_kind, component_kind, kind_among, kind_behind, selected_kind, selectors_kind, access_of, root_kind, variable_kind}
 use Rattle.ada_meaning.specs.declared.state.Id.{Id}
 use Rattle.ada_meaning.specs.declared.state.Value.{Value}
 use Rattle.ada_meaning.specs.declared.state.Value.TheVariants.{Null, Names, Scalar}
 use Rattle.ada_meaning.specs.Heap.{Cell}
 use Rattle.ada_meaning.specs.State.{Activation}
-use Rattle.ada_meaning.specs.Run.{blank, blank_of}
-use Rattle.ada_meaning.specs.Step.{first_or, older, places_of, operands_of, with_places, with_operands}
+use Rattle.ada_meaning.specs.Step.{first_or, older, places_of, operands_of, with_places, with_operands, blank, blanks}
+use Rattle.ada_meaning.specs.Named.{named}
 
 abbrev pub AreFilled : List TypeForm → Cells → Cells → Type 0
 AreFilled types cells [] = Unit {0}
@@ -130,7 +129,7 @@ module _ (cells after : Cells) (stay : StayDesignated cells after) where
   filled_later types [] h = tt
   filled_later types (x ∷ xs) h = ((h.0.0, h.0.1, kinds_later h.0.0 x.values h.0.2, h.0.3), filled_later types xs h.1)
 
-  held_later : (xs : List VariableForm) (vs : List Value) → AreHeld cells xs vs → AreHeld after xs vs
+  pub held_later : (xs : List VariableForm) (vs : List Value) → AreHeld cells xs vs → AreHeld after xs vs
   held_later [] vs h = tt
   held_later (x ∷ xs) [] h = h
   held_later (x ∷ xs) (v ∷ vs) h = (kind_later x.kind v h.0, held_later xs vs h.1)
@@ -256,13 +255,13 @@ active_none cells xs kinds [] h = h
 active_none cells xs kinds (a ∷ suspended) h = (h.0, tt)
 
 -- The first state's variables.
-blank_kind : (cells : Cells) (kind : VariableKind) → HasKind cells kind (blank kind)
+blank_kind : (cells : Cells) (kind : VariableKind) → HasKind cells kind (blank named kind)
 blank_kind cells variable.Integer = tt
 blank_kind cells variable.Boolean = tt
 blank_kind cells (variable.Access access) = tt
 blank_kind cells (variable.Record object) = tt
 
-pub held_blank : (cells : Cells) (xs : List Variable) → AreHeld cells (map variable_form xs) (map blank_of xs)
+pub held_blank : (cells : Cells) (xs : List VariableForm) → AreHeld cells xs (blanks named xs)
 held_blank cells [] = tt
 held_blank cells (x ∷ xs) = (blank_kind cells x.kind, held_blank cells xs)
 

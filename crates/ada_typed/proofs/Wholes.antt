@@ -23,7 +23,7 @@ use Rattle.ada_meaning.specs.Step.{operands, set_operands, in_front, record_in, 
 use Rattle.ada_meaning.specs.Named.{Object, State, named, look, seen, existing, store}
 use Rattle.ada_typed.proofs.Values.{kinds_later, filled_at}
 use Rattle.ada_typed.proofs.Records.{active_front, record_held, record_first, reached_record}
-use Rattle.ada_typed.proofs.Control.{onto, IsName, Fits, Ready, Typed, running}
+use Rattle.ada_typed.proofs.Control.{onto, IsName, Fits, Ready, TypedIn, running}
 use Rattle.ada_typed.proofs.Evaluations.{Fine, cell_at, own_access, ready_at, raises, active_without, active_values}
 use Rattle.ada_typed.proofs.Targets.{stored}
 
@@ -101,7 +101,7 @@ module _ (p : ProgramForm) where
   record_target_fine (Scalar v) access first rs items s kinds ready has lies fill fits = absurd has
 
   -- The components of a record get values of their kinds, one after the other.
-  all_stored : (vs : List Value) (rs cs : List ComponentKind) (o : Id) (access : TypeNo) (c : ℕ) (s : State) (kinds : List VariableKind) → Ready p kinds s → Designates (cells_of s.heap) access.0 o → reached_components p.types access.0 ≡ Some cs → begins_with (drop c cs) rs ≡ true → HaveKinds (cells_of s.heap) rs vs → Fits p (cells_of s.heap) kinds s.control → Typed p (record s { heap = stored_from named s.heap (Names o) c vs })
+  all_stored : (vs : List Value) (rs cs : List ComponentKind) (o : Id) (access : TypeNo) (c : ℕ) (s : State) (kinds : List VariableKind) → Ready p kinds s → Designates (cells_of s.heap) access.0 o → reached_components p.types access.0 ≡ Some cs → begins_with (drop c cs) rs ≡ true → HaveKinds (cells_of s.heap) rs vs → Fits p (cells_of s.heap) kinds s.control → TypedIn p (record s { heap = stored_from named s.heap (Names o) c vs })
   all_stored [] [] cs o access c s kinds ready has reached begins have fits = running kinds ready fits
   all_stored [] (k ∷ rs) cs o access c s kinds ready has reached begins have fits = absurd have
   all_stored (v ∷ vs) [] cs o access c s kinds ready has reached begins have fits = absurd have

@@ -6,7 +6,7 @@ use Rattle.ada_program.specs.declared.program.ComponentKind.{ComponentKind}
 use Rattle.ada_program.specs.declared.program.VariableKind.{VariableKind}
 use Rattle.ada_program.specs.declared.program.VariableKind.TheVariants as variable
 use Rattle.ada_program.specs.declared.program.Program.{Program}
-use Rattle.ada_program.specs.ProgramForm.{TypeForm, program_form}
+use Rattle.ada_program.specs.ProgramForm.{TypeForm, ProgramForm, program_form, seen_in}
 use Rattle.ada_program.specs.WellFormed.{IsWellFormed, is_access, reached_components, held_kind, variable_kind}
 use Rattle.ada_values.specs.declared.value.Value.TheVariants as scalar
 use Rattle.ada_meaning.specs.declared.state.Id.{Id}
@@ -14,7 +14,7 @@ use Rattle.ada_meaning.specs.declared.state.Value.{Value}
 use Rattle.ada_meaning.specs.declared.state.Value.TheVariants.{Null, Names, Scalar}
 use Rattle.ada_meaning.specs.State.{pool_of}
 use Rattle.ada_meaning.specs.Heap.{Cell}
-use Rattle.ada_meaning.specs.Step.{places, held}
+use Rattle.ada_meaning.specs.Step.{procedure_of, places, held}
 use Rattle.ada_meaning.specs.Named.{Object, State, named, object_at}
 use Rattle.ada_meaning.specs.Run.{Event, Run, first_state}
 
@@ -82,15 +82,19 @@ cells_of objects = map cell_of objects
 abbrev pub ObjectsHaveTheirKinds : Type 0
 ObjectsHaveTheirKinds = (program : Program) → IsWellFormed (program_form program) → (input : List ℤ) (events : List Event) (last : State) (o : Id) (object : Object) → Run program (first_state program input) events last → object_at last.heap o ≡ Some object → IsFilled (program_form program).types (cells_of last.heap) object.cell
 
+-- The program as the body sees it that runs.
+abbrev pub seen_now : ProgramForm → State → ProgramForm
+seen_now p s = seen_in (procedure_of s.activations) p
+
 -- The variable of a number has a place in the running activation, and a value of this kind lies there.
 abbrev pub HoldsKind : State → ℕ → VariableKind → Type 0
 HoldsKind s x kind = (slice_get (places s) x ≡ Some (held named s x)) × HasKind (cells_of s.heap) kind (held named s x)
 
--- In every run of a well-formed program, each variable holds a value of its kind.
+-- In every run of a well-formed program, each variable of the body that runs holds a value of its kind.
 abbrev pub VariablesHaveTheirKinds : Type 0
 VariablesHaveTheirKinds =
     (program : Program) → IsWellFormed (program_form program) →
     (input : List ℤ) (events : List Event) (last : State) (x : ℕ) (kind : VariableKind) →
     Run program (first_state program input) events last →
-    variable_kind (program_form program).variables x ≡ Some kind →
+    variable_kind (seen_now (program_form program) last).variables x ≡ Some kind →
     HoldsKind last x kind

@@ -1,20 +1,15 @@
 -- A source has one program at most, one first fault at most, and never both.
-use Rattle.std.proofs.Common.{◌≡◌, ◌≢◌, ℕ, List, length, Option, None, Result, Ok, Err, IfErr, IsErrAnd, refl, sym, ap, subst, ◌∙◌}
+use Rattle.std.proofs.Common.{◌≡◌, ◌≢◌, ℕ, List, Option, None, Result, Ok, Err, IfErr, IsErrAnd, refl, sym, ap, subst, ◌∙◌}
 use Rattle.ada_text.specs.declared.spot.Spot.{Spot}
 use Rattle.ada_text.specs.declared.fault.TextFault.{TextFault}
 use Rattle.ada_text.specs.declared.fault.TextFault.TheVariants as text
 use Rattle.ada_text.specs.Token.{Lexeme}
 use Rattle.ada_text.specs.Reading.{Spells, IsFirstFault as IsFirstTextFault}
-use Rattle.std.proofs.lemmas.List.{length-map}
-use Rattle.std.proofs.Math.ListN.{replicate}
-use Rattle.ada_flow.specs.declared.rule.Hold.TheVariants.{Lost}
 use Rattle.ada_flow.specs.declared.rule.Rule.{Rule}
-use Rattle.ada_program.specs.Form.{declaration_forms, stmt_forms, handler_forms}
 use Rattle.ada_program.specs.declared.program.Program.{Program}
 use Rattle.ada_tree.specs.Statements.{UnitTree, IsTextOf}
-use Rattle.ada_program.specs.ProgramForm.{ProgramForm, variable_form, program_form}
-use Rattle.ada_flow.specs.Flow.{Outcome, faults, goes, Holds, then_flow, handled, outermost, stmts_flow, handlers_flow, declarations_flow, types_of, variables_of, program_flow, ObeysRules}
-use Rattle.ada_effects.specs.Effects.{passes}
+use Rattle.ada_program.specs.ProgramForm.{ProgramForm, program_form}
+use Rattle.ada_flow.specs.Flow.{Outcome, faults, goes, Holds, flow_of, program_flow, ObeysRules}
 use Rattle.ada_flow.specs.Told.{judgement}
 use Rattle.ada_parser.specs.declared.fault.SyntaxFault.{SyntaxFault}
 use Rattle.ada_parser.specs.declared.fault.SyntaxFault.TheVariants as syntax
@@ -71,20 +66,9 @@ same_tree tokens tree source t u a b =
 one_resolution : OneTokens → OneTree → (source : List ℕ) (t u : UnitTree) → IsSourceOf source t → IsSourceOf source u → resolution t ≡ resolution u
 one_resolution tokens tree source t u a b = ap resolution (same_tree tokens tree source t u a b)
 
--- The flow of a program, from its plain data.
-abbrev pub flow_by : ProgramForm → Outcome
-flow_by p =
-    then_flow (declarations_flow p.types p.variables p.declarations (replicate (length p.variables) Lost))
-    (λ at. handled (passes p.statements p.handlers) (handlers_flow p.types p.variables outermost p.handlers) (stmts_flow p.types p.variables outermost p.statements at))
-
-flow_is : (p : Program) → program_flow p ≡ flow_by (program_form p)
-flow_is p =
-    ap (λ (n : ℕ). then_flow (declarations_flow (types_of p) (variables_of p) (declaration_forms p) (replicate n Lost))
-    (λ at. handled (passes (stmt_forms p) (handler_forms p)) (handlers_flow (types_of p) (variables_of p) outermost (handler_forms p)) (stmts_flow (types_of p) (variables_of p) outermost (stmt_forms p) at)))
-    (sym (length-map p.variables.items variable_form))
-
+-- Of programs that are alike flow judges alike.
 same_judgement : (p q : Program) → program_form p ≡ program_form q → judgement (program_flow p) ≡ judgement (program_flow q)
-same_judgement p q e = ap judgement (flow_is p ∙ ap flow_by e ∙ sym (flow_is q))
+same_judgement p q e = ap (λ (form : ProgramForm). judgement (flow_of form)) e
 
 -- A judgement that no rule is broken.
 obeying : (o : Outcome) → judgement o ≡ Ok tt → (normal raising : Option Holds) × (o ≡ goes normal raising)

@@ -3,7 +3,7 @@ use Rattle.std.proofs.lemmas.List.{at_drop_more}
 use Rattle.std.proofs.lemmas.Result.{err_from_is_err_and}
 use Rattle.std.specs.Prelude.{Ok, Err, IfSome, if◌then◌else◌}
 use Rattle.ada_text.specs.declared.spot.Spot.{Spot}
-use Rattle.ada_effects.specs.Effects.{passes}
+use Rattle.ada_effects.specs.Effects.{Effect, passes}
 use Rattle.ada_program.specs.declared.program.Handler.{Handler}
 use Rattle.ada_program.specs.declared.program.Stmt.{Stmt}
 use Rattle.ada_program.specs.Form.{StmtForm, StmtsForm, ExpressionForm, HandlersForm, a_handler, DeclarationForm, encloses, encloses_form, condition_form, declaration_form, handlers_form, stmt_form, stmts_form}
@@ -11,7 +11,7 @@ use Rattle.ada_program.specs.ProgramForm.{TypeForm, VariableForm}
 use Rattle.ada_flow.specs.declared.fault.FlowFault.{FlowFault}
 use Rattle.ada_flow.specs.declared.fault.FlowFault.TheVariants.{Broken, NoMemory}
 use Rattle.ada_flow.specs.Flow.{Holds, Gone, goes, Around, gone_with, gone_with_both, nothing_gone, join_option, left_option, stmt_flow, stmts_flow, handlers_flow, unless_worse, condition_flow, loop_flow, in_loop, in_block, declarations_flow}
-use Rattle.ada_flow.specs.Told.{Noted, emptied, ending, end_handled, around_of, breach_of, gone_of, held, joined_end, noted, noted_behind, noted_for, start_in, types_in, variables_in}
+use Rattle.ada_flow.specs.Told.{Noted, emptied, ending, end_handled, around_of, breach_of, effects_in, gone_of, held, joined_end, noted, noted_behind, noted_for, start_in, types_in, variables_in}
 use Rattle.ada_flow.proofs.Noted.{End, handlers_end, turn_returns, turn_stops, block_declares_badly, block_breaks, block_handles}
 use Rattle.ada_flow.proofs.+flowing.Goals as goal
 use Rattle.ada_flow.proofs.+flowing.Goals.{repetition::turn-in-Some+in_ok-unless_worse, repetition::turn-in_default}
@@ -43,28 +43,28 @@ blocks::handlers-handlers-preserved t c =
     c.handlers-test.true c.handler-item.is c.deref.ensures.value c.in_ok-copy.ensures c.in_ok-end.ensures c.join_ends-joined.ensures c.handlers.invariant
 
 -- one turn, where it leads back and where it doesn't
-turned : (leaves : Bool) (n m k : Noted) (condition : Option ExpressionForm) (spot : Spot) (types : List TypeForm) (variables : List VariableForm) (fs : StmtsForm) (start : Holds) (end : Option Holds) →
-    ending n (condition_flow condition start) ≡ Ok (Some start, m) → ending m (stmts_flow types variables (in_loop (Some start)) fs start) ≡ Ok (end, k) →
+turned : (leaves : Bool) (n m k : Noted) (condition : Option ExpressionForm) (spot : Spot) (types : List TypeForm) (variables : List VariableForm) (around : Around) (fs : StmtsForm) (start : Holds) (end : Option Holds) →
+    ending n (condition_flow condition start) ≡ Ok (Some start, m) → ending m (stmts_flow types variables (in_loop (Some start) around) fs start) ≡ Ok (end, k) →
     IfSome end (λ after. unless_worse start after spot (goes (Some after) None) ≡ goes (Some after) None) →
-    ending n (loop_flow condition leaves spot (λ place hs. stmts_flow types variables (in_loop place) fs hs) start) ≡ Ok ((if leaves then Some start else None), k)
-turned leaves n m k condition spot types variables fs start None tests turns keeps = turn_stops leaves n m k condition spot types variables fs start tests turns
-turned leaves n m k condition spot types variables fs start (Some after) tests turns keeps = turn_returns leaves n m k condition spot types variables fs start after tests turns keeps
+    ending n (loop_flow condition leaves spot (λ place hs. stmts_flow types variables (in_loop place around) fs hs) start) ≡ Ok ((if leaves then Some start else None), k)
+turned leaves n m k condition spot types variables around fs start None tests turns keeps = turn_stops leaves n m k condition spot types variables around fs start tests turns
+turned leaves n m k condition spot types variables around fs start (Some after) tests turns keeps = turn_returns leaves n m k condition spot types variables around fs start after tests turns keeps
 
 -- the same of what the code keeps
-turned_in : (leaves b : Bool) (n m k : Noted) (condition : Option ExpressionForm) (spot : Spot) (types ts : List TypeForm) (variables vs : List VariableForm) (place : Around) (fs : StmtsForm) (start placed copied : Holds) (end : Option Holds) →
-    leaves ≡ b → placed ≡ start → copied ≡ start → ts ≡ types → vs ≡ variables → place ≡ in_loop (Some placed) →
+turned_in : (leaves b : Bool) (n m k : Noted) (condition : Option ExpressionForm) (spot : Spot) (types ts : List TypeForm) (variables vs : List VariableForm) (around place : Around) (fs : StmtsForm) (start placed copied : Holds) (end : Option Holds) →
+    leaves ≡ b → placed ≡ start → copied ≡ start → ts ≡ types → vs ≡ variables → place ≡ in_loop (Some placed) around →
     ending n (condition_flow condition start) ≡ Ok (Some start, m) → ending m (stmts_flow ts vs place fs copied) ≡ Ok (end, k) →
     IfSome end (λ after. unless_worse start after spot (goes (Some after) None) ≡ goes (Some after) None) →
-    ending n (loop_flow condition leaves spot (λ place hs. stmts_flow types variables (in_loop place) fs hs) start) ≡ Ok ((if b then Some start else None), k)
-turned_in leaves b n m k condition spot types ts variables vs place fs start placed copied end leaves_is placed_is copied_is ts_is vs_is place_is tests turns keeps =
-    let at_start : place ≡ in_loop (Some start) = place_is ∙ ap (λ (d : Holds). in_loop (Some d)) placed_is in
-    let second : ending m (stmts_flow types variables (in_loop (Some start)) fs start) ≡ Ok (end, k) =
-    subst (λ (t : List TypeForm). ending m (stmts_flow t variables (in_loop (Some start)) fs start) ≡ Ok (end, k)) ts_is
-    (subst (λ (v : List VariableForm). ending m (stmts_flow ts v (in_loop (Some start)) fs start) ≡ Ok (end, k)) vs_is
+    ending n (loop_flow condition leaves spot (λ place hs. stmts_flow types variables (in_loop place around) fs hs) start) ≡ Ok ((if b then Some start else None), k)
+turned_in leaves b n m k condition spot types ts variables vs around place fs start placed copied end leaves_is placed_is copied_is ts_is vs_is place_is tests turns keeps =
+    let at_start : place ≡ in_loop (Some start) around = place_is ∙ ap (λ (d : Holds). in_loop (Some d) around) placed_is in
+    let second : ending m (stmts_flow types variables (in_loop (Some start) around) fs start) ≡ Ok (end, k) =
+    subst (λ (t : List TypeForm). ending m (stmts_flow t variables (in_loop (Some start) around) fs start) ≡ Ok (end, k)) ts_is
+    (subst (λ (v : List VariableForm). ending m (stmts_flow ts v (in_loop (Some start) around) fs start) ≡ Ok (end, k)) vs_is
     (subst (λ (p : Around). ending m (stmts_flow ts vs p fs start) ≡ Ok (end, k)) at_start
     (subst (λ (d : Holds). ending m (stmts_flow ts vs place fs d) ≡ Ok (end, k)) copied_is turns))) in
-    subst (λ (l : Bool). ending n (loop_flow condition leaves spot (λ place hs. stmts_flow types variables (in_loop place) fs hs) start) ≡ Ok ((if l then Some start else None), k)) leaves_is
-    (turned leaves n m k condition spot types variables fs start end tests second keeps)
+    subst (λ (l : Bool). ending n (loop_flow condition leaves spot (λ place hs. stmts_flow types variables (in_loop place around) fs hs) start) ≡ Ok ((if l then Some start else None), k)) leaves_is
+    (turned leaves n m k condition spot types variables around fs start end tests second keeps)
 
 keeps_start : (start first after seen : Holds) (spot : Spot) → first ≡ start → seen ≡ after → unless_worse first seen spot (goes (Some seen) None) ≡ goes (Some seen) None →
     unless_worse start after spot (goes (Some after) None) ≡ goes (Some after) None
@@ -73,8 +73,9 @@ keeps_start start first after seen spot first_is seen_is keeps =
     (subst (λ (s : Holds). unless_worse s seen spot (goes (Some seen) None) ≡ goes (Some seen) None) first_is keeps)
 
 -- with which nothing goes
-place_in : (start : Holds) (inside : Gone) (place : Around) → place ≡ record { start = Some start; inside = inside } → inside ≡ nothing_gone → place ≡ in_loop (Some start)
-place_in start inside place place_is nothing = place_is ∙ ap (λ (g : Gone). record { start = Some start; inside = g }) nothing
+place_in : (start : Holds) (inside : Gone) (around place : Around) → place ≡ record { effects = around.effects; start = Some start; inside = inside } → inside ≡ nothing_gone →
+    place ≡ in_loop (Some start) around
+place_in start inside around place place_is nothing = place_is ∙ ap (λ (g : Gone). record { effects = around.effects; start = Some start; inside = g }) nothing
 
 pub repetition::turn-returns-then-leaves : goal.repetition::turn-returns-then-leaves
 repetition::turn-returns-then-leaves t c =
@@ -84,9 +85,9 @@ repetition::turn-returns-then-leaves t c =
       | repetition::turn-in_default w ↦ rw w.in_default.is tt
     ] in
     turned_in c.args.leaves true (noted c.args.raised.now) (noted c.compute_condition.new.raised) (noted c.statements.new.raised) (condition_form c.args.condition.now) c.args.end
-    (types_in c.args.around.now) (types_in c.in_loop-within.result) (variables_in c.args.around.now) (variables_in c.in_loop-within.result) (around_of c.in_loop-within.result) (stmts_form c.args.body.now)
+    (types_in c.args.around.now) (types_in c.in_loop-within.result) (variables_in c.args.around.now) (variables_in c.in_loop-within.result) (around_of c.args.around.now) (around_of c.in_loop-within.result) (stmts_form c.args.body.now)
     c.args.start.holds.items c.holds.result.now c.in_ok-copy.field-0.holds.items (held c.in_ok-after.field-0)
-    c.if-leaves.true c.holds.ensures c.in_ok-copy.ensures c.in_loop-within.ensures.types c.in_loop-within.ensures.variables (place_in c.holds.result.now (gone_of c.nothing-nothing.result) (around_of c.in_loop-within.result) c.in_loop-within.ensures.place c.nothing-nothing.ensures)
+    c.if-leaves.true c.holds.ensures c.in_ok-copy.ensures c.in_loop-within.ensures.types c.in_loop-within.ensures.variables (place_in c.holds.result.now (gone_of c.nothing-nothing.result) (around_of c.args.around.now) (around_of c.in_loop-within.result) c.in_loop-within.ensures.place c.nothing-nothing.ensures)
     c.in_ok-compute_condition.ensures c.in_ok-after.ensures keeps
 
 pub repetition::turn-returns-else-leaves : goal.repetition::turn-returns-else-leaves
@@ -97,9 +98,9 @@ repetition::turn-returns-else-leaves t c =
       | repetition::turn-in_default w ↦ rw w.in_default.is tt
     ] in
     turned_in c.args.leaves false (noted c.args.raised.now) (noted c.compute_condition.new.raised) (noted c.statements.new.raised) (condition_form c.args.condition.now) c.args.end
-    (types_in c.args.around.now) (types_in c.in_loop-within.result) (variables_in c.args.around.now) (variables_in c.in_loop-within.result) (around_of c.in_loop-within.result) (stmts_form c.args.body.now)
+    (types_in c.args.around.now) (types_in c.in_loop-within.result) (variables_in c.args.around.now) (variables_in c.in_loop-within.result) (around_of c.args.around.now) (around_of c.in_loop-within.result) (stmts_form c.args.body.now)
     c.args.start.holds.items c.holds.result.now c.in_ok-copy.field-0.holds.items (held c.in_ok-after.field-0)
-    c.if-leaves.false c.holds.ensures c.in_ok-copy.ensures c.in_loop-within.ensures.types c.in_loop-within.ensures.variables (place_in c.holds.result.now (gone_of c.nothing-nothing.result) (around_of c.in_loop-within.result) c.in_loop-within.ensures.place c.nothing-nothing.ensures)
+    c.if-leaves.false c.holds.ensures c.in_ok-copy.ensures c.in_loop-within.ensures.types c.in_loop-within.ensures.variables (place_in c.holds.result.now (gone_of c.nothing-nothing.result) (around_of c.args.around.now) (around_of c.in_loop-within.result) c.in_loop-within.ensures.place c.nothing-nothing.ensures)
     c.in_ok-compute_condition.ensures c.in_ok-after.ensures keeps
 
 -- how the declarations of a block end
@@ -119,11 +120,11 @@ inner_ends m inner types variables around within gone fs fs' hs hs' at end withi
     (subst (λ (f : StmtsForm). ending inner (stmts_flow types variables within f at) ≡ end) fs_is ends))
 
 -- where a block's statements stand
-abbrev stands : Option Holds → Gone → Around
-stands start inside = record { start = start; inside = inside }
+abbrev stands : List Effect → Option Holds → Gone → Around
+stands effects start inside = record { effects = effects; start = start; inside = inside }
 
-stands_in : (gone inside : Gone) (around : Around) → inside ≡ gone_with_both gone around.inside → stands around.start inside ≡ in_block gone around
-stands_in gone inside around e = ap (stands around.start) e
+stands_in : (gone inside : Gone) (around : Around) → inside ≡ gone_with_both gone around.inside → stands around.effects around.start inside ≡ in_block gone around
+stands_in gone inside around e = ap (stands around.effects around.start) e
 
 -- its declarations break a rule
 declares_badly : (fault : FlowFault) (n own : Noted) (types : List TypeForm) (variables : List VariableForm) (cleared : Bool) (around : Around) (f : StmtForm) (ds ds' : List DeclarationForm) (fs : StmtsForm) (hs : HandlersForm) (holds : Holds) →
@@ -155,14 +156,14 @@ block_is_left : (n own m inner k l raised : Noted) (types : List TypeForm) (vari
     ending own (declarations_flow types variables ds' holds) ≡ Ok (Some at, m) →
     within ≡ in_block gone around → inner ≡ noted_for m hs' → hs' ≡ hs → fs' ≡ fs →
     ending inner (stmts_flow types variables within fs' at) ≡ Ok (normal, k) →
-    fs'' ≡ fs → hs'' ≡ hs → end_handled m (passes fs'' hs'') (handlers_flow types variables within hs'') normal k ≡ Ok (end, l) →
+    fs'' ≡ fs → hs'' ≡ hs → end_handled m (passes around.effects fs'' hs'') (handlers_flow types variables within hs'') normal k ≡ Ok (end, l) →
     raised ≡ noted_behind n variables gone l → leaves ≡ left_option variables gone end →
     ending n (stmt_flow types variables around cleared f holds) ≡ Ok (leaves, raised)
 block_is_left n own m inner k l raised types variables cleared around within gone f ds ds' fs fs' fs'' hs hs' hs'' holds at normal end leaves form gone_is own_is ds_is declares within_is inner_is hs_is fs_is ends fs_is' hs_is' handles raised_is leaves_is =
-    let handlers_end : end_handled m (passes fs hs) (handlers_flow types variables (in_block gone around) hs) normal k ≡ Ok (end, l) =
-    subst (λ (p : Around). end_handled m (passes fs hs) (handlers_flow types variables p hs) normal k ≡ Ok (end, l)) within_is
-    (subst (λ (h : HandlersForm). end_handled m (passes fs h) (handlers_flow types variables within h) normal k ≡ Ok (end, l)) hs_is'
-    (subst (λ (g : StmtsForm). end_handled m (passes g hs'') (handlers_flow types variables within hs'') normal k ≡ Ok (end, l)) fs_is' handles)) in
+    let handlers_end : end_handled m (passes around.effects fs hs) (handlers_flow types variables (in_block gone around) hs) normal k ≡ Ok (end, l) =
+    subst (λ (p : Around). end_handled m (passes around.effects fs hs) (handlers_flow types variables p hs) normal k ≡ Ok (end, l)) within_is
+    (subst (λ (h : HandlersForm). end_handled m (passes around.effects fs h) (handlers_flow types variables within h) normal k ≡ Ok (end, l)) hs_is'
+    (subst (λ (g : StmtsForm). end_handled m (passes around.effects g hs'') (handlers_flow types variables within hs'') normal k ≡ Ok (end, l)) fs_is' handles)) in
     subst (λ (x : Option Holds). ending n (stmt_flow types variables around cleared f holds) ≡ Ok (x, raised)) (sym leaves_is)
     (subst (λ (x : Noted). ending n (stmt_flow types variables around cleared f holds) ≡ Ok (left_option variables gone end, x)) (sym raised_is)
     (subst (λ (g : StmtForm). ending n (stmt_flow types variables around cleared g holds) ≡ Ok (left_option variables gone end, noted_behind n variables gone l)) (sym form)
@@ -190,7 +191,7 @@ statements::statement-returns-in_err-end-in-Block t c =
     c.in_ok-gone-in-Block.ensures ∙ ap gone_with (ap (map declaration_form) c.deref-in-Block.ensures.value) in
     let p = err_from_is_err_and c.from_residual-in_err-end-in-Block.result c.from_residual-in_err-end-in-Block.ensures.1 in
     rw (p.1, p.2) (inner_breaks c.in_err-end-in-Block.field-0.0 (noted c.args.raised.now) (noted c.emptied-own.result) (noted c.declare.new.raised) (noted c.with_handlers-inner.result) (types_in c.args.around.now) (variables_in c.args.around.now) c.args.cleared (around_of c.args.around.now)
-    (stands (start_in c.args.around.now) (gone_of c.in_ok-inside-in-Block.inside)) (gone_of c.in_ok-gone-in-Block.gone) (stmt_form c.args.statement.now)
+    (stands (effects_in c.args.around.now) (start_in c.args.around.now) (gone_of c.in_ok-inside-in-Block.inside)) (gone_of c.in_ok-gone-in-Block.gone) (stmt_form c.args.statement.now)
     (map declaration_form c.in-Block.declarations.items) (map declaration_form c.deref-in-Block-2.result.now) (stmts_form c.in-Block.statements.items) (stmts_form c.deref-in-Block-4.result.now)
     (handlers_form c.in-Block.handlers.items) (handlers_form c.deref-in-Block-3.result.now) c.args.known.holds.items c.declare.new.known.holds.items
     form gone_is c.emptied-own.ensures (ap (map declaration_form) c.deref-in-Block-2.ensures.value) c.in_ok-declare-in-Block.ensures
@@ -205,7 +206,7 @@ statements::statement-returns-in-Block t c =
     c.in_ok-gone-in-Block.ensures ∙ ap gone_with (ap (map declaration_form) c.deref-in-Block.ensures.value) in
     block_is_left (noted c.args.raised.now) (noted c.emptied-own.result) (noted c.declare.new.raised) (noted c.with_handlers-inner.result) (noted c.statements-in-Block.new.raised) (noted c.handled.new.raised) (noted c.add_behind.new.self)
     (types_in c.args.around.now) (variables_in c.args.around.now) c.args.cleared (around_of c.args.around.now)
-    (stands (start_in c.args.around.now) (gone_of c.in_ok-inside-in-Block.inside)) (gone_of c.in_ok-gone-in-Block.gone) (stmt_form c.args.statement.now)
+    (stands (effects_in c.args.around.now) (start_in c.args.around.now) (gone_of c.in_ok-inside-in-Block.inside)) (gone_of c.in_ok-gone-in-Block.gone) (stmt_form c.args.statement.now)
     (map declaration_form c.in-Block.declarations.items) (map declaration_form c.deref-in-Block-2.result.now)
     (stmts_form c.in-Block.statements.items) (stmts_form c.deref-in-Block-4.result.now) (stmts_form c.deref-in-Block-6.result.now)
     (handlers_form c.in-Block.handlers.items) (handlers_form c.deref-in-Block-3.result.now) (handlers_form c.deref-in-Block-5.result.now)

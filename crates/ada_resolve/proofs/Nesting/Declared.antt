@@ -21,16 +21,16 @@ use Rattle.ada_resolve.specs.declared.scope.Entity.TheVariants as entity
 use Rattle.ada_resolve.specs.Borrowers.{borrower_created, lender_found}
 use Rattle.ada_resolve.specs.Exceptions.{next_exception}
 use Rattle.ada_resolve.specs.Instances.{freed_found, instance_of, is_collected}
-use Rattle.ada_resolve.specs.Known.{Known, Named, Part, named, entered, declared, visible, no_variable_yet, is_empty}
+use Rattle.ada_resolve.specs.Known.{Known, Named, Part, named, entered, declared, visible, no_variable_yet, is_empty, next_variable, parts, types_go_on}
 use Rattle.ada_resolve.specs.Library.{is_library_root}
-use Rattle.ada_resolve.specs.Objects.{type_in, object_type_found, held_of, kind_of, initial_items_in, initial_value_in, initial_found, collections_of, own_types, missing_collections, ends_types, after_types, next_variable, initial_source, variable_created, object_created, next_record, record_created, created_of}
+use Rattle.ada_resolve.specs.Objects.{type_in, object_type_found, held_of, kind_of, initial_items_in, initial_value_in, initial_found, collections_of, own_types, missing_collections, ends_types, after_types, initial_source, variable_created, object_created, next_record, record_created, created_of}
 use Rattle.ada_resolve.specs.Paths.{elementary_in, elementary_of}
 use Rattle.ada_resolve.specs.Rights.{Assigned}
 use Rattle.ada_resolve.specs.Records.{Composition, no_components, kind_in, kind_of_component, kinds_within, composed_with, composed, composition_of, components_written, record_type_known}
 use Rattle.ada_resolve.specs.Resolution.{gives, At, known_at, declaration_remark, declaration_known, declarations_told}
 use Rattle.ada_resolve.specs.Statics.{static_value}
 use Rattle.ada_resolve.specs.Types.{completed_type, record_in, record_found, defined, number_of, incomplete_known, access_defined}
-use Rattle.ada_resolve.proofs.Nesting.Open.{RecordOpen, EntityOpen, PartsOpen, KindLies, ComponentsLie, FormLies, ObjectsLie, IsOwnType, OpenAround, EntityLies, visible_lies, record_later, right_or}
+use Rattle.ada_resolve.proofs.Nesting.Open.{RecordOpen, EntityOpen, PartsOpen, KindLies, ComponentsLie, FormLies, ObjectsLie, IsOwnType, OpenAround, EntityLies, visible_lies, visible_open, record_later, right_or}
 use Rattle.ada_resolve.proofs.Standing.{IsBefore, PartsBefore, Sound, Keeps, object_settled, outer_settled, ended_sound, IsSlot, slot_of, declaration_sound, declaration_keeps, declarations_done}
 use Rattle.ada_resolve.proofs.WellFormed.Names.{all_entered}
 use Rattle.ada_resolve.proofs.WellFormed.Remarks.{Quiet}
@@ -288,6 +288,18 @@ object_type_lies around k type_name w e is = by_root (is_library_root type_name.
     by_root true is = absurd (cc is)
     by_root false is = by_rest (is_empty type_name.rest) is
 
+pub object_type_at : (around : List ℕ) (n : ℕ) (k : Known) (type_name : NameTree) → PartsOpen around k.types (parts k) → (e : Entity) → object_type_found k type_name ≡ Some e → EntityLies around n k.types e
+unfolding object_type_found
+object_type_at around n k type_name w e is = by_root (is_library_root type_name.first.text) is
+  where
+    by_rest : (b : Bool) → cond b (type_in (visible k type_name.first.text)) None ≡ Some e → EntityLies around n k.types e
+    by_rest true is = type_in_lies around n k.types (visible k type_name.first.text) e (visible_open around n k w type_name.first.text) is
+    by_rest false is = absurd (cc is)
+
+    by_root : (b : Bool) → cond b None (cond (is_empty type_name.rest) (type_in (visible k type_name.first.text)) None) ≡ Some e → EntityLies around n k.types e
+    by_root true is = absurd (cc is)
+    by_root false is = by_rest (is_empty type_name.rest) is
+
 found_created_open : (around : List ℕ) (k : Known) (name : Ident) (o : Option Entity) (value : Option Assigned) → Sound k → OpenAround around k → ((e : Entity) → o ≡ Some e → EntityLies around k.here.first_type k.types e) → OpenAround around (created_of k name o value)
 found_created_open around k name (Some (entity.Record t size)) value s w lies = record_open around k name t (initial_items_in value) s w (lies (entity.Record t size) refl)
 found_created_open around k name o value s w lies = created_open around k name (kind_of o) (initial_value_in value) w
@@ -311,13 +323,13 @@ ends_open around false k w = w
 
 pub ended_open : (around : List ℕ) (k : Known) → OpenAround around k → OpenAround around (after_types k)
 unfolding after_types
-ended_open around k w = ends_open around (no_variable_yet k) k w
+ended_open around k w = ends_open around (types_go_on k) k w
 
 -- a declaration
-declaration_open : (around : List ℕ) (k : Known) (d : DeclarationTree) → Sound k → OpenAround around k → Quiet (declaration_remark (known_at k d) d) → OpenAround around (declaration_known (known_at k d) d)
+pub declaration_open : (around : List ℕ) (k : Known) (d : DeclarationTree) → Sound k → OpenAround around k → Quiet (declaration_remark (known_at k d) d) → OpenAround around (declaration_known (known_at k d) d)
 declaration_open around k (incomplete_type spot name) s w q = incomplete_open around k name s w (declaration_keeps k (incomplete_type spot name) s q)
 declaration_open around k (access_type spot name designated aspect) s w q =
-    access_open_at around k name (completed_type k name) (record_found k designated) s w (slot_of k name spot q.1.1.0)
+    access_open_at around k name (completed_type k name) (record_found k designated) s w (slot_of k name spot q.1.1.1.0)
     (declaration_keeps k (access_type spot name designated aspect) s q) (λ d is. designated_open around k designated d w is)
 declaration_open around k (record_type spot name definition) s w q =
     record_type_open around k name definition s w (slot_of k name spot q.1.0) (declaration_keeps k (record_type spot name definition) s q)
@@ -338,12 +350,3 @@ declaration_open around k (object_declaration name type_name initial) s w q =
 declaration_open around k (borrower_declaration name designated initial) s w q =
     borrower_open around (after_types k) name (lender_found (after_types k) initial) (ended_open around k w)
 declaration_open around k d s w q = absurd q
-
--- declarations, one behind another
-pub declarations_open : (around : List ℕ) (ds : DeclarationsTree) (at after : At) → Sound at.0 → OpenAround around at.0 → declarations_told ds at ≡ gives after → OpenAround around after.0
-declarations_open around no_declarations at after s w e = let same : at ≡ after = cc e in subst (λ (v : At). OpenAround around v.0) same w
-declarations_open around (a_declaration d ds) at after s w e =
-    let done = declarations_done d ds at after e in
-    declarations_open around ds done.next after
-    (subst Sound (sym done.next_known) (declaration_sound at.0 d s done.quiet))
-    (subst (λ v. OpenAround around v) (sym done.next_known) (declaration_open around at.0 d s w done.quiet)) done.told

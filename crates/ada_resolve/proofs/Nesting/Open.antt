@@ -13,9 +13,9 @@ use Rattle.ada_program.specs.ProgramForm.{PartForm, TypeForm, record_of, access_
 use Rattle.ada_resolve.specs.declared.library.Withs.{Withs}
 use Rattle.ada_resolve.specs.declared.scope.Entity.{Entity}
 use Rattle.ada_resolve.specs.declared.scope.Entity.TheVariants as entity
-use Rattle.ada_resolve.specs.Known.{Known, Named, Part, named, named_in, inner_first, outermost, unit_named, visible, parts}
+use Rattle.ada_resolve.specs.Known.{Known, Named, Part, named, from_part, named_in, inner_first, outermost, unit_named, visible, parts}
 use Rattle.ada_resolve.specs.Library.{predefined}
-use Rattle.ada_resolve.proofs.WellFormed.Names.{first_of_two, unit_only}
+use Rattle.ada_resolve.proofs.WellFormed.Names.{first_of_two, within_of, unit_only}
 use Rattle.ada_resolve.proofs.WellFormed.Tables.{all_weaker}
 
 -- the record type of a number is there, and its components name collections that are open around
@@ -108,8 +108,8 @@ open_lies around n types e w = tt
 parts_lie : (around : List ℕ) (n : ℕ) (types : List TypeForm) (ps : List Part) → PartsOpen around types ps → (text : List ℕ) (e : Entity) → named_in text ps ≡ Some e → EntityLies around n types e
 parts_lie around n types [] w text e is = absurd (cc is)
 parts_lie around n types (p ∷ ps) w text e is =
-    first_of_two (EntityLies around n types) (named text p.names) (named_in text ps) e (λ x there. open_lies around n types x (w.0 text x there))
-    (parts_lie around n types ps w.1 text) is
+    first_of_two (EntityLies around n types) (named text p.names) (from_part p.around (named_in text ps)) e (λ x there. open_lies around n types x (w.0 text x there))
+    (λ x there. within_of (EntityLies around n types) p.around (named_in text ps) x (λ kind r. tt) (parts_lie around n types ps w.1 text) there) is
 
 -- nothing predefined is a record type or an access type
 standard_lies : (around : List ℕ) (n : ℕ) (types : List TypeForm) (x : Entity) (a b c d f g h : Bool) → cond a (Some entity.Integer) (cond b (Some entity.Boolean) (cond c (Some (entity.Truth true)) (cond d (Some (entity.Truth false)) (cond f (Some (entity.Exception ConstraintError)) (cond g (Some (entity.Exception ProgramError)) (cond h (Some (entity.Exception StorageError)) None)))))) ≡ Some x → EntityLies around n types x
@@ -141,8 +141,15 @@ unfolding visible
 visible_lies around k w text e is =
     let n = k.here.first_type in
     inner_lies around n k.types k.withs text e (named_in text (parts k)) (bytes_eq text k.procedure)
-    (λ x there. first_of_two (EntityLies around n k.types) (named text k.here.names) (named_in text k.outer) x
-    (λ y at. own_lies around n k.types y (w.own text y at)) (parts_lie around n k.types k.outer w.outer text) there) is
+    (λ x there. first_of_two (EntityLies around n k.types) (named text k.here.names) (from_part k.here.around (named_in text k.outer)) x
+    (λ y at. own_lies around n k.types y (w.own text y at))
+    (λ y at. within_of (EntityLies around n k.types) k.here.around (named_in text k.outer) y (λ kind r. tt) (parts_lie around n k.types k.outer w.outer text) at) there) is
+
+-- what is visible where statements or objects stand
+pub visible_open : (around : List ℕ) (n : ℕ) (k : Known) → PartsOpen around k.types (parts k) → (text : List ℕ) (e : Entity) → visible k text ≡ Some e → EntityLies around n k.types e
+unfolding visible
+visible_open around n k w text e is =
+    inner_lies around n k.types k.withs text e (named_in text (parts k)) (bytes_eq text k.procedure) (λ x there. parts_lie around n k.types (parts k) w text x there) is
 
 -- more collections that are open
 one_or : (b c d : Bool) → (b || (c || d)) ≡ ((b || c) || d)

@@ -20,18 +20,19 @@ use Rattle.ada_resolve.specs.declared.scope.Entity.TheVariants as entity
 use Rattle.ada_resolve.specs.Borrowers.{borrower_remark, borrower_known}
 use Rattle.ada_resolve.specs.Exceptions.{next_exception, with_exception, exception_known}
 use Rattle.ada_resolve.specs.Instances.{freed_found, with_elaborated, instance_of}
-use Rattle.ada_resolve.specs.Known.{Known, Part, parts, no_variable_yet}
+use Rattle.ada_resolve.specs.Known.{Known, Part, parts, no_variable_yet, no_body_yet, types_go_on, type_begins, next_variable}
 use Rattle.ada_resolve.specs.Rights.{Assigned}
-use Rattle.ada_resolve.specs.Objects.{object_type_found, held_of, kind_of, initial_items_in, initial_value_in, initial_found, initial_source, missing_collections, ends_types, after_types, next_variable, with_variable, variable_created, object_created, next_record, with_record_object, record_created, created_of, object_known}
+use Rattle.ada_resolve.specs.Objects.{object_type_found, held_of, kind_of, initial_items_in, initial_value_in, initial_found, initial_source, missing_collections, ends_types, after_types, with_variable, variable_created, object_created, next_record, with_record_object, record_created, created_of, object_known}
 use Rattle.ada_resolve.specs.Records.{composition_of, components_written, record_type_known, record_type_remark}
 use Rattle.ada_resolve.specs.Resolution.{known_at, declaration_remark, declaration_known}
 use Rattle.ada_resolve.specs.Statics.{static_value}
 use Rattle.ada_resolve.specs.Types.{completed_type, record_found, number_of, incomplete_known, incomplete_remark, access_remark, access_defined, access_known, with_definition}
 use Rattle.ada_resolve.proofs.WellFormed.Borrowers.{lent_of, lent_kind, borrower_is}
 use Rattle.ada_resolve.proofs.WellFormed.Exceptions.{raised_outer}
-use Rattle.ada_resolve.proofs.WellFormed.Names.{EntityFits, PartsFit}
-use Rattle.ada_resolve.proofs.WellFormed.Remarks.{Quiet}
-use Rattle.ada_resolve.proofs.WellFormed.Tables.{all_more, both_parts, get_more, get_last}
+use Rattle.ada_resolve.proofs.WellFormed.Names.{EntityFits, variables_behind, PartsFit}
+use Rattle.ada_resolve.proofs.WellFormed.Remarks.{Quiet, quiet_unless}
+use Rattle.ada_resolve.specs.declared.fault.NameRule.TheVariants.{Layout}
+use Rattle.ada_resolve.proofs.WellFormed.Tables.{all_more, both_parts, second_part, get_more, get_last}
 use Rattle.ada_resolve.proofs.WellFormed.Types.{IsAccessIn, found_access, IsKindIn, found_type, record_visible, full_visible}
 use Rattle.ada_resolve.proofs.Standing.Order.{Sound, IsSettled, Keeps, keeps_same, keeps_on, visible_settled}
 use Rattle.ada_resolve.proofs.Standing.Types.{name_sound, incomplete_sound, record_sound, access_sound, object_type_sound, one_longer}
@@ -44,18 +45,23 @@ elaborated_sound es k w = record {
   variables_fit = w.variables_fit;
   names = w.names;
   exceptions = w.exceptions;
-  bounds = record { first = w.bounds.first; first_variable = w.bounds.first_variable; open_own = w.bounds.open_own; open_unused = w.bounds.open_unused; outer_before = w.bounds.outer_before };
+  called = w.called;
+  bounds = record { first = w.bounds.first; first_variable = w.bounds.first_variable; first_body = w.bounds.first_body; open_own = w.bounds.open_own; open_unused = w.bounds.open_unused; outer_before = w.bounds.outer_before };
 }
 
 -- one more variable
 entity_stays : (types : List TypeForm) (variables : List VariableForm) (v : VariableForm) (text : List ℕ) (e : Entity) → EntityFits types variables text e → EntityFits types (variables ++ v ∷ []) text e
 entity_stays types variables v text (entity.Variable x kind) f = ((f.0.0, f.0.1, get_more variables v x.0 _ f.0.2), f.1)
-entity_stays types variables v text (entity.Parameter x) f = (f.0, get_more variables v x.0 _ f.1)
+entity_stays types variables v text (entity.Parameter x kind) f = ((f.0.0, get_more variables v x.0 _ f.0.1), f.1)
 entity_stays types variables v text e f = f
 
 parts_stay : (types : List TypeForm) (variables : List VariableForm) (v : VariableForm) (ps : List Part) → PartsFit types variables ps → PartsFit types (variables ++ v ∷ []) ps
 parts_stay types variables v [] f = f
-parts_stay types variables v (p ∷ ps) f = (λ t x is. entity_stays types variables v t x (f.0 t x is), parts_stay types variables v ps f.1)
+parts_stay types variables v (p ∷ ps) f = (λ t x is. entity_stays types variables v t x (f.0 t x is), behind_stay p.around (parts_stay types variables v ps) f.1)
+  where
+    behind_stay : (around : Option (List VariableForm)) → (PartsFit types variables ps → PartsFit types (variables ++ v ∷ []) ps) → PartsFit types (variables_behind around variables) ps → PartsFit types (variables_behind around (variables ++ v ∷ [])) ps
+    behind_stay None on f = on f
+    behind_stay (Some others) on f = f
 
 longer_by : (variables : List VariableForm) (v : VariableForm) → length variables ≤ length (variables ++ v ∷ [])
 longer_by [] v = omega arith
@@ -67,9 +73,11 @@ variable_sound v k w fit = record {
   variables_fit = all_more (fits.variable_fits k.types) k.variables (v ∷ []) w.variables_fit (both_parts (fits.variable_fits k.types v) true fit refl);
   names = parts_stay k.types k.variables v (parts k) w.names;
   exceptions = w.exceptions;
+  called = w.called;
   bounds = record {
     first = w.bounds.first;
     first_variable = let a = w.bounds.first_variable in let b = longer_by k.variables v in omega arith;
+    first_body = w.bounds.first_body;
     open_own = w.bounds.open_own;
     open_unused = w.bounds.open_unused;
     outer_before = w.bounds.outer_before;
@@ -83,8 +91,13 @@ raised_sound name k w = record {
   variables_fit = w.variables_fit;
   names = w.names;
   exceptions = raised_outer k.exceptions name (parts k) w.exceptions;
-  bounds = record { first = w.bounds.first; first_variable = w.bounds.first_variable; open_own = w.bounds.open_own; open_unused = w.bounds.open_unused; outer_before = w.bounds.outer_before };
+  called = w.called;
+  bounds = record { first = w.bounds.first; first_variable = w.bounds.first_variable; first_body = w.bounds.first_body; open_own = w.bounds.open_own; open_unused = w.bounds.open_unused; outer_before = w.bounds.outer_before };
 }
+
+-- no type follows a body
+pub none_ended : (k : Known) (spot : Spot) → Quiet (type_begins k spot) → no_body_yet k ≡ true
+none_ended k spot q = second_part (no_variable_yet k) (no_body_yet k) (quiet_unless (types_go_on k) spot Layout q.1)
 
 -- `type T;`
 incomplete_keeps : (k : Known) (spot : Spot) (name : Ident) → Quiet (incomplete_remark k spot name) → Keeps k (incomplete_known k name)
@@ -93,24 +106,24 @@ incomplete_keeps k spot name q =
     (λ t form is. get_more k.types (record_of name.text [] []) t form is) (one_longer k.types (record_of name.text [] [])) (omega arith)
 
 -- `type A is access T;`
-access_keeps_at : (k : Known) (name : Ident) (o : Option TypeNo) → Sound k → IsSlot k name.text (completed_type k name) → Keeps k (access_defined k name (completed_type k name) o)
-access_keeps_at k name None w slot = keeps_same k
-access_keeps_at k name (Some d) w slot = keeps_defined k name.text (entity.Access (number_of (completed_type k name) k.types)) (completed_type k name) (access_to name.text d.0) w slot refl tt
+access_keeps_at : (k : Known) (name : Ident) (o : Option TypeNo) → no_body_yet k ≡ true → Sound k → IsSlot k name.text (completed_type k name) → Keeps k (access_defined k name (completed_type k name) o)
+access_keeps_at k name None none w slot = keeps_same k
+access_keeps_at k name (Some d) none w slot = keeps_defined k name.text (entity.Access (number_of (completed_type k name) k.types)) (completed_type k name) (access_to name.text d.0) none w slot refl tt
 
 access_keeps : (k : Known) (spot : Spot) (name designated : Ident) (aspect : Option AspectTree) → Sound k → Quiet (access_remark k spot name designated aspect) → Keeps k (access_known k name designated)
-access_keeps k spot name designated aspect w q = access_keeps_at k name (record_found k designated) w (slot_of k name spot q.1.1.0)
+access_keeps k spot name designated aspect w q = access_keeps_at k name (record_found k designated) (none_ended k spot q.0) w (slot_of k name spot q.1.1.1.0)
 
 -- `type T is record .. end record;`
 record_keeps : (k : Known) (spot : Spot) (name : Ident) (definition : RecordTree) → Sound k → Quiet (record_type_remark k spot name definition) → Keeps k (record_type_known k name definition)
 record_keeps k spot name definition w q =
     let made = composition_of k (components_written definition) in
     keeps_defined k name.text (entity.Record (number_of (completed_type k name) k.types) made.size) (completed_type k name)
-    (record_of name.text made.parts made.kinds) w (slot_of k name spot q.1.0) refl tt
+    (record_of name.text made.parts made.kinds) (none_ended k spot q.0) w (slot_of k name spot q.1.0) refl tt
 
 -- `procedure Free is new Ada.Unchecked_Deallocation (T, A);`
 instance_sound_at : (k : Known) (name : Ident) (o : Option TypeNo) → Sound k → IsAccessIn k.types o → Sound (instance_of k name o)
 instance_sound_at k name None w f = w
-instance_sound_at k name (Some t) w f = let e = elaborated_sound (collects t.0 ∷ []) k w in name_sound (with_elaborated (collects t.0 ∷ []) k) name.text (entity.Instance t) e f tt tt
+instance_sound_at k name (Some t) w f = let e = elaborated_sound (collects t.0 ∷ []) k w in name_sound (with_elaborated (collects t.0 ∷ []) k) name.text (entity.Instance t) e f tt tt tt (λ none. tt)
 
 instance_keeps_at : (k : Known) (name : Ident) (o : Option TypeNo) → IsSlot k name.text None → Keeps k (instance_of k name o)
 instance_keeps_at k name None slot = keeps_same k
@@ -121,7 +134,7 @@ instance_keeps_at k name (Some t) slot =
 -- `E : exception;`
 exception_sound : (k : Known) (name : Ident) → Sound k → Sound (exception_known k name)
 exception_sound k name w =
-    name_sound (with_exception name.text k) name.text (entity.Exception (exception.Declared (next_exception k))) (raised_sound name.text k w) tt (get_last k.exceptions name.text) tt
+    name_sound (with_exception name.text k) name.text (entity.Exception (exception.Declared (next_exception k))) (raised_sound name.text k w) tt (get_last k.exceptions name.text) tt tt (λ none. tt)
 
 exception_keeps : (k : Known) (name : Ident) → IsSlot k name.text None → Keeps k (exception_known k name)
 exception_keeps k name slot =
@@ -136,7 +149,7 @@ made_sound k name borrows kind value w f g =
     let m = with_elaborated es (with_variable v k) in
     let fit = both_parts (fits.variable_kind_fits k.types kind) (not borrows || fits.is_access_kind kind) f g in
     name_sound m name.text (entity.Variable (next_variable k) kind) (elaborated_sound es (with_variable v k) (variable_sound v k w fit))
-    ((name.spot, borrows, get_last k.variables v), f) tt tt
+    ((name.spot, borrows, get_last k.variables v), f) tt tt tt (λ none. tt)
 
 made_keeps : (k : Known) (name : Ident) (borrows : Bool) (kind : VariableKind) (value : RightForm) → IsSlot k name.text None → Keeps k (variable_created k name borrows kind value)
 made_keeps k name borrows kind value slot =
@@ -166,7 +179,7 @@ record_object_sound k name t initial w is settled =
     let fit = both_parts (fits.variable_kind_fits d.types (next_record k)) true known refl in
     name_sound (with_record_object k name t initial) name.text (entity.Variable (next_variable k) (next_record k))
     (elaborated_sound es (with_variable v d) (variable_sound v d (object_type_sound k t.0 w is settled) fit))
-    ((name.spot, false, get_last k.variables v), known) tt tt
+    ((name.spot, false, get_last k.variables v), known) tt tt tt (λ none. tt)
 
 record_object_keeps : (k : Known) (name : Ident) (t : TypeNo) (initial : Option (List ItemForm)) → IsSlot k name.text None → Keeps k (record_created k name t initial)
 record_object_keeps k name t initial slot =
@@ -209,7 +222,7 @@ ends_sound false k w = w
 
 pub ended_sound : (k : Known) → Sound k → Sound (after_types k)
 unfolding after_types
-ended_sound k w = ends_sound (no_variable_yet k) k w
+ended_sound k w = ends_sound (types_go_on k) k w
 
 ends_keeps : (b : Bool) (k : Known) → Keeps k (ends_types b k)
 ends_keeps true k = keeps_elaborated (missing_collections k) k
@@ -217,15 +230,15 @@ ends_keeps false k = keeps_same k
 
 pub ended_keeps : (k : Known) → Keeps k (after_types k)
 unfolding after_types
-ended_keeps k = ends_keeps (no_variable_yet k) k
+ended_keeps k = ends_keeps (types_go_on k) k
 
 -- a declaration
 pub declaration_sound : (k : Known) (d : DeclarationTree) → Sound k → Quiet (declaration_remark (known_at k d) d) → Sound (declaration_known (known_at k d) d)
 declaration_sound k (incomplete_type spot name) w q = incomplete_sound k name w
-declaration_sound k (access_type spot name designated aspect) w q = access_sound k name designated w q.1.0
-declaration_sound k (record_type spot name definition) w q = record_sound k name definition w
+declaration_sound k (access_type spot name designated aspect) w q = access_sound k name designated (none_ended k spot q.0) w q.1.1.0
+declaration_sound k (record_type spot name definition) w q = record_sound k name definition (none_ended k spot q.0) w
 declaration_sound k (instance spot name generic object access) w q = instance_sound_at k name (freed_found k access (record_found k object)) w (found_access k access (record_found k object) w.names)
-declaration_sound k (constant_declaration name value) w q = name_sound k name.text (entity.Number (static_value k value)) w tt tt tt
+declaration_sound k (constant_declaration name value) w q = name_sound k name.text (entity.Number (static_value k value)) w tt tt tt tt (λ none. tt)
 declaration_sound k (exception_declaration name) w q = exception_sound k name w
 declaration_sound k (object_declaration name type_name initial) w q =
     let m = after_types k in

@@ -1,20 +1,26 @@
 -- What was given on the way, where something is given at the end.
 
-use Rattle.std.proofs.Common.{◌≡◌, ◌∙◌, Bool, true, List, length, refl, sym, ap}
-use Rattle.std.specs.Prelude.{Some, None}
+use Rattle.std.proofs.Common.{◌≡◌, ◌∙◌, ℕ, Bool, true, false, cond, List, length, refl, sym, ap}
+use Rattle.std.specs.Prelude.{Option, Some, None, bytes_eq}
+use Rattle.std.proofs.lemmas.Slice.Eq.{bytes_eq-Decides}
 use Rattle.ada_text.specs.declared.spot.Spot.{Spot}
 use Rattle.ada_program.specs.Form.{ExpressionForm, StmtForm, chooses, encloses, StmtsForm, a_stmt, BranchesForm, HandlersForm}
 use Rattle.ada_program.specs.Form as form
 use Rattle.ada_program.specs.declared.program.Choice.{Choice}
-use Rattle.ada_tree.specs.Declarations.{ChoiceTree}
+use Rattle.ada_tree.specs.Declarations.{ChoiceTree, HeadTree}
+use Rattle.ada_tree.specs.Names.{Ident}
+use Rattle.ada_resolve.specs.declared.fault.NameRule.{NameRule}
+use Rattle.ada_resolve.specs.declared.fault.NameRule.TheVariants.{UnknownName}
+use Rattle.ada_resolve.specs.Procedures.{behind_head, body_ended, body_head_remark}
+use Rattle.ada_resolve.specs.Reading.{IsEndName}
 use Rattle.ada_tree.specs.Expressions.{ExpressionTree}
-use Rattle.ada_tree.specs.Statements.{DeclarationsTree, SchemeTree, endless, while_scheme, for_scheme, StatementTree, if_statement, loop_statement, block, declare_block, StatementsTree, a_statement, BranchesTree, a_branch, HandlersTree, a_handler, SequenceTree, a_sequence, begin_of}
+use Rattle.ada_tree.specs.Statements.{DeclarationTree, body_declaration, DeclarationsTree, a_declaration, SchemeTree, endless, while_scheme, for_scheme, StatementTree, if_statement, loop_statement, block, declare_block, StatementsTree, a_statement, BranchesTree, a_branch, HandlersTree, a_handler, SequenceTree, a_sequence, begin_of}
 use Rattle.ada_resolve.specs.declared.notes.Notes.{Notes}
 use Rattle.ada_resolve.specs.Exceptions.{choices_meant, choices_remark}
 use Rattle.ada_resolve.specs.Known.{Known, with_part, without_part}
 use Rattle.ada_resolve.specs.Objects.{after_types}
 use Rattle.ada_resolve.specs.Remark.{node, ◌also◌, noted}
-use Rattle.ada_resolve.specs.Resolution.{Told, broken, gives, and_then, settled, At, declarations_told, begin_remark, at_begin, made_into, knowing, node_told, condition_told, LoopHead, on_condition, over_range, range_remark, with_parameter, head_told, loop_of, behind_loop, ended_loop, ended_block, body_remark, simple_told, choices_told, Others, statement_told, block_told, statements_told, branches_told, handlers_told}
+use Rattle.ada_resolve.specs.Resolution.{Told, broken, gives, and_then, settled, At, declarations_told, begin_remark, at_begin, made_into, knowing, node_told, condition_told, LoopHead, on_condition, over_range, range_remark, with_parameter, head_told, loop_of, behind_loop, ended_loop, ended_block, body_remark, simple_told, choices_told, Others, statement_told, sequence_told, SequenceForm, block_of, known_at, declaration_remark, declaration_known, single_told, declaration_told, body_head_told, same_name, ended_body, statements_told, branches_told, handlers_told}
 use Rattle.ada_resolve.specs.Statements.{bound_meant, condition_meant, condition_remark, simple_texts, statement_meant, statement_remark, with_texts}
 use Rattle.ada_resolve.proofs.WellFormed.Remarks.{Quiet, noted_quiet, settled_all, settled_quiet}
 
@@ -137,16 +143,32 @@ loop_done inside spot scheme ss last at done is =
     let made = loop_gives head.0.0 last (statements_told true ss head.0.1) done head.2 in
     record { head = head.0; head_so = head_done spot scheme ss at head.0 head.1; own = made.0; told = made.1; form = made.2; known = made.3 }
 
+-- a block that ends
+block_gives : (t : Told (SequenceForm × At)) (y : StmtForm × At) → ended_block t ≡ gives y → (x : SequenceForm × At) × (t ≡ gives x) × (y.0 ≡ block_of x.1.0 x.0) × (y.1.0 ≡ without_part x.1.0)
+block_gives (broken spot rule) y e = absurd (cc e)
+block_gives (gives x) y e = let same : y ≡ (block_of x.1.0 x.0, (without_part x.1.0, x.1.1)) = cc e in (x, refl, first_same same, first_same (second_same same))
+
 -- a block with no declarations
 pub record BlockDone (inside : Bool) (body : SequenceTree) (at : At) (done : StmtForm × At) : Type 0 where
   pub inner : At
   pub inner_known : inner.0 ≡ with_part at.0
-  pub told : block_told inside body inner ≡ gives done
+  pub body_done : SequenceForm × At
+  pub told : sequence_told inside body inner ≡ gives body_done
+  pub form : done.0 ≡ block_of body_done.1.0 body_done.0
+  pub known : done.1.0 ≡ without_part body_done.1.0
 
 pub block_done : (inside : Bool) (body : SequenceTree) (at : At) (done : StmtForm × At) → statement_told inside (block body) at ≡ gives done → BlockDone inside body at done
 block_done inside body at done is =
-    let head = gone_on (node_told (begin_of body) (with_part at.0) at.1) (λ inner. block_told inside body inner) done is in
-    record { inner = head.0; inner_known = node_done (begin_of body) (with_part at.0) at.1 head.0 head.1; told = head.2 }
+    let head = gone_on (node_told (begin_of body) (with_part at.0) at.1) (λ inner. ended_block (sequence_told inside body inner)) done is in
+    let made = block_gives (sequence_told inside body head.0) done head.2 in
+    record {
+      inner = head.0;
+      inner_known = node_done (begin_of body) (with_part at.0) at.1 head.0 head.1;
+      body_done = made.0;
+      told = made.1;
+      form = made.2;
+      known = made.3;
+    }
 
 -- a block with declarations
 pub record DeclareDone (inside : Bool) (ds : DeclarationsTree) (body : SequenceTree) (at : At) (done : StmtForm × At) : Type 0 where
@@ -154,21 +176,29 @@ pub record DeclareDone (inside : Bool) (ds : DeclarationsTree) (body : SequenceT
   pub inner_known : inner.0 ≡ with_part at.0
   pub behind : At
   pub declared : declarations_told ds inner ≡ gives behind
-  pub told : block_told inside body behind ≡ gives done
+  pub body_done : SequenceForm × At
+  pub told : sequence_told inside body behind ≡ gives body_done
+  pub form : done.0 ≡ block_of body_done.1.0 body_done.0
+  pub known : done.1.0 ≡ without_part body_done.1.0
 
 pub declare_done : (inside : Bool) (spot : Spot) (ds : DeclarationsTree) (body : SequenceTree) (at : At) (done : StmtForm × At) → statement_told inside (declare_block spot ds body) at ≡ gives done → DeclareDone inside ds body at done
 declare_done inside spot ds body at done is =
-    let head = gone_on (node_told spot (with_part at.0) at.1) (λ inner. and_then (declarations_told ds inner) (λ behind. block_told inside body behind)) done is in
-    let next = gone_on (declarations_told ds head.0) (λ behind. block_told inside body behind) done head.2 in
-    record { inner = head.0; inner_known = node_done spot (with_part at.0) at.1 head.0 head.1; behind = next.0; declared = next.1; told = next.2 }
+    let head = gone_on (node_told spot (with_part at.0) at.1) (λ inner. and_then (declarations_told ds inner) (λ behind. ended_block (sequence_told inside body behind))) done is in
+    let next = gone_on (declarations_told ds head.0) (λ behind. ended_block (sequence_told inside body behind)) done head.2 in
+    let made = block_gives (sequence_told inside body next.0) done next.2 in
+    record {
+      inner = head.0;
+      inner_known = node_done spot (with_part at.0) at.1 head.0 head.1;
+      behind = next.0;
+      declared = next.1;
+      body_done = made.0;
+      told = made.1;
+      form = made.2;
+      known = made.3;
+    }
 
--- a block that ends
-block_gives : (forms : StmtsForm) (t : Told (HandlersForm × At)) (y : StmtForm × At) → ended_block forms t ≡ gives y → (x : HandlersForm × At) × (t ≡ gives x) × (y.0 ≡ encloses x.1.0.here.elaborated forms x.0) × (y.1.0 ≡ without_part x.1.0)
-block_gives forms (broken spot rule) y e = absurd (cc e)
-block_gives forms (gives x) y e = let same : y ≡ (encloses x.1.0.here.elaborated forms x.0, (without_part x.1.0, x.1.1)) = cc e in (x, refl, first_same same, first_same (second_same same))
-
--- a block whose declarations are known
-pub record SequenceDone (inside : Bool) (start : Spot) (ss : StatementsTree) (hs : HandlersTree) (at : At) (done : StmtForm × At) : Type 0 where
+-- the statements and the handlers of a part whose declarations are known
+pub record SequenceDone (inside : Bool) (start : Spot) (ss : StatementsTree) (hs : HandlersTree) (at : At) (done : SequenceForm × At) : Type 0 where
   pub quiet : Quiet (begin_remark at.0 start)
   pub ready : At
   pub ready_known : ready.0 ≡ after_types at.0
@@ -176,15 +206,15 @@ pub record SequenceDone (inside : Bool) (start : Spot) (ss : StatementsTree) (hs
   pub told : statements_told inside ss ready ≡ gives own
   pub handled : HandlersForm × At
   pub handlers_so : handlers_told inside hs own.1 ≡ gives handled
-  pub form : done.0 ≡ encloses handled.1.0.here.elaborated own.0 handled.0
-  pub known : done.1.0 ≡ without_part handled.1.0
+  pub form : done.0 ≡ (own.0, handled.0)
+  pub known : done.1.0 ≡ handled.1.0
 
-pub sequence_done : (inside : Bool) (start : Spot) (ss : StatementsTree) (hs : HandlersTree) (last : Spot) (at : At) (done : StmtForm × At) → block_told inside (a_sequence start ss hs last) at ≡ gives done → SequenceDone inside start ss hs at done
+pub sequence_done : (inside : Bool) (start : Spot) (ss : StatementsTree) (hs : HandlersTree) (last : Spot) (at : At) (done : SequenceForm × At) → sequence_told inside (a_sequence start ss hs last) at ≡ gives done → SequenceDone inside start ss hs at done
 sequence_done inside start ss hs last at done is =
-    let head = gone_on (at_begin start at) (λ ready. and_then (statements_told inside ss ready) (λ own. ended_block own.0 (handlers_told inside hs own.1))) done is in
+    let head = gone_on (at_begin start at) (λ ready. and_then (statements_told inside ss ready) (λ own. made_into (λ handled. (own.0, handled)) (handlers_told inside hs own.1))) done is in
     let told = settled_quiet (begin_remark at.0 start) at.1 (after_types at.0) head.0 head.1 in
-    let next = gone_on (statements_told inside ss head.0) (λ own. ended_block own.0 (handlers_told inside hs own.1)) done head.2 in
-    let made = block_gives next.0.0 (handlers_told inside hs next.0.1) done next.2 in
+    let next = gone_on (statements_told inside ss head.0) (λ own. made_into (λ handled. (own.0, handled)) (handlers_told inside hs own.1)) done head.2 in
+    let made = made_from (λ (handled : HandlersForm). (next.0.0, handled)) (handlers_told inside hs next.0.1) done next.2 in
     record {
       quiet = told.0;
       ready = head.0;
@@ -194,8 +224,84 @@ sequence_done inside start ss hs last at done is =
       handled = made.0;
       handlers_so = made.1;
       form = made.2;
-      known = made.3;
+      known = first_same made.3;
     }
+
+-- the end name changes nothing
+named_gives : {X : Type 0} (b : Bool) (spot : Spot) (rule : NameRule) (x y : X) → cond b (gives x) (broken spot rule) ≡ gives y → x ≡ y
+named_gives true spot rule x y e = cc e
+named_gives false spot rule x y e = absurd (cc e)
+
+pub same_gives : {X : Type 0} (procedure : List ℕ) (o : Option Ident) (x y : X) → same_name procedure o x ≡ gives y → x ≡ y
+same_gives procedure None x y e = cc e
+same_gives procedure (Some name) x y e = named_gives (bytes_eq name.text procedure) name.spot UnknownName x y e
+
+-- it is the procedure's own, where one is written
+pub same_end : {X : Type 0} (procedure : List ℕ) (o : Option Ident) (x y : X) → same_name procedure o x ≡ gives y → IsEndName procedure o
+same_end procedure None x y e = tt
+same_end procedure (Some name) x y e = by_name (bytes_eq name.text procedure) refl e
+  where
+    by_name : (b : Bool) → bytes_eq name.text procedure ≡ b → cond b (gives x) (broken name.spot UnknownName) ≡ gives y → name.text ≡ procedure
+    by_name true on e = (bytes_eq-Decides name.text procedure).0 on
+    by_name false on e = absurd (cc e)
+
+-- a body that ends
+body_gives : (name : Ident) (end_name : Option Ident) (t : Told (SequenceForm × At)) (y : At) → ended_body name end_name t ≡ gives y → (x : SequenceForm × At) × (t ≡ gives x) × (y.0 ≡ body_ended name x.0.0 x.0.1 x.1.0) × IsEndName name.text end_name
+body_gives name end_name (broken spot rule) y e = absurd (cc e)
+body_gives name end_name (gives x) y e =
+    let z : At = (body_ended name x.0.0 x.0.1 x.1.0, x.1.1) in
+    (x, refl, first_same (sym (same_gives name.text end_name z y e)), same_end name.text end_name z y e)
+
+-- the body of a procedure
+pub record ProcedureDone (head : HeadTree) (ds : DeclarationsTree) (body : SequenceTree) (end_name : Option Ident) (at next : At) : Type 0 where
+  pub quiet : Quiet (body_head_remark (after_types at.0) head)
+  pub inner : At
+  pub inner_known : inner.0 ≡ behind_head (after_types at.0) head
+  pub behind : At
+  pub declared : declarations_told ds inner ≡ gives behind
+  pub done : SequenceForm × At
+  pub told : sequence_told false body behind ≡ gives done
+  pub known : next.0 ≡ body_ended head.name done.0.0 done.0.1 done.1.0
+  pub end_so : IsEndName head.name.text end_name
+
+pub procedure_done : (head : HeadTree) (ds : DeclarationsTree) (body : SequenceTree) (end_name : Option Ident) (at next : At) → declaration_told (body_declaration head ds body end_name) at ≡ gives next → ProcedureDone head ds body end_name at next
+procedure_done head ds body end_name at next is =
+    let first = gone_on (body_head_told head at) (λ inner. and_then (declarations_told ds inner) (λ behind. ended_body head.name end_name (sequence_told false body behind))) next is in
+    let told = settled_quiet (body_head_remark (after_types at.0) head) at.1 (behind_head (after_types at.0) head) first.0 first.1 in
+    let behind = gone_on (declarations_told ds first.0) (λ behind. ended_body head.name end_name (sequence_told false body behind)) next first.2 in
+    let made = body_gives head.name end_name (sequence_told false body behind.0) next behind.2 in
+    record {
+      quiet = told.0;
+      inner = first.0;
+      inner_known = told.1;
+      behind = behind.0;
+      declared = behind.1;
+      done = made.0;
+      told = made.1;
+      known = made.2;
+      end_so = made.3;
+    }
+
+-- a declaration with no others in it
+pub record SingleDone (d : DeclarationTree) (at next : At) : Type 0 where
+  pub quiet : Quiet (declaration_remark (known_at at.0 d) d)
+  pub known : next.0 ≡ declaration_known (known_at at.0 d) d
+
+pub single_done : (d : DeclarationTree) (at next : At) → single_told d at ≡ gives next → SingleDone d at next
+single_done d at next is =
+    let told = settled_quiet (declaration_remark (known_at at.0 d) d) at.1 (declaration_known (known_at at.0 d) d) next is in
+    record { quiet = told.0; known = told.1 }
+
+-- a declaration and those behind it
+pub record DeclarationsDone (d : DeclarationTree) (ds : DeclarationsTree) (at after : At) : Type 0 where
+  pub next : At
+  pub one : declaration_told d at ≡ gives next
+  pub told : declarations_told ds next ≡ gives after
+
+pub declarations_done : (d : DeclarationTree) (ds : DeclarationsTree) (at after : At) → declarations_told (a_declaration d ds) at ≡ gives after → DeclarationsDone d ds at after
+declarations_done d ds at after e =
+    let next = gone_on (declaration_told d at) (λ behind. declarations_told ds behind) after e in
+    record { next = next.0; one = next.1; told = next.2 }
 
 -- a statement and those behind it
 pub record StatementsDone (inside : Bool) (s : StatementTree) (ss : StatementsTree) (at : At) (done : StmtsForm × At) : Type 0 where

@@ -13,7 +13,7 @@ use Rattle.ada_resolve.specs.declared.scope.Entity.{Entity}
 use Rattle.ada_resolve.specs.declared.scope.Entity.TheVariants as entity
 use Rattle.ada_resolve.specs.Exceptions.{with_exception}
 use Rattle.ada_resolve.specs.Instances.{with_elaborated}
-use Rattle.ada_resolve.specs.Known.{Known, Named, named, entered, declared, new_name_remark}
+use Rattle.ada_resolve.specs.Known.{Known, Named, named, entered, declared, new_name_remark, no_body_yet}
 use Rattle.ada_resolve.specs.Objects.{with_variable}
 use Rattle.ada_resolve.specs.Paths.{name_of_type}
 use Rattle.ada_resolve.specs.Types.{incomplete_of, completed_type, new_unless, defined, number_of, with_definition}
@@ -75,16 +75,19 @@ settled_entered ns text e t own old other u is =
 -- a new name, with types that only grow; it stands for no incomplete type, or for a new one
 pub keeps_new : (k : Known) (text : List ℕ) (e : Entity) (types : List TypeForm) → named text k.here.names ≡ None → ((t : ℕ) (form : TypeForm) → slice_get k.types t ≡ Some form → slice_get types t ≡ Some form) → length k.types ≤ length types → IsBehind (length k.types) e → Keeps k (declared (record k { types = types }) text e)
 keeps_new k text e types none grow long own = record {
-  types = λ t form is settled. (grow t form is, settled_entered k.here.names text e t (other_own t (length k.types) e (get_within k.types t form is) own) settled);
+  types = λ t form is settled. (grow t form is, λ none. settled_entered k.here.names text e t (other_own t (length k.types) e (get_within k.types t form is) own) (settled none));
   accesses = λ t name d is. grow t (access_to name d) is;
   type_names = λ t name is. named_type t name (slice_get k.types t) refl is;
   names = λ other x s is. old_name k.here.names text other e x none is;
   more = long;
   variables = λ x v is. is;
   exceptions = λ x v is. is;
-  texts = refl;
+  texts = λ t x is. is;
+  bodies = λ t x is. is;
   first_type = refl;
   first_variable = refl;
+  first_body = refl;
+  around = refl;
   outer = refl;
   withs = refl;
   procedure = refl;
@@ -99,18 +102,21 @@ pub keeps_name : (k : Known) (text : List ℕ) (e : Entity) → named text k.her
 keeps_name k text e none own = keeps_new k text e k.types none (λ t form is. is) (omega arith) own
 
 -- a completed name
-pub keeps_full : (k : Known) (text : List ℕ) (e : Entity) (t : TypeNo) (form : TypeForm) → Sound k → named text k.here.names ≡ Some (entity.Incomplete t) → name_of_type (Some form) ≡ Some text → IsSettledEntity e → Keeps k (declared (record k { types = slice_set k.types t.0 form }) text e)
-keeps_full k text e t form w there own done = record {
-  types = λ u x is settled. (get_other k.types t.0 u form (λ same. settled text t there same) ∙ is, settled_entered k.here.names text e u (no_other u e done) settled);
+pub keeps_full : (k : Known) (text : List ℕ) (e : Entity) (t : TypeNo) (form : TypeForm) → no_body_yet k ≡ true → Sound k → named text k.here.names ≡ Some (entity.Incomplete t) → name_of_type (Some form) ≡ Some text → IsSettledEntity e → Keeps k (declared (record k { types = slice_set k.types t.0 form }) text e)
+keeps_full k text e t form none w there own done = record {
+  types = λ u x is settled. (get_other k.types t.0 u form (λ same. settled none text t there same) ∙ is, λ yet. settled_entered k.here.names text e u (no_other u e done) (settled yet));
   accesses = λ u name d is. get_other k.types t.0 u form (λ same. no_access name d (subst (λ (n : ℕ). slice_get k.types n ≡ Some (access_to name d)) (sym same) is)) ∙ is;
   type_names = λ u name is. by_number u name is (eqb t.0 u) refl;
   names = λ other x s is. named_entered k.here.names text other e ∙ by_text other x s is (bytes_eq other text) refl;
   more = let h = length_set k.types t.0 form in omega arith;
   variables = λ x v is. is;
   exceptions = λ x v is. is;
-  texts = refl;
+  texts = λ t x is. is;
+  bodies = λ t x is. is;
   first_type = refl;
   first_variable = refl;
+  first_body = refl;
+  around = refl;
   outer = refl;
   withs = refl;
   procedure = refl;
@@ -145,13 +151,13 @@ keeps_full k text e t form w there own done = record {
         unsettled x s same = cc same
 
 -- a type that is declared
-pub keeps_defined : (k : Known) (text : List ℕ) (e : Entity) (c : Option TypeNo) (form : TypeForm) → Sound k → IsSlot k text c → name_of_type (Some form) ≡ Some text → IsSettledEntity e → Keeps k (declared (record k { types = defined c form k.types }) text e)
-keeps_defined k text e None form w slot own done = keeps_new k text e (k.types ++ form ∷ []) slot (λ t x is. get_more k.types form t x is) (one_longer k.types form) (own_settled e done)
+pub keeps_defined : (k : Known) (text : List ℕ) (e : Entity) (c : Option TypeNo) (form : TypeForm) → no_body_yet k ≡ true → Sound k → IsSlot k text c → name_of_type (Some form) ≡ Some text → IsSettledEntity e → Keeps k (declared (record k { types = defined c form k.types }) text e)
+keeps_defined k text e None form yet w slot own done = keeps_new k text e (k.types ++ form ∷ []) slot (λ t x is. get_more k.types form t x is) (one_longer k.types form) (own_settled e done)
   where
     own_settled : (x : Entity) → IsSettledEntity x → IsBehind (length k.types) x
     own_settled (entity.Incomplete u) s = absurd s
     own_settled x s = tt
-keeps_defined k text e (Some t) form w slot own done = keeps_full k text e t form w slot own done
+keeps_defined k text e (Some t) form yet w slot own done = keeps_full k text e t form yet w slot own done
 
 -- it is there
 pub defined_there : (k : Known) (text : List ℕ) (c : Option TypeNo) (form : TypeForm) → Sound k → IsSlot k text c → slice_get (defined c form k.types) (number_of c k.types).0 ≡ Some form
@@ -168,9 +174,12 @@ keeps_elaborated es k = record {
   more = omega arith;
   variables = λ t x is. is;
   exceptions = λ t x is. is;
-  texts = refl;
+  texts = λ t x is. is;
+  bodies = λ t x is. is;
   first_type = refl;
   first_variable = refl;
+  first_body = refl;
+  around = refl;
   outer = refl;
   withs = refl;
   procedure = refl;
@@ -186,9 +195,12 @@ keeps_object_type r k = record {
   more = one_longer k.types (object_of r);
   variables = λ t x is. is;
   exceptions = λ t x is. is;
-  texts = refl;
+  texts = λ t x is. is;
+  bodies = λ t x is. is;
   first_type = refl;
   first_variable = refl;
+  first_body = refl;
+  around = refl;
   outer = refl;
   withs = refl;
   procedure = refl;
@@ -208,9 +220,12 @@ keeps_variable v k = record {
   more = omega arith;
   variables = λ t x is. get_more k.variables v t x is;
   exceptions = λ t x is. is;
-  texts = refl;
+  texts = λ t x is. is;
+  bodies = λ t x is. is;
   first_type = refl;
   first_variable = refl;
+  first_body = refl;
+  around = refl;
   outer = refl;
   withs = refl;
   procedure = refl;
@@ -226,9 +241,12 @@ keeps_exception name k = record {
   more = omega arith;
   variables = λ t x is. is;
   exceptions = λ t x is. get_more k.exceptions name t x is;
-  texts = refl;
+  texts = λ t x is. is;
+  bodies = λ t x is. is;
   first_type = refl;
   first_variable = refl;
+  first_body = refl;
+  around = refl;
   outer = refl;
   withs = refl;
   procedure = refl;

@@ -4,21 +4,21 @@ use Rattle.std.proofs.Common.{◌≡◌, ◌∙◌, ℕ, ◌<◌, ◌≤◌, tru
 use Rattle.std.specs.Prelude.{Bool, Option, Some, None, bytes_eq}
 use Rattle.std.specs.List.{list_all, slice_get}
 use Rattle.ada_program.specs.declared.program.TypeNo.{TypeNo}
-use Rattle.ada_program.specs.ProgramForm.{TypeForm, record_of, access_to, object_of, VariableForm}
+use Rattle.ada_program.specs.ProgramForm.{TypeForm, record_of, access_to, object_of, VariableForm, BodyForm}
 use Rattle.ada_program.specs.WellFormed as fits
 use Rattle.ada_resolve.specs.declared.library.Withs.{Withs}
 use Rattle.ada_resolve.specs.declared.scope.Entity.{Entity}
 use Rattle.ada_resolve.specs.declared.scope.Entity.TheVariants as entity
-use Rattle.ada_resolve.specs.Known.{Known, Named, Part, named, named_in, inner_first, outermost, visible, parts}
+use Rattle.ada_resolve.specs.Known.{Known, Named, Part, named, from_part, named_in, inner_first, outermost, visible, parts, no_body_yet}
 use Rattle.ada_resolve.specs.Paths.{name_of_type}
 use Rattle.ada_resolve.specs.Resolution.{known_first}
 use Rattle.ada_resolve.proofs.WellFormed.Laid.{IsUnused}
-use Rattle.ada_resolve.proofs.WellFormed.Names.{PartsFit, first_of_two, outermost_fits}
+use Rattle.ada_resolve.proofs.WellFormed.Names.{PartsFit, first_of_two, within_of, outermost_fits}
 use Rattle.ada_resolve.proofs.WellFormed.Exceptions.{PartsRaised}
 
 -- what a name of a complete part stands for, whose types have lower numbers than this
 abbrev pub IsBefore : ℕ → Entity → Type 0
-IsBefore n (entity.Incomplete t) = ⊥
+IsBefore n (entity.Incomplete t) = t.0 < n
 IsBefore n (entity.Record t size) = t.0 < n
 IsBefore n (entity.Access t) = t.0 < n
 IsBefore n (entity.Instance t) = t.0 < n
@@ -32,12 +32,26 @@ abbrev pub PartsBefore : ℕ → List Part → Type 0
 PartsBefore n [] = Unit {0}
 PartsBefore n (part ∷ outer) = AllBefore n part.names × PartsBefore n outer
 
--- the types of the innermost part come behind all others, and the parts around it are complete
+-- a procedure that may be called has a body that has ended
+abbrev pub IsCalled : ℕ → Entity → Type 0
+IsCalled n (entity.Callable p) = p.0 < n
+IsCalled n e = Unit {0}
+
+abbrev pub AllCalled : ℕ → List Named → Type 0
+AllCalled n names = (text : List ℕ) (e : Entity) → named text names ≡ Some e → IsCalled n e
+
+-- and so in each part
+abbrev pub PartsCalled : ℕ → List Part → Type 0
+PartsCalled n [] = Unit {0}
+PartsCalled n (part ∷ outer) = AllCalled n part.names × PartsCalled n outer
+
+-- the types of the innermost part come behind all others; where no body stands before in the part, no component is of an incomplete type of it
 pub record IsBounded (k : Known) : Type 0 where
   pub first : k.here.first_type ≤ length k.types
   pub first_variable : k.here.first_variable ≤ length k.variables
+  pub first_body : k.here.first_body ≤ length k.bodies
   pub open_own : (text : List ℕ) (t : TypeNo) → named text k.here.names ≡ Some (entity.Incomplete t) → k.here.first_type ≤ t.0
-  pub open_unused : (text : List ℕ) (t : TypeNo) → named text k.here.names ≡ Some (entity.Incomplete t) → IsUnused k.types t.0
+  pub open_unused : no_body_yet k ≡ true → (text : List ℕ) (t : TypeNo) → named text k.here.names ≡ Some (entity.Incomplete t) → IsUnused k.types t.0
   pub outer_before : PartsBefore k.here.first_type k.outer
 
 -- what is known is in order, at any place
@@ -46,6 +60,7 @@ pub record Sound (k : Known) : Type 0 where
   pub variables_fit : list_all (fits.variable_fits k.types) k.variables ≡ true
   pub names : PartsFit k.types k.variables (parts k)
   pub exceptions : PartsRaised k.exceptions (parts k)
+  pub called : PartsCalled (length k.bodies) (parts k)
   pub bounds : IsBounded k
 
 -- no name of the innermost part stands for an incomplete type
@@ -58,10 +73,11 @@ pub record Grows (k m : Known) : Type 0 where
   pub variables : (x : ℕ) (v : VariableForm) → slice_get k.variables x ≡ Some v → slice_get m.variables x ≡ Some v
   pub exceptions : (n : ℕ) (name : List ℕ) → slice_get k.exceptions n ≡ Some name → slice_get m.exceptions n ≡ Some name
   pub texts : (n : ℕ) (text : List ℕ) → slice_get k.texts n ≡ Some text → slice_get m.texts n ≡ Some text
+  pub bodies : (n : ℕ) (b : BodyForm) → slice_get k.bodies n ≡ Some b → slice_get m.bodies n ≡ Some b
 
--- no name of the innermost part stands for this type, incomplete
+-- no name of the innermost part stands for this type, incomplete; behind a body no type is completed
 abbrev pub IsSettled : Known → ℕ → Type 0
-IsSettled k t = (text : List ℕ) (u : TypeNo) → named text k.here.names ≡ Some (entity.Incomplete u) → u.0 ≡ t → ⊥
+IsSettled k t = no_body_yet k ≡ true → (text : List ℕ) (u : TypeNo) → named text k.here.names ≡ Some (entity.Incomplete u) → u.0 ≡ t → ⊥
 
 -- a name that stands for the same from now on
 abbrev pub IsSettledEntity : Entity → Type 0
@@ -78,9 +94,12 @@ pub record Keeps (k m : Known) : Type 0 where
   pub more : length k.types ≤ length m.types
   pub variables : (x : ℕ) (v : VariableForm) → slice_get k.variables x ≡ Some v → slice_get m.variables x ≡ Some v
   pub exceptions : (n : ℕ) (name : List ℕ) → slice_get k.exceptions n ≡ Some name → slice_get m.exceptions n ≡ Some name
-  pub texts : m.texts ≡ k.texts
+  pub texts : (n : ℕ) (text : List ℕ) → slice_get k.texts n ≡ Some text → slice_get m.texts n ≡ Some text
+  pub bodies : (n : ℕ) (b : BodyForm) → slice_get k.bodies n ≡ Some b → slice_get m.bodies n ≡ Some b
   pub first_type : m.here.first_type ≡ k.here.first_type
   pub first_variable : m.here.first_variable ≡ k.here.first_variable
+  pub first_body : m.here.first_body ≡ k.here.first_body
+  pub around : m.here.around ≡ k.here.around
   pub outer : m.outer ≡ k.outer
   pub withs : m.withs ≡ k.withs
   pub procedure : m.procedure ≡ k.procedure
@@ -95,9 +114,10 @@ pub record Stays (k m : Known) : Type 0 where
   pub procedure : m.procedure ≡ k.procedure
   pub grows : Grows k m
 
--- a place in a part right within the innermost part of another place, behind it
+-- a place in a part right within the innermost part of another place, behind it, and in the same body
 pub record Inside (k m : Known) : Type 0 where
   pub sound : Sound m
+  pub around : m.here.around ≡ None
   pub outer : m.outer ≡ parts k
   pub withs : m.withs ≡ k.withs
   pub procedure : m.procedure ≡ k.procedure
@@ -112,11 +132,14 @@ longer (x ∷ xs) (y ∷ ys) w = let h = longer xs ys (λ i. w (suc i)) in omega
 pub more_types : (k m : Known) → Grows k m → length k.types ≤ length m.types
 more_types k m g = longer k.types m.types g.types
 
+pub more_bodies : (k m : Known) → Grows k m → length k.bodies ≤ length m.bodies
+more_bodies k m g = longer k.bodies m.bodies g.bodies
+
 pub more_variables : (k m : Known) → Grows k m → length k.variables ≤ length m.variables
 more_variables k m g = longer k.variables m.variables g.variables
 
 pub grows_same : (k : Known) → Grows k k
-grows_same k = record { types = λ t x is. is; variables = λ t x is. is; exceptions = λ t x is. is; texts = λ t x is. is }
+grows_same k = record { types = λ t x is. is; variables = λ t x is. is; exceptions = λ t x is. is; texts = λ t x is. is; bodies = λ t x is. is }
 
 pub grows_on : (k m z : Known) → Grows k m → Grows m z → Grows k z
 grows_on k m z f g = record {
@@ -124,6 +147,7 @@ grows_on k m z f g = record {
   variables = λ t x is. g.variables t x (f.variables t x is);
   exceptions = λ t x is. g.exceptions t x (f.exceptions t x is);
   texts = λ t x is. g.texts t x (f.texts t x is);
+  bodies = λ t x is. g.bodies t x (f.bodies t x is);
 }
 
 pub keeps_same : (k : Known) → Keeps k k
@@ -135,9 +159,12 @@ keeps_same k = record {
   more = omega arith;
   variables = λ t x is. is;
   exceptions = λ t x is. is;
-  texts = refl;
+  texts = λ t x is. is;
+  bodies = λ t x is. is;
   first_type = refl;
   first_variable = refl;
+  first_body = refl;
+  around = refl;
   outer = refl;
   withs = refl;
   procedure = refl;
@@ -152,9 +179,12 @@ keeps_on k m z f g = record {
   more = let a = f.more in let b = g.more in omega arith;
   variables = λ t x is. g.variables t x (f.variables t x is);
   exceptions = λ t x is. g.exceptions t x (f.exceptions t x is);
-  texts = g.texts ∙ f.texts;
+  texts = λ t x is. g.texts t x (f.texts t x is);
+  bodies = λ t x is. g.bodies t x (f.bodies t x is);
   first_type = g.first_type ∙ f.first_type;
   first_variable = g.first_variable ∙ f.first_variable;
+  first_body = g.first_body ∙ f.first_body;
+  around = g.around ∙ f.around;
   outer = g.outer ∙ f.outer;
   withs = g.withs ∙ f.withs;
   procedure = g.procedure ∙ f.procedure;
@@ -177,19 +207,20 @@ stays_on k m z f g = record {
 -- where no type is incomplete, all types stay
 pub complete_grows : (k m : Known) → Complete k → Keeps k m → Grows k m
 complete_grows k m c f = record {
-  types = λ t x is. (f.types t x is (λ text u there same. c text u there)).0;
+  types = λ t x is. (f.types t x is (λ none text u there same. c text u there)).0;
   variables = f.variables;
   exceptions = f.exceptions;
-  texts = λ n text is. subst (λ (texts : List (List ℕ)). slice_get texts n ≡ Some text) (sym f.texts) is;
+  texts = f.texts;
+  bodies = f.bodies;
 }
 
 -- a type of a part around is settled
 pub outer_settled : (k : Known) (t : ℕ) → Sound k → t < k.here.first_type → IsSettled k t
-outer_settled k t s before text u there same = let own = s.bounds.open_own text u there in let no : ⊥ = omega (arith, own, same, before) in no
+outer_settled k t s before none text u there same = let own = s.bounds.open_own text u there in let no : ⊥ = omega (arith, own, same, before) in no
 
 -- so is one that a name of the part stands for, complete
 pub record_settled : (k : Known) (text : List ℕ) (t : TypeNo) (size : ℕ) → Sound k → named text k.here.names ≡ Some (entity.Record t size) → IsSettled k t.0
-record_settled k text t size s is other u there same =
+record_settled k text t size s is none other u there same =
     let mine = s.names.0 text (entity.Record t size) is in
     let both_forms : Some (record_of text mine.0 mine.1) ≡ Some (record_of other [] []) = sym mine.2 ∙ (ap (λ n. slice_get k.types n) (sym same) ∙ s.names.0 other (entity.Incomplete u) there) in
     let text_is : text ≡ other = cc both_forms in
@@ -201,7 +232,9 @@ record_settled k text t size s is other u there same =
 -- what a name of the parts around stands for
 before_in : (n : ℕ) (ps : List Part) (text : List ℕ) (e : Entity) → PartsBefore n ps → named_in text ps ≡ Some e → IsBefore n e
 before_in n [] text e b is = absurd (cc is)
-before_in n (p ∷ ps) text e b is = first_of_two (IsBefore n) (named text p.names) (named_in text ps) e (b.0 text) (λ x. before_in n ps text x b.1) is
+before_in n (p ∷ ps) text e b is =
+    first_of_two (IsBefore n) (named text p.names) (from_part p.around (named_in text ps)) e (b.0 text)
+    (λ x there. within_of (IsBefore n) p.around (named_in text ps) x (λ kind r. tt) (λ y. before_in n ps text y b.1) there) is
 
 -- so is one that a name stands for, complete
 pub visible_settled : (k : Known) (text : List ℕ) (t : TypeNo) (size : ℕ) → Sound k → visible k text ≡ Some (entity.Record t size) → IsSettled k t.0
@@ -212,9 +245,11 @@ visible_settled k text t size s is = by_own (named_in text (parts k)) (bytes_eq 
     SettledEntity x = x ≡ entity.Record t size → IsSettled k t.0
 
     by_part : (x : Entity) → named_in text (parts k) ≡ Some x → SettledEntity x
-    by_part x there = first_of_two SettledEntity (named text k.here.names) (named_in text k.outer) x
+    by_part x there = first_of_two SettledEntity (named text k.here.names) (from_part k.here.around (named_in text k.outer)) x
         (λ y own same. record_settled k text t size s (own ∙ ap (λ z. Some z) same))
-        (λ y around same. outer_settled k t.0 s (subst (IsBefore k.here.first_type) same (before_in k.here.first_type k.outer text y s.bounds.outer_before around))) there
+        (λ y around same. outer_settled k t.0 s
+        (subst (IsBefore k.here.first_type) same (within_of (IsBefore k.here.first_type) k.here.around (named_in text k.outer) y (λ kind r. tt)
+        (λ z. before_in k.here.first_type k.outer text z s.bounds.outer_before) around))) there
 
     by_own : (own : Option Entity) (b : Bool) → named_in text (parts k) ≡ own → inner_first own b (outermost k.withs text) ≡ Some (entity.Record t size) → IsSettled k t.0
     by_own (Some x) b there e = let same : x ≡ entity.Record t size = cc e in by_part x there same
@@ -223,11 +258,11 @@ visible_settled k text t size s is = by_own (named_in text (parts k)) (bytes_eq 
 
 -- and one that is no record type
 pub known_settled : (k : Known) (t : ℕ) (name : List ℕ) (d : ℕ) → Sound k → slice_get k.types t ≡ Some (access_to name d) → IsSettled k t
-known_settled k t name d s is other u there same =
+known_settled k t name d s is none other u there same =
     let both_forms : Some (access_to name d) ≡ Some (record_of other [] []) = sym is ∙ (ap (λ n. slice_get k.types n) (sym same) ∙ s.names.0 other (entity.Incomplete u) there) in cc both_forms
 
 pub object_settled : (k : Known) (t r : ℕ) → Sound k → slice_get k.types t ≡ Some (object_of r) → IsSettled k t
-object_settled k t r s is other u there same =
+object_settled k t r s is none other u there same =
     let both_forms : Some (object_of r) ≡ Some (record_of other [] []) = sym is ∙ (ap (λ n. slice_get k.types n) (sym same) ∙ s.names.0 other (entity.Incomplete u) there) in cc both_forms
 
 -- nothing is declared at first
@@ -237,7 +272,8 @@ first_sound withs procedure = record {
   variables_fit = refl;
   names = (λ t x e. absurd (cc e), (λ t form e. absurd (cc e), refl));
   exceptions = (λ t x e. absurd (cc e), tt);
-  bounds = record { first = omega arith; first_variable = omega arith; open_own = λ text t e. absurd (cc e); open_unused = λ text t e. absurd (cc e); outer_before = tt };
+  called = (λ t x e. absurd (cc e), tt);
+  bounds = record { first = omega arith; first_variable = omega arith; first_body = omega arith; open_own = λ text t e. absurd (cc e); open_unused = λ none text t e. absurd (cc e); outer_before = tt };
 }
 
 pub first_complete : (withs : Withs) (procedure : List ℕ) → Complete (known_first withs procedure)

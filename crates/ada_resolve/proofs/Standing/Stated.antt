@@ -1,20 +1,28 @@
 -- Statements leave the parts as they were.
 
-use Rattle.std.proofs.Common.{◌≡◌, ℕ, Bool, true, List, [], ◌∷◌, ◌++◌, refl, sym, ap, subst, zero, suc}
+use Rattle.std.proofs.Common.{◌≡◌, ◌∙◌, ℕ, Bool, true, false, List, [], ◌∷◌, ◌++◌, refl, sym, ap, subst, zero, suc}
 use Rattle.std.specs.Prelude.{Some}
 use Rattle.std.specs.List.{slice_get}
 use Rattle.ada_text.specs.declared.spot.Spot.{Spot}
 use Rattle.ada_program.specs.Form.{StmtForm, StmtsForm, no_stmts, BranchesForm, otherwise, HandlersForm}
 use Rattle.ada_program.specs.Form as form
-use Rattle.ada_tree.specs.Statements.{SchemeTree, endless, while_scheme, for_scheme, StatementTree, if_statement, loop_statement, block, declare_block, StatementsTree, no_statements, a_statement, BranchesTree, no_branches, a_branch, HandlersTree, no_handlers, a_handler, SequenceTree, a_sequence}
-use Rattle.ada_resolve.specs.Known.{Known}
+use Rattle.ada_tree.specs.Statements.{DeclarationTree, body_declaration, DeclarationsTree, no_declarations, a_declaration, SchemeTree, endless, while_scheme, for_scheme, StatementTree, if_statement, loop_statement, block, declare_block, StatementsTree, no_statements, a_statement, BranchesTree, no_branches, a_branch, HandlersTree, no_handlers, a_handler, SequenceTree, a_sequence}
+use Rattle.ada_resolve.specs.Known.{Known, Part, new_name_remark}
+use Rattle.std.specs.Prelude.{Option}
+use Rattle.ada_tree.specs.Names.{Ident}
+use Rattle.ada_tree.specs.Declarations.{HeadTree}
+use Rattle.ada_resolve.specs.Procedures.{body_head_remark}
+use Rattle.ada_resolve.specs.Spots.{first_or}
+use Rattle.ada_resolve.proofs.WellFormed.Remarks.{Quiet}
 use Rattle.ada_resolve.specs.Objects.{after_types}
-use Rattle.ada_resolve.specs.Resolution.{gives, At, LoopHead, behind_loop, Others, simple_told, statement_told, block_told, statements_told, branches_told, handlers_told}
+use Rattle.ada_resolve.specs.Resolution.{gives, At, LoopHead, behind_loop, Others, simple_told, statement_told, SequenceForm, sequence_told, declaration_told, declarations_told, statements_told, branches_told, handlers_told}
 use Rattle.ada_resolve.specs.Statements.{simple_texts, with_texts}
-use Rattle.ada_resolve.proofs.Standing.Order.{Sound, Complete, Stays, Inside, stays_same, stays_on}
-use Rattle.ada_resolve.proofs.Standing.Given.{made_gives, HeadIs, simple_done, if_done, loop_done, block_done, declare_done, sequence_done, statements_done, branch_done, handler_done}
-use Rattle.ada_resolve.proofs.Standing.Declared.{ended_sound, ended_keeps}
-use Rattle.ada_resolve.proofs.Standing.Declarations.{declarations_sound, declarations_keep, begin_open, begin_complete}
+use Rattle.ada_resolve.proofs.Standing.Order.{Sound, Complete, Keeps, keeps_same, keeps_on, complete_grows, Stays, Inside, stays_same, stays_on}
+use Rattle.ada_resolve.proofs.Standing.Given.{made_gives, HeadIs, simple_done, if_done, loop_done, block_done, declare_done, sequence_done, ProcedureDone, procedure_done, single_done, declarations_done, statements_done, branch_done, handler_done}
+use Rattle.ada_resolve.proofs.Standing.Declared.{ended_sound, ended_keeps, declaration_sound, declaration_keeps}
+use Rattle.ada_resolve.proofs.Standing.Kept.{new_slot}
+use Rattle.ada_resolve.proofs.Standing.Procedures.{around_body, around_sound, InBody, head_in_body, head_complete as body_complete, body_ended_sound, body_ended_keeps}
+use Rattle.ada_resolve.proofs.Standing.Declarations.{gives_same, begin_open, begin_complete}
 use Rattle.ada_resolve.proofs.Standing.Inner.{part_complete, part_inside, parameter_sound, parameter_complete, parameter_inside, inside_on, begun_inside, leave_stays}
 
 -- the statements behind branches
@@ -39,14 +47,15 @@ texts_stay texts k s c = record {
     variables_fit = s.variables_fit;
     names = s.names;
     exceptions = s.exceptions;
-    bounds = record { first = s.bounds.first; first_variable = s.bounds.first_variable; open_own = s.bounds.open_own; open_unused = s.bounds.open_unused; outer_before = s.bounds.outer_before };
+    called = s.called;
+    bounds = record { first = s.bounds.first; first_variable = s.bounds.first_variable; first_body = s.bounds.first_body; open_own = s.bounds.open_own; open_unused = s.bounds.open_unused; outer_before = s.bounds.outer_before };
   };
   complete = c;
   here = refl;
   outer = refl;
   withs = refl;
   procedure = refl;
-  grows = record { types = λ t x is. is; variables = λ t x is. is; exceptions = λ t x is. is; texts = λ n x is. get_front k.texts texts n x is };
+  grows = record { types = λ t x is. is; variables = λ t x is. is; exceptions = λ t x is. is; texts = λ n x is. get_front k.texts texts n x is; bodies = λ n x is. is };
 }
 
 pub simple_stays : (inside : Bool) (s : StatementTree) (at : At) (done : StmtForm × At) → Sound at.0 → Complete at.0 → simple_told inside s at ≡ gives done → Stays at.0 done.1.0
@@ -71,6 +80,85 @@ loop_stays spot (for_scheme name low high) k head m z w c is f =
     subst (λ (h : LoopHead). Stays k (behind_loop h z)) (sym is.1)
     (leave_stays k z w c (inside_on k m z (subst (λ v. Inside k v) (sym is.2) (parameter_inside name k w c)) f))
 
+-- a part whose declarations are known: where its statements begin nothing is incomplete, and they leave it as it was
+pub record SequenceStays (k z : Known) : Type 0 where
+  pub complete : Complete k
+  pub stays : Stays (after_types k) z
+
+-- behind the statements of an inner part
+pub sequence_inside : (k m z : Known) → Inside k m → SequenceStays m z → Inside k z
+sequence_inside k m z f g = inside_on k (after_types m) z (begun_inside k m (after_types m) f g.complete (ended_sound m f.sound) (ended_keeps m)) g.stays
+
+-- behind the declarations of a body
+body_behind : (k m z : Known) → InBody k m → Complete m → Sound z → Keeps m z → InBody k z
+body_behind k m z f c s g =
+    let grows = complete_grows m z c g in
+    record {
+      sound = s;
+      around = g.around ∙ f.around;
+      outer = g.outer ∙ f.outer;
+      withs = g.withs ∙ f.withs;
+      procedure = g.procedure ∙ f.procedure;
+      types = λ t x is. grows.types t x (f.types t x is);
+      exceptions = λ t x is. grows.exceptions t x (f.exceptions t x is);
+      texts = λ t x is. grows.texts t x (f.texts t x is);
+      bodies = λ t x is. grows.bodies t x (f.bodies t x is);
+    }
+
+-- behind its statements
+body_on : (k m z : Known) → InBody k m → Stays m z → InBody k z
+body_on k m z f g = record {
+  sound = g.sound;
+  around = ap (λ (p : Part). p.around) g.here ∙ f.around;
+  outer = g.outer ∙ f.outer;
+  withs = g.withs ∙ f.withs;
+  procedure = g.procedure ∙ f.procedure;
+  types = λ t x is. g.grows.types t x (f.types t x is);
+  exceptions = λ t x is. g.grows.exceptions t x (f.exceptions t x is);
+  texts = λ t x is. g.grows.texts t x (f.texts t x is);
+  bodies = λ t x is. g.grows.bodies t x (f.bodies t x is);
+}
+
+-- its name is new
+pub head_new : (k : Known) (head : HeadTree) → Quiet (body_head_remark k head) → Quiet (new_name_remark k head.name (first_or head.overriding head.spot))
+unfolding body_head_remark
+head_new k head q = q.1.1.1.1
+
+-- a body, with what its declarations and its statements leave
+pub record BodyStays (at inner behind next : At) (head : HeadTree) (done : SequenceForm × At) : Type 0 where
+  pub before : Sound (after_types at.0)
+  pub inner_sound : Sound inner.0
+  pub inner_complete : Complete inner.0
+  pub behind_in : InBody (around_body (after_types at.0) head) behind.0
+  pub sequence : SequenceStays behind.0 done.1.0
+  pub done_in : InBody (around_body (after_types at.0) head) done.1.0
+  pub sound : Sound next.0
+  pub keeps : Keeps at.0 next.0
+
+body_stays_by : (head : HeadTree) (ds : DeclarationsTree) (body : SequenceTree) (end_name : Option Ident) (at next : At) (d : ProcedureDone head ds body end_name at next) → Sound at.0 → (Sound d.inner.0 → Sound d.behind.0) → (Sound d.inner.0 → Keeps d.inner.0 d.behind.0) → (Sound d.behind.0 → SequenceStays d.behind.0 d.done.1.0) → BodyStays at d.inner d.behind next head d.done
+body_stays_by head ds body end_name at next d s declares keeps sequence =
+    let k = after_types at.0 in
+    let before : Sound k = ended_sound at.0 s in
+    let inner_in : InBody (around_body k head) d.inner.0 = subst (λ v. InBody (around_body k head) v) (sym d.inner_known) (head_in_body k head before) in
+    let inner_complete : Complete d.inner.0 = subst (λ (v : Known). Complete v) (sym d.inner_known) (body_complete k head) in
+    let behind_sound = declares inner_in.sound in
+    let behind_in = body_behind (around_body k head) d.inner.0 d.behind.0 inner_in inner_complete behind_sound (keeps inner_in.sound) in
+    let stays = sequence behind_sound in
+    let ready_in = body_behind (around_body k head) d.behind.0 (after_types d.behind.0) behind_in stays.complete (ended_sound d.behind.0 behind_sound) (ended_keeps d.behind.0) in
+    let done_in = body_on (around_body k head) (after_types d.behind.0) d.done.1.0 ready_in stays.stays in
+    record {
+      before = before;
+      inner_sound = inner_in.sound;
+      inner_complete = inner_complete;
+      behind_in = behind_in;
+      sequence = stays;
+      done_in = done_in;
+      sound = subst Sound (sym d.known) (body_ended_sound (around_body k head) d.done.1.0 head.name d.done.0.0 d.done.0.1 (around_sound k head before) done_in);
+      keeps = keeps_on at.0 k next.0 (ended_keeps at.0)
+          (subst (λ (v : Known). Keeps k v) (sym d.known)
+          (body_ended_keeps k d.done.1.0 head head.spot d.done.0.0 d.done.0.1 before (new_slot k head.name (first_or head.overriding head.spot) (head_new k head d.quiet)) done_in));
+    }
+
 mutual
   pub statement_stays : (inside : Bool) (s : StatementTree) (at : At) (done : StmtForm × At) → Sound at.0 → Complete at.0 → statement_told inside s at ≡ gives done → Stays at.0 done.1.0
   statement_stays inside (if_statement spot branches others last) at done w c e =
@@ -85,25 +173,59 @@ mutual
       subst (λ v. Stays at.0 v) (sym d.known) (loop_stays spot scheme at.0 d.head.0 d.head.1.0 d.own.1.0 w c d.head_so.is own)
   statement_stays inside (block body) at done w c e =
       let d = block_done inside body at done e in
-      block_stays inside body at.0 d.inner done w c (subst (λ v. Inside at.0 v) (sym d.inner_known) (part_inside at.0 w c)) d.told
+      let f : Inside at.0 d.inner.0 = subst (λ v. Inside at.0 v) (sym d.inner_known) (part_inside at.0 w c) in
+      let own = sequence_stays inside body d.inner d.body_done f.sound d.told in
+      subst (λ v. Stays at.0 v) (sym d.known) (leave_stays at.0 d.body_done.1.0 w c (sequence_inside at.0 d.inner.0 d.body_done.1.0 f own))
   statement_stays inside (declare_block spot ds body) at done w c e =
       let d = declare_done inside spot ds body at done e in
       let f : Inside at.0 d.inner.0 = subst (λ v. Inside at.0 v) (sym d.inner_known) (part_inside at.0 w c) in
       let b : Complete d.inner.0 = subst (λ (v : Known). Complete v) (sym d.inner_known) (part_complete at.0) in
-      block_stays inside body at.0 d.behind done w c
-      (begun_inside at.0 d.inner.0 d.behind.0 f b (declarations_sound ds d.inner d.behind f.sound d.declared) (declarations_keep ds d.inner d.behind f.sound d.declared)) d.told
+      let sound = declarations_sound ds d.inner d.behind f.sound d.declared in
+      let begun = begun_inside at.0 d.inner.0 d.behind.0 f b sound (declarations_keep ds d.inner d.behind f.sound d.declared) in
+      let own = sequence_stays inside body d.behind d.body_done sound d.told in
+      subst (λ v. Stays at.0 v) (sym d.known) (leave_stays at.0 d.body_done.1.0 w c (sequence_inside at.0 d.behind.0 d.body_done.1.0 begun own))
   statement_stays inside s at done w c e = simple_stays inside s at done w c e
 
-  -- a block, from inside its part
-  pub block_stays : (inside : Bool) (body : SequenceTree) (k : Known) (at : At) (done : StmtForm × At) → Sound k → Complete k → Inside k at.0 → block_told inside body at ≡ gives done → Stays k done.1.0
-  block_stays inside (a_sequence start ss hs last) k at done w c inner e =
+  -- the statements and the handlers of a part
+  pub sequence_stays : (inside : Bool) (body : SequenceTree) (at : At) (done : SequenceForm × At) → Sound at.0 → sequence_told inside body at ≡ gives done → SequenceStays at.0 done.1.0
+  sequence_stays inside (a_sequence start ss hs last) at done w e =
       let d = sequence_done inside start ss hs last at done e in
-      let begun : Inside k (after_types at.0) = begun_inside k at.0 (after_types at.0) inner (begin_open at.0 start d.quiet) (ended_sound at.0 inner.sound) (ended_keeps at.0) in
-      let f : Inside k d.ready.0 = subst (λ v. Inside k v) (sym d.ready_known) begun in
+      let f : Sound d.ready.0 = subst Sound (sym d.ready_known) (ended_sound at.0 w) in
       let b : Complete d.ready.0 = subst (λ (v : Known). Complete v) (sym d.ready_known) (begin_complete at.0 start d.quiet) in
-      let own = statements_stay inside ss d.ready d.own f.sound b d.told in
+      let own = statements_stay inside ss d.ready d.own f b d.told in
       let handled = handlers_stay inside hs d.own.1 d.handled own.sound own.complete d.handlers_so in
-      subst (λ v. Stays k v) (sym d.known) (leave_stays k d.handled.1.0 w c (inside_on k d.ready.0 d.handled.1.0 f (stays_on d.ready.0 d.own.1.0 d.handled.1.0 own handled)))
+      record {
+        complete = begin_open at.0 start d.quiet;
+        stays = stays_from (after_types at.0) d.ready.0 d.handled.1.0 done.1.0 d.ready_known d.known (stays_on d.ready.0 d.own.1.0 d.handled.1.0 own handled);
+      }
+
+  -- a declaration
+  pub told_sound : (d : DeclarationTree) (at next : At) → Sound at.0 → declaration_told d at ≡ gives next → Sound next.0
+  told_sound (body_declaration head ds body end_name) at next s e =
+      let d = procedure_done head ds body end_name at next e in
+      (body_stays_by head ds body end_name at next d s (λ inner. declarations_sound ds d.inner d.behind inner d.declared)
+      (λ inner. declarations_keep ds d.inner d.behind inner d.declared) (λ behind. sequence_stays false body d.behind d.done behind d.told)).sound
+  told_sound d at next s e = let one = single_done d at next e in subst Sound (sym one.known) (declaration_sound at.0 d s one.quiet)
+
+  pub told_keeps : (d : DeclarationTree) (at next : At) → Sound at.0 → declaration_told d at ≡ gives next → Keeps at.0 next.0
+  told_keeps (body_declaration head ds body end_name) at next s e =
+      let d = procedure_done head ds body end_name at next e in
+      (body_stays_by head ds body end_name at next d s (λ inner. declarations_sound ds d.inner d.behind inner d.declared)
+      (λ inner. declarations_keep ds d.inner d.behind inner d.declared) (λ behind. sequence_stays false body d.behind d.done behind d.told)).keeps
+  told_keeps d at next s e = let one = single_done d at next e in subst (λ (v : Known). Keeps at.0 v) (sym one.known) (declaration_keeps at.0 d s one.quiet)
+
+  -- declarations, one behind another
+  pub declarations_sound : (ds : DeclarationsTree) (at after : At) → Sound at.0 → declarations_told ds at ≡ gives after → Sound after.0
+  declarations_sound no_declarations at after s e = subst (λ (v : At). Sound v.0) (gives_same e) s
+  declarations_sound (a_declaration d ds) at after s e =
+      let done = declarations_done d ds at after e in
+      declarations_sound ds done.next after (told_sound d at done.next s done.one) done.told
+
+  pub declarations_keep : (ds : DeclarationsTree) (at after : At) → Sound at.0 → declarations_told ds at ≡ gives after → Keeps at.0 after.0
+  declarations_keep no_declarations at after s e = subst (λ (v : At). Keeps at.0 v.0) (gives_same e) (keeps_same at.0)
+  declarations_keep (a_declaration d ds) at after s e =
+      let done = declarations_done d ds at after e in
+      keeps_on at.0 done.next.0 after.0 (told_keeps d at done.next s done.one) (declarations_keep ds done.next after (told_sound d at done.next s done.one) done.told)
 
   pub statements_stay : (inside : Bool) (ss : StatementsTree) (at : At) (done : StmtsForm × At) → Sound at.0 → Complete at.0 → statements_told inside ss at ≡ gives done → Stays at.0 done.1.0
   statements_stay inside no_statements at done w c e = let same : (no_stmts, at) ≡ done = cc e in subst (λ (v : StmtsForm × At). Stays at.0 v.1.0) same (stays_same at.0 w c)
@@ -130,3 +252,9 @@ mutual
       let own = statements_stay inside ss d.begun.1 d.own (subst Sound (sym d.begun_known) w) (subst (λ (v : Known). Complete v) (sym d.begun_known) c) d.told in
       let rest = handlers_stay inside hs d.own.1 d.others own.sound own.complete d.others_told in
       stays_from at.0 d.begun.1.0 d.others.1.0 done.1.0 d.begun_known (ap (λ v. v.0) d.behind) (stays_on d.begun.1.0 d.own.1.0 d.others.1.0 own rest)
+
+-- the body of a procedure
+pub body_stays : (head : HeadTree) (ds : DeclarationsTree) (body : SequenceTree) (end_name : Option Ident) (at next : At) (d : ProcedureDone head ds body end_name at next) → Sound at.0 → BodyStays at d.inner d.behind next head d.done
+body_stays head ds body end_name at next d s =
+    body_stays_by head ds body end_name at next d s (λ inner. declarations_sound ds d.inner d.behind inner d.declared)
+    (λ inner. declarations_keep ds d.inner d.behind inner d.declared) (λ behind. sequence_stays false body d.behind d.done behind d.told)

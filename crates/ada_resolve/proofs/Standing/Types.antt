@@ -12,7 +12,7 @@ use Rattle.ada_tree.specs.Records.{ComponentTree, RecordTree}
 use Rattle.ada_resolve.specs.declared.fault.NameRule.TheVariants.{WrongType}
 use Rattle.ada_resolve.specs.declared.scope.Entity.{Entity}
 use Rattle.ada_resolve.specs.declared.scope.Entity.TheVariants as entity
-use Rattle.ada_resolve.specs.Known.{Known, Named, Part, named, entered, declared, parts}
+use Rattle.ada_resolve.specs.Known.{Known, Named, Part, named, entered, declared, parts, no_body_yet}
 use Rattle.ada_resolve.specs.Records.{composition_of, no_components, components_written, record_type_known}
 use Rattle.ada_resolve.specs.Types.{incomplete_of, completed_type, record_found, is_designated, number_of, defined, incomplete_known, completion_remark, access_defined, access_known, with_definition}
 use Rattle.ada_resolve.proofs.WellFormed.Remarks.{Quiet, quiet_if}
@@ -20,9 +20,9 @@ use Rattle.ada_resolve.proofs.WellFormed.Tables as tables
 use Rattle.ada_resolve.proofs.WellFormed.Tables.{all_more, all_set, get_more, get_last, get_set, get_other, keeps_more, record_more, keeps_set, record_set, record_other, types_kept, types_without, components_kept, object_kind_kept, variable_kept, all_weaker, both_parts}
 use Rattle.ada_resolve.proofs.WellFormed.Laid.{AreRecordsLaid, IsLaid, IsUnused, Avoids, records_laid_more, records_laid_set, new_unused, unused_more, unused_set}
 use Rattle.ada_resolve.proofs.WellFormed.Exceptions.{RaisedFits, raised_entered}
-use Rattle.ada_resolve.proofs.WellFormed.Names.{EntityFits, TypesFit, PartsFit, all_entered, names_entered, no_text, laid_in}
+use Rattle.ada_resolve.proofs.WellFormed.Names.{EntityFits, TypesFit, variables_behind, PartsFit, all_entered, names_entered, no_text, laid_in}
 use Rattle.ada_resolve.proofs.WellFormed.Types.{record_is, composed_fit, composition_has, composition_laid, IsRecordNamed, found_record}
-use Rattle.ada_resolve.proofs.Standing.Order.{IsBefore, PartsBefore, Sound, IsSettled, visible_settled}
+use Rattle.ada_resolve.proofs.Standing.Order.{IsBefore, PartsBefore, IsCalled, Sound, IsSettled, visible_settled}
 
 -- the name of a type; a record object's type has none
 abbrev form_name : TypeForm → List ℕ
@@ -49,7 +49,7 @@ entity_kept n types more variables text other g ne e f = f
 
 -- what a name of a part around stands for stays, whatever the name
 outer_kept : (n : ℕ) (types more : List TypeForm) (variables : List VariableForm) (text other : List ℕ) → Grown n text types more → (e : Entity) → IsBefore n e → EntityFits types variables other e → EntityFits more variables other e
-outer_kept n types more variables text other g (entity.Incomplete t) b f = absurd b
+outer_kept n types more variables text other g (entity.Incomplete t) b f = g.before t.0 (record_of other [] []) b f
 outer_kept n types more variables text other g (entity.Record t size) b f = (f.0, f.1, g.before t.0 (record_of other f.0 f.1) b f.2)
 outer_kept n types more variables text other g (entity.Access t) b f = (f.0, g.before t.0 (access_to other f.0) b f.1)
 outer_kept n types more variables text other g (entity.Instance t) b f = g.kept.0 t.0 f
@@ -59,7 +59,7 @@ outer_kept n types more variables text other g e b f = f
 outers_kept : (n : ℕ) (types more : List TypeForm) (variables : List VariableForm) (text : List ℕ) → Grown n text types more → (ps : List Part) → PartsBefore n ps → PartsFit types variables ps → PartsFit more variables ps
 outers_kept n types more variables text g [] b f = (g.laid, g.types_fit)
 outers_kept n types more variables text g (p ∷ ps) b f =
-    (λ t x is. outer_kept n types more variables text t g x (b.0 t x is) (f.0 t x is), outers_kept n types more variables text g ps b.1 f.1)
+    (λ t x is. outer_kept n types more variables text t g x (b.0 t x is) (f.0 t x is), outers_kept n types more (variables_behind p.around variables) text g ps b.1 f.1)
 
 -- an incomplete type is one behind so many, and no component is a record of it
 abbrev pub IsOwn : ℕ → List TypeForm → Entity → Type 0
@@ -79,35 +79,45 @@ abbrev pub IsBehind : ℕ → Entity → Type 0
 IsBehind n (entity.Incomplete t) = n ≤ t.0
 IsBehind n e = Unit {0}
 
+behind_of : (n : ℕ) (x : Entity) → ((t : TypeNo) → x ≡ entity.Incomplete t → n ≤ t.0) → IsBehind n x
+behind_of n (entity.Incomplete t) w = w t refl
+behind_of n x w = tt
+
 -- incomplete types of the part of other names are those of no component still
 abbrev pub OthersUnused : Known → List ℕ → List TypeForm → Type 0
-OthersUnused k text more = (other : List ℕ) (t : TypeNo) → (other ≡ text → ⊥) → named other k.here.names ≡ Some (entity.Incomplete t) → IsUnused more t.0
+OthersUnused k text more = no_body_yet k ≡ true → (other : List ℕ) (t : TypeNo) → (other ≡ text → ⊥) → named other k.here.names ≡ Some (entity.Incomplete t) → IsUnused more t.0
 
 -- the name stands for that, where a type of this name is declared or completed
-pub type_sound : (k : Known) (text : List ℕ) (e : Entity) (more : List TypeForm) → Sound k → Grown k.here.first_type text k.types more → OthersUnused k text more → EntityFits more k.variables text e → RaisedFits k.exceptions text e → IsOwn k.here.first_type more e → Sound (declared (record k { types = more }) text e)
-type_sound k text e more w g unused f r own = record {
+pub type_sound : (k : Known) (text : List ℕ) (e : Entity) (more : List TypeForm) → Sound k → Grown k.here.first_type text k.types more → OthersUnused k text more → EntityFits more k.variables text e → RaisedFits k.exceptions text e → IsCalled (length k.bodies) e → IsBehind k.here.first_type e → (no_body_yet k ≡ true → IsOwn k.here.first_type more e) → Sound (declared (record k { types = more }) text e)
+type_sound k text e more w g unused f r y behind own = record {
   types_fit = g.types_fit;
   variables_fit = all_weaker (fits.variable_fits k.types) (fits.variable_fits more) (variable_kept k.types more g.kept) k.variables w.variables_fit;
   names = (
     names_entered more k.variables k.here.names text e f (λ t x ne is. entity_kept k.here.first_type k.types more k.variables text t g ne x (w.names.0 t x is)),
-    outers_kept k.here.first_type k.types more k.variables text g k.outer w.bounds.outer_before w.names.1,
+    outers_kept k.here.first_type k.types more (variables_behind k.here.around k.variables) text g k.outer w.bounds.outer_before w.names.1,
   );
   exceptions = raised_entered k.exceptions k.here.names k.outer text e r w.exceptions;
+  called = (all_entered (λ t x. IsCalled (length k.bodies) x) k.here.names text e y (λ t x ne is. w.called.0 t x is), w.called.1);
   bounds = record {
     first = let a = w.bounds.first in let b = g.longer in omega arith;
     first_variable = w.bounds.first_variable;
-    open_own = λ other t is. (open_here other t is).0;
-    open_unused = λ other t is. (open_here other t is).1;
+    first_body = w.bounds.first_body;
+    open_own = λ other t is. behind_here other (entity.Incomplete t) is;
+    open_unused = λ none other t is. (open_here none other t is).1;
     outer_before = w.bounds.outer_before;
   };
 }
   where
-    open_here : (other : List ℕ) (t : TypeNo) → named other (entered text e k.here.names) ≡ Some (entity.Incomplete t) → (k.here.first_type ≤ t.0) × IsUnused more t.0
-    open_here = own_entered k.here.first_type more k.here.names text e own (λ other t ne is. (w.bounds.open_own other t is, unused other t ne is))
+    behind_here : (other : List ℕ) (x : Entity) → named other (entered text e k.here.names) ≡ Some x → IsBehind k.here.first_type x
+    behind_here = all_entered (λ u x. IsBehind k.here.first_type x) k.here.names text e behind
+        (λ u x ne there. behind_of k.here.first_type x (λ v same. w.bounds.open_own u v (there ∙ ap (λ y. Some y) same)))
+
+    open_here : no_body_yet k ≡ true → (other : List ℕ) (t : TypeNo) → named other (entered text e k.here.names) ≡ Some (entity.Incomplete t) → (k.here.first_type ≤ t.0) × IsUnused more t.0
+    open_here none = own_entered k.here.first_type more k.here.names text e (own none) (λ other t ne is. (w.bounds.open_own other t is, unused none other t ne is))
 
 -- nothing is declared but a name
-pub name_sound : (k : Known) (text : List ℕ) (e : Entity) → Sound k → EntityFits k.types k.variables text e → RaisedFits k.exceptions text e → IsOwn k.here.first_type k.types e → Sound (declared k text e)
-name_sound k text e w f r own = type_sound k text e k.types w same (λ other t ne is. w.bounds.open_unused other t is) f r own
+pub name_sound : (k : Known) (text : List ℕ) (e : Entity) → Sound k → EntityFits k.types k.variables text e → RaisedFits k.exceptions text e → IsCalled (length k.bodies) e → IsBehind k.here.first_type e → (no_body_yet k ≡ true → IsOwn k.here.first_type k.types e) → Sound (declared k text e)
+name_sound k text e w f r y behind own = type_sound k text e k.types w same (λ none other t ne is. w.bounds.open_unused none other t is) f r y behind own
   where
     same : Grown k.here.first_type text k.types k.types
     same = record { kept = (λ t is. is, λ t is. is); keeps = λ t form ne is. is; before = λ t form b is. is; longer = omega arith; types_fit = w.types_fit; laid = laid_in k.types k.variables (parts k) w.names }
@@ -167,11 +177,11 @@ incomplete_fits : (n : ℕ) (types : List TypeForm) (variables : List VariableFo
 incomplete_fits n types variables text (Some e) own w = incomplete_one n types variables text e (own e refl) (w e refl)
 incomplete_fits n types variables text None own w = tt
 
-completes : (k : Known) (name : Ident) → Sound k → Completes k.here.first_type k.types name.text (completed_type k name)
+completes : (k : Known) (name : Ident) → no_body_yet k ≡ true → Sound k → Completes k.here.first_type k.types name.text (completed_type k name)
 unfolding completed_type
-completes k name w =
+completes k name none w =
     incomplete_fits k.here.first_type k.types k.variables name.text (named name.text k.here.names)
-    (λ e is. own_of k.here.first_type k.types e (λ t same. let there = is ∙ ap (λ y. Some y) same in (w.bounds.open_own name.text t there, w.bounds.open_unused name.text t there)))
+    (λ e is. own_of k.here.first_type k.types e (λ t same. let there = is ∙ ap (λ y. Some y) same in (w.bounds.open_own name.text t there, w.bounds.open_unused none name.text t there)))
     (w.names.0 name.text)
 
 -- so it is with the type that is completed
@@ -200,8 +210,8 @@ incomplete_sound k name w =
     let laid = laid_in k.types k.variables (parts k) w.names in
     type_sound k name.text (entity.Incomplete (record { 0 = length k.types })) (k.types ++ form ∷ []) w
     (grown_more k.here.first_type name.text k.types form w.types_fit refl laid (refl, λ i c is. absurd (cc is)))
-    (λ other t ne is. unused_more k.types form t.0 (w.bounds.open_unused other t is) (λ i c is. absurd (cc is)))
-    (get_last k.types form) tt (w.bounds.first, unused_more k.types form (length k.types) (new_unused k.types laid) (λ i c is. absurd (cc is)))
+    (λ none other t ne is. unused_more k.types form t.0 (w.bounds.open_unused none other t is) (λ i c is. absurd (cc is)))
+    (get_last k.types form) tt tt w.bounds.first (λ none. (w.bounds.first, unused_more k.types form (length k.types) (new_unused k.types laid) (λ i c is. absurd (cc is))))
 
 -- `type T is record .. end record;`
 record_defined : (n : ℕ) (types : List TypeForm) (variables : List VariableForm) (text : List ℕ) (ps : List PartForm) (cs : List ComponentKind) (size : ℕ) (c : Option TypeNo) → Completes n types text c → list_all (fits.type_fits types) types ≡ true → list_all (fits.kind_fits types) cs ≡ true → AreRecordsLaid types → IsLaid types (record_of text ps cs) → CompletedHas (λ t. Avoids t (record_of text ps cs)) c → Grown n text types (defined c (record_of text ps cs) types) × EntityFits (defined c (record_of text ps cs) types) variables text (entity.Record (number_of c types) size)
@@ -219,20 +229,20 @@ record_defined n types variables text ps cs size (Some t) h all own laid lies av
     )
 
 -- no component of a new record type is a record of an incomplete type of its part
-composition_avoids : (k : Known) (text other : List ℕ) (t : TypeNo) (cs : List ComponentTree) → Sound k → named other k.here.names ≡ Some (entity.Incomplete t) → Avoids t.0 (record_of text (composition_of k cs).parts (composition_of k cs).kinds)
-composition_avoids k text other t cs w is =
-    composition_has k (λ u. u ≡ t.0 → ⊥) (λ named_so u size there same. visible_settled k named_so u size w there other t is (sym same)) cs
+composition_avoids : (k : Known) (text other : List ℕ) (t : TypeNo) (cs : List ComponentTree) → no_body_yet k ≡ true → Sound k → named other k.here.names ≡ Some (entity.Incomplete t) → Avoids t.0 (record_of text (composition_of k cs).parts (composition_of k cs).kinds)
+composition_avoids k text other t cs none w is =
+    composition_has k (λ u. u ≡ t.0 → ⊥) (λ named_so u size there same. visible_settled k named_so u size w there none other t is (sym same)) cs
 
-pub record_sound : (k : Known) (name : Ident) (definition : RecordTree) → Sound k → Sound (record_type_known k name definition)
-record_sound k name definition w =
+pub record_sound : (k : Known) (name : Ident) (definition : RecordTree) → no_body_yet k ≡ true → Sound k → Sound (record_type_known k name definition)
+record_sound k name definition none w =
     let cs = components_written definition in
     let made = composition_of k cs in
     let c = completed_type k name in
     let form = record_of name.text made.parts made.kinds in
-    let done = record_defined k.here.first_type k.types k.variables name.text made.parts made.kinds made.size c (completes k name w) w.types_fit (composed_fit k w.names w.types_fit no_components cs refl)
-    (laid_in k.types k.variables (parts k) w.names) (composition_laid k name.text cs w.names) (completed_has k name (λ t. Avoids t form) (λ t is. composition_avoids k name.text name.text t cs w is)) in
+    let done = record_defined k.here.first_type k.types k.variables name.text made.parts made.kinds made.size c (completes k name none w) w.types_fit (composed_fit k w.names w.types_fit no_components cs refl)
+    (laid_in k.types k.variables (parts k) w.names) (composition_laid k name.text cs w.names) (completed_has k name (λ t. Avoids t form) (λ t is. composition_avoids k name.text name.text t cs none w is)) in
     type_sound k name.text (entity.Record (number_of c k.types) made.size) (defined c form k.types) w done.0
-    (λ other t ne is. unused_defined k.types c form t.0 (w.bounds.open_unused other t is) (composition_avoids k name.text other t cs w is)) done.1 tt tt
+    (λ yet other t ne is. unused_defined k.types c form t.0 (w.bounds.open_unused yet other t is) (composition_avoids k name.text other t cs yet w is)) done.1 tt tt tt (λ yet. tt)
 
 -- what an access type completes is another type than it designates, and nothing designates it
 abbrev MayComplete : List TypeForm → ℕ → Option TypeNo → Type 0
@@ -264,18 +274,18 @@ access_type_defined n types variables text d (Some t) h m r all laid =
       (d, get_set types t.0 (record_of text [] []) (access_to text d) h.1),
     )
 
-access_sound_at : (k : Known) (name designated : Ident) (o : Option TypeNo) → Sound k → IsRecordNamed k.types designated.text o → Quiet (completion_remark (completed_type k name) k name designated) → Sound (access_defined k name (completed_type k name) o)
-access_sound_at k name designated None w r q = w
-access_sound_at k name designated (Some d) w r q =
+access_sound_at : (k : Known) (name designated : Ident) (o : Option TypeNo) → no_body_yet k ≡ true → Sound k → IsRecordNamed k.types designated.text o → Quiet (completion_remark (completed_type k name) k name designated) → Sound (access_defined k name (completed_type k name) o)
+access_sound_at k name designated None none w r q = w
+access_sound_at k name designated (Some d) none w r q =
     let c = completed_type k name in
-    let h : Completes k.here.first_type k.types name.text c = completes k name w in
+    let h : Completes k.here.first_type k.types name.text c = completes k name none w in
     let done = access_type_defined k.here.first_type k.types k.variables name.text d.0 c h (may_complete k name designated d c h r q) (record_is k.types d.0 designated.text r.0 r.1 r.2) w.types_fit (laid_in k.types k.variables (parts k) w.names) in
     type_sound k name.text (entity.Access (number_of c k.types)) (defined c (access_to name.text d.0) k.types) w done.0
-    (λ other t ne is. unused_defined k.types c (access_to name.text d.0) t.0 (w.bounds.open_unused other t is) tt) done.1 tt tt
+    (λ yet other t ne is. unused_defined k.types c (access_to name.text d.0) t.0 (w.bounds.open_unused yet other t is) tt) done.1 tt tt tt (λ yet. tt)
 
 -- `type A is access T;`
-pub access_sound : (k : Known) (name designated : Ident) → Sound k → Quiet (completion_remark (completed_type k name) k name designated) → Sound (access_known k name designated)
-access_sound k name designated w q = access_sound_at k name designated (record_found k designated) w (found_record k designated w.names) q
+pub access_sound : (k : Known) (name designated : Ident) → no_body_yet k ≡ true → Sound k → Quiet (completion_remark (completed_type k name) k name designated) → Sound (access_known k name designated)
+access_sound k name designated none w q = access_sound_at k name designated (record_found k designated) none w (found_record k designated w.names) q
 
 -- the type by which a record object is known: one more, which has no name
 entity_more : (types : List TypeForm) (variables : List VariableForm) (form : TypeForm) (text : List ℕ) (e : Entity) → EntityFits types variables text e → EntityFits (types ++ form ∷ []) variables text e
@@ -288,7 +298,8 @@ entity_more types variables form text e f = f
 
 parts_more : (types : List TypeForm) (variables : List VariableForm) (form : TypeForm) (ps : List Part) → TypesFit (types ++ form ∷ []) → PartsFit types variables ps → PartsFit (types ++ form ∷ []) variables ps
 parts_more types variables form [] laid f = laid
-parts_more types variables form (p ∷ ps) laid f = (λ text e is. entity_more types variables form text e (f.0 text e is), parts_more types variables form ps laid f.1)
+parts_more types variables form (p ∷ ps) laid f =
+    (λ text e is. entity_more types variables form text e (f.0 text e is), parts_more types (variables_behind p.around variables) form ps laid f.1)
 
 pub object_type_sound : (k : Known) (r : ℕ) → Sound k → fits.is_record k.types r ≡ true → IsSettled k r → Sound (with_definition None (object_of r) k)
 object_type_sound k r w is settled =
@@ -301,11 +312,13 @@ object_type_sound k r w is settled =
       variables_fit = all_weaker (fits.variable_fits k.types) (fits.variable_fits more) (variable_kept k.types more g.kept) k.variables w.variables_fit;
       names = parts_more k.types k.variables form (parts k) (g.laid, g.types_fit) w.names;
       exceptions = w.exceptions;
+      called = w.called;
       bounds = record {
         first = let a = w.bounds.first in let b = g.longer in omega arith;
         first_variable = w.bounds.first_variable;
+        first_body = w.bounds.first_body;
         open_own = w.bounds.open_own;
-        open_unused = λ text t there. unused_more k.types form t.0 (w.bounds.open_unused text t there) (λ same. settled text t there (sym same));
+        open_unused = λ none text t there. unused_more k.types form t.0 (w.bounds.open_unused none text t there) (λ same. settled none text t there (sym same));
         outer_before = w.bounds.outer_before;
       };
     }

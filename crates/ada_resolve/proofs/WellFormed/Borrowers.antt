@@ -16,7 +16,7 @@ use Rattle.ada_resolve.specs.Borrowers.{lender_in, lender_wanted, lender_remark,
 use Rattle.ada_resolve.specs.Expressions.{expression_remark}
 use Rattle.ada_resolve.specs.Known.{Known, parts, visible}
 use Rattle.ada_resolve.specs.Objects.{variable_created}
-use Rattle.ada_resolve.specs.Paths.{Meant, access_value, path_meant, path_remark, unknown}
+use Rattle.ada_resolve.specs.Paths.{Meant, access_value, lent_value, path_meant, path_remark, unknown}
 use Rattle.ada_resolve.specs.Types.{designates, record_in, record_found, record_remark, record_wanted}
 use Rattle.ada_resolve.proofs.WellFormed.Remarks.{Quiet, quiet_unless}
 use Rattle.ada_resolve.proofs.WellFormed.Names.{PartsFit}
@@ -61,6 +61,7 @@ lent_by k designated tree of spot named q (access_value path t) is f g = record 
   designates = access_designates k.types t.0 of.0 (quiet_unless (designates k.types t.0 of.0) spot WrongType g);
 }
 lent_by k designated tree of spot named q unknown is f g = absurd f
+lent_by k designated tree of spot named q (lent_value t) is f g = absurd f
 lent_by k designated tree of spot named q m is f g = absurd g
 
 lent_at : (k : Known) (name designated : Ident) (of : TypeNo) (initial : Option RightTree) → record_found k designated ≡ Some of → PartsFit k.types k.variables (parts k) → Quiet (lender_remark k name (Some of) initial) → Lent k designated initial

@@ -12,7 +12,7 @@ use Rattle.ada_program.specs.WellFormed.{Creation}
 use Rattle.ada_resolve.specs.declared.fault.NameRule.TheVariants.{Layout}
 use Rattle.ada_resolve.specs.declared.library.Withs.{Withs}
 use Rattle.ada_resolve.specs.Resolution.{known_first}
-use Rattle.ada_resolve.specs.Known.{Known, no_variable_yet, type_begins, with_part}
+use Rattle.ada_resolve.specs.Known.{Known, no_variable_yet, no_body_yet, types_go_on, type_begins, with_part}
 use Rattle.ada_resolve.specs.Instances.{is_collected, with_elaborated}
 use Rattle.ada_resolve.specs.Objects.{collections_of, missing_collections, ends_types, after_types}
 use Rattle.ada_resolve.proofs.WellFormed.Remarks.{Quiet, quiet_unless}
@@ -43,14 +43,15 @@ pub record Late (k : Known) : Type 0 where
 
 -- before the first object, or behind one
 pub data InOrder (k : Known) : Type 0 where
-  early : Early k → no_variable_yet k ≡ true → InOrder k
-  late : Late k → no_variable_yet k ≡ false → InOrder k
+  early : Early k → types_go_on k ≡ true → InOrder k
+  late : Late k → types_go_on k ≡ false → InOrder k
 
 -- nothing is elaborated where a part begins
 pub part_early : (k : Known) → InOrder (with_part k)
 part_early k =
     early (record { collections_fit = refl; only_collections = refl; at_most_one = λ a. omega arith; own = λ a less. refl })
-    (eq-eqb (length k.variables) (length k.variables) refl)
+    (both_parts (eqb (length k.variables) (length k.variables)) (eqb (length k.bodies) (length k.bodies))
+    (eq-eqb (length k.variables) (length k.variables) refl) (eq-eqb (length k.bodies) (length k.bodies) refl))
 
 -- and at first
 pub first_order : (withs : Withs) (procedure : List ℕ) → InOrder (known_first withs procedure)
@@ -60,10 +61,10 @@ first_order withs procedure = early (record { collections_fit = refl; only_colle
 pub early_of : (k : Known) (spot : Spot) → InOrder k → Quiet (type_begins k spot) → Early k
 early_of k spot (early w none) q = w
 early_of k spot (late w e) q =
-    let on : no_variable_yet k ≡ true = quiet_unless (no_variable_yet k) spot Layout q.1 in absurd (both_ways (no_variable_yet k) e on)
+    let on : types_go_on k ≡ true = quiet_unless (types_go_on k) spot Layout q.1 in absurd (both_ways (types_go_on k) e on)
 
-pub none_yet_of : (k : Known) (spot : Spot) → Quiet (type_begins k spot) → no_variable_yet k ≡ true
-none_yet_of k spot q = quiet_unless (no_variable_yet k) spot Layout q.1
+pub none_yet_of : (k : Known) (spot : Spot) → Quiet (type_begins k spot) → types_go_on k ≡ true
+none_yet_of k spot q = quiet_unless (types_go_on k) spot Layout q.1
 
 -- collections alone stand before the first object
 only_in_order : (es : List DeclarationForm) (n k : ℕ) (rest : List Creation) → list_all is_first es ≡ true → fits.creates_from n k (map fits.creation es ++ rest) ≡ fits.creates_from n k rest
@@ -179,14 +180,14 @@ ended_one k w a false at =
     let less : a < k.here.first_type = leb-false k.here.first_type a at in
     (ended_early k w).own a less
 
-ended_late : (k : Known) → Early k → no_variable_yet k ≡ true → Late (ended k)
+ended_late : (k : Known) → Early k → types_go_on k ≡ true → Late (ended k)
 ended_late k w none = record {
   collections_first = only_first (ended k).here.elaborated (ended_first k w);
   collections_fit = ended_fit k w;
   initials_fit = all_weaker is_first (fits.initial_fits k.types k.variables) (only_fit k.types k.variables) (ended k).here.elaborated (ended_first k w);
   one_each = λ a. ended_one k w a (nat_le k.here.first_type a) refl;
   in_order = λ n rest. only_in_order (ended k).here.elaborated n k.here.first_variable rest (ended_first k w) ∙ ap (λ v. fits.creates_from n v rest)
-      (sym (eqb-true (length k.variables) k.here.first_variable none));
+      (sym (eqb-true (length k.variables) k.here.first_variable (first_part (no_variable_yet k) (no_body_yet k) none)));
 }
 
 -- the types end
@@ -198,17 +199,17 @@ ends_late : (b : Bool) (k : Known) → b ≡ false → ends_types b k ≡ k
 ends_late true k e = absurd (cc e)
 ends_late false k e = refl
 
-ends_none : (b : Bool) (k : Known) → no_variable_yet k ≡ b → no_variable_yet (ends_types b k) ≡ b
+ends_none : (b : Bool) (k : Known) → types_go_on k ≡ b → types_go_on (ends_types b k) ≡ b
 ends_none true k e = e
 ends_none false k e = e
 
 pub after_late : (k : Known) → InOrder k → Late (after_types k)
 unfolding after_types
-after_late k (early w none) = (ends_early (no_variable_yet k) k none (ended_early k w, ended_late k w none)).1
-after_late k (late w some) = rw (ends_late (no_variable_yet k) k some) w
+after_late k (early w none) = (ends_early (types_go_on k) k none (ended_early k w, ended_late k w none)).1
+after_late k (late w some) = rw (ends_late (types_go_on k) k some) w
 
 pub after_order : (k : Known) → InOrder k → InOrder (after_types k)
 unfolding after_types
 after_order k (early w none) =
-    early (ends_early (no_variable_yet k) k none (ended_early k w, ended_late k w none)).0 (ends_none (no_variable_yet k) k refl ∙ none)
-after_order k (late w some) = rw (ends_late (no_variable_yet k) k some) (late w some)
+    early (ends_early (types_go_on k) k none (ended_early k w, ended_late k w none)).0 (ends_none (types_go_on k) k refl ∙ none)
+after_order k (late w some) = rw (ends_late (types_go_on k) k some) (late w some)

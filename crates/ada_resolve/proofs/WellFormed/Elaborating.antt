@@ -1,12 +1,12 @@
 -- Each declaration leaves what its part elaborates in order.
 
-use Rattle.std.proofs.Common.{◌≡◌, ◌∙◌, ℕ, ◌≤◌, Bool, true, false, List, [], ◌∷◌, refl, sym, subst, arith, eqb}
+use Rattle.std.proofs.Common.{◌≡◌, ◌∙◌, ℕ, ◌≤◌, Bool, true, false, List, [], ◌∷◌, refl, arith, eqb}
 use Rattle.std.specs.Prelude.{Option, Some, None, nat_lt, is_some}
 use Rattle.std.specs.List.{slice_get}
 use Rattle.std.proofs.lemmas.Bool.{ltb-false, ne_eqb}
 use Rattle.ada_text.specs.declared.spot.Spot.{Spot}
 use Rattle.ada_tree.specs.Names.{Ident, NameTree}
-use Rattle.ada_tree.specs.Statements.{DeclarationTree, exception_declaration, constant_declaration, incomplete_type, access_type, record_type, instance, object_declaration, borrower_declaration, DeclarationsTree, no_declarations, a_declaration}
+use Rattle.ada_tree.specs.Statements.{DeclarationTree, exception_declaration, constant_declaration, incomplete_type, access_type, record_type, instance, object_declaration, borrower_declaration}
 use Rattle.ada_program.specs.declared.program.TypeNo.{TypeNo}
 use Rattle.ada_program.specs.Form.{DeclarationForm, collects, declares, declares_record}
 use Rattle.ada_program.specs.ProgramForm.{TypeForm, record_of, access_to, object_of}
@@ -14,12 +14,12 @@ use Rattle.ada_program.specs.WellFormed as fits
 use Rattle.ada_resolve.specs.declared.fault.NameRule.TheVariants.{Layout}
 use Rattle.ada_resolve.specs.declared.scope.Entity.{Entity}
 use Rattle.ada_resolve.specs.declared.scope.Entity.TheVariants as entity
-use Rattle.ada_resolve.specs.Known.{Known, declared, no_variable_yet, visible}
+use Rattle.ada_resolve.specs.Known.{Known, declared, types_go_on, visible}
 use Rattle.ada_resolve.specs.Instances.{access_type_in, access_if, access_in, designates_if_known, freed_found, is_collected, one_instance, own_type, instance_remark, instance_of, instance_known}
 use Rattle.ada_resolve.specs.Objects.{after_types}
-use Rattle.ada_resolve.specs.Resolution.{gives, At, known_at, declaration_remark, declaration_known, declarations_told}
+use Rattle.ada_resolve.specs.Resolution.{known_at, declaration_remark, declaration_known}
 use Rattle.ada_resolve.specs.Types.{record_found, access_defined, completed_type}
-use Rattle.ada_resolve.proofs.Standing.{Sound, ended_sound, declaration_sound, declaration_keeps, DeclarationsDone, declarations_done}
+use Rattle.ada_resolve.proofs.Standing.{Sound, ended_sound, declaration_keeps}
 use Rattle.ada_resolve.proofs.Standing as standing
 use Rattle.ada_resolve.proofs.WellFormed.Remarks.{Quiet, quiet_if}
 use Rattle.ada_resolve.proofs.WellFormed.Tables.{KeepsAccesses, all_more, all_weaker, both_parts}
@@ -53,7 +53,7 @@ early_types k more text e w g = record {
 }
 
 -- `type A is access T;`
-access_order : (k : Known) (name : Ident) (c o : Option TypeNo) → Early k → no_variable_yet k ≡ true → KeepsAccesses k.types (access_defined k name c o).types → InOrder (access_defined k name c o)
+access_order : (k : Known) (name : Ident) (c o : Option TypeNo) → Early k → types_go_on k ≡ true → KeepsAccesses k.types (access_defined k name c o).types → InOrder (access_defined k name c o)
 access_order k name c None w none g = early w none
 access_order k name c (Some d) w none g = early (early_types k _ name.text _ w g) none
 
@@ -68,7 +68,7 @@ own_of_those types (Some (entity.Access t)) r first spot q = by_test (designates
 own_of_those types (Some e) r first spot q = tt
 
 -- `procedure Free is new Ada.Unchecked_Deallocation (T, A);`
-instance_at : (k : Known) (spot : Spot) (name : Ident) (o : Option TypeNo) → Early k → no_variable_yet k ≡ true → IsAccessIn k.types o → Quiet (one_instance o k.here.elaborated spot) → Quiet (own_type o k.here.first_type spot) → InOrder (instance_of k name o)
+instance_at : (k : Known) (spot : Spot) (name : Ident) (o : Option TypeNo) → Early k → types_go_on k ≡ true → IsAccessIn k.types o → Quiet (one_instance o k.here.elaborated spot) → Quiet (own_type o k.here.first_type spot) → InOrder (instance_of k name o)
 instance_at k spot name None w none f q r = early w none
 instance_at k spot name (Some t) w none f q r =
     let es = k.here.elaborated in
@@ -115,12 +115,3 @@ declaration_order k (borrower_declaration name designated initial) s o q =
     let ended = ended_sound k s in
     borrower_order (after_types k) name designated initial ended.names ended.bounds.first_variable (after_late k o) q
 declaration_order k d s o q = absurd q
-
--- declarations, one behind another
-pub declarations_order : (ds : DeclarationsTree) (at after : At) → Sound at.0 → InOrder at.0 → declarations_told ds at ≡ gives after → InOrder after.0
-declarations_order no_declarations at after s o e = let same : at ≡ after = cc e in subst (λ (v : At). InOrder v.0) same o
-declarations_order (a_declaration d ds) at after s o e =
-    let done = declarations_done d ds at after e in
-    declarations_order ds done.next after
-    (subst Sound (sym done.next_known) (declaration_sound at.0 d s done.quiet))
-    (subst InOrder (sym done.next_known) (declaration_order at.0 d s o done.quiet)) done.told

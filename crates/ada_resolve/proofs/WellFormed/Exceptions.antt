@@ -15,9 +15,9 @@ use Rattle.ada_resolve.specs.declared.library.Withs.{Withs}
 use Rattle.ada_resolve.specs.declared.scope.Entity.{Entity}
 use Rattle.ada_resolve.specs.declared.scope.Entity.TheVariants as entity
 use Rattle.ada_resolve.specs.Exceptions.{exception_of_library, exception_in, exception_found, exception_or_others, choice_meant, choices_meant}
-use Rattle.ada_resolve.specs.Known.{Known, Named, Part, named, entered, named_in, inner_first, outermost, unit_named, visible, library_found, is_empty, parts}
+use Rattle.ada_resolve.specs.Known.{Known, Named, Part, named, entered, from_part, named_in, inner_first, outermost, unit_named, visible, library_found, is_empty, parts}
 use Rattle.ada_resolve.specs.Library.{predefined, is_library_root}
-use Rattle.ada_resolve.proofs.WellFormed.Names.{all_entered, first_of_two, text_same, unit_only}
+use Rattle.ada_resolve.proofs.WellFormed.Names.{all_entered, first_of_two, within_of, text_same, unit_only}
 use Rattle.ada_resolve.proofs.WellFormed.Tables.{get_more, get_last, get_within, both_parts}
 
 -- an exception has the name: it is predefined, or one of those that are declared
@@ -93,7 +93,9 @@ inner_raised exceptions withs text x None false w e =
 
 parts_raised : (exceptions : List (List ℕ)) (ps : List Part) → PartsRaised exceptions ps → (text : List ℕ) (x : Entity) → named_in text ps ≡ Some x → RaisedFits exceptions text x
 parts_raised exceptions [] w text x e = absurd (cc e)
-parts_raised exceptions (p ∷ ps) w text x e = first_of_two (RaisedFits exceptions text) (named text p.names) (named_in text ps) x (w.0 text) (parts_raised exceptions ps w.1 text) e
+parts_raised exceptions (p ∷ ps) w text x e =
+    first_of_two (RaisedFits exceptions text) (named text p.names) (from_part p.around (named_in text ps)) x (w.0 text)
+    (λ y is. within_of (RaisedFits exceptions text) p.around (named_in text ps) y (λ kind r. tt) (parts_raised exceptions ps w.1 text) is) e
 
 -- what is visible, where it is an exception, has the name
 pub visible_raised : (k : Known) → PartsRaised k.exceptions (parts k) → (text : List ℕ) (x : Entity) → visible k text ≡ Some x → RaisedFits k.exceptions text x

@@ -14,7 +14,7 @@ use Rattle.ada_program.specs.declared.program.VariableKind.{VariableKind}
 use Rattle.ada_program.specs.declared.program.VariableKind.TheVariants as variable
 use Rattle.ada_program.specs.declared.program.ScalarType.{ScalarType}
 use Rattle.ada_program.specs.declared.program.ScalarType.TheVariants.{Integer, Boolean}
-use Rattle.ada_program.specs.Form.{PathForm, RecordPathForm, ExpressionForm, integer, boolean, reads, is_null, applied_to, chained, LinksForm, no_more_links, a_link, ItemForm, null_item, item_of_path, item_of_value, item_of_record, RightForm, nothing, value_of, allocates, allocates_default, computes, StmtForm, skips, assigns, assigns_record, frees, gets, writes, writes_text, chooses, repeats, counts, exits, returns, raises, encloses, StmtsForm, no_stmts, a_stmt, BranchesForm, otherwise, a_branch, HandlersForm, no_handlers, a_handler, DeclarationForm, collects, declares, declares_record}
+use Rattle.ada_program.specs.Form.{PathForm, RecordPathForm, ExpressionForm, integer, boolean, reads, is_null, applied_to, chained, LinksForm, no_more_links, a_link, ItemForm, null_item, item_of_path, item_of_value, item_of_record, RightForm, nothing, value_of, allocates, allocates_default, computes, StmtForm, skips, assigns, assigns_record, frees, gets, writes, writes_text, chooses, repeats, counts, exits, calls, returns, raises, encloses, StmtsForm, no_stmts, a_stmt, BranchesForm, otherwise, a_branch, HandlersForm, no_handlers, a_handler, DeclarationForm, collects, declares, declares_record}
 use Rattle.ada_program.specs.ProgramForm.{TypeForm, VariableForm}
 use Rattle.ada_program.specs.WellFormed as fits
 use Rattle.ada_resolve.proofs.WellFormed.Tables.{both_parts, first_part, second_part, all_weaker}
@@ -439,8 +439,28 @@ module _ (types more : List TypeForm) (variables others : List VariableForm) (ts
   condition_stays None h = refl
   condition_stays (Some e) h = has_type_stays Boolean e h
 
+  -- what is given to formal parameters
+  actual_stays : (kind : VariableKind) (e : ExpressionForm) → fits.actual_fits types variables kind e ≡ true → fits.actual_fits more others kind e ≡ true
+  actual_stays variable.Integer e h = has_type_stays Integer e h
+  actual_stays variable.Boolean e h = has_type_stays Boolean e h
+  actual_stays (variable.Access access) e h = absurd (cc h)
+  actual_stays (variable.Record object) e h = absurd (cc h)
+
+  actuals_stay : (kinds : List VariableKind) (es : List ExpressionForm) → fits.actuals_fit types variables kinds es ≡ true → fits.actuals_fit more others kinds es ≡ true
+  actuals_stay [] [] h = refl
+  actuals_stay [] (e ∷ es) h = absurd (cc h)
+  actuals_stay (k ∷ kinds) [] h = absurd (cc h)
+  actuals_stay (k ∷ kinds) (e ∷ es) h =
+      let own = fits.actual_fits types variables k e in
+      let rest = fits.actuals_fit types variables kinds es in
+      both_parts (fits.actual_fits more others k e) (fits.actuals_fit more others kinds es) (actual_stays k e (first_part own rest h)) (actuals_stay kinds es (second_part own rest h))
+
+  call_stays : (o found : Option (List VariableKind)) (es : List ExpressionForm) → ((kinds : List VariableKind) → o ≡ Some kinds → found ≡ Some kinds) → fits.suits_profile types variables o es ≡ true → fits.suits_profile more others found es ≡ true
+  call_stays None found es w h = absurd (cc h)
+  call_stays (Some kinds) found es w h = rw (w kinds refl) (actuals_stay kinds es h)
+
   -- statements, as texts and exceptions are added too
-  module _ (texts longer exceptions raised : List (List ℕ)) (room : length texts ≤ length longer) (declared : length exceptions ≤ length raised) where
+  module _ (texts longer exceptions raised : List (List ℕ)) (callable reachable : List (List VariableKind)) (room : length texts ≤ length longer) (declared : length exceptions ≤ length raised) (calls_stay : AreIn callable reachable) where
     exception_stays : (e : Exception) → fits.exception_fits exceptions e ≡ true → fits.exception_fits raised e ≡ true
     exception_stays exception.ConstraintError h = refl
     exception_stays exception.ProgramError h = refl
@@ -457,7 +477,7 @@ module _ (types more : List TypeForm) (variables others : List VariableForm) (ts
     choices_stay cs h = all_weaker (fits.choice_fits exceptions) (fits.choice_fits raised) choice_stays cs h
 
     mutual
-      pub statement_stays : (inside : Bool) (f : StmtForm) → fits.statement_fits types variables texts exceptions inside f ≡ true → fits.statement_fits more others longer raised inside f ≡ true
+      pub statement_stays : (inside : Bool) (f : StmtForm) → fits.statement_fits types variables texts exceptions callable inside f ≡ true → fits.statement_fits more others longer raised reachable inside f ≡ true
       statement_stays inside skips h = refl
       statement_stays inside (assigns target s) h = assigned_stays target s h
       statement_stays inside (assigns_record target items) h =
@@ -480,9 +500,9 @@ module _ (types more : List TypeForm) (variables others : List VariableForm) (ts
       statement_stays inside (chooses branches) h = branches_stay inside branches h
       statement_stays inside (repeats condition fs end_spot) h =
           let front = fits.condition_fits types variables condition && fits.has_statement fs in
-          let back = fits.stmts_fit types variables texts exceptions true fs in
+          let back = fits.stmts_fit types variables texts exceptions callable true fs in
           let both : front ≡ true = first_part front back h in
-          both_parts (fits.condition_fits more others condition && fits.has_statement fs) (fits.stmts_fit more others longer raised true fs)
+          both_parts (fits.condition_fits more others condition && fits.has_statement fs) (fits.stmts_fit more others longer raised reachable true fs)
           (both_parts (fits.condition_fits more others condition) (fits.has_statement fs)
           (condition_stays condition (first_part (fits.condition_fits types variables condition) (fits.has_statement fs) both))
           (second_part (fits.condition_fits types variables condition) (fits.has_statement fs) both))
@@ -491,14 +511,14 @@ module _ (types more : List TypeForm) (variables others : List VariableForm) (ts
           let held = fits.is_type Integer (fits.scalar_of (fits.variable_kind variables x)) in
           let low_is = fits.has_type types variables Integer low in
           let high_is = fits.has_type types variables Integer high in
-          let back = fits.stmts_fit types variables texts exceptions true fs in
+          let back = fits.stmts_fit types variables texts exceptions callable true fs in
           let four : (held && low_is && high_is && fits.has_statement fs) ≡ true = first_part (held && low_is && high_is && fits.has_statement fs) back h in
           let three : (held && low_is && high_is) ≡ true = first_part (held && low_is && high_is) (fits.has_statement fs) four in
           let two : (held && low_is) ≡ true = first_part (held && low_is) high_is three in
           let held_now = fits.is_type Integer (fits.scalar_of (fits.variable_kind others x)) in
           let low_now = fits.has_type more others Integer low in
           let high_now = fits.has_type more others Integer high in
-          both_parts (held_now && low_now && high_now && fits.has_statement fs) (fits.stmts_fit more others longer raised true fs)
+          both_parts (held_now && low_now && high_now && fits.has_statement fs) (fits.stmts_fit more others longer raised reachable true fs)
           (both_parts (held_now && low_now && high_now) (fits.has_statement fs)
           (both_parts (held_now && low_now) high_now
           (both_parts held_now low_now
@@ -510,51 +530,52 @@ module _ (types more : List TypeForm) (variables others : List VariableForm) (ts
       statement_stays inside (exits condition spot) h =
           both_parts inside (fits.condition_fits more others condition) (first_part inside (fits.condition_fits types variables condition) h)
           (condition_stays condition (second_part inside (fits.condition_fits types variables condition) h))
+      statement_stays inside (calls procedure actuals) h = call_stays (slice_get callable procedure) (slice_get reachable procedure) actuals (calls_stay procedure) h
       statement_stays inside (returns spot) h = refl
       statement_stays inside (raises e) h = exception_stays e h
       statement_stays inside (encloses ds fs hs) h =
           let part = fits.declarations_fit types variables ds in
-          let own = fits.stmts_fit types variables texts exceptions inside fs in
-          let handled = fits.handlers_fit types variables texts exceptions inside hs in
+          let own = fits.stmts_fit types variables texts exceptions callable inside fs in
+          let handled = fits.handlers_fit types variables texts exceptions callable inside hs in
           let both : (part && own) ≡ true = first_part (part && own) handled h in
-          both_parts (fits.declarations_fit more others ds && fits.stmts_fit more others longer raised inside fs)
-          (fits.handlers_fit more others longer raised inside hs)
-          (both_parts (fits.declarations_fit more others ds) (fits.stmts_fit more others longer raised inside fs)
+          both_parts (fits.declarations_fit more others ds && fits.stmts_fit more others longer raised reachable inside fs)
+          (fits.handlers_fit more others longer raised reachable inside hs)
+          (both_parts (fits.declarations_fit more others ds) (fits.stmts_fit more others longer raised reachable inside fs)
           (declarations_stay ds (first_part part own both)) (stmts_stay inside fs (second_part part own both)))
           (handlers_stay inside hs (second_part (part && own) handled h))
 
-      pub stmts_stay : (inside : Bool) (fs : StmtsForm) → fits.stmts_fit types variables texts exceptions inside fs ≡ true → fits.stmts_fit more others longer raised inside fs ≡ true
+      pub stmts_stay : (inside : Bool) (fs : StmtsForm) → fits.stmts_fit types variables texts exceptions callable inside fs ≡ true → fits.stmts_fit more others longer raised reachable inside fs ≡ true
       stmts_stay inside no_stmts h = refl
       stmts_stay inside (a_stmt f fs) h =
-          let one = fits.statement_fits types variables texts exceptions inside f in
-          let rest = fits.stmts_fit types variables texts exceptions inside fs in
-          both_parts (fits.statement_fits more others longer raised inside f) (fits.stmts_fit more others longer raised inside fs)
+          let one = fits.statement_fits types variables texts exceptions callable inside f in
+          let rest = fits.stmts_fit types variables texts exceptions callable inside fs in
+          both_parts (fits.statement_fits more others longer raised reachable inside f) (fits.stmts_fit more others longer raised reachable inside fs)
           (statement_stays inside f (first_part one rest h)) (stmts_stay inside fs (second_part one rest h))
 
-      branches_stay : (inside : Bool) (bs : BranchesForm) → fits.branches_fit types variables texts exceptions inside bs ≡ true → fits.branches_fit more others longer raised inside bs ≡ true
+      branches_stay : (inside : Bool) (bs : BranchesForm) → fits.branches_fit types variables texts exceptions callable inside bs ≡ true → fits.branches_fit more others longer raised reachable inside bs ≡ true
       branches_stay inside (otherwise fs) h = stmts_stay inside fs h
       branches_stay inside (a_branch e fs bs) h =
           let condition = fits.has_type types variables Boolean e in
-          let own = fits.stmts_fit types variables texts exceptions inside fs in
-          let rest = fits.branches_fit types variables texts exceptions inside bs in
+          let own = fits.stmts_fit types variables texts exceptions callable inside fs in
+          let rest = fits.branches_fit types variables texts exceptions callable inside bs in
           let both : (condition && own) ≡ true = first_part (condition && own) rest h in
-          both_parts (fits.has_type more others Boolean e && fits.stmts_fit more others longer raised inside fs)
-          (fits.branches_fit more others longer raised inside bs)
-          (both_parts (fits.has_type more others Boolean e) (fits.stmts_fit more others longer raised inside fs)
+          both_parts (fits.has_type more others Boolean e && fits.stmts_fit more others longer raised reachable inside fs)
+          (fits.branches_fit more others longer raised reachable inside bs)
+          (both_parts (fits.has_type more others Boolean e) (fits.stmts_fit more others longer raised reachable inside fs)
           (has_type_stays Boolean e (first_part condition own both)) (stmts_stay inside fs (second_part condition own both)))
           (branches_stay inside bs (second_part (condition && own) rest h))
 
-      handlers_stay : (inside : Bool) (hs : HandlersForm) → fits.handlers_fit types variables texts exceptions inside hs ≡ true → fits.handlers_fit more others longer raised inside hs ≡ true
+      pub handlers_stay : (inside : Bool) (hs : HandlersForm) → fits.handlers_fit types variables texts exceptions callable inside hs ≡ true → fits.handlers_fit more others longer raised reachable inside hs ≡ true
       handlers_stay inside no_handlers h = refl
       handlers_stay inside (a_handler choices fs hs) h =
           let named = list_all (fits.choice_fits exceptions) choices in
-          let own = fits.stmts_fit types variables texts exceptions inside fs in
-          let rest = fits.handlers_fit types variables texts exceptions inside hs in
+          let own = fits.stmts_fit types variables texts exceptions callable inside fs in
+          let rest = fits.handlers_fit types variables texts exceptions callable inside hs in
           let three : (named && fits.has_statement fs && own) ≡ true = first_part (named && fits.has_statement fs && own) rest h in
           let two : (named && fits.has_statement fs) ≡ true = first_part (named && fits.has_statement fs) own three in
-          both_parts (list_all (fits.choice_fits raised) choices && fits.has_statement fs && fits.stmts_fit more others longer raised inside fs)
-          (fits.handlers_fit more others longer raised inside hs)
-          (both_parts (list_all (fits.choice_fits raised) choices && fits.has_statement fs) (fits.stmts_fit more others longer raised inside fs)
+          both_parts (list_all (fits.choice_fits raised) choices && fits.has_statement fs && fits.stmts_fit more others longer raised reachable inside fs)
+          (fits.handlers_fit more others longer raised reachable inside hs)
+          (both_parts (list_all (fits.choice_fits raised) choices && fits.has_statement fs) (fits.stmts_fit more others longer raised reachable inside fs)
           (both_parts (list_all (fits.choice_fits raised) choices) (fits.has_statement fs)
           (choices_stay choices (first_part named (fits.has_statement fs) two))
           (second_part named (fits.has_statement fs) two))

@@ -25,7 +25,7 @@ use Rattle.ada_resolve.specs.declared.scope.Entity.TheVariants as entity
 use Rattle.ada_resolve.specs.Known.{Known, visible, parts}
 use Rattle.ada_resolve.specs.Naming.{AreLaidOut}
 use Rattle.ada_resolve.specs.Records.{kinds_within}
-use Rattle.ada_resolve.specs.Paths.{component_at, Meant, unknown, null_value, access_value, integer_value, boolean_value, record_value, aggregate_value, elementary_of, components_of}
+use Rattle.ada_resolve.specs.Paths.{component_at, Meant, unknown, null_value, access_value, integer_value, boolean_value, record_value, aggregate_value, lent_value, elementary_of, components_of}
 use Rattle.ada_resolve.specs.Expressions.{expression_meant, expression_remark, items_remark, after_items, all_items_remark, filling_of}
 use Rattle.ada_resolve.specs.Types.{complete_in, complete_found, complete_remark, complete_type_wanted}
 use Rattle.ada_resolve.specs.Items.{Filling, component_for, item_spot, item_meant, fits_remark, is_filled, for_remark, is_alike, filled_for, after_item, first_filling, filled_components, names_component, count_remark, component_item_remark, label_remark, flattened, aggregate_meant}
@@ -132,6 +132,7 @@ value_fits types variables (kind.Access t) (access_value path u) spot f q =
     let same : t.0 ≡ u.0 = eqb-true t.0 u.0 (quiet_unless (eqb t.0 u.0) spot WrongType q.0) in
     both_parts (fits.is_this t.0 (fits.path_access types variables path)) true (rw f (eq-eqb u.0 t.0 (sym same))) refl
 value_fits types variables k unknown spot f q = absurd f
+value_fits types variables k (lent_value u) spot f q = absurd f
 value_fits types variables (kind.Access t) m spot f q = absurd q.0
 value_fits types variables k m spot f q = absurd q
 
@@ -147,6 +148,7 @@ value_owns types variables k (boolean_value e) spot f q = refl
 value_owns types variables k (record_value path) spot f q = refl
 value_owns types variables k (aggregate_value t items) spot f q = f.2
 value_owns types variables k unknown spot f q = absurd f
+value_owns types variables k (lent_value u) spot f q = absurd f
 
 -- a path to a record leads to one of a record type
 leads_to_record : (types : List TypeForm) (o : Option (List ComponentKind)) (first : ℕ) (ks : Option (List ComponentKind)) → fits.has_record_at o first ks ≡ true → is_some ks ≡ true

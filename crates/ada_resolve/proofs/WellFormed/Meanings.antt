@@ -28,7 +28,7 @@ use Rattle.ada_resolve.specs.declared.selectors.Reached.{Reached}
 use Rattle.ada_resolve.specs.declared.selectors.Reached.TheVariants as reached
 use Rattle.ada_resolve.specs.Known.{Known, visible, is_with, if_with, library_wrong, library_remark, library_found, library_path_remark, library_path_found, parts_of, parts}
 use Rattle.ada_resolve.specs.Library.{is_library_root, library_name}
-use Rattle.ada_resolve.specs.Paths.{Meant, unknown, null_value, access_value, integer_value, boolean_value, record_value, aggregate_value, elementary_of, elementary_in, is_record_kind, selected_path, selectors_reached, variable_reached, components_selected, reached_meant, variable_meant, entity_meant, path_meant, record_type_wanted, variable_path_remark, value_wanted, library_is_no_value, path_remark}
+use Rattle.ada_resolve.specs.Paths.{Meant, unknown, null_value, access_value, integer_value, boolean_value, record_value, aggregate_value, lent_value, elementary_of, elementary_in, is_record_kind, selected_path, selectors_reached, variable_reached, components_selected, reached_meant, variable_meant, entity_meant, path_meant, record_type_wanted, variable_path_remark, value_wanted, library_is_no_value, path_remark}
 use Rattle.ada_resolve.specs.Operators.{Signature, arithmetic, ordering, equality, logical, signature_of, integer_in, boolean_in, equality_meant, binary_by, unary_meant, integer_wanted, boolean_wanted, equal_wanted, operands_by, operand_remark}
 use Rattle.ada_resolve.specs.Remark.{wrong, wrong_if, ◌also◌}
 use Rattle.ada_resolve.proofs.WellFormed.Remarks.{Quiet}
@@ -40,6 +40,7 @@ use Rattle.ada_resolve.proofs.WellFormed.Typing.{typed_by, joined_type}
 -- what is meant is known, and has its type
 abbrev pub MeantFits : List TypeForm → List VariableForm → Meant → Type 0
 MeantFits types variables unknown = ⊥
+MeantFits types variables (lent_value t) = ⊥
 MeantFits types variables null_value = Unit {0}
 MeantFits types variables (access_value path t) = fits.path_kind types variables path ≡ Some (variable.Access t)
 MeantFits types variables (integer_value e) = fits.type_of types variables e ≡ Some Integer
@@ -111,8 +112,9 @@ variable_fits k x spot of selectors laid h q =
 -- what a name stands for
 entity_one : (k : Known) (text : List ℕ) (e : Entity) (name : Ident) (selectors : List SelectorTree) → TypesFit k.types → EntityFits k.types k.variables text e → Quiet (value_wanted k (Some e) name selectors) → MeantFits k.types k.variables (entity_meant k (Some e) name.spot selectors)
 entity_one k text (entity.Variable x of) name selectors laid f q = variable_fits k x name.spot of selectors laid (kind_there k.variables x.0 text of f.0) q
-entity_one k text (entity.Parameter x) name selectors laid f q =
-    variable_fits k x name.spot variable.Integer selectors laid (kind_there k.variables x.0 text variable.Integer (f.0, false, f.1)) q
+entity_one k text (entity.Parameter x of) name selectors laid f q =
+    variable_fits k x name.spot of selectors laid (kind_there k.variables x.0 text of (f.0.0, false, f.0.1)) q
+entity_one k text (entity.Outer of role) name selectors laid f q = absurd q.0
 entity_one k text (entity.Number n) name [] laid f q = refl
 entity_one k text (entity.Number n) name (s ∷ ss) laid f q = absurd q
 entity_one k text (entity.Truth b) name [] laid f q = refl
@@ -169,6 +171,8 @@ equality_fits types variables o (boolean_value e) (boolean_value f) at to is l r
 equality_fits types variables o (access_value path t) null_value at to is l r q = rw l refl
 equality_fits types variables o null_value (access_value path t) at to is l r q = rw r refl
 equality_fits types variables o unknown right at to is l r q = absurd l
+equality_fits types variables o (lent_value t) right at to is l r q = absurd l
+equality_fits types variables o left (lent_value t) at to is l r q = absurd r
 equality_fits types variables o left unknown at to is l r q = absurd r
 equality_fits types variables o left right at to is l r q = absurd q
 

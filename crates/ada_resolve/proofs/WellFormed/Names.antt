@@ -16,13 +16,21 @@ use Rattle.ada_resolve.specs.declared.library.Withs.{Withs}
 use Rattle.ada_resolve.specs.declared.scope.Entity.{Entity}
 use Rattle.ada_resolve.specs.declared.scope.Entity.TheVariants as entity
 use Rattle.ada_resolve.specs.Naming.{truth_name}
-use Rattle.ada_resolve.specs.Known.{Known, Named, Part, named, entered, first_named, named_in, inner_first, outermost, unit_named, visible, parts}
+use Rattle.ada_resolve.specs.declared.scope.Role.{Role}
+use Rattle.ada_resolve.specs.declared.scope.Role.TheVariants as role
+use Rattle.ada_resolve.specs.Known.{Known, Named, Part, named, entered, first_named, role_of, from_within, from_part, named_in, inner_first, outermost, unit_named, visible, parts}
 use Rattle.ada_resolve.specs.Library.{predefined}
 use Rattle.ada_resolve.proofs.WellFormed.Laid.{AreRecordsLaid}
 
 -- a variable of this name is there, which holds this, a borrower or not
 abbrev pub IsVariableIn : List VariableForm → List ℕ → VariableKind → ℕ → Type 0
 IsVariableIn variables text kind x = (spot : Spot) × (borrows : Bool) × (slice_get variables x ≡ Some (record { name = text; spot = spot; kind = kind; borrows = borrows }))
+
+-- a constant holds an Integer or a Boolean
+abbrev pub is_scalar_kind : VariableKind → Bool
+is_scalar_kind variable.Integer = true
+is_scalar_kind variable.Boolean = true
+is_scalar_kind other = false
 
 -- what a name stands for is there, and has the name
 abbrev pub EntityFits : List TypeForm → List VariableForm → List ℕ → Entity → Type 0
@@ -32,13 +40,16 @@ EntityFits types variables text (entity.Truth b) = text ≡ truth_name b
 EntityFits types variables text (entity.Number n) = Unit {0}
 EntityFits types variables text (entity.Exception e) = Unit {0}
 EntityFits types variables text entity.Procedure = Unit {0}
+EntityFits types variables text (entity.Callable p) = Unit {0}
 EntityFits types variables text entity.LibraryUnit = Unit {0}
 EntityFits types variables text (entity.Incomplete t) = slice_get types t.0 ≡ Some (record_of text [] [])
 EntityFits types variables text (entity.Record t size) = (ps : List PartForm) × (cs : List ComponentKind) × (slice_get types t.0 ≡ Some (record_of text ps cs))
 EntityFits types variables text (entity.Access t) = (d : ℕ) × (slice_get types t.0 ≡ Some (access_to text d))
 EntityFits types variables text (entity.Instance t) = fits.is_access types t.0 ≡ true
 EntityFits types variables text (entity.Variable x kind) = IsVariableIn variables text kind x.0 × (fits.variable_kind_fits types kind ≡ true)
-EntityFits types variables text (entity.Parameter x) = (spot : Spot) × (slice_get variables x.0 ≡ Some (record { name = text; spot = spot; kind = variable.Integer; borrows = false }))
+EntityFits types variables text (entity.Parameter x kind) =
+    ((spot : Spot) × (slice_get variables x.0 ≡ Some (record { name = text; spot = spot; kind = kind; borrows = false }))) × (is_scalar_kind kind ≡ true)
+EntityFits types variables text (entity.Outer kind role) = Unit {0}
 
 abbrev pub NamesFit : List TypeForm → List VariableForm → List Named → Type 0
 NamesFit types variables names = (text : List ℕ) (e : Entity) → named text names ≡ Some e → EntityFits types variables text e
@@ -47,14 +58,19 @@ NamesFit types variables names = (text : List ℕ) (e : Entity) → named text n
 abbrev pub TypesFit : List TypeForm → Type 0
 TypesFit types = AreRecordsLaid types × (list_all (fits.type_fits types) types ≡ true)
 
+-- the variables of the parts around a part: those of the body around, where the part is that of a body
+abbrev pub variables_behind : Option (List VariableForm) → List VariableForm → List VariableForm
+variables_behind (Some variables) own = variables
+variables_behind None own = own
+
 -- what the names of each part stand for is there, and all types fit
 abbrev pub PartsFit : List TypeForm → List VariableForm → List Part → Type 0
 PartsFit types variables [] = TypesFit types
-PartsFit types variables (part ∷ outer) = NamesFit types variables part.names × PartsFit types variables outer
+PartsFit types variables (part ∷ outer) = NamesFit types variables part.names × PartsFit types (variables_behind part.around variables) outer
 
 pub types_in : (types : List TypeForm) (variables : List VariableForm) (ps : List Part) → PartsFit types variables ps → TypesFit types
 types_in types variables [] w = w
-types_in types variables (part ∷ outer) w = types_in types variables outer w.1
+types_in types variables (part ∷ outer) w = types_in types (variables_behind part.around variables) outer w.1
 
 pub laid_in : (types : List TypeForm) (variables : List VariableForm) (ps : List Part) → PartsFit types variables ps → AreRecordsLaid types
 laid_in types variables ps w = (types_in types variables ps w).0
@@ -144,9 +160,47 @@ inner_fits types variables withs text x (Some y) b w e = let is : y ≡ x = cc e
 inner_fits types variables withs text x None true w e = let is : entity.Procedure ≡ x = cc e in rw (sym is) tt
 inner_fits types variables withs text x None false w e = outermost_fits types variables withs text x e
 
-parts_fit : (types : List TypeForm) (variables : List VariableForm) (ps : List Part) → PartsFit types variables ps → (text : List ℕ) (x : Entity) → named_in text ps ≡ Some x → EntityFits types variables text x
+-- what a name of a body around stands for: an object of it is out of reach, and all else stays
+pub entity_within : (P : Entity → Type 0) (variables : List VariableForm) (y x : Entity) → ((kind : VariableKind) (r : Role) → P (entity.Outer kind r)) → P y → from_within variables (Some y) ≡ Some x → P x
+entity_within P variables (entity.Variable v kind) x o w e =
+    let is : entity.Outer kind (role_of (fits.is_borrower variables v.0)) ≡ x = cc e in subst P is (o kind (role_of (fits.is_borrower variables v.0)))
+entity_within P variables (entity.Parameter v kind) x o w e = let is : entity.Outer kind role.Constant ≡ x = cc e in subst P is (o kind role.Constant)
+entity_within P variables y x o w e = let is : y ≡ x = cc e in subst P is w
+
+pub within_of : (P : Entity → Type 0) (around : Option (List VariableForm)) (outer : Option Entity) (x : Entity) → ((kind : VariableKind) (r : Role) → P (entity.Outer kind r)) → ((y : Entity) → outer ≡ Some y → P y) → from_part around outer ≡ Some x → P x
+within_of P None outer x o w e = w x e
+within_of P (Some variables) None x o w e = absurd (cc e)
+within_of P (Some variables) (Some y) x o w e = entity_within P variables y x o (w y refl) e
+
+-- what is there in a body around is there from within, too
+outer_fits : (types : List TypeForm) (variables others : List VariableForm) (text : List ℕ) (y x : Entity) → EntityFits types others text y → from_within others (Some y) ≡ Some x → EntityFits types variables text x
+outer_fits types variables others text (entity.Variable v kind) x f e =
+    let is : entity.Outer kind (role_of (fits.is_borrower others v.0)) ≡ x = cc e in subst (EntityFits types variables text) is tt
+outer_fits types variables others text (entity.Parameter v kind) x f e = let is : entity.Outer kind role.Constant ≡ x = cc e in subst (EntityFits types variables text) is tt
+outer_fits types variables others text (entity.Truth b) x f e = let is : entity.Truth b ≡ x = cc e in subst (EntityFits types variables text) is f
+outer_fits types variables others text (entity.Incomplete t) x f e = let is : entity.Incomplete t ≡ x = cc e in subst (EntityFits types variables text) is f
+outer_fits types variables others text (entity.Record t size) x f e = let is : entity.Record t size ≡ x = cc e in subst (EntityFits types variables text) is f
+outer_fits types variables others text (entity.Access t) x f e = let is : entity.Access t ≡ x = cc e in subst (EntityFits types variables text) is f
+outer_fits types variables others text (entity.Instance t) x f e = let is : entity.Instance t ≡ x = cc e in subst (EntityFits types variables text) is f
+outer_fits types variables others text (entity.Number n) x f e = let is : entity.Number n ≡ x = cc e in subst (EntityFits types variables text) is tt
+outer_fits types variables others text (entity.Exception n) x f e = let is : entity.Exception n ≡ x = cc e in subst (EntityFits types variables text) is tt
+outer_fits types variables others text (entity.Callable n) x f e = let is : entity.Callable n ≡ x = cc e in subst (EntityFits types variables text) is tt
+outer_fits types variables others text (entity.Outer kind r) x f e = let is : entity.Outer kind r ≡ x = cc e in subst (EntityFits types variables text) is tt
+outer_fits types variables others text entity.Integer x f e = let is : entity.Integer ≡ x = cc e in subst (EntityFits types variables text) is tt
+outer_fits types variables others text entity.Boolean x f e = let is : entity.Boolean ≡ x = cc e in subst (EntityFits types variables text) is tt
+outer_fits types variables others text entity.Procedure x f e = let is : entity.Procedure ≡ x = cc e in subst (EntityFits types variables text) is tt
+outer_fits types variables others text entity.LibraryUnit x f e = let is : entity.LibraryUnit ≡ x = cc e in subst (EntityFits types variables text) is tt
+
+around_fits : (types : List TypeForm) (variables : List VariableForm) (around : Option (List VariableForm)) (text : List ℕ) (outer : Option Entity) (x : Entity) → ((y : Entity) → outer ≡ Some y → EntityFits types (variables_behind around variables) text y) → from_part around outer ≡ Some x → EntityFits types variables text x
+around_fits types variables None text outer x w e = w x e
+around_fits types variables (Some others) text None x w e = absurd (cc e)
+around_fits types variables (Some others) text (Some y) x w e = outer_fits types variables others text y x (w y refl) e
+
+pub parts_fit : (types : List TypeForm) (variables : List VariableForm) (ps : List Part) → PartsFit types variables ps → (text : List ℕ) (x : Entity) → named_in text ps ≡ Some x → EntityFits types variables text x
 parts_fit types variables [] w text x e = absurd (cc e)
-parts_fit types variables (p ∷ ps) w text x e = first_of_two (EntityFits types variables text) (named text p.names) (named_in text ps) x (w.0 text) (parts_fit types variables ps w.1 text) e
+parts_fit types variables (p ∷ ps) w text x e =
+    first_of_two (EntityFits types variables text) (named text p.names) (from_part p.around (named_in text ps)) x (w.0 text)
+    (λ y is. around_fits types variables p.around text (named_in text ps) y (parts_fit types (variables_behind p.around variables) ps w.1 text) is) e
 
 -- what is visible fits
 pub visible_fits : (k : Known) → PartsFit k.types k.variables (parts k) → (text : List ℕ) (x : Entity) → visible k text ≡ Some x → EntityFits k.types k.variables text x

@@ -20,7 +20,7 @@ use Rattle.ada_program.specs.WellFormed.{of_variable}
 use Rattle.ada_resolve.specs.Borrowers.{borrower_remark, borrower_known}
 use Rattle.ada_resolve.specs.declared.scope.Entity.{Entity}
 use Rattle.ada_resolve.specs.declared.scope.Entity.TheVariants as entity
-use Rattle.ada_resolve.specs.Known.{Known, parts}
+use Rattle.ada_resolve.specs.Known.{Known, no_body_yet, parts}
 use Rattle.ada_resolve.specs.declared.rights.Held.TheVariants as held
 use Rattle.ada_resolve.specs.Rights.{Assigned, a_value, a_whole}
 use Rattle.ada_resolve.specs.Objects.{initial_remark, initial_found, initial_items_in, initial_value_in, initial_wanted, object_type_found, held_of, object_remark, initial_source, variable_created, next_record, record_created, created_of, object_known}
@@ -128,8 +128,13 @@ pub one_longer : {X : Type 0} (xs : List X) (x : X) → length (xs ++ x ∷ []) 
 one_longer [] x = omega arith
 one_longer (y ∷ xs) x = let h = one_longer xs x in omega arith
 
-not_none : (variables : List VariableForm) (o : VariableForm) (n : ℕ) → n ≤ length variables → (length (variables ++ o ∷ []) == n) ≡ false
-not_none variables o n first = ne_eqb (length (variables ++ o ∷ [])) n (omega (arith, one_longer variables o, first))
+-- a test of two, the first of which fails
+pub both_fail : (a b : Bool) → a ≡ false → (a && b) ≡ false
+both_fail true b e = absurd (cc e)
+both_fail false b e = refl
+
+not_none : (variables : List VariableForm) (o : VariableForm) (n : ℕ) (b : Bool) → n ≤ length variables → ((length (variables ++ o ∷ []) == n) && b) ≡ false
+not_none variables o n b first = both_fail (length (variables ++ o ∷ []) == n) b (ne_eqb (length (variables ++ o ∷ [])) n (omega (arith, one_longer variables o, first)))
 
 -- what a variable is created with fits what it holds, and suits it, a borrower or not
 abbrev pub IsCreatedWith : Known → VariableKind → (borrows : Bool) → RightForm → Type 0
@@ -167,7 +172,7 @@ created_late k name borrows kind s w f =
 -- one more variable
 made_order : (k : Known) (name : Ident) (borrows : Bool) (kind : VariableKind) (s : RightForm) → k.here.first_variable ≤ length k.variables → Late k → IsCreatedWith k kind borrows s → InOrder (variable_created k name borrows kind s)
 made_order k name borrows kind s first w f =
-    late (created_late k name borrows kind s w f) (not_none k.variables (record { name = name.text; spot = name.spot; kind = kind; borrows = borrows }) k.here.first_variable first)
+    late (created_late k name borrows kind s w f) (not_none k.variables (record { name = name.text; spot = name.spot; kind = kind; borrows = borrows }) k.here.first_variable (no_body_yet k) first)
 
 -- the items of a record object's initial value are those of its type
 abbrev IsRecordInitial : Known → TypeNo → Option (List ItemForm) → Type 0
@@ -220,7 +225,7 @@ record_late k name t initial w f =
 
 record_order : (k : Known) (name : Ident) (t : TypeNo) (initial : Option (List ItemForm)) → k.here.first_variable ≤ length k.variables → Late k → IsRecordInitial k t initial → InOrder (record_created k name t initial)
 record_order k name t initial first w f =
-    late (record_late k name t initial w f) (not_none k.variables (record { name = name.text; spot = name.spot; kind = next_record k; borrows = false }) k.here.first_variable first)
+    late (record_late k name t initial w f) (not_none k.variables (record { name = name.text; spot = name.spot; kind = next_record k; borrows = false }) k.here.first_variable (no_body_yet k) first)
 
 -- the initial value, null where none is written
 integer_initial : (k : Known) (o : Option Assigned) → IsSourceFor k.types k.variables held.Integer false o → IsCreatedWith k variable.Integer false (initial_source (initial_value_in o))

@@ -22,7 +22,7 @@ use Rattle.ada_resolve.specs.declared.rights.Held.TheVariants as held
 use Rattle.ada_resolve.specs.Known.{Known, visible, parts}
 use Rattle.ada_resolve.specs.Naming.{AreLaidOut}
 use Rattle.ada_resolve.specs.Types.{complete_found, complete_in, is_access_to, designates}
-use Rattle.ada_resolve.specs.Paths.{Meant, unknown, null_value, access_value, integer_value, boolean_value, record_value, aggregate_value, path_meant, components_of, elementary_of}
+use Rattle.ada_resolve.specs.Paths.{Meant, unknown, null_value, access_value, integer_value, boolean_value, record_value, aggregate_value, lent_value, path_meant, components_of, elementary_of}
 use Rattle.ada_resolve.specs.Items.{filled_components, flattened}
 use Rattle.ada_resolve.specs.Allocators.{allocated_wanted, allocated_remark, aggregate_remark, allocation, aggregate_found, default_allocation, default_found, new_remark, new_found, is_in_use, allocator_remark, allocator_found}
 use Rattle.ada_resolve.specs.Expressions.{all_items_remark, expression_meant, filling_of}
@@ -112,6 +112,7 @@ assigned_fits types variables (held.Record t) borrows (aggregate_value found ite
     whole_fits types variables t.0 items
     (subst (λ (u : ℕ). fits.is_record types u ≡ true) (sym same) f.0) (record_value_is types variables t (aggregate_value found items) spot f q)
 assigned_fits types variables kind borrows unknown spot f q r = absurd f
+assigned_fits types variables kind borrows (lent_value t) spot f q r = absurd f
 assigned_fits types variables kind borrows m spot f q r = absurd q
 
 -- what an access type designates

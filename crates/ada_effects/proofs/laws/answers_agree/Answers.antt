@@ -1,5 +1,5 @@
-use Rattle.ada_effects.proofs.Raising as raising
+use Rattle.ada_effects.proofs.Programs as programs
 use Rattle.ada_effects.proofs.laws.answers_agree.Goals as goal
 
 pub returns : goal.returns
-returns c = raising.stmts_agree
+returns c = programs.stmts_agree

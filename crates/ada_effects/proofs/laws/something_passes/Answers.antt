@@ -1,5 +1,5 @@
-use Rattle.ada_effects.proofs.Raising as raising
+use Rattle.ada_effects.proofs.Programs as programs
 use Rattle.ada_effects.proofs.laws.something_passes.Goals as goal
 
 pub returns : goal.returns
-returns c = raising.something_passes
+returns c = programs.something_passes

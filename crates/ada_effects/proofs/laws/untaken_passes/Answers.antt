@@ -1,5 +1,5 @@
-use Rattle.ada_effects.proofs.Raising as raising
+use Rattle.ada_effects.proofs.Programs as programs
 use Rattle.ada_effects.proofs.laws.untaken_passes.Goals as goal
 
 pub returns : goal.returns
-returns c = raising.untaken_passes
+returns c = programs.untaken_passes

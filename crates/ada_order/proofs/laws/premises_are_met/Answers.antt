@@ -1,5 +1,6 @@
--- By a program and its run.
+-- By two programs and their runs.
 use Rattle.ada_order.proofs.Example as example
+use Rattle.ada_order.proofs.Calling as calling
 use Rattle.ada_order.proofs.laws.premises_are_met.Goals as goal
 
 pub returns-clause-run : goal.returns-clause-run
@@ -7,3 +8,9 @@ returns-clause-run c = (example.program, example.form, example.finishes)
 
 pub returns-clause-step : goal.returns-clause-step
 returns-clause-step c = (example.program, example.form, example.leaves_inner)
+
+pub returns-clause-call : goal.returns-clause-call
+returns-clause-call c = (calling.program, calling.form, calling.bodies, calling.finishes)
+
+pub returns-clause-call_step : goal.returns-clause-call_step
+returns-clause-call_step c = (calling.program, calling.form, calling.bodies, calling.leaves_body)

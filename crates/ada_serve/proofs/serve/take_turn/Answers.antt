@@ -1,5 +1,6 @@
 use Rattle.std.proofs.Common.{◌≡◌, ◌⊎◌}
 use Rattle.std.proofs.lemmas.Result.{err_from_is_err_and}
+use Rattle.ada_program.specs.ProgramForm.{body_forms}
 use Rattle.ada_meaning.specs.declared.event.Halt.TheVariants.{Memory}
 use Rattle.ada_meaning.specs.Event.{event_of}
 use Rattle.ada_meaning.specs.Named.{next}
@@ -10,7 +11,7 @@ use Rattle.ada_serve.proofs.serve.take_turn.Goals as goal
 
 pub returns-in_err-write_event-in-Ok-clause-text : goal.returns-in_err-write_event-in-Ok-clause-text
 returns-in_err-write_event-in-Ok-clause-text g c =
-    let made : Makes RefusesOne TakesNewest (next c.args.program.now.types.items (state_in c.args.machine.now)) (choices_of c.args.machine.now) (event_of c.in-Ok.event) (state_in c.step.new.self) (choices_of c.step.new.self) =
+    let made : Makes RefusesOne TakesNewest (next c.args.program.now.types.items (body_forms c.args.program.now) (state_in c.args.machine.now)) (choices_of c.args.machine.now) (event_of c.in-Ok.event) (state_in c.step.new.self) (choices_of c.step.new.self) =
     rw c.requires.same at c.in-Ok.ensures.steps in
     let p = err_from_is_err_and c.from_residual.result c.from_residual.ensures.1 in
     rw (p.1) (breaks_in_line c.args.program.now (state_in c.args.machine.now) (state_in c.step.new.self) (choices_of c.args.machine.now) (choices_of c.step.new.self) (event_of c.in-Ok.event) (g.W.ByteWriter.contents c.args.out.now) (g.W.ByteWriter.contents c.write_event.new.out) made c.in_err-write_event-in-Ok.ensures.text)

@@ -1,4 +1,4 @@
--- By eighteen programs and their runs.
+-- By twenty programs and their runs.
 use Rattle.ada_sound.proofs.Example as example
 use Rattle.ada_sound.proofs.ExampleBlocks as blocks
 use Rattle.ada_sound.proofs.ExampleTargets as targets
@@ -6,6 +6,7 @@ use Rattle.ada_sound.proofs.ExampleOwners as owners
 use Rattle.ada_sound.proofs.ExampleBorrowers as borrowers
 use Rattle.ada_sound.proofs.ExampleFrees as frees
 use Rattle.ada_sound.proofs.ExampleRecords as records
+use Rattle.ada_sound.proofs.ExampleCalls as calls
 use Rattle.ada_sound.proofs.laws.premises_are_met.Goals as goal
 
 pub returns-clause-begins : goal.returns-clause-begins
@@ -64,3 +65,16 @@ returns-clause-frees_components c = (frees.freeing, frees.freeing_form, frees.fr
 
 pub returns-clause-copies : goal.returns-clause-copies
 returns-clause-copies c = (records.copying, records.copying_declares, records.copying_form, records.copying_accepted, records.copies)
+
+pub returns-clause-calls : goal.returns-clause-calls
+returns-clause-calls c = (calls.calling, calls.calling_declares, calls.calling_form, calls.calling_handles, calls.calling_accepted, calls.called)
+
+pub returns-clause-borrows_around_calls : goal.returns-clause-borrows_around_calls
+returns-clause-borrows_around_calls c = (
+  calls.relending,
+  calls.relending_declares,
+  calls.relending_form,
+  calls.relending_borrows,
+  calls.relending_accepted,
+  calls.relends,
+)

@@ -1,4 +1,4 @@
--- By eighteen programs and their runs.
+-- By nineteen programs and their runs.
 use Rattle.ada_sound.proofs.Example as example
 use Rattle.ada_sound.proofs.ExampleBlocks as blocks
 use Rattle.ada_sound.proofs.ExampleTargets as targets
@@ -6,6 +6,7 @@ use Rattle.ada_sound.proofs.ExampleOwners as owners
 use Rattle.ada_sound.proofs.ExampleBorrowers as borrowers
 use Rattle.ada_sound.proofs.ExampleFrees as frees
 use Rattle.ada_sound.proofs.ExampleRecords as records
+use Rattle.ada_sound.proofs.ExampleCalls as calls
 use Rattle.ada_sound.proofs.laws.rules_are_needed.Goals as goal
 
 pub returns-clause-follows : goal.returns-clause-follows
@@ -32,6 +33,17 @@ returns-clause-raises c = (
 
 pub returns-clause-operators : goal.returns-clause-operators
 returns-clause-operators c = (blocks.overflowing, blocks.overflowing_form, blocks.overflowing_handles, blocks.overflowing_breaks, blocks.overflows)
+
+pub returns-clause-calls : goal.returns-clause-calls
+returns-clause-calls c = (
+  calls.stopping,
+  calls.stopping_declares,
+  calls.stopping_form,
+  calls.stopping_handles,
+  calls.stopping_breaks,
+  calls.stopping_at_ends,
+  calls.stops,
+)
 
 pub returns-clause-outlives : goal.returns-clause-outlives
 returns-clause-outlives c = (blocks.outliving, blocks.outliving_form, blocks.outliving_breaks, blocks.outlives)

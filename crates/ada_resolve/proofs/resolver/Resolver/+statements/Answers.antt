@@ -1,6 +1,7 @@
 use Rattle.std.proofs.lemmas.Result.{err_from_is_err_and}
 use Rattle.ada_resolve.specs.View.{known_of}
 use Rattle.ada_resolve.proofs.Handled.{handler_refused, handler_step}
+use Rattle.ada_resolve.proofs.Single.{single_so}
 use Rattle.ada_resolve.proofs.Told.{branch_refused, branch_step, simple_so}
 use Rattle.ada_resolve.proofs.resolver.Resolver.+statements.Goals as goal
 
@@ -38,3 +39,8 @@ handlers-handlers-preserved t c =
 pub statement-returns-in-Null : goal.statement-returns-in-Null
 statement-returns-in-Null t c =
     rw (simple_so c.args.inside_loop c.args.statement.now (known_of c.args.self.now, c.args.notes.now) c.in-Null.is) c.simple_statement.ensures
+
+-- a declaration with no others in it
+pub declaration-returns-in-Exception : goal.declaration-returns-in-Exception
+declaration-returns-in-Exception t c =
+    rw (single_so c.args.declaration.now (known_of c.args.self.now, c.args.notes.now) c.in-Exception.is) c.single_declaration.ensures

@@ -1,0 +1,9 @@
+with Ada.Text_IO; with Ada.Unchecked_Deallocation;
+procedure Main is
+type Node; type Link is access Node;
+type Node is record Value : Integer := 0; Next : Link; end record;
+procedure Free is new Ada.Unchecked_Deallocation (Node, Link);
+procedure Make is A : Link := new Node'(1, null); begin Free (A); end Make;
+procedure Also is begin if True then Make; end if; end Also;
+A : Link := new Node'(1, null); B : access Node := A;
+begin Also; Ada.Text_IO.Put_Line (Integer'Image (B.Value)); end Main;

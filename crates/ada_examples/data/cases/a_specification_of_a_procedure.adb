@@ -1,0 +1,5 @@
+with Ada.Text_IO;
+procedure Main is
+procedure One;
+procedure One is begin null; end One;
+begin One; end Main;

@@ -1,0 +1,4 @@
+with Ada.Text_IO;
+procedure Main is
+procedure One (A : Integer; B : Boolean) is begin null; end One;
+begin One (1, 2 + 3); end Main;

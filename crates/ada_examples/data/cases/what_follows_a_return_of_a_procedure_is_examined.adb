@@ -1,0 +1,7 @@
+with Ada.Text_IO; with Ada.Unchecked_Deallocation;
+procedure Main is
+type Node; type Link is access Node;
+type Node is record Value : Integer := 0; Next : Link; end record;
+procedure Free is new Ada.Unchecked_Deallocation (Node, Link);
+begin return;
+declare procedure Wrong is C : Link := new Node'(1, null); D : Link := C; begin Free (C); end Wrong; begin null; end; end Main;

@@ -1,0 +1,23 @@
+-- Activations, with the places of all of them behind one another.
+
+use Rattle.std.specs.Prelude.{◌≡◌, ℕ, List, [], ◌∷◌, take, drop, Option, Some, None}
+use Rattle.ada_program.specs.declared.program.ProcedureNo.{ProcedureNo}
+use Rattle.ada_meaning.specs.declared.state.Value.{Value}
+use Rattle.ada_meaning.specs.State.{Activation}
+use Rattle.ada_interpreter.specs.declared.activations.Begun.{Begun}
+
+-- The number of a procedure; none for the main body.
+abbrev pub number_of : Option ProcedureNo → Option ℕ
+number_of None = None
+number_of (Some procedure) = Some procedure.0
+
+-- The activations, the running one first: the places of each are the last ones, from where they begin. Only the running one has operands.
+abbrev pub activations_of : List Begun → (places operands : List Value) → List (Activation Value)
+activations_of [] places operands = []
+activations_of (b ∷ bs) places operands =
+    record { procedure = number_of b.procedure; places = drop b.base places; operands = operands } ∷ activations_of bs (take b.base places) []
+
+-- Operands are awaited by the running activation: where nothing runs, there are none.
+abbrev pub AreAwaited : List Begun → (operands : List Value) → Type 0
+AreAwaited [] operands = operands ≡ []
+AreAwaited (b ∷ bs) operands = Unit {0}

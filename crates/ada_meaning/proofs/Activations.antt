@@ -1,0 +1,194 @@
+-- Steps of expressions, allocators and Free keep the activations behind the running one, and its procedure and the number of its variables.
+
+use Rattle.std.proofs.Common.{◌≡◌, ℕ, zero, suc, Bool, true, false, if◌then◌else◌, List, [], ◌∷◌, length, Option, Some, None, Result, Ok, Err, refl, ap, ◌∙◌}
+use Rattle.std.specs.List.{slice_get, slice_set}
+use Rattle.ada_program.specs.declared.program.TypeDefinition.{TypeDefinition}
+use Rattle.ada_program.specs.Form.{ExpressionForm, integer, boolean, reads, is_null, applied_to, chained, LinksForm, no_more_links, a_link, ItemForm, null_item, item_of_path, item_of_value, item_of_record, RightForm, nothing, value_of, allocates, allocates_default, computes}
+use Rattle.ada_values.specs.declared.operator.BinaryOperator.{BinaryOperator}
+use Rattle.ada_values.specs.declared.fault.OperatorFault.{OperatorFault}
+use Rattle.ada_values.specs.declared.fault.OperatorFault.TheVariants.{Overflow, DivisionByZero, WrongType}
+use Rattle.ada_meaning.specs.declared.state.Value.{Value}
+use Rattle.ada_meaning.specs.declared.event.Cause.{Cause}
+use Rattle.ada_meaning.specs.declared.event.Halt.TheVariants.{Erroneous}
+use Rattle.ada_meaning.specs.declared.event.Why.TheVariants.{GivesElsewhere}
+use Rattle.ada_meaning.specs.Event.{Back}
+use Rattle.ada_meaning.specs.Frame.{Frame, is_master, Landing, passes_on, goes_behind, goes_in, landing}
+use Rattle.ada_meaning.specs.Frame as frame
+use Rattle.ada_meaning.specs.State.{Activation}
+use Rattle.ada_meaning.specs.Heap.{Cell, Found, on_null, on_gone, on_other, finds}
+use Rattle.ada_meaning.specs.Step.{same_pool, told_back, record_in, copied_next, copies_next, halts, moves, tells, asks, picks, at, older, places_of, operands, with_places, with_operands, set_operands, popped, put, held, newest, reading, component_next, follow_next, path_next, expression_next, null_test_next, is_decided, link_next, links_next, outcome_next, item_next, items_next, answered, new_next, right_next, free_next, end_next, given_back, back_next}
+use Rattle.ada_meaning.specs.Named.{State, Next, named, look, reads_boolean, on_object, returned}
+use Rattle.ada_meaning.specs.Run.{Event}
+
+-- What a body that runs on keeps: the activations behind its own, its procedure, and how many variables it has.
+pub record Kept : Type 0 where
+  pub procedure : Option ℕ
+  pub variables : ℕ
+  pub callers : List (Activation Value)
+
+abbrev pub Shape : Type 0
+Shape = Option Kept
+
+abbrev pub kept_of : Activation Value → List (Activation Value) → Kept
+kept_of running callers = record { procedure = running.procedure; variables = length running.places; callers = callers }
+
+abbrev pub shape : List (Activation Value) → Shape
+shape [] = None
+shape (running ∷ callers) = Some (kept_of running callers)
+
+operands_shape : (vs : List Value) (xs : List (Activation Value)) → shape (with_operands vs xs) ≡ shape xs
+operands_shape vs [] = refl
+operands_shape vs (running ∷ callers) = refl
+
+set_length : (vs : List Value) (i : ℕ) (v : Value) → length (slice_set vs i v) ≡ length vs
+set_length [] i v = refl
+set_length (u ∷ vs) zero v = refl
+set_length (u ∷ vs) (suc i) v = ap suc (set_length vs i v)
+
+put_shape : (x : ℕ) (v : Value) (xs : List (Activation Value)) → shape (with_places (slice_set (places_of xs) x v) xs) ≡ shape xs
+put_shape x v [] = refl
+put_shape x v (running ∷ callers) =
+    ap (λ (n : ℕ). Some (record { procedure = running.procedure; variables = n; callers = callers })) (set_length running.places x v)
+
+pub operands_kept : {w : Shape} (vs : List Value) (s : State) → shape s.activations ≡ w → shape (set_operands vs s).activations ≡ w
+operands_kept vs s h = operands_shape vs s.activations ∙ h
+
+pub less : {w : Shape} (s : State) → shape s.activations ≡ w → shape (popped s).activations ≡ w
+less s h = operands_kept (older (operands s)) s h
+
+pub put_kept : {w : Shape} (x : ℕ) (v : Value) (s : State) → shape s.activations ≡ w → shape (put x v s).activations ≡ w
+put_kept x v s h = put_shape x v s.activations ∙ h
+
+-- What comes next keeps that, whatever is answered.
+abbrev pub Keeps : Shape → Next → Type 0
+Keeps w (halts halt) = Unit {0}
+Keeps w (moves e s) = shape s.activations ≡ w
+Keeps w (tells request e s) = shape s.activations ≡ w
+Keeps w (asks request answers) = (granted : Bool) → shape (answers granted).activations ≡ w
+Keeps w (picks n taking) = (i : ℕ) → shape (taking i).activations ≡ w
+
+-- Paths and expressions.
+pub reading_keeps : {w : Shape} (cs : List ℕ) (v : Value) (s : State) → shape s.activations ≡ w → shape (reading named cs v s).activations ≡ w
+reading_keeps [] v s h = operands_kept _ s h
+reading_keeps (c ∷ cs) v s h = operands_kept _ s h
+
+pub component_keeps :
+    {w : Shape} (v : Value) (cs : List ℕ) (found : Option Value) (s : State) → shape s.activations ≡ w → Keeps w (component_next named v cs found s)
+component_keeps v cs None s h = tt
+component_keeps v cs (Some u) s h = reading_keeps cs u s h
+
+pub follow_keeps :
+    {w : Shape} (v : Value) (c : ℕ) (cs : List ℕ) (found : Found (Cell Value)) (s : State) → shape s.activations ≡ w
+    → Keeps w (follow_next named v c cs found s)
+follow_keeps v c cs on_null s h = operands_kept _ s h
+follow_keeps v c cs on_gone s h = tt
+follow_keeps v c cs on_other s h = tt
+follow_keeps v c cs (finds cell) s h = component_keeps v cs (slice_get cell.values c) s h
+
+pub path_keeps : {w : Shape} (cs : List ℕ) (v : Value) (s : State) → shape s.activations ≡ w → Keeps w (path_next named cs v s)
+path_keeps [] v s h = operands_kept _ s h
+path_keeps (c ∷ cs) v s h = follow_keeps v c cs (look s.heap v) s h
+
+pub expression_keeps : {w : Shape} (e : ExpressionForm) (s : State) → shape s.activations ≡ w → Keeps w (expression_next named e s)
+expression_keeps (integer i) s h = operands_kept _ s h
+expression_keeps (boolean b) s h = operands_kept _ s h
+expression_keeps (reads path) s h = path_keeps path.selectors (held named s path.root) s h
+expression_keeps (is_null equal path) s h = path_keeps path.selectors (held named s path.root) (at (frame.TestsNull equal ∷ s.control) s) h
+expression_keeps (applied_to operator e) s h = h
+expression_keeps (chained e links) s h = h
+
+pub null_test_keeps : {w : Shape} (equal : Bool) (null : Option Bool) (s : State) → shape s.activations ≡ w → Keeps w (null_test_next named equal null s)
+null_test_keeps equal None s h = tt
+null_test_keeps true (Some null) s h = operands_kept _ s h
+null_test_keeps false (Some null) s h = operands_kept _ s h
+
+pub link_keeps :
+    {w : Shape} (decided : Bool) (operator : BinaryOperator) (e : ExpressionForm) (links : LinksForm) (s : State) → shape s.activations ≡ w
+    → Keeps w (link_next named decided operator e links s)
+link_keeps true operator e links s h = h
+link_keeps false operator e links s h = h
+
+pub links_keep : {w : Shape} (links : LinksForm) (s : State) → shape s.activations ≡ w → Keeps w (links_next named links s)
+links_keep no_more_links s h = h
+links_keep (a_link operator e links) s h = link_keeps (is_decided named operator (reads_boolean (newest named s))) operator e links s h
+
+pub outcome_keeps : {w : Shape} (outcome : Result Value OperatorFault) (s : State) → shape s.activations ≡ w → Keeps w (outcome_next named outcome s)
+outcome_keeps (Ok v) s h = operands_kept _ s h
+outcome_keeps (Err Overflow) s h = operands_kept _ s h
+outcome_keeps (Err DivisionByZero) s h = operands_kept _ s h
+outcome_keeps (Err WrongType) s h = tt
+
+-- Allocators, and what is assigned.
+pub item_keeps : {w : Shape} (item : ItemForm) (s : State) → shape s.activations ≡ w → Keeps w (item_next named item s)
+item_keeps null_item s h = operands_kept _ s h
+item_keeps (item_of_path path) s h = path_keeps path.selectors (held named s path.root) s h
+item_keeps (item_of_value e) s h = h
+item_keeps (item_of_record p) s h = path_keeps p.object.selectors (held named s p.object.root) (at (frame.Copies p.first p.record_type ∷ s.control) s) h
+
+pub items_keep : {w : Shape} (items : List ItemForm) (s : State) → shape s.activations ≡ w → Keeps w (items_next named items s)
+items_keep [] s h = h
+items_keep (i ∷ is) s h = item_keeps i (at (frame.Fills is ∷ s.control) s) h
+
+-- A record that is copied.
+pub copied_keeps : {w : Shape} (o : Value) (found : Option (List Value)) (s : State) → shape s.activations ≡ w → Keeps w (copied_next named o found s)
+copied_keeps o None s h = tt
+copied_keeps o (Some vs) s h = operands_kept _ s h
+
+pub copies_keep :
+    {w : Shape} (o : Value) (first count : ℕ) (found : Found (Cell Value)) (s : State) → shape s.activations ≡ w
+    → Keeps w (copies_next named o first count found s)
+copies_keep o first count on_null s h = operands_kept _ s h
+copies_keep o first count on_gone s h = tt
+copies_keep o first count on_other s h = tt
+copies_keep o first count (finds cell) s h = copied_keeps o (record_in cell.values first count) s h
+
+pub answered_keeps :
+    {w : Shape} (access count item words : ℕ) (s : State) → shape s.activations ≡ w → (granted : Bool)
+    → shape (answered named access count item words s granted).activations ≡ w
+answered_keeps access count item words s h true = operands_kept _ s h
+answered_keeps access count item words s h false = operands_kept _ s h
+
+pub new_keeps :
+    {w : Shape} (access count words : ℕ) (home : Option ℕ) (s : State) → shape s.activations ≡ w → Keeps w (new_next named access count words home s)
+new_keeps access count words None s h = operands_kept _ s h
+new_keeps access count words (Some item) s h = answered_keeps access count item words s h
+
+pub right_keeps : {w : Shape} (types : List TypeDefinition) (right : RightForm) (s : State) → shape s.activations ≡ w → Keeps w (right_next named types right s)
+right_keeps types nothing s h = operands_kept _ s h
+right_keeps types (value_of path) s h = path_keeps path.selectors (held named s path.root) s h
+right_keeps types (allocates access items) s h = h
+right_keeps types (allocates_default access) s h = operands_kept _ s h
+right_keeps types (computes e) s h = h
+
+-- Free, and what it leads to.
+pub free_keeps :
+    {w : Shape} (access x : ℕ) (v : Value) (found : Found (Cell Value)) (s : State) → shape s.activations ≡ w → Keeps w (free_next named access x v found s)
+free_keeps access x v on_null s h = h
+free_keeps access x v on_gone s h = tt
+free_keeps access x v on_other s h = tt
+free_keeps access x v (finds cell) s h = h
+
+pub end_keeps : {w : Shape} (v : Value) (found : Found (Cell Value)) (s : State) → shape s.activations ≡ w → Keeps w (end_next named v found s)
+end_keeps v on_null s h = tt
+end_keeps v on_gone s h = tt
+end_keeps v on_other s h = tt
+end_keeps v (finds cell) s h = h
+
+pub told_back_keeps : {w : Shape} (pool : Option ℕ) (v : Value) (event : Event) (s : State) → shape s.activations ≡ w → Keeps w (told_back named pool v event s)
+told_back_keeps None v event s h = h
+told_back_keeps (Some pool) v event s h = h
+
+pub given_back_keeps :
+    {w : Shape} (fits : Bool) (v : Value) (cause : Cause) (cell : Cell Value) (s : State) → shape s.activations ≡ w
+    → Keeps w (if fits then given_back named v cause cell s else halts (Erroneous GivesElsewhere))
+given_back_keeps true v cause cell s h =
+    told_back_keeps cell.home.pool v (Back v cell.access cell.number cell.home.pool cell.home.subpool cause) (record s { heap = on_object returned s.heap v }) h
+given_back_keeps false v cause cell s h = tt
+
+pub back_keeps :
+    {w : Shape} (v : Value) (cause : Cause) (pool : Option ℕ) (found : Found (Cell Value)) (s : State) → shape s.activations ≡ w
+    → Keeps w (back_next named v cause pool found s)
+back_keeps v cause pool on_null s h = tt
+back_keeps v cause pool on_gone s h = tt
+back_keeps v cause pool on_other s h = tt
+back_keeps v cause pool (finds cell) s h = given_back_keeps (same_pool pool cell.home.pool) v cause cell s h

@@ -1,0 +1,172 @@
+-- Calls (6.4, 6.5), in any step and any run of any program: what they do to activations, and what comes next where one begins and ends.
+
+use Rattle.std.specs.Prelude.{◌≡◌, ◌⊎◌, ℕ, ◌+◌, ◌<◌, ℤ, Bool, List, [], ◌∷◌, ◌++◌, length, map, take, drop, reverse, Some}
+use Rattle.std.specs.List.{slice_get}
+use Rattle.ada_values.specs.declared.value.Value.TheVariants as scalar
+use Rattle.ada_program.specs.declared.program.Exception.{Exception}
+use Rattle.ada_program.specs.declared.program.Program.{Program}
+use Rattle.ada_program.specs.declared.program.VariableKind.{VariableKind}
+use Rattle.ada_program.specs.declared.program.VariableKind.TheVariants as variable
+use Rattle.ada_program.specs.Form.{ExpressionForm, calls, StmtsForm, a_stmt}
+use Rattle.ada_program.specs.ProgramForm.{VariableForm, BodyForm, body_forms}
+use Rattle.ada_meaning.specs.declared.state.Mode.TheVariants.{Running, Raising, Returning}
+use Rattle.ada_meaning.specs.declared.state.Value.{Value}
+use Rattle.ada_meaning.specs.declared.state.Value.TheVariants.{Null, Scalar}
+use Rattle.ada_meaning.specs.Event.{Quiet}
+use Rattle.ada_meaning.specs.Frame.{Frame}
+use Rattle.ada_meaning.specs.Frame as frame
+use Rattle.ada_meaning.specs.State.{Activation}
+use Rattle.ada_meaning.specs.Named.{State}
+use Rattle.ada_meaning.specs.Run.{Event, Choice, settled, Step}
+
+-- Callers stay.
+
+-- The activations that wait for the running one to end: that of its caller first.
+abbrev pub callers_in : List (Activation Value) → List (Activation Value)
+callers_in [] = []
+callers_in (running ∷ callers) = callers
+
+-- The activations once the running one waits, too: it holds what it held. A call is a statement, so no form of it waits for an operand (6.4, 5.1).
+abbrev pub waiting : List (Activation Value) → List (Activation Value)
+waiting [] = []
+waiting (running ∷ callers) = record running { operands = [] } ∷ callers
+
+-- The body that runs goes on: its activation is of the same procedure and has as many variables as before, and those that wait for it are as they were.
+abbrev pub RunsOn : (before after : List (Activation Value)) → Type 0
+RunsOn [] [] = Unit {0}
+RunsOn [] (later ∷ behind) = ⊥
+RunsOn (running ∷ callers) [] = ⊥
+RunsOn (running ∷ callers) (later ∷ behind) =
+    (behind ≡ callers) × (later.procedure ≡ running.procedure) × (length later.places ≡ length running.places)
+
+-- A call begins next: its actual parameters have been evaluated (6.4).
+pub record BeginsCall (s : State) : Type 0 where
+  pub procedure : ℕ
+  pub body : BodyForm
+  pub count : ℕ
+  pub outer : List (Frame Value)
+  pub runs : s.mode ≡ Running
+  pub first : s.control ≡ frame.Calls procedure body count ∷ outer
+
+-- The body of a call ends next: all of it is done, or a jump has come to its end (6.5, 11.4).
+pub record EndsBody (s : State) : Type 0 where
+  pub outer : List (Frame Value)
+  pub first : s.control ≡ frame.Returns ∷ outer
+
+-- What a step makes of the activations: the running body goes on; or it calls, and waits behind the activation that begins; or it ends, and those that
+-- waited for it are what there is. What a suspended caller's variables hold is the same before and after.
+pub data CallersStay (before after : State) : Type 0 where
+  goes_on : RunsOn before.activations after.activations → CallersStay before after
+  calls_one : BeginsCall before → (callee : Activation Value) → after.activations ≡ callee ∷ waiting before.activations → CallersStay before after
+  ends : EndsBody before → after.activations ≡ callers_in before.activations → CallersStay before after
+
+-- Each step of a program does so, from whatever state.
+abbrev pub StepsKeepCallers : Type 0
+StepsKeepCallers =
+    (program : Program) (before after : State) (choice : Choice) (event : Event) → Step program before choice event after → CallersStay before after
+
+-- Steps one after another, behind each of which more activations are there than so many callers: none of these has been returned to.
+pub data WithinCall (program : Program) (callers : ℕ) : State → List Event → State → Type 0 where
+  here : {s : State} → WithinCall program callers s [] s
+  there :
+      {s last : State} {event : Event} {events : List Event} (choice : Choice) (mid : State) → Step program s choice event mid
+      → callers < length mid.activations → WithinCall program callers mid events last → WithinCall program callers s (event ∷ events) last
+
+-- As long as a call lasts, those that wait for it hold what they held (6.4): nothing that happens within the call changes their variables.
+abbrev pub CallersHold : Type 0
+CallersHold =
+    (program : Program) (first last : State) (events : List Event) (running : Activation Value) (callers : List (Activation Value))
+    → first.activations ≡ running ∷ callers → WithinCall program (length callers) first events last
+    → (later : Activation Value) × (inner : List (Activation Value)) × (last.activations ≡ later ∷ inner ++ callers)
+
+-- What comes next.
+
+-- There is a step, and whatever is answered it leads to a state of which this holds, and shows nothing.
+pub record ComesTo (program : Program) (before : State) (P : State → Type 0) : Type 0 where
+  pub goes : (after : State) × Step program before settled Quiet after
+  pub leads : (choice : Choice) (event : Event) (after : State) → Step program before choice event after → (event ≡ Quiet) × P after
+
+-- What no step of a call itself changes: the heap, the input, and what is counted of objects.
+pub record LeavesAlone (before after : State) : Type 0 where
+  pub heap : after.heap ≡ before.heap
+  pub input : after.input ≡ before.input
+  pub allocated : after.allocated ≡ before.allocated
+  pub born : after.born ≡ before.born
+
+-- A call evaluates its actual parameters, in order, before the procedure's body begins; then the statements behind it are left (6.4).
+pub record EvaluatesActuals (procedure : ℕ) (actuals : List ExpressionForm) (body : BodyForm) (later : StmtsForm)
+    (outer : List (Frame Value)) (before after : State) : Type 0 where
+  pub control : after.control ≡ map frame.Computes actuals ++ frame.Calls procedure body (length actuals) ∷ frame.Does later ∷ outer
+  pub mode : after.mode ≡ Running
+  pub activations : after.activations ≡ before.activations
+  pub masters : after.masters ≡ before.masters
+  pub next : after.next ≡ before.next
+  pub alone : LeavesAlone before after
+
+-- The body that begins is that of the procedure which the call names.
+abbrev pub CallsEvaluate : Type 0
+CallsEvaluate =
+    (program : Program) (procedure : ℕ) (actuals : List ExpressionForm) (body : BodyForm) (later : StmtsForm) (outer : List (Frame Value)) (before : State)
+    → slice_get (body_forms program) procedure ≡ Some body
+    → before.mode ≡ Running → before.control ≡ frame.Does (a_stmt (calls procedure actuals) later) ∷ outer
+    → ComesTo program before (EvaluatesActuals procedure actuals body later outer before)
+
+-- A variable holds a value of its kind before its declaration is elaborated: null, if it is of an access type, or is to name a record object (8.3).
+abbrev pub IsOfKind : VariableKind → Value → Type 0
+IsOfKind variable.Integer v = (i : ℤ) × (v ≡ Scalar (scalar.Integer i))
+IsOfKind variable.Boolean v = (b : Bool) × (v ≡ Scalar (scalar.Boolean b))
+IsOfKind (variable.Access access) v = v ≡ Null
+IsOfKind (variable.Record object) v = v ≡ Null
+
+-- So does each of these.
+abbrev pub AreOfKinds : List VariableForm → List Value → Type 0
+AreOfKinds [] [] = Unit {0}
+AreOfKinds [] (v ∷ vs) = ⊥
+AreOfKinds (x ∷ xs) [] = ⊥
+AreOfKinds (x ∷ xs) (v ∷ vs) = IsOfKind x.kind v × AreOfKinds xs vs
+
+-- An activation of a procedure's body has begun, with these actual parameters (6.4, 6.4.1).
+pub record HasBegun (procedure : ℕ) (body : BodyForm) (actuals : List Value) (caller : Activation Value)
+    (callers : List (Activation Value)) (outer : List (Frame Value)) (before after : State) : Type 0 where
+  pub callee : Activation Value
+  -- it runs; its caller waits, and holds what it held
+  pub activations : after.activations ≡ callee ∷ record caller { operands = [] } ∷ callers
+  pub procedure_called : callee.procedure ≡ Some procedure
+  -- its first variables, the formal parameters, hold the actual ones, in order; each other variable has a place, too
+  pub formals : take (length actuals) callee.places ≡ actuals
+  pub others : AreOfKinds (drop (length actuals) body.variables) (drop (length actuals) callee.places)
+  pub operands : callee.operands ≡ []
+  -- the body is a master, which owns nothing yet, and has the next number (7.6.1)
+  pub masters : after.masters ≡ record { number = before.next; items = [] } ∷ before.masters
+  pub next : after.next ≡ before.next + 1
+  -- all of the body is left to do; then the call returns, and what was left comes
+  pub control : after.control ≡ frame.Elaborates body.declarations body.statements body.handlers ∷ frame.Returns ∷ outer
+  pub mode : after.mode ≡ Running
+  pub alone : LeavesAlone before after
+
+-- Once the actual parameters are evaluated, the last one newest, the body begins with them. What was computed before them is dropped.
+abbrev pub ActualsArrive : Type 0
+ActualsArrive =
+    (program : Program) (procedure : ℕ) (body : BodyForm) (actuals pending : List Value) (caller : Activation Value) (callers : List (Activation Value))
+    (outer : List (Frame Value)) (before : State)
+    → before.mode ≡ Running → before.control ≡ frame.Calls procedure body (length actuals) ∷ outer
+    → before.activations ≡ caller ∷ callers → caller.operands ≡ reverse actuals ++ pending
+    → ComesTo program before (HasBegun procedure body actuals caller callers outer before)
+
+-- The body of a call has ended: its activation is gone, and what was behind the call is left. Its caller runs, where the body was done or a return has
+-- come to its end (6.5); an exception goes on in it (11.4).
+pub record HasReturned (callers : List (Activation Value)) (outer : List (Frame Value)) (before after : State) : Type 0 where
+  pub activations : after.activations ≡ callers
+  pub control : after.control ≡ outer
+  pub runs : (before.mode ≡ Running) ⊎ (before.mode ≡ Returning) → after.mode ≡ Running
+  pub raises : (e : Exception) → before.mode ≡ Raising e → after.mode ≡ Raising e
+  pub masters : after.masters ≡ before.masters
+  pub next : after.next ≡ before.next
+  pub alone : LeavesAlone before after
+
+-- Where the end of a call's body is first of what is left, the caller is returned to, with what it held.
+abbrev pub CallersResume : Type 0
+CallersResume =
+    (program : Program) (callee : Activation Value) (callers : List (Activation Value)) (outer : List (Frame Value)) (before : State)
+    → before.control ≡ frame.Returns ∷ outer → before.activations ≡ callee ∷ callers
+    → ComesTo program before (HasReturned callers outer before)

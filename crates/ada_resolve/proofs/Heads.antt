@@ -1,0 +1,256 @@
+-- The bodies of procedures are read as they are written: their heads, and what is bound behind them.
+
+use Rattle.std.proofs.Common.{◌≡◌, ◌∙◌, ℕ, ◌+◌, Bool, true, false, cond, List, [], ◌∷◌, ◌++◌, length, length-append, refl, sym, ap, subst}
+use Rattle.std.specs.Prelude.{Option, Some, None, bytes_eq, codes, map, option_map, is_some}
+use Rattle.std.specs.List.{slice_get}
+use Rattle.ada_text.specs.declared.spot.Spot.{Spot}
+use Rattle.ada_tree.specs.Declarations.{FormalTree, HeadTree}
+use Rattle.ada_tree.specs.Names.{Ident}
+use Rattle.ada_program.specs.declared.program.Exception.TheVariants as exception
+use Rattle.ada_program.specs.declared.program.VariableKind.{VariableKind}
+use Rattle.ada_program.specs.declared.program.VariableKind.TheVariants as variable
+use Rattle.ada_program.specs.Form.{StmtsForm, HandlersForm}
+use Rattle.ada_program.specs.ProgramForm.{VariableForm, BodyForm}
+use Rattle.ada_program.specs.WellFormed.{is_borrower}
+use Rattle.ada_resolve.specs.declared.fault.NameRule.TheVariants.{DeclaredTwice}
+use Rattle.ada_resolve.specs.declared.scope.Entity.{Entity}
+use Rattle.ada_resolve.specs.declared.scope.Entity.TheVariants as entity
+use Rattle.ada_resolve.specs.Known.{Known, Named, declared, entered, first_named, from_within, named, named_in, next_procedure, parts, visible}
+use Rattle.ada_resolve.specs.Procedures.{Formals, no_formals, formal_type, formal_kind, formal_type_wanted, formal_remark, formals_remark, mode_remark, with_constant, with_formal, with_formals, overriding_remark, body_head_remark, with_body, behind_head, body_of, body_ended}
+use Rattle.ada_resolve.specs.Spots.{first_or}
+use Rattle.ada_resolve.specs.Naming.{Context, Place, Binding, Meaning, a_parameter, a_procedure, a_procedure_around, meaning_among}
+use Rattle.ada_resolve.specs.Reading.{read_at, IsNew, with_binding, with_new_constant, from_body, bound_outside, body_place, behind_body, in_body, IsHeadRead, IsScalarNamed, AreFormalsRead}
+use Rattle.ada_resolve.proofs.WellFormed.Names.{named_entered}
+use Rattle.ada_resolve.proofs.WellFormed.Remarks.{Quiet, quiet_if}
+use Rattle.ada_resolve.proofs.WellFormed.Tables.{get_more, get_last}
+use Rattle.ada_resolve.proofs.Standing.{Sound, around_body, InBody, left_body, ended_is, head_new}
+use Rattle.ada_resolve.proofs.Agreeing.{bound_to, Stands, Agrees, Ahead, EntityRead, stands_among, stands_entered, stands_more, visible_read, not_predefined}
+use Rattle.ada_resolve.proofs.Elaborated.{new_there}
+
+-- what a name is bound to, seen from a body
+outside_if : (b : Bool) (m : Meaning) (o : Option Meaning) → cond b (Some (from_body m)) (option_map from_body o) ≡ option_map from_body (cond b (Some m) o)
+outside_if true m o = refl
+outside_if false m o = refl
+
+among_outside : (text : List ℕ) (bs : List Binding) → meaning_among text (map bound_outside bs) ≡ option_map from_body (meaning_among text bs)
+among_outside text [] = refl
+among_outside text (b ∷ bs) =
+    ap (λ (o : Option Meaning). cond (bytes_eq text b.text) (Some (from_body b.meaning)) o) (among_outside text bs) ∙
+    outside_if (bytes_eq text b.text) b.meaning (meaning_among text bs)
+
+same_meaning : {a b : Meaning} → Some a ≡ Some b → Some (from_body a) ≡ Some (from_body b)
+same_meaning e = ap (λ (o : Option Meaning). option_map from_body o) e
+
+-- and what it stands for
+within_bound : (variables : List VariableForm) (e : Entity) (meaning : Meaning) (m : Option Meaning) → bound_to e ≡ Some meaning → m ≡ Some meaning → Stands (from_within variables (Some e)) (option_map from_body m)
+within_bound variables (entity.Variable x kind) meaning m own is = (from_body meaning, same_meaning own, ap (λ (o : Option Meaning). option_map from_body o) is)
+within_bound variables (entity.Parameter x kind) meaning m own is = (from_body meaning, same_meaning own, ap (λ (o : Option Meaning). option_map from_body o) is)
+within_bound variables (entity.Incomplete t) meaning m own is = (from_body meaning, same_meaning own, ap (λ (o : Option Meaning). option_map from_body o) is)
+within_bound variables (entity.Record t size) meaning m own is = (from_body meaning, same_meaning own, ap (λ (o : Option Meaning). option_map from_body o) is)
+within_bound variables (entity.Access t) meaning m own is = (from_body meaning, same_meaning own, ap (λ (o : Option Meaning). option_map from_body o) is)
+within_bound variables (entity.Number n) meaning m own is = (from_body meaning, same_meaning own, ap (λ (o : Option Meaning). option_map from_body o) is)
+within_bound variables (entity.Exception (exception.Declared n)) meaning m own is = (from_body meaning, same_meaning own, ap (λ (o : Option Meaning). option_map from_body o) is)
+within_bound variables (entity.Instance t) meaning m own is = (from_body meaning, same_meaning own, ap (λ (o : Option Meaning). option_map from_body o) is)
+within_bound variables (entity.Callable n) meaning m own is = (from_body meaning, same_meaning own, ap (λ (o : Option Meaning). option_map from_body o) is)
+within_bound variables entity.Procedure meaning m own is = (from_body meaning, same_meaning own, ap (λ (o : Option Meaning). option_map from_body o) is)
+within_bound variables (entity.Outer kind r) meaning m own is = (from_body meaning, same_meaning own, ap (λ (o : Option Meaning). option_map from_body o) is)
+within_bound variables e meaning m own is = absurd (cc own)
+
+stands_within : (variables : List VariableForm) (o : Option Entity) (m : Option Meaning) → Stands o m → Stands (from_within variables o) (option_map from_body m)
+stands_within variables None m s = ap (λ (o : Option Meaning). option_map from_body o) s
+stands_within variables (Some e) m s = within_bound variables e s.0 m s.1 s.2
+
+-- where the name of a procedure is declared
+around_agrees : (k : Known) (place : Place) (head : HeadTree) → Agrees k place → Agrees (around_body k head) (with_binding head.name a_procedure_around place)
+around_agrees k place head w = record {
+  here = stands_entered k.here.names place.here head.name entity.Procedure a_procedure_around refl w.here;
+  outer = w.outer;
+  first_type = w.first_type;
+  types = w.types;
+  bodies = w.bodies;
+  variables = w.variables;
+  exceptions = w.exceptions;
+  texts = w.texts;
+}
+
+-- where its body begins, before its formals
+body_agrees : (k : Known) (place : Place) (head : HeadTree) → Agrees k place → Agrees (with_body no_formals (around_body k head)) (body_place head.name place)
+body_agrees k place head w = record {
+  here = λ text. refl;
+  outer = λ text.
+      subst (λ (m : Option Meaning). Stands (from_within k.variables (named_in text (parts (around_body k head)))) m)
+      (sym (among_outside text (record { text = head.name.text; meaning = a_procedure_around } ∷ place.here ++ place.outer)))
+      (stands_within k.variables (named_in text (parts (around_body k head))) (meaning_among text (record { text = head.name.text; meaning = a_procedure_around } ∷ place.here ++ place.outer))
+      (stands_among (around_body k head) (with_binding head.name a_procedure_around place) (around_agrees k place head w) text));
+  first_type = w.types;
+  types = w.types;
+  bodies = w.bodies;
+  variables = refl;
+  exceptions = w.exceptions;
+  texts = w.texts;
+}
+
+-- a formal is the next variable
+formal_agrees : (k m : Known) (place : Place) (f : FormalTree) (before : Formals) → Agrees (with_body before m) place → Agrees (with_body (with_formal k f before) m) (with_new_constant f.name place)
+unfolding with_formal
+formal_agrees k m place f before w =
+    let kind = formal_kind (formal_type k before f.type_name) in
+    let x = length before.variables in
+    record {
+      here = stands_entered before.names place.here f.name (entity.Parameter (record { 0 = x }) kind) (a_parameter place.variables)
+          (ap (λ (n : ℕ). Some (a_parameter n)) (sym w.variables)) w.here;
+      outer = w.outer;
+      first_type = w.first_type;
+      types = w.types;
+      bodies = w.bodies;
+      variables = ap (λ (n : ℕ). n + 1) w.variables ∙ sym (length-append before.variables (record { name = f.name.text; spot = f.name.spot; kind = kind; borrows = false } ∷ []));
+      exceptions = w.exceptions;
+      texts = w.texts;
+    }
+
+formal_there : (k : Known) (f : FormalTree) (before : Formals) → slice_get (with_formal k f before).variables (length before.variables) ≡ Some (record { name = f.name.text; spot = f.name.spot; kind = formal_kind (formal_type k before f.type_name); borrows = false })
+unfolding with_formal
+formal_there k f before = get_last before.variables (record { name = f.name.text; spot = f.name.spot; kind = formal_kind (formal_type k before f.type_name); borrows = false })
+
+formal_grows : (k : Known) (f : FormalTree) (before : Formals) (x : ℕ) (v : VariableForm) → slice_get before.variables x ≡ Some v → slice_get (with_formal k f before).variables x ≡ Some v
+unfolding with_formal
+formal_grows k f before x v is = get_more before.variables (record { name = f.name.text; spot = f.name.spot; kind = formal_kind (formal_type k before f.type_name); borrows = false }) x v is
+
+formals_grow : (k : Known) (fs : List FormalTree) (before : Formals) (x : ℕ) (v : VariableForm) → slice_get before.variables x ≡ Some v → slice_get (with_formals k fs before).variables x ≡ Some v
+formals_grow k [] before x v is = is
+formals_grow k (f ∷ fs) before x v is = formals_grow k fs (with_formal k f before) x v (formal_grows k f before x v is)
+
+-- the type of a formal is the one that is written
+scalar_named : (text : List ℕ) (o : Option Entity) (first : Spot) (name : Ident) → (o ≡ Some entity.Integer → text ≡ codes "INTEGER") → (o ≡ Some entity.Boolean → text ≡ codes "BOOLEAN") → Quiet (formal_type_wanted o first name) → IsScalarNamed text (formal_kind o)
+scalar_named text (Some entity.Integer) first name i b q = i refl
+scalar_named text (Some entity.Boolean) first name i b q = b refl
+scalar_named text (Some (entity.Access t)) first name i b q = absurd q
+scalar_named text (Some (entity.Record t size)) first name i b q = absurd q
+scalar_named text (Some e) first name i b q = absurd q
+scalar_named text None first name i b q = absurd q
+
+-- no formal has the name of a type
+type_read : (k : Known) (p : Context) (own : Option Entity) (m : Option Meaning) (name : Ident) (e : Entity) → bound_to e ≡ None → Agrees k p.place → Stands own m → first_named own (visible k name.text) ≡ Some e → EntityRead p name.text e
+type_read k p None m name e unbound w s is = visible_read k p w name.text e is
+type_read k p (Some x) m name e unbound w s is =
+    let same : x ≡ e = cc is in
+    absurd (no_meaning (sym (ap bound_to same ∙ unbound) ∙ s.1))
+  where
+    no_meaning : None ≡ Some s.0 → ⊥
+    no_meaning so = cc so
+
+no_output : (first : Spot) (input output : Option Spot) → Quiet (mode_remark first input output) → output ≡ None
+no_output first input None q = refl
+no_output first None (Some out) q = absurd q
+no_output first (Some input) (Some out) q = absurd q
+
+no_override : (o : Option Spot) → Quiet (overriding_remark o) → o ≡ None
+no_override None q = refl
+no_override (Some spot) q = absurd q
+
+-- formals, one behind the other
+pub record FormalsRead (p : Context) (fs : List FormalTree) (m : Known) : Type 0 where
+  pub end : Place
+  pub read : AreFormalsRead p fs end
+  pub agrees : Agrees m end
+
+formals_read : (k m : Known) (p o : Context) (first : Spot) (fs : List FormalTree) (before : Formals) → Agrees k o.place → Agrees (with_body before m) p.place → Quiet (formals_remark k first before fs) → ((x : ℕ) (v : VariableForm) → slice_get (with_formals k fs before).variables x ≡ Some v → slice_get p.variables x ≡ Some v) → FormalsRead p fs (with_body (with_formals k fs before) m)
+unfolding formal_remark
+formals_read k m p o first [] before v w q ahead = record { end = p.place; read = refl; agrees = w }
+formals_read k m p o first (f ∷ fs) before v w q ahead =
+    let more = with_formal k f before in
+    let next = with_new_constant f.name p.place in
+    let rest = formals_read k m (read_at next p) o first fs more v (formal_agrees k m p.place f before w) q.1 ahead in
+    let kind = formal_kind (formal_type k before f.type_name) in
+    let there : slice_get p.variables (length before.variables) ≡ Some (record { name = f.name.text; spot = f.name.spot; kind = kind; borrows = false }) =
+    ahead (length before.variables) (record { name = f.name.text; spot = f.name.spot; kind = kind; borrows = false })
+    (formals_grow k fs more (length before.variables) (record { name = f.name.text; spot = f.name.spot; kind = kind; borrows = false }) (formal_there k f before)) in
+    record {
+      end = rest.end;
+      read = (
+        kind,
+        (not_bound (quiet_if (is_some (named f.name.text before.names)) f.name.spot DeclaredTwice q.0.1.1.0), not_predefined f.name q.0.1.0),
+        no_output first f.input f.output q.0.1.1.1.1.0,
+        scalar_named f.type_name.text (formal_type k before f.type_name) first f.type_name
+            (λ is. type_read k o (named f.type_name.text before.names) (meaning_among f.type_name.text p.place.here) f.type_name entity.Integer refl v (w.here f.type_name.text) is)
+            (λ is. type_read k o (named f.type_name.text before.names) (meaning_among f.type_name.text p.place.here) f.type_name entity.Boolean refl v (w.here f.type_name.text) is)
+            q.0.1.1.1.1.1,
+        ap (λ (n : ℕ). slice_get p.variables n) w.variables ∙ there,
+        rest.read,
+      );
+      agrees = rest.agrees;
+    }
+  where
+    not_bound : is_some (named f.name.text before.names) ≡ false → meaning_among f.name.text p.place.here ≡ None
+    not_bound off = by_name (named f.name.text before.names) off (w.here f.name.text)
+      where
+        by_name : (o : Option Entity) → is_some o ≡ false → Stands o (meaning_among f.name.text p.place.here) → meaning_among f.name.text p.place.here ≡ None
+        by_name None off s = s
+        by_name (Some e) off s = absurd (cc off)
+
+-- the head of a body
+pub record HeadRead (p : Context) (head : HeadTree) (b : BodyForm) (m : Known) : Type 0 where
+  pub end : Place
+  pub head_so : IsHeadRead p head
+  pub read : AreFormalsRead (in_body head.name b p) head.formals end
+  pub agrees : Agrees m end
+
+pub head_read : (k : Known) (p : Context) (head : HeadTree) (b : BodyForm) → Agrees k p.place → Quiet (body_head_remark k head) → ((x : ℕ) (v : VariableForm) → slice_get (behind_head k head).variables x ≡ Some v → slice_get b.variables x ≡ Some v) → HeadRead p head b (behind_head k head)
+unfolding body_head_remark behind_head
+head_read k p head b w q ahead =
+    let first = first_or head.overriding head.spot in
+    let r = formals_read k (around_body k head) (in_body head.name b p) p first head.formals no_formals w (body_agrees k p.place head w) q.1.1.1.0 ahead in
+    record {
+      end = r.end;
+      head_so = (new_there k p.place head.name first w q.1.1.1.1, no_override head.overriding q.1.1.0);
+      read = r.read;
+      agrees = r.agrees;
+    }
+
+-- behind a body its name is that of the procedure
+twice_is : (b : Bool) (x y : Entity) (o : Option Entity) → cond b (Some x) (cond b (Some y) o) ≡ cond b (Some x) o
+twice_is true x y o = refl
+twice_is false x y o = refl
+
+stands_again : (ns : List Named) (bs : List Binding) (name : Ident) (a e : Entity) (meaning : Meaning) → bound_to e ≡ Some meaning → ((text : List ℕ) → Stands (named text ns) (meaning_among text bs)) → (text : List ℕ) → Stands (named text (entered name.text e (entered name.text a ns))) (meaning_among text (record { text = name.text; meaning = meaning } ∷ bs))
+stands_again ns bs name a e meaning own old text =
+    subst (λ (o : Option Entity). Stands o (meaning_among text (record { text = name.text; meaning = meaning } ∷ bs)))
+    (sym (named_entered (entered name.text a ns) name.text text e ∙
+    (ap (λ (o : Option Entity). cond (bytes_eq text name.text) (Some e) o) (named_entered ns name.text text a) ∙ twice_is (bytes_eq text name.text) e a (named text ns))))
+    (stands_more (bytes_eq text name.text) e meaning (named text ns) (meaning_among text bs) own (old text))
+
+pub ended_agrees : (k z : Known) (head : HeadTree) (fs : StmtsForm) (hs : HandlersForm) (place done : Place) → InBody (around_body k head) z → Agrees k place → Agrees z done → Agrees (body_ended head.name fs hs z) (behind_body head.name place done)
+ended_agrees k z head fs hs place done f w v =
+    subst (λ (u : Known). Agrees u (behind_body head.name place done)) (sym (ended_is (around_body k head) z head.name fs hs f)) (record {
+      here = stands_again k.here.names place.here head.name entity.Procedure (entity.Callable (next_procedure z)) (a_procedure done.bodies)
+          (ap (λ (n : ℕ). Some (a_procedure n)) (sym v.bodies)) w.here;
+      outer = w.outer;
+      first_type = w.first_type;
+      types = v.types;
+      bodies = ap (λ (n : ℕ). n + 1) v.bodies ∙ sym (length-append z.bodies (body_of z fs hs ∷ []));
+      variables = w.variables;
+      exceptions = v.exceptions;
+      texts = v.texts;
+    })
+
+-- the tables within a body
+pub ahead_within : (k z : Known) (head : HeadTree) (fs : StmtsForm) (hs : HandlersForm) (p : Context) → InBody (around_body k head) z → Ahead (body_ended head.name fs hs z) p → Ahead z (in_body head.name (body_of z fs hs) p)
+ahead_within k z head fs hs p f w =
+    let b = body_of z fs hs in
+    let v : Ahead (declared (left_body (around_body k head) z b) head.name.text (entity.Callable (next_procedure z))) p =
+    subst (λ (u : Known). Ahead u p) (ended_is (around_body k head) z head.name fs hs f) w in
+    record {
+      types = v.types;
+      variables = λ x u is. is;
+      exceptions = v.exceptions;
+      texts = v.texts;
+      bodies = λ n c is. v.bodies n c (get_more z.bodies b n c is);
+    }
+
+-- the body is that of the program
+pub body_there : (k z : Known) (head : HeadTree) (fs : StmtsForm) (hs : HandlersForm) (p : Context) (done : Place) → InBody (around_body k head) z → Ahead (body_ended head.name fs hs z) p → Agrees z done → slice_get p.bodies done.bodies ≡ Some (body_of z fs hs)
+body_there k z head fs hs p done f w v =
+    let b = body_of z fs hs in
+    let last : Ahead (declared (left_body (around_body k head) z b) head.name.text (entity.Callable (next_procedure z))) p =
+    subst (λ (u : Known). Ahead u p) (ended_is (around_body k head) z head.name fs hs f) w in
+    ap (λ (n : ℕ). slice_get p.bodies n) v.bodies ∙ last.bodies (length z.bodies) b (get_last z.bodies b)

@@ -1,0 +1,281 @@
+-- Bodies of procedures: what is known is in order where one begins, and behind it.
+
+use Rattle.std.proofs.Common.{◌≡◌, ◌∙◌, ℕ, ◌+◌, ◌<◌, ◌≤◌, Bool, true, false, cond, ◌==◌, List, [], ◌∷◌, ◌++◌, length, length-append, refl, sym, ap, subst, arith}
+use Rattle.std.specs.Prelude.{Option, Some, None, bytes_eq, is_some}
+use Rattle.std.specs.List.{list_all, slice_get}
+use Rattle.std.proofs.lemmas.Bool.{ne_eqb, eqb-true}
+use Rattle.ada_text.specs.declared.spot.Spot.{Spot}
+use Rattle.ada_program.specs.declared.program.TypeNo.{TypeNo}
+use Rattle.ada_program.specs.declared.program.VariableKind.{VariableKind}
+use Rattle.ada_program.specs.declared.program.VariableKind.TheVariants as variable
+use Rattle.ada_program.specs.Form.{StmtsForm, HandlersForm}
+use Rattle.ada_program.specs.ProgramForm.{TypeForm, access_to, object_of, VariableForm, BodyForm}
+use Rattle.ada_program.specs.WellFormed as fits
+use Rattle.ada_tree.specs.Declarations.{FormalTree, HeadTree}
+use Rattle.ada_tree.specs.Names.{Ident}
+use Rattle.ada_resolve.specs.declared.scope.Entity.{Entity}
+use Rattle.ada_resolve.specs.declared.scope.Entity.TheVariants as entity
+use Rattle.ada_resolve.specs.Known.{Known, Named, Part, declared, entered, left_to, named, next_procedure, no_body_yet, parts}
+use Rattle.ada_resolve.specs.Paths.{name_of_type}
+use Rattle.ada_resolve.specs.Procedures.{Formals, no_formals, formal_type, formal_kind, with_constant, with_formal, with_formals, body_head_remark, body_part, with_body, body_begun, behind_head, variables_around, body_of, without_body, with_procedure, body_ended}
+use Rattle.ada_resolve.specs.Spots.{first_or}
+use Rattle.ada_resolve.proofs.Parts.{left_parts}
+use Rattle.ada_resolve.proofs.WellFormed.Exceptions.{RaisedFits, PartsRaised}
+use Rattle.ada_resolve.proofs.WellFormed.Names.{EntityFits, is_scalar_kind, variables_behind, PartsFit, all_entered, named_entered, other_text}
+use Rattle.ada_resolve.proofs.WellFormed.Remarks.{Quiet}
+use Rattle.ada_resolve.proofs.WellFormed.Tables as tables
+use Rattle.ada_resolve.proofs.WellFormed.Tables.{all_more, all_weaker, both_parts, get_more, get_last, variable_kept}
+use Rattle.ada_resolve.proofs.Standing.Order.{IsBefore, PartsBefore, IsCalled, PartsCalled, Sound, Complete, Grows, IsSettledEntity, Keeps, longer}
+use Rattle.ada_resolve.proofs.Standing.Types.{name_sound}
+use Rattle.ada_resolve.proofs.Standing.Kept.{new_slot, old_name}
+use Rattle.ada_resolve.proofs.Standing.Inner.{own_before, parts_before, outers_fit, outers_raised, outers_called}
+
+-- a formal parameter is a constant that is there, an Integer or a Boolean
+abbrev pub IsConstant : List VariableForm → List ℕ → Entity → Type 0
+IsConstant variables text (entity.Parameter x kind) =
+    ((spot : Spot) × (slice_get variables x.0 ≡ Some (record { name = text; spot = spot; kind = kind; borrows = false }))) × (is_scalar_kind kind ≡ true)
+IsConstant variables text e = ⊥
+
+-- the formals are in order
+pub record FormalsSound (types : List TypeForm) (f : Formals) : Type 0 where
+  pub fit : list_all (fits.variable_fits types) f.variables ≡ true
+  pub names : (text : List ℕ) (e : Entity) → named text f.names ≡ Some e → IsConstant f.variables text e
+
+scalar_fits : (types : List TypeForm) (kind : VariableKind) → is_scalar_kind kind ≡ true → fits.variable_kind_fits types kind ≡ true
+scalar_fits types variable.Integer e = refl
+scalar_fits types variable.Boolean e = refl
+scalar_fits types (variable.Access t) e = absurd (cc e)
+scalar_fits types (variable.Record t) e = absurd (cc e)
+
+constant_more : (variables : List VariableForm) (v : VariableForm) (text : List ℕ) (e : Entity) → IsConstant variables text e → IsConstant (variables ++ v ∷ []) text e
+constant_more variables v text (entity.Parameter x kind) f = ((f.0.0, get_more variables v x.0 _ f.0.1), f.1)
+constant_more variables v text e f = absurd f
+
+constant_sound : (types : List TypeForm) (name : Ident) (kind : VariableKind) (f : Formals) → is_scalar_kind kind ≡ true → FormalsSound types f → FormalsSound types (with_constant name kind f)
+constant_sound types name kind f scalar s =
+    let v : VariableForm = record { name = name.text; spot = name.spot; kind = kind; borrows = false } in
+    record {
+      fit = all_more (fits.variable_fits types) f.variables (v ∷ []) s.fit
+          (both_parts (fits.variable_fits types v) true (both_parts (fits.variable_kind_fits types kind) true (scalar_fits types kind scalar) refl) refl);
+      names = all_entered (IsConstant (f.variables ++ v ∷ [])) f.names name.text (entity.Parameter (record { 0 = length f.variables }) kind)
+          ((name.spot, get_last f.variables v), scalar) (λ text e ne is. constant_more f.variables v text e (s.names text e is));
+    }
+
+formal_scalar : (o : Option Entity) → is_scalar_kind (formal_kind o) ≡ true
+formal_scalar (Some entity.Boolean) = refl
+formal_scalar (Some e) = refl
+formal_scalar None = refl
+
+formal_sound : (types : List TypeForm) (k : Known) (f : FormalTree) (before : Formals) → FormalsSound types before → FormalsSound types (with_formal k f before)
+unfolding with_formal
+formal_sound types k f before s = constant_sound types f.name (formal_kind (formal_type k before f.type_name)) before (formal_scalar (formal_type k before f.type_name)) s
+
+formals_sound : (types : List TypeForm) (k : Known) (fs : List FormalTree) (before : Formals) → FormalsSound types before → FormalsSound types (with_formals k fs before)
+formals_sound types k [] before s = s
+formals_sound types k (f ∷ fs) before s = formals_sound types k fs (with_formal k f before) (formal_sound types k f before s)
+
+no_formal : (types : List TypeForm) → FormalsSound types no_formals
+no_formal types = record { fit = refl; names = λ text e is. absurd (cc is) }
+
+pub head_formals : (types : List TypeForm) (k : Known) (fs : List FormalTree) → FormalsSound types (with_formals k fs no_formals)
+head_formals types k fs = formals_sound types k fs no_formals (no_formal types)
+
+constant_fits : (types : List TypeForm) (variables : List VariableForm) (text : List ℕ) (e : Entity) → IsConstant variables text e → EntityFits types variables text e
+constant_fits types variables text (entity.Parameter x kind) f = f
+constant_fits types variables text e f = absurd f
+
+constant_raised : (exceptions : List (List ℕ)) (variables : List VariableForm) (text : List ℕ) (e : Entity) → IsConstant variables text e → RaisedFits exceptions text e
+constant_raised exceptions variables text (entity.Parameter x kind) f = tt
+constant_raised exceptions variables text e f = absurd f
+
+constant_called : (n : ℕ) (variables : List VariableForm) (text : List ℕ) (e : Entity) → IsConstant variables text e → IsCalled n e
+constant_called n variables text (entity.Parameter x kind) f = tt
+constant_called n variables text e f = absurd f
+
+-- the body begins
+with_body_sound : (k : Known) (f : Formals) → Sound k → FormalsSound k.types f → Sound (with_body f k)
+with_body_sound k f s g = record {
+  types_fit = s.types_fit;
+  variables_fit = g.fit;
+  names = (λ text e is. constant_fits k.types f.variables text e (g.names text e is), s.names);
+  exceptions = (λ text e is. constant_raised k.exceptions f.variables text e (g.names text e is), s.exceptions);
+  called = (λ text e is. constant_called (length k.bodies) f.variables text e (g.names text e is), s.called);
+  bounds = record {
+    first = omega arith;
+    first_variable = omega arith;
+    first_body = omega arith;
+    open_own = λ text t is. absurd (g.names text (entity.Incomplete t) is);
+    open_unused = λ none text t is. absurd (g.names text (entity.Incomplete t) is);
+    outer_before = (
+      λ text e is. own_before k text e is (s.names.0 text e is),
+      parts_before k.here.first_type (length k.types) k.outer s.bounds.first s.bounds.outer_before,
+    );
+  };
+}
+
+-- what is known around a body
+abbrev pub around_body : Known → HeadTree → Known
+around_body k head = declared k head.name.text entity.Procedure
+
+pub around_sound : (k : Known) (head : HeadTree) → Sound k → Sound (around_body k head)
+around_sound k head s = name_sound k head.name.text entity.Procedure s tt tt tt tt (λ none. tt)
+
+pub head_sound : (k : Known) (head : HeadTree) → Sound k → Sound (behind_head k head)
+unfolding behind_head
+head_sound k head s =
+    with_body_sound (around_body k head) (with_formals k head.formals no_formals) (around_sound k head s) (head_formals k.types k head.formals)
+
+pub head_complete : (k : Known) (head : HeadTree) → Complete (behind_head k head)
+unfolding behind_head
+head_complete k head text t is = (head_formals k.types k head.formals).names text (entity.Incomplete t) is
+
+-- a place in a body that stands at another place: in it, or behind its declarations
+pub record InBody (k m : Known) : Type 0 where
+  pub sound : Sound m
+  pub around : m.here.around ≡ Some k.variables
+  pub outer : m.outer ≡ parts k
+  pub withs : m.withs ≡ k.withs
+  pub procedure : m.procedure ≡ k.procedure
+  pub types : (t : ℕ) (form : TypeForm) → slice_get k.types t ≡ Some form → slice_get m.types t ≡ Some form
+  pub exceptions : (n : ℕ) (name : List ℕ) → slice_get k.exceptions n ≡ Some name → slice_get m.exceptions n ≡ Some name
+  pub texts : (n : ℕ) (text : List ℕ) → slice_get k.texts n ≡ Some text → slice_get m.texts n ≡ Some text
+  pub bodies : (n : ℕ) (b : BodyForm) → slice_get k.bodies n ≡ Some b → slice_get m.bodies n ≡ Some b
+
+pub head_in_body : (k : Known) (head : HeadTree) → Sound k → InBody (around_body k head) (behind_head k head)
+unfolding behind_head
+head_in_body k head s = record {
+  sound = with_body_sound (around_body k head) (with_formals k head.formals no_formals) (around_sound k head s) (head_formals k.types k head.formals);
+  around = refl;
+  outer = refl;
+  withs = refl;
+  procedure = refl;
+  types = λ t x is. is;
+  exceptions = λ t x is. is;
+  texts = λ t x is. is;
+  bodies = λ t x is. is;
+}
+
+-- types that are there stay what they are
+access_grows : (types more : List TypeForm) → ((t : ℕ) (form : TypeForm) → slice_get types t ≡ Some form → slice_get more t ≡ Some form) → (t : ℕ) → fits.is_access types t ≡ true → fits.is_access more t ≡ true
+access_grows types more g t e = by_form (slice_get types t) refl e
+  where
+    by_form : (o : Option TypeForm) → slice_get types t ≡ o → is_some (fits.designated_in o) ≡ true → fits.is_access more t ≡ true
+    by_form None is e = absurd (cc e)
+    by_form (Some form) is e = rw (g t form is) e
+
+object_grows : (types more : List TypeForm) → ((t : ℕ) (form : TypeForm) → slice_get types t ≡ Some form → slice_get more t ≡ Some form) → (t : ℕ) → fits.is_object_type types t ≡ true → fits.is_object_type more t ≡ true
+object_grows types more g t e = by_form (slice_get types t) refl e
+  where
+    by_form : (o : Option TypeForm) → slice_get types t ≡ o → is_some (fits.object_in o) ≡ true → fits.is_object_type more t ≡ true
+    by_form None is e = absurd (cc e)
+    by_form (Some form) is e = rw (g t form is) e
+
+pub types_keep : (types more : List TypeForm) → ((t : ℕ) (form : TypeForm) → slice_get types t ≡ Some form → slice_get more t ≡ Some form) → tables.Keeps types more
+types_keep types more g = (access_grows types more g, object_grows types more g)
+
+-- what is known behind a body, but for the name of the procedure
+abbrev pub left_body : Known → Known → BodyForm → Known
+left_body k z b = record z { here = k.here; outer = k.outer; variables = k.variables; bodies = z.bodies ++ b ∷ [] }
+
+pub longer_bodies : (bodies : List BodyForm) (b : BodyForm) → length (bodies ++ b ∷ []) ≡ length bodies + 1
+longer_bodies bodies b = length-append bodies (b ∷ [])
+
+called_more : (n : ℕ) (e : Entity) → IsCalled n e → IsCalled (n + 1) e
+called_more n (entity.Callable p) w = omega (arith, w)
+called_more n e w = tt
+
+parts_called : (n : ℕ) (ps : List Part) → PartsCalled n ps → PartsCalled (n + 1) ps
+parts_called n [] w = tt
+parts_called n (p ∷ ps) w = (λ text e is. called_more n e (w.0 text e is), parts_called n ps w.1)
+
+-- behind a body, none of its part is without one
+some_body : (k z : Known) (b : BodyForm) → Sound k → InBody k z → no_body_yet (left_body k z b) ≡ true → ⊥
+some_body k z b s f none =
+    let same : length (z.bodies ++ b ∷ []) ≡ k.here.first_body = eqb-true (length (z.bodies ++ b ∷ [])) k.here.first_body none in
+    let least = s.bounds.first_body in
+    let more = longer k.bodies z.bodies f.bodies in
+    let one = longer_bodies z.bodies b in
+    omega (arith, same, least, more, one)
+
+left_body_sound : (k z : Known) (b : BodyForm) → Sound k → InBody k z → Sound (left_body k z b)
+left_body_sound k z b s f = record {
+  types_fit = f.sound.types_fit;
+  variables_fit = all_weaker (fits.variable_fits k.types) (fits.variable_fits z.types) (variable_kept k.types z.types (types_keep k.types z.types f.types)) k.variables s.variables_fit;
+  names = subst (λ (a : Option (List VariableForm)). PartsFit z.types (variables_behind a z.variables) (parts k)) f.around (outers_fit k z f.sound f.outer);
+  exceptions = outers_raised k z f.sound f.outer;
+  called = subst (λ (n : ℕ). PartsCalled n (parts k)) (sym (longer_bodies z.bodies b)) (parts_called (length z.bodies) (parts k) (outers_called k z f.sound f.outer));
+  bounds = record {
+    first = let a = s.bounds.first in let more = longer k.types z.types f.types in omega arith;
+    first_variable = s.bounds.first_variable;
+    first_body = let a = s.bounds.first_body in let more = longer k.bodies z.bodies f.bodies in let one = longer_bodies z.bodies b in omega arith;
+    open_own = s.bounds.open_own;
+    open_unused = λ none text t is. absurd (some_body k z b s f none);
+    outer_before = s.bounds.outer_before;
+  };
+}
+
+-- what is known behind a body, in the words of the place before it
+pub ended_is : (k z : Known) (name : Ident) (fs : StmtsForm) (hs : HandlersForm) → InBody k z → body_ended name fs hs z ≡ declared (left_body k z (body_of z fs hs)) name.text (entity.Callable (next_procedure z))
+ended_is k z name fs hs f =
+    ap (λ (v : Known). declared (with_procedure (body_of z fs hs) (record v { variables = variables_around z.here.around })) name.text (entity.Callable (next_procedure z)))
+    (left_parts z z.outer k.here k.outer f.outer) ∙
+    ap (λ (a : Option (List VariableForm)). declared (with_procedure (body_of z fs hs) (record z { here = k.here; outer = k.outer; variables = variables_around a })) name.text (entity.Callable (next_procedure z)))
+    f.around
+
+pub body_ended_sound : (k z : Known) (name : Ident) (fs : StmtsForm) (hs : HandlersForm) → Sound k → InBody k z → Sound (body_ended name fs hs z)
+body_ended_sound k z name fs hs s f =
+    let b = body_of z fs hs in
+    let one = longer_bodies z.bodies b in
+    subst Sound (sym (ended_is k z name fs hs f))
+    (name_sound (left_body k z b) name.text (entity.Callable (next_procedure z)) (left_body_sound k z b s f) tt tt (omega (arith, one)) tt (λ none. tt))
+
+-- a name that stands for something is another than a new one, which is entered twice
+pub twice_entered : (ns : List Named) (name text : List ℕ) (a b x : Entity) → named name ns ≡ None → named text ns ≡ Some x → named text (entered name b (entered name a ns)) ≡ Some x
+twice_entered ns name text a b x none is =
+    named_entered (entered name a ns) name text b ∙
+    (ap (λ (c : Bool). cond c (Some b) (named text (entered name a ns))) (other_text text name apart) ∙ old_name ns name text a x none is)
+  where
+    no_entity : None ≡ Some x → ⊥
+    no_entity e = cc e
+
+    apart : text ≡ name → ⊥
+    apart same = no_entity (sym none ∙ subst (λ (n : List ℕ). named n ns ≡ Some x) same is)
+
+-- what was declared in its part is so behind a body
+pub body_ended_names : (k z : Known) (head : HeadTree) (fs : StmtsForm) (hs : HandlersForm) → named head.name.text k.here.names ≡ None → InBody (around_body k head) z → (text : List ℕ) (x : Entity) → named text k.here.names ≡ Some x → named text (body_ended head.name fs hs z).here.names ≡ Some x
+body_ended_names k z head fs hs none f text x is =
+    ap (λ (v : Known). named text v.here.names) (ended_is (around_body k head) z head.name fs hs f) ∙
+    twice_entered k.here.names head.name.text text entity.Procedure (entity.Callable (next_procedure z)) x none is
+
+-- a body stands before there
+pub body_ended_some : (k z : Known) (name : Ident) (fs : StmtsForm) (hs : HandlersForm) → Sound k → InBody k z → no_body_yet (body_ended name fs hs z) ≡ true → ⊥
+body_ended_some k z name fs hs s f none = some_body k z (body_of z fs hs) s f (ap (λ (v : Known). no_body_yet v) (sym (ended_is k z name fs hs f)) ∙ none)
+
+-- a body leaves the names of its part but its own, and the tables
+pub body_ended_keeps : (k : Known) (z : Known) (head : HeadTree) (spot : Spot) (fs : StmtsForm) (hs : HandlersForm) → Sound k → named head.name.text k.here.names ≡ None → InBody (around_body k head) z → Keeps k (body_ended head.name fs hs z)
+body_ended_keeps k z head spot fs hs s none f =
+    let k1 = around_body k head in
+    let b = body_of z fs hs in
+    let e = entity.Callable (next_procedure z) in
+    subst (λ (v : Known). Keeps k v) (sym (ended_is k1 z head.name fs hs f)) (record {
+      types = λ t form is settled. (f.types t form is, λ yet. absurd (some_body k1 z b (around_sound k head s) f yet));
+      accesses = λ t name d is. f.types t (access_to name d) is;
+      type_names = λ t name is. named_type t name (slice_get k.types t) refl is;
+      names = λ text x settled is. twice_entered k.here.names head.name.text text entity.Procedure e x none is;
+      more = longer k.types z.types f.types;
+      variables = λ x v is. is;
+      exceptions = f.exceptions;
+      texts = f.texts;
+      bodies = λ n c is. get_more z.bodies b n c (f.bodies n c is);
+      first_type = refl;
+      first_variable = refl;
+      first_body = refl;
+      around = refl;
+      outer = refl;
+      withs = f.withs;
+      procedure = f.procedure;
+    })
+  where
+    named_type : (t : ℕ) (name : List ℕ) (o : Option TypeForm) → slice_get k.types t ≡ o → name_of_type o ≡ Some name → name_of_type (slice_get z.types t) ≡ Some name
+    named_type t name None is so = absurd (cc so)
+    named_type t name (Some form) is so = ap (λ v. name_of_type v) (f.types t form is) ∙ so

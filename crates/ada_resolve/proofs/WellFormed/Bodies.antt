@@ -1,0 +1,92 @@
+-- The body of a procedure fits, and what is known behind it is in order.
+
+use Rattle.std.proofs.Common.{◌≡◌, ◌∙◌, ℕ, true, false, List, [], length, refl, sym, ap, subst, arith, eq-eqb}
+use Rattle.std.specs.Prelude.{Some, ◌&&◌}
+use Rattle.std.specs.List.{list_all, slice_get}
+use Rattle.std.proofs.lemmas.Bool.{false_from_ne_true}
+use Rattle.std.proofs.lemmas.List.{append-nil}
+use Rattle.ada_tree.specs.Declarations.{HeadTree}
+use Rattle.ada_program.specs.Form.{StmtsForm, HandlersForm}
+use Rattle.ada_program.specs.ProgramForm.{TypeForm}
+use Rattle.ada_program.specs.WellFormed as fits
+use Rattle.ada_program.specs.WellFormed.{declarations_fit, stmts_fit, handlers_fit, Creation}
+use Rattle.ada_resolve.specs.declared.scope.Entity.TheVariants as entity
+use Rattle.ada_resolve.specs.Known.{Known, declared, is_in_procedure, next_procedure, no_body_yet, no_variable_yet, parts, types_go_on}
+use Rattle.ada_resolve.specs.Procedures.{behind_head, body_of, body_ended}
+use Rattle.ada_resolve.proofs.Standing.{Sound, around_body, around_sound, InBody, left_body, ended_is}
+use Rattle.ada_resolve.proofs.Standing.Procedures.{head_complete, body_ended_some}
+use Rattle.ada_resolve.proofs.WellFormed.Alike.{body_late}
+use Rattle.ada_resolve.proofs.WellFormed.Called.{callables}
+use Rattle.ada_resolve.proofs.WellFormed.Created.{accesses, collected, Creates}
+use Rattle.ada_resolve.proofs.WellFormed.Elaborated.{Late, InOrder, late}
+use Rattle.ada_resolve.proofs.WellFormed.Lasting.{Ended, ended_on, body_later, one_body_more, created_more}
+use Rattle.ada_resolve.proofs.WellFormed.Tables.{both_parts, second_part}
+
+-- where a body begins
+pub record BodyBegun (k inner : Known) : Type 0 where
+  pub inside : is_in_procedure (parts inner) ≡ true
+  pub types : inner.types ≡ k.types
+  pub first_type : inner.here.first_type ≡ length inner.types
+  pub first_variable : inner.here.first_variable ≡ length inner.variables
+  pub ended : Ended k → Ended inner
+
+pub body_begins : (k : Known) (head : HeadTree) → BodyBegun k (behind_head k head)
+unfolding behind_head
+body_begins k head = record {
+  inside = refl;
+  types = refl;
+  first_type = refl;
+  first_variable = refl;
+  ended = λ e. ended_on k (behind_head k head) refl (omega arith) (omega arith) (λ t form is settled. (is, λ yet text u there same. head_complete k head text u there)) e;
+}
+
+-- its variables are created once, and it fits
+created_so : (inner z : Known) (cs : List Creation) → Creates inner z cs → fits.creates_from (length z.variables) (length inner.variables) cs ≡ true
+created_so inner z cs c =
+    let n = length z.variables in
+    sym (ap (λ es. fits.creates_from n (length inner.variables) es) (append-nil cs)) ∙ (c.in_order n [] ∙ eq-eqb n n refl)
+
+pub body_is : (inner z : Known) (fs : StmtsForm) (hs : HandlersForm) → Sound z → z.here.first_variable ≡ length inner.variables → Creates inner z (fits.created_in (body_of z fs hs)) → declarations_fit z.types z.variables z.here.elaborated ≡ true → stmts_fit z.types z.variables z.texts z.exceptions (callables z.bodies) false fs ≡ true → handlers_fit z.types z.variables z.texts z.exceptions (callables z.bodies) false hs ≡ true → fits.body_fits z.types z.texts z.exceptions (callables z.bodies) (body_of z fs hs) ≡ true
+body_is inner z fs hs s first c declares own handled =
+    let b = body_of z fs hs in
+    let held = list_all (fits.variable_fits z.types) z.variables in
+    let created = fits.creates_from (length z.variables) z.here.first_variable (fits.created_in b) in
+    let created_is : created ≡ true =
+    ap (λ v. fits.creates_from (length z.variables) v (fits.created_in b)) first ∙ created_so inner z (fits.created_in b) c in
+    let part = declarations_fit z.types z.variables z.here.elaborated in
+    let stated = stmts_fit z.types z.variables z.texts z.exceptions (callables z.bodies) false fs in
+    both_parts (held && created && part && stated) (handlers_fit z.types z.variables z.texts z.exceptions (callables z.bodies) false hs)
+    (both_parts (held && created && part) stated
+    (both_parts (held && created) part (both_parts held created s.variables_fit created_is) declares) own) handled
+
+-- it creates no collection
+pub none_created : (inner z : Known) (cs : List Creation) → Creates inner z cs → ((a : ℕ) → accesses z.types a ≡ accesses inner.types a) → (a : ℕ) → collected a cs ≡ 0
+none_created inner z cs c same a = let all = c.collections a in let stays = same a in omega (arith, all, stays)
+
+-- what is known behind it
+pub record BodyBehind (k next z : Known) : Type 0 where
+  pub order : InOrder next
+  pub types : next.types ≡ z.types
+  pub ended : Ended z → Ended next
+
+pub body_behind : (k z : Known) (head : HeadTree) (fs : StmtsForm) (hs : HandlersForm) → Sound k → Late k → InBody (around_body k head) z → ((a : ℕ) → accesses z.types a ≡ accesses k.types a) → fits.body_fits z.types z.texts z.exceptions (callables z.bodies) (body_of z fs hs) ≡ true → ((a : ℕ) → collected a (fits.created_in (body_of z fs hs)) ≡ 0) → BodyBehind k (body_ended head.name fs hs z) z
+body_behind k z head fs hs s w f same fit none =
+    let k1 = around_body k head in
+    let b = body_of z fs hs in
+    let e = entity.Callable (next_procedure z) in
+    let next = body_ended head.name fs hs z in
+    let so : next ≡ declared (left_body k1 z b) head.name.text e = ended_is k1 z head.name fs hs f in
+    let some : no_body_yet next ≡ true → ⊥ = body_ended_some k1 z head.name fs hs (around_sound k head s) f in
+    record {
+      order = late (subst Late (sym so) (body_late k z head b e w f.types same))
+          (false_from_ne_true (types_go_on next) (λ on. some (second_part (no_variable_yet next) (no_body_yet next) on)));
+      types = ap (λ (v : Known). v.types) so;
+      ended = λ done. subst Ended (sym so) (record {
+        fit = λ ts more.
+            let all : (t : ℕ) (form : TypeForm) → slice_get z.types t ≡ Some form → slice_get ts t ≡ Some form =
+            λ t form is. more t form is (λ yet. absurd (some (ap (λ (v : Known). no_body_yet v) so ∙ yet))) in
+            one_body_more ts z.texts z.exceptions [] z.bodies b (done.fit ts (λ t form is settled. all t form is))
+            (body_later z.types ts z.texts z.texts z.exceptions z.exceptions all (omega arith) (omega arith) (callables z.bodies) b fit);
+        none = λ a. let front = done.none a in let own = none a in let both = created_more a z.bodies b in omega (arith, front, own, both);
+      });
+    }

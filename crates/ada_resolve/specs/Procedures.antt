@@ -1,0 +1,149 @@
+-- Procedures: what is wrong with the head of a body, what is known where the body begins, and what is known behind it.
+
+use Rattle.std.specs.Prelude.{ℕ, false, not, List, [], ◌∷◌, ◌++◌, length, Option, Some, None, is_some}
+use Rattle.ada_text.specs.declared.spot.Spot.{Spot}
+use Rattle.ada_tree.specs.Declarations.{FormalTree, HeadTree}
+use Rattle.ada_tree.specs.Names.{Ident}
+use Rattle.ada_program.specs.Form.{StmtsForm, HandlersForm}
+use Rattle.ada_program.specs.ProgramForm.{VariableForm, BodyForm}
+use Rattle.ada_program.specs.declared.program.VariableKind.{VariableKind}
+use Rattle.ada_program.specs.declared.program.VariableKind.TheVariants as variable
+use Rattle.ada_resolve.specs.declared.fault.NameRule.TheVariants.{DeclaredTwice, WrongType, NotInProfile, Layout}
+use Rattle.ada_resolve.specs.declared.scope.Entity.{Entity}
+use Rattle.ada_resolve.specs.declared.scope.Entity.TheVariants as entity
+use Rattle.ada_resolve.specs.Known.{Known, Named, Part, declared, entered, first_named, left_to, missing, named, new_name_remark, next_procedure, no_variable_yet, parts, visible}
+use Rattle.ada_resolve.specs.Library.{is_primitive, is_taken}
+use Rattle.ada_resolve.specs.Remark.{Remark, fine, wrong, node, ◌also◌, wrong_if}
+use Rattle.ada_resolve.specs.Spots.{first_or}
+
+-- The formal parameters of a procedure, as far as they are looked at (6.1): what their names stand for, and the variables that they are.
+pub record Formals : Type 0 where
+  pub names : List Named
+  pub variables : List VariableForm
+
+-- No formal is looked at yet.
+abbrev pub no_formals : Formals
+no_formals = record { names = []; variables = [] }
+
+-- What the type's name of a formal stands for: the formals before it are visible.
+abbrev pub formal_type : Known → Formals → Ident → Option Entity
+formal_type known before name = first_named (named name.text before.names) (visible known name.text)
+
+-- What is wrong with the mode of a formal (6.1) in a body that begins at the spot: `out` is not in the profile, and `in out` is not in use yet.
+abbrev pub mode_remark : Spot → (input output : Option Spot) → Remark
+mode_remark first input None = fine
+mode_remark first None (Some out) = wrong out NotInProfile
+mode_remark first (Some input) (Some out) = wrong first NotInProfile
+
+-- A type is wanted that is complete, in a body that begins at the spot: formals of access types and of record types are not in use yet.
+abbrev pub formal_type_wanted : Option Entity → Spot → Ident → Remark
+formal_type_wanted (Some entity.Integer) first name = fine
+formal_type_wanted (Some entity.Boolean) first name = fine
+formal_type_wanted (Some (entity.Access t)) first name = wrong first NotInProfile
+formal_type_wanted (Some (entity.Record t size)) first name = wrong first NotInProfile
+formal_type_wanted (Some other) first name = wrong name.spot WrongType
+formal_type_wanted None first name = missing None name
+
+-- What is wrong with a formal, behind others, in a body that begins at the spot (6.1): it is a node of the source, its name is neither predefined
+-- nor that of one before it nor that of a primitive, and it has a mode and a type.
+unfoldable pub formal_remark : Known → Spot → Formals → FormalTree → Remark
+formal_remark known first before f =
+    node f.name.spot also
+    wrong_if (is_taken f.name.text) f.name.spot DeclaredTwice also
+    wrong_if (is_some (named f.name.text before.names)) f.name.spot DeclaredTwice also
+    wrong_if (is_primitive f.name.text) f.name.spot NotInProfile also
+    mode_remark first f.input f.output also
+    formal_type_wanted (formal_type known before f.type_name) first f.type_name
+
+-- What a formal of a type holds: an Integer, where something is wrong.
+abbrev pub formal_kind : Option Entity → VariableKind
+formal_kind (Some entity.Boolean) = variable.Boolean
+formal_kind (Some other) = variable.Integer
+formal_kind None = variable.Integer
+
+-- The formals with one more: a constant that holds this (6.2).
+abbrev pub with_constant : Ident → VariableKind → Formals → Formals
+with_constant name kind before = record {
+  names = entered name.text (entity.Parameter (record { 0 = length before.variables }) kind) before.names;
+  variables = before.variables ++ record { name = name.text; spot = name.spot; kind = kind; borrows = false } ∷ [];
+}
+
+-- The formals with one more.
+unfoldable pub with_formal : Known → FormalTree → Formals → Formals
+with_formal known f before = with_constant f.name (formal_kind (formal_type known before f.type_name)) before
+
+-- What is wrong with formals behind others.
+abbrev pub formals_remark : Known → Spot → Formals → List FormalTree → Remark
+formals_remark known first before [] = fine
+formals_remark known first before (f ∷ fs) = formal_remark known first before f also formals_remark known first (with_formal known f before) fs
+
+-- The formals with more.
+abbrev pub with_formals : Known → List FormalTree → Formals → Formals
+with_formals known [] before = before
+with_formals known (f ∷ fs) before = with_formals known fs (with_formal known f before)
+
+-- `overriding` is not in the profile (8.3.1).
+abbrev pub overriding_remark : Option Spot → Remark
+overriding_remark (Some spot) = wrong spot NotInProfile
+overriding_remark None = fine
+
+-- `procedure P (..) is` (6.1, 6.3): what is wrong with the head of a body. It is a node of the source before the objects of its part; so are its
+-- formals, and its name is new.
+unfoldable pub body_head_remark : Known → HeadTree → Remark
+body_head_remark known head =
+    node (first_or head.overriding head.spot) also
+    wrong_if (not (no_variable_yet known)) (first_or head.overriding head.spot) Layout also
+    overriding_remark head.overriding also
+    formals_remark known (first_or head.overriding head.spot) no_formals head.formals also
+    new_name_remark known head.name (first_or head.overriding head.spot)
+
+-- The declarative part of a procedure's body, in which the formals are declared; the variables of the body around are put aside.
+abbrev pub body_part : Known → Formals → Part
+body_part known formals = record {
+  names = formals.names;
+  first_type = length known.types;
+  first_variable = length formals.variables;
+  first_body = length known.bodies;
+  elaborated = [];
+  around = Some known.variables;
+}
+
+-- What is known where the body of a procedure begins (6.3).
+abbrev pub with_body : Formals → Known → Known
+with_body formals known = record known { here = body_part known formals; outer = parts known; variables = formals.variables }
+
+-- The name stands for a procedure whose body has not ended, and the body begins.
+abbrev pub body_begun : Ident → Formals → Known → Known
+body_begun name formals known = with_body formals (declared known name.text entity.Procedure)
+
+-- What is known where the declarations of a body begin, by its head.
+unfoldable pub behind_head : Known → HeadTree → Known
+behind_head known head = body_begun head.name (with_formals known head.formals no_formals) known
+
+-- The variables of the body around, once it is at work again.
+abbrev pub variables_around : Option (List VariableForm) → List VariableForm
+variables_around (Some variables) = variables
+variables_around None = []
+
+-- What a body is, where these are its statements and its handlers (6.3).
+abbrev pub body_of : Known → StmtsForm → HandlersForm → BodyForm
+body_of known forms handled = record {
+  formals = known.here.first_variable;
+  variables = known.variables;
+  declarations = known.here.elaborated;
+  statements = forms;
+  handlers = handled;
+}
+
+-- What is known once the body ends: its names are gone, and the body around is at work again.
+abbrev pub without_body : Known → Known
+without_body known = record (left_to known.outer known) { variables = variables_around known.here.around }
+
+-- What is known once there is this body too.
+abbrev pub with_procedure : BodyForm → Known → Known
+with_procedure body known = record known { bodies = known.bodies ++ body ∷ [] }
+
+-- Behind a body its name stands for the procedure, which may be called.
+abbrev pub body_ended : Ident → StmtsForm → HandlersForm → Known → Known
+body_ended name forms handled known =
+    declared (with_procedure (body_of known forms handled) (without_body known)) name.text (entity.Callable (next_procedure known))

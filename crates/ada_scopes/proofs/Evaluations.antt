@@ -1,0 +1,216 @@
+-- What comes next while forms are evaluated, while components are stored in and while objects go: a state that nests leads to one that nests.
+
+use Rattle.std.proofs.Common.{◌≡◌, ℕ, ◌<◌, ◌+◌, Bool, true, false, if◌then◌else◌, List, [], ◌∷◌, Option, Some, None, Result, Ok, Err, refl}
+use Rattle.std.specs.List.{slice_get}
+use Rattle.ada_program.specs.declared.program.TypeDefinition.{TypeDefinition}
+use Rattle.ada_program.specs.Form.{ExpressionForm, integer, boolean, reads, is_null, applied_to, chained, LinksForm, no_more_links, a_link, ItemForm, null_item, item_of_path, item_of_value, item_of_record, RightForm, nothing, value_of, allocates, allocates_default, computes}
+use Rattle.ada_program.specs.ProgramForm.{TypeForm}
+use Rattle.ada_program.specs.Nested.{Callees}
+use Rattle.ada_values.specs.declared.operator.BinaryOperator.{BinaryOperator}
+use Rattle.ada_values.specs.declared.fault.OperatorFault.{OperatorFault}
+use Rattle.ada_values.specs.declared.fault.OperatorFault.TheVariants.{Overflow, DivisionByZero, WrongType}
+use Rattle.ada_meaning.specs.declared.state.Value.{Value}
+use Rattle.ada_meaning.specs.declared.state.Mode.TheVariants.{Running}
+use Rattle.ada_meaning.specs.declared.event.Cause.{Cause}
+use Rattle.ada_meaning.specs.declared.event.Halt.TheVariants.{Erroneous}
+use Rattle.ada_meaning.specs.declared.event.Why.TheVariants.{GivesElsewhere}
+use Rattle.ada_meaning.specs.Event.{Back}
+use Rattle.ada_meaning.specs.Frame.{Frame, is_master, is_loop, is_return, Landing, passes_on, goes_behind, goes_in, handler_landing, landing}
+use Rattle.ada_meaning.specs.Frame as frame
+use Rattle.ada_meaning.specs.State.{home_of}
+use Rattle.ada_meaning.specs.Heap.{Cell, Found, on_null, on_gone, on_other, finds}
+use Rattle.ada_meaning.specs.Step.{halts, moves, tells, asks, picks, at, held, newest, reading, component_next, follow_next, path_next, expression_next, null_test_next, is_decided, link_next, links_next, outcome_next, item_next, items_next, copied_next, copies_next, newest_ones, without_newest, record_in, record_target_next, stored_from, record_stored_next, store_record_next, new_cell, answered, new_next, right_next, free_next, end_next, same_pool, told_back, given_back, back_next, freeing, freed_next, free_component_next, free_in_next}
+use Rattle.ada_meaning.specs.Named.{Object, State, Next, named, look, parted, finished, filled, returned, on_object, reads_boolean}
+use Rattle.ada_meaning.specs.Run.{Event}
+use Rattle.ada_meaning.specs.Law.{items_of}
+use Rattle.ada_scopes.proofs.Counts.{scopes}
+use Rattle.ada_scopes.proofs.Homes.{KeepsHome, home_has, housed_on, housed_new}
+use Rattle.ada_scopes.proofs.Control.{Nests, Goes, Whole, Parting, Nested, standing, whole_heap, parting_heap}
+
+-- What comes next nests, whatever is answered.
+abbrev pub Good : List TypeForm → Callees → Next → Type 0
+Good types callees (halts halt) = Unit {0}
+Good types callees (moves e s) = Nested types callees s
+Good types callees (tells request e s) = Nested types callees s
+Good types callees (asks request answers) = (granted : Bool) → Nested types callees (answers granted)
+Good types callees (picks n taking) = (i : ℕ) → i < n → Nested types callees (taking i)
+
+-- The masters of a state are whole, and what is left to do nests in them.
+abbrev pub Stands : List TypeForm → Callees → State → Type 0
+Stands types callees s = Whole types s.masters s.heap × Nests types callees (scopes s.masters) s.control
+
+-- The innermost master of a state is being left, and this is what is left to do.
+abbrev pub Parts : List TypeForm → Callees → State → Type 0
+Parts types callees s = Parting types s.masters s.heap × (s.mode ≡ Running) × Goes types callees (scopes s.masters) s.control
+
+-- What becomes of an object keeps its home.
+pub keeps_parted : (x : Object) → KeepsHome x (parted x)
+keeps_parted x = record { home = refl; access = refl; listed = λ e. absurd (cc e) }
+
+pub keeps_finished : (x : Object) → KeepsHome x (finished x)
+keeps_finished x = record { home = refl; access = refl; listed = λ e. absurd (cc e) }
+
+pub keeps_returned : (x : Object) → KeepsHome x (returned x)
+keeps_returned x = record { home = refl; access = refl; listed = λ e. e }
+
+pub keeps_filled : (c : ℕ) (v : Value) (x : Object) → KeepsHome x (filled c v x)
+keeps_filled c v x = record { home = refl; access = refl; listed = λ e. e }
+
+module _ (types : List TypeForm) (callees : Callees) where
+  -- An object changes.
+  pub whole_on : (change : Object → Object) (v : Value) (s : State) → ((x : Object) → KeepsHome x (change x)) → Whole types s.masters s.heap → Whole types s.masters (on_object change s.heap v)
+  whole_on change v s keeps w = whole_heap types s.masters s.heap (on_object change s.heap v) (housed_on change s.heap v (items_of s.masters) keeps w.housed) w
+
+  pub parting_on : (change : Object → Object) (v : Value) (s : State) → ((x : Object) → KeepsHome x (change x)) → Parting types s.masters s.heap → Parting types s.masters (on_object change s.heap v)
+  parting_on change v s keeps p = parting_heap types s.masters s.heap (on_object change s.heap v) (housed_on change s.heap v (items_of s.masters) keeps p.housed) p
+
+  -- Paths and expressions.
+  reading_good : (cs : List ℕ) (v : Value) (s : State) → Stands types callees s → Nested types callees (reading named cs v s)
+  reading_good [] v s h = standing h.0 h.1
+  reading_good (c ∷ cs) v s h = standing h.0 (tt, h.1)
+
+  component_good : (v : Value) (cs : List ℕ) (found : Option Value) (s : State) → Stands types callees s → Good types callees (component_next named v cs found s)
+  component_good v cs None s h = tt
+  component_good v cs (Some u) s h = reading_good cs u s h
+
+  follow_good : (v : Value) (c : ℕ) (cs : List ℕ) (found : Found (Cell Value)) (s : State) → Stands types callees s → Good types callees (follow_next named v c cs found s)
+  follow_good v c cs on_null s h = standing h.0 h.1
+  follow_good v c cs on_gone s h = tt
+  follow_good v c cs on_other s h = tt
+  follow_good v c cs (finds cell) s h = component_good v cs (slice_get cell.values c) s h
+
+  pub path_good : (cs : List ℕ) (v : Value) (s : State) → Stands types callees s → Good types callees (path_next named cs v s)
+  path_good [] v s h = standing h.0 h.1
+  path_good (c ∷ cs) v s h = follow_good v c cs (look s.heap v) s h
+
+  pub expression_good : (e : ExpressionForm) (s : State) → Stands types callees s → Good types callees (expression_next named e s)
+  expression_good (integer i) s h = standing h.0 h.1
+  expression_good (boolean b) s h = standing h.0 h.1
+  expression_good (reads path) s h = path_good path.selectors (held named s path.root) s h
+  expression_good (is_null equal path) s h = path_good path.selectors (held named s path.root) (at (frame.TestsNull equal ∷ s.control) s) (h.0, (tt, h.1))
+  expression_good (applied_to operator e) s h = standing h.0 (tt, (tt, h.1))
+  expression_good (chained e links) s h = standing h.0 (tt, (tt, h.1))
+
+  pub null_test_good : (equal : Bool) (null : Option Bool) (s : State) → Stands types callees s → Good types callees (null_test_next named equal null s)
+  null_test_good equal None s h = tt
+  null_test_good true (Some null) s h = standing h.0 h.1
+  null_test_good false (Some null) s h = standing h.0 h.1
+
+  link_good : (decided : Bool) (operator : BinaryOperator) (e : ExpressionForm) (links : LinksForm) (s : State) → Stands types callees s → Good types callees (link_next named decided operator e links s)
+  link_good true operator e links s h = standing h.0 (tt, h.1)
+  link_good false operator e links s h = standing h.0 (tt, (tt, (tt, h.1)))
+
+  pub links_good : (links : LinksForm) (s : State) → Stands types callees s → Good types callees (links_next named links s)
+  links_good no_more_links s h = standing h.0 h.1
+  links_good (a_link operator e links) s h = link_good (is_decided named operator (reads_boolean (newest named s))) operator e links s h
+
+  pub outcome_good : (outcome : Result Value OperatorFault) (s : State) → Stands types callees s → Good types callees (outcome_next named outcome s)
+  outcome_good (Ok v) s h = standing h.0 h.1
+  outcome_good (Err Overflow) s h = standing h.0 h.1
+  outcome_good (Err DivisionByZero) s h = standing h.0 h.1
+  outcome_good (Err WrongType) s h = tt
+
+  -- Allocators, and what is assigned: a new object lies in the collection of its access type.
+  item_good : (item : ItemForm) (s : State) → Stands types callees s → Good types callees (item_next named item s)
+  item_good null_item s h = standing h.0 h.1
+  item_good (item_of_path path) s h = path_good path.selectors (held named s path.root) s h
+  item_good (item_of_value e) s h = standing h.0 (tt, h.1)
+  item_good (item_of_record p) s h = path_good p.object.selectors (held named s p.object.root) (at (frame.Copies p.first p.record_type ∷ s.control) s) (h.0, (tt, h.1))
+
+  pub items_good : (items : List ItemForm) (s : State) → Stands types callees s → Good types callees (items_next named items s)
+  items_good [] s h = standing h.0 h.1
+  items_good (i ∷ is) s h = item_good i (at (frame.Fills is ∷ s.control) s) (h.0, (tt, h.1))
+
+  -- Records as wholes.
+  copied_good : (o : Value) (found : Option (List Value)) (s : State) → Stands types callees s → Good types callees (copied_next named o found s)
+  copied_good o None s h = tt
+  copied_good o (Some vs) s h = standing h.0 h.1
+
+  pub copies_good : (o : Value) (first count : ℕ) (found : Found (Cell Value)) (s : State) → Stands types callees s → Good types callees (copies_next named o first count found s)
+  copies_good o first count on_null s h = standing h.0 h.1
+  copies_good o first count on_gone s h = tt
+  copies_good o first count on_other s h = tt
+  copies_good o first count (finds cell) s h = copied_good o (record_in cell.values first count) s h
+
+  pub record_target_good : (o : Value) (first count : ℕ) (items : List ItemForm) (found : Found (Cell Value)) (s : State) → Stands types callees s → Good types callees (record_target_next named o first count items found s)
+  record_target_good o first count items on_null s h = standing h.0 h.1
+  record_target_good o first count items on_gone s h = tt
+  record_target_good o first count items on_other s h = tt
+  record_target_good o first count items (finds cell) s h = standing h.0 (tt, (tt, h.1))
+
+  whole_stored : (vs : List Value) (o : Value) (c : ℕ) (s : State) → Whole types s.masters s.heap → Whole types s.masters (stored_from named s.heap o c vs)
+  whole_stored [] o c s w = w
+  whole_stored (v ∷ vs) o c s w = whole_stored vs o (c + 1) (record s { heap = on_object (filled c v) s.heap o }) (whole_on (filled c v) o s (keeps_filled c v) w)
+
+  record_stored_good : (o : Value) (first : ℕ) (vs : List Value) (found : Option (List Value)) (s : State) → Stands types callees s → Good types callees (record_stored_next named o first vs found s)
+  record_stored_good o first vs None s h = tt
+  record_stored_good o first vs (Some before) s h = standing (whole_stored vs o first s h.0) h.1
+
+  pub store_record_good : (o : Value) (first count : ℕ) (found : Found (Cell Value)) (s : State) → Stands types callees s → Good types callees (store_record_next named o first count found s)
+  store_record_good o first count on_null s h = tt
+  store_record_good o first count on_gone s h = tt
+  store_record_good o first count on_other s h = tt
+  store_record_good o first count (finds cell) s h = record_stored_good o first (newest_ones named count s) (record_in cell.values first count) (without_newest named count s) h
+
+  answered_good : (access count item words : ℕ) (s : State) (granted : Bool) → home_of access s.masters ≡ Some item → Stands types callees s → Nested types callees (answered named access count item words s granted)
+  answered_good access count item words s true home h =
+      let cell = new_cell named access count item s in
+      standing (whole_heap types s.masters s.heap _ (housed_new s.heap cell (items_of s.masters) (home_has access item s.masters home) h.0.housed) h.0) h.1
+  answered_good access count item words s false home h = standing h.0 h.1
+
+  pub new_good : (access count words : ℕ) (home : Option ℕ) (s : State) → home_of access s.masters ≡ home → Stands types callees s → Good types callees (new_next named access count words home s)
+  new_good access count words None s is h = standing h.0 h.1
+  new_good access count words (Some item) s is h = λ granted. answered_good access count item words s granted is h
+
+  pub right_good : (definitions : List TypeDefinition) (right : RightForm) (s : State) → Stands types callees s → Good types callees (right_next named definitions right s)
+  right_good definitions nothing s h = standing h.0 h.1
+  right_good definitions (value_of path) s h = path_good path.selectors (held named s path.root) s h
+  right_good definitions (allocates access items) s h = standing h.0 (tt, (tt, h.1))
+  right_good definitions (allocates_default access) s h = standing h.0 (tt, h.1)
+  right_good definitions (computes e) s h = standing h.0 (tt, h.1)
+
+  -- Free, and what it leads to.
+  freeing_good : (access : ℕ) (v : Value) (clears : Frame Value) (s : State) → Whole types s.masters s.heap → Nests types callees (scopes s.masters) (clears ∷ s.control) → Nested types callees (freeing named access v clears s)
+  freeing_good access v clears s w n = standing (whole_on parted v s keeps_parted w) (tt, (tt, n))
+
+  pub free_good : (access x : ℕ) (v : Value) (found : Found (Cell Value)) (s : State) → Stands types callees s → Good types callees (free_next named access x v found s)
+  free_good access x v on_null s h = standing h.0 h.1
+  free_good access x v on_gone s h = tt
+  free_good access x v on_other s h = tt
+  free_good access x v (finds cell) s h = freeing_good access v (frame.Clears x) s h.0 (tt, h.1)
+
+  freed_good : (access : ℕ) (o : Value) (c : ℕ) (v : Value) (found : Found (Cell Value)) (s : State) → Stands types callees s → Good types callees (freed_next named access o c v found s)
+  freed_good access o c v on_null s h = standing h.0 h.1
+  freed_good access o c v on_gone s h = tt
+  freed_good access o c v on_other s h = tt
+  freed_good access o c v (finds cell) s h = freeing_good access v (frame.ClearsIn o c) s h.0 (tt, h.1)
+
+  free_component_good : (access : ℕ) (o : Value) (c : ℕ) (found : Option Value) (s : State) → Stands types callees s → Good types callees (free_component_next named access o c found s)
+  free_component_good access o c None s h = tt
+  free_component_good access o c (Some v) s h = freed_good access o c v (look s.heap v) s h
+
+  pub free_in_good : (access : ℕ) (o : Value) (c : ℕ) (found : Found (Cell Value)) (s : State) → Stands types callees s → Good types callees (free_in_next named access o c found s)
+  free_in_good access o c on_null s h = standing h.0 h.1
+  free_in_good access o c on_gone s h = tt
+  free_in_good access o c on_other s h = tt
+  free_in_good access o c (finds cell) s h = free_component_good access o c (slice_get cell.values c) s h
+
+  pub end_good : (v : Value) (found : Found (Cell Value)) (s : State) → Stands types callees s → Good types callees (end_next named v found s)
+  end_good v on_null s h = tt
+  end_good v on_gone s h = tt
+  end_good v on_other s h = tt
+  end_good v (finds cell) s h = standing (whole_on finished v s keeps_finished h.0) h.1
+
+  told_good : (pool : Option ℕ) (v : Value) (event : Event) (s : State) → Stands types callees s → Good types callees (told_back named pool v event (record s { heap = on_object returned s.heap v }))
+  told_good None v event s h = standing (whole_on returned v s keeps_returned h.0) h.1
+  told_good (Some pool) v event s h = standing (whole_on returned v s keeps_returned h.0) h.1
+
+  given_good : (fits : Bool) (v : Value) (cause : Cause) (cell : Cell Value) (s : State) → Stands types callees s → Good types callees (if fits then given_back named v cause cell s else halts (Erroneous GivesElsewhere))
+  given_good true v cause cell s h = told_good cell.home.pool v (Back v cell.access cell.number cell.home.pool cell.home.subpool cause) s h
+  given_good false v cause cell s h = tt
+
+  pub back_good : (v : Value) (cause : Cause) (pool : Option ℕ) (found : Found (Cell Value)) (s : State) → Stands types callees s → Good types callees (back_next named v cause pool found s)
+  back_good v cause pool on_null s h = tt
+  back_good v cause pool on_gone s h = tt
+  back_good v cause pool on_other s h = tt
+  back_good v cause pool (finds cell) s h = given_good (same_pool pool cell.home.pool) v cause cell s h

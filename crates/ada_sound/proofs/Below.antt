@@ -1,0 +1,66 @@
+-- What callers rely on lies in masters that were entered before their calls: none of it goes while a body is left.
+
+use Rattle.std.proofs.Common.{◌≡◌, ℕ, zero, suc, ◌≤◌, ◌<◌, ◌+◌, Bool, true, false, ◌||◌, List, [], ◌∷◌, ◌++◌, length, refl, sym, ◌∙◌, arith, length-append}
+use Rattle.std.specs.Prelude.{Option, Some, None, ◌==◌}
+use Rattle.std.specs.List.{slice_get}
+use Rattle.std.proofs.lemmas.Bool.{eqb-true}
+use Rattle.ada_program.specs.ProgramForm.{ProgramForm}
+use Rattle.ada_flow.specs.Flow.{Holds}
+use Rattle.ada_meaning.specs.declared.state.Id.{Id}
+use Rattle.ada_meaning.specs.declared.state.Value.TheVariants.{Names}
+use Rattle.ada_meaning.specs.declared.state.Mode.{Mode}
+use Rattle.ada_meaning.specs.Frame.{Leaves}
+use Rattle.ada_meaning.specs.State.{Item, Master, height}
+use Rattle.ada_meaning.specs.Law.{items_of}
+use Rattle.ada_meaning.specs.Named.{Object, object_at}
+use Rattle.ada_scopes.specs.Scopes.{is_number_of, is_innermost}
+use Rattle.ada_sound.proofs.Fits.{Outer, outer_hold, outer_value, IsRelied}
+use Rattle.ada_sound.proofs.Items.{Counted, height_is}
+use Rattle.ada_sound.proofs.Stored.{Stored}
+use Rattle.ada_sound.proofs.Leavings.{NamedBelow}
+use Rattle.ada_sound.proofs.Invariant.{Known, Control, Caller, Rooms, Roomed, RunsOn, Parting, Waits, AllWait, LieBelow, below, below_callers, outers, outer_in}
+
+-- Masters with rooms stand above those of the callers.
+roomed_high : (below ms : List Master) (rooms : Rooms) → Roomed below ms rooms → height below ≤ height ms
+roomed_high below ms [] r = rw r (omega arith)
+roomed_high below [] (gone ∷ rooms) r = absurd r
+roomed_high below (m ∷ ms) (gone ∷ rooms) r = let high = roomed_high below ms rooms r.1 in omega (arith, high)
+
+-- The number of one of the first items is that of those behind them, or more.
+inner_high : (is js : List Item) (n : ℕ) → Counted (is ++ js) → is_number_of is n ≡ true → length js ≤ n
+inner_high [] js n c e = absurd (cc e)
+inner_high (i ∷ is) js n c e = go (i.number == n) refl (λ among. inner_high is js n c.1 among)
+  where
+    go : (b : Bool) → (i.number == n) ≡ b → (is_number_of is n ≡ true → length js ≤ n) → length js ≤ n
+    go true same others = let at = eqb-true i.number n same in let count = c.0 in omega (arith, at, count, length-append is js)
+    go false same others = others (rw same at e)
+
+-- What a caller relies on lies below the masters of the running body.
+low_at : (heap : List Object) (body : ProgramForm) (callers : List Caller) → AllWait body callers → LieBelow heap callers → (d x : ℕ) (o : Id) (object : Object) → IsRelied (outer_hold (slice_get (outer_in callers) d) x) → outer_value (slice_get (outer_in callers) d) x ≡ Names o → object_at heap o ≡ Some object → suc object.cell.home.item ≤ height (below_callers callers)
+low_at heap body [] waits low d x o object relied names found = absurd relied
+low_at heap body (w ∷ ws) waits low zero x o object relied names found =
+    let lies = low.0 x o relied names in
+    let same : lies.0 ≡ object = some_same lies.0 object (sym lies.1 ∙ found) in
+    rw (← same) lies.2
+  where
+    some_same : (x y : Object) → Some x ≡ Some y → x ≡ y
+    some_same x y e = cc e
+low_at heap body (w ∷ ws) waits low (suc d) x o object relied names found =
+    let lower = low_at heap w.program ws waits.1 low.1 d x o object relied names found in
+    let high = roomed_high (below_callers ws) w.masters w.rooms waits.0.roomed in
+    omega (arith, lower, high)
+
+-- So none of it is an item of a master that a body is to leave.
+module _ (known : Known) (heap : List Object) (waits : AllWait known.program known.callers) (low : LieBelow heap known.callers) where
+  below_by : (mode : Mode) (k : Control) (rooms : Rooms) (holds : Holds) (ms : List Master) → Counted (items_of ms) → Roomed (below known) ms rooms → RunsOn known (Leaves mode ∷ k) rooms holds → NamedBelow (outers known) heap ms
+  below_by mode k [] holds ms counted r runs = absurd runs
+  below_by mode k (gone ∷ rooms) holds [] counted r runs = absurd r
+  below_by mode k (gone ∷ rooms) holds (m ∷ ms) counted r runs = λ d x o object relied names found inner.
+      let lower = low_at heap known.program known.callers waits low d x o object relied names found in
+      let high = roomed_high (below known) ms rooms r.1 in
+      let above = inner_high m.items (items_of ms) object.cell.home.item counted inner in
+      let count = height_is ms in
+      omega (arith, lower, high, above, count)
+
+  pub named_below : {places : List _} (mode : Mode) (k : Control) (ms : List Master) → Parting known heap places ms (RunsOn known (Leaves mode ∷ k)) → NamedBelow (outers known) heap ms
+  named_below mode k ms p = below_by mode k p.rooms p.holds ms p.stored.counted p.roomed p.rest

@@ -1,0 +1,72 @@
+-- Bodies of one program that have called one another: what is known of each.
+
+use Rattle.std.proofs.Common.{◌≡◌, ℕ, List, [], ◌∷◌}
+use Rattle.std.specs.Prelude.{Option, Some, None}
+use Rattle.ada_program.specs.declared.program.Program.{Program}
+use Rattle.ada_program.specs.ProgramForm.{program_form, seen_in}
+use Rattle.ada_flow.specs.Flow.{Holds}
+use Rattle.ada_meaning.specs.declared.state.Value.{Value}
+use Rattle.ada_meaning.specs.Frame.{Returns}
+use Rattle.ada_meaning.specs.State.{Activation, Master}
+use Rattle.ada_meaning.specs.Step.{older}
+use Rattle.ada_meaning.specs.Named.{State}
+use Rattle.ada_sound.specs.Agreement.{Turning, IsFlowAt, IsBehind, running_procedure}
+use Rattle.ada_sound.proofs.Bodies.{IsBody}
+use Rattle.ada_sound.proofs.Invariant.{Control, Rooms, Caller, Known, Standing}
+
+-- A suspended activation: of which body it is, what is left to do once its call has come to its end, the masters that are entered then, and their rooms;
+-- what its variables hold, and what is known of them behind the call.
+pub record Suspension : Type 0 where
+  pub procedure : Option ℕ
+  pub control : Control
+  pub masters : List Master
+  pub rooms : Rooms
+  pub places : List Value
+  pub holds : Holds
+
+-- What is left to do behind a body, by the activation that called it.
+abbrev pub rest_of : List Suspension → Control
+rest_of [] = []
+rest_of (g ∷ gs) = Returns ∷ g.control
+
+-- Flow comes to a place on some way from the declarations of a body.
+abbrev pub Reaches : Program → (procedure : Option ℕ) → (rest : Control) → Control → Holds → Type 0
+Reaches program procedure rest place holds = (way : List Turning) × IsFlowAt program procedure rest way place holds
+
+-- What is known of these activations.
+abbrev pub caller_of : Program → Suspension → List Suspension → Caller
+caller_of program g gs = record {
+  program = seen_in g.procedure (program_form program);
+  At = Reaches program g.procedure (rest_of gs);
+  control = g.control;
+  masters = g.masters;
+  rooms = g.rooms;
+  places = g.places;
+  holds = g.holds;
+}
+
+abbrev pub callers_of : Program → List Suspension → List Caller
+callers_of program [] = []
+callers_of program (g ∷ gs) = caller_of program g gs ∷ callers_of program gs
+
+-- What is known of a body at work, that these have called.
+abbrev pub known_in : Program → (procedure : Option ℕ) → List Suspension → Known
+known_in program procedure gs = record {
+  program = seen_in procedure (program_form program);
+  At = Reaches program procedure (rest_of gs);
+  callers = callers_of program gs;
+}
+
+-- The activations are those of these bodies, which are there; the main one has no caller.
+abbrev pub AreOf : Program → List (Activation Value) → List Suspension → Type 0
+AreOf program [] [] = Unit {0}
+AreOf program [] (g ∷ gs) = ⊥
+AreOf program (a ∷ rest) [] = ⊥
+AreOf program (a ∷ rest) (g ∷ gs) = (a.procedure ≡ g.procedure) × IsBody (program_form program) g.procedure × IsBehind g.procedure (rest_of gs) × AreOf program rest gs
+
+-- The activations of a state are those of bodies that have called one another.
+pub record Stands (program : Program) (gs : List Suspension) (s : State) : Type 0 where
+  pub body : IsBody (program_form program) (running_procedure s)
+  pub behind : IsBehind (running_procedure s) (rest_of gs)
+  pub bodies : AreOf program (older s.activations) gs
+  pub standing : Standing (known_in program (running_procedure s) gs) s

@@ -1,0 +1,232 @@
+-- Programs with procedures that meet the premises of the laws, or need a rule, with runs of them.
+
+use Rattle.std.proofs.Common.{◌≡◌, ◌≤◌, ℕ, true, false, List, [], ◌∷◌, ◌++◌, length, refl, arith}
+use Rattle.std.specs.Prelude.{None, pos}
+use Rattle.ada_values.specs.declared.operator.BinaryOperator.TheVariants as binary
+use Rattle.ada_values.specs.Outcome.{outcome_of}
+use Rattle.ada_program.specs.declared.program.Expression.{Expression, Integer, Path as Reads}
+use Rattle.ada_program.specs.declared.program.Item.TheVariants as item
+use Rattle.ada_program.specs.declared.program.Right.TheVariants as right
+use Rattle.ada_program.specs.declared.program.Choice.TheVariants as choice
+use Rattle.ada_program.specs.declared.program.Declaration.TheVariants as declaration
+use Rattle.ada_program.specs.declared.program.Handler.{Handler}
+use Rattle.ada_program.specs.declared.program.Path.{Path}
+use Rattle.ada_program.specs.declared.program.Procedure.{Procedure}
+use Rattle.ada_program.specs.declared.program.Stmt.{Stmt}
+use Rattle.ada_program.specs.declared.program.Stmt as stmt
+use Rattle.ada_program.specs.declared.program.Variable.{Variable}
+use Rattle.ada_program.specs.declared.program.VariableKind.TheVariants as variable
+use Rattle.ada_program.specs.declared.program.Program.{Program}
+use Rattle.ada_program.specs.Form.{stmt_forms, handler_forms, no_handlers, statement_rules, expression_rules}
+use Rattle.ada_program.specs.ProgramForm.{body_forms}
+use Rattle.ada_flow.specs.declared.rule.Hold.TheVariants as hold
+use Rattle.ada_flow.specs.declared.rule.Rule.TheVariants.{LostValue}
+use Rattle.ada_flow.specs.Flow.{uses_in}
+use Rattle.ada_meaning.specs.declared.event.Halt.TheVariants.{Finished, Erroneous}
+use Rattle.ada_meaning.specs.declared.event.Why.TheVariants.{FollowsGone}
+use Rattle.ada_meaning.specs.Named.{next}
+use Rattle.ada_meaning.specs.Run.{grants, takes}
+use Rattle.ada_sound.specs.Always.{IsChecked, FinishesAfter, Breaks, IsFineAtEnds, HaltsAfter}
+use Rattle.ada_sound.specs.Examples.{full, raising_handlers}
+use Rattle.ada_sound.specs.BorrowerExamples.{HasBorrower}
+use Rattle.ada_sound.specs.CallExamples.{showing_body, calling_bodies, calling_stmts, calling_handlers, calling_events, relending_stmts, relending_events, stopping_bodies, stopping_stmts, stopping_events}
+use Rattle.ada_sound.proofs.Choices.{accepted_in, breaks_in, fine_at_ends_in, halts_after_in}
+use Rattle.ada_sound.proofs.Example.{steps, vec, no_name, spot, types, link, exceptions, declarations, with_number, x, y, value_of_x, value_of_y, x_is_seven, y_is_x}
+
+-- The formal parameter N, and the variable P behind it.
+abbrev an_integer : Variable
+an_integer = record { name = no_name; spot = spot; kind = variable.Integer; borrows = false }
+
+-- A call.
+abbrev calls : ℕ → Expression → Stmt
+calls procedure actual = stmt.Call (record { 0 = procedure }) (vec (actual ∷ []) (omega arith))
+
+-- if N = n then .. end if;
+abbrev where_formal_is : ℕ → Stmt → Stmt
+where_formal_is n s =
+    stmt.If
+    (vec (record { condition = with_number binary.Equal n (Reads x); statements = vec (s ∷ []) (omega arith) } ∷ []) (omega arith))
+    (vec [] (omega arith))
+
+-- procedure Show (N : Integer) is P : Link;
+-- begin
+--    if N = 0 then return; end if;
+--    P := new Cell'(Value => N); Put_Line (Integer'Image (P.Value)); Free (P);
+--    if N = 2 then raise Full; end if;
+-- end Show;
+abbrev showing_all : List Stmt
+showing_all =
+    where_formal_is 0 (stmt.Return spot)
+    ∷ stmt.Assign y (right.Allocator (record { 0 = 1 }) (vec (item.Value (Reads x) ∷ []) (omega arith)))
+    ∷ stmt.PutImage (Reads value_of_y)
+    ∷ stmt.Free (record { 0 = 1 }) y
+    ∷ where_formal_is 2 (stmt.Raise full)
+    ∷ []
+
+abbrev showing : Procedure
+showing = record {
+  formals = 1;
+  variables = vec (an_integer ∷ link ∷ []) (omega arith);
+  declarations = vec (declaration.Variable (record { 0 = 1 }) None ∷ []) (omega arith);
+  statements = vec showing_all (omega arith);
+  handlers = vec [] (omega arith);
+}
+
+-- procedure Show_Two (N : Integer) is begin Show (N); Show (N + 1); end Show_Two;
+abbrev showing_two : Procedure
+showing_two = record {
+  formals = 1;
+  variables = vec (an_integer ∷ []) (omega arith);
+  declarations = vec [] (omega arith);
+  statements = vec (calls 0 (Reads x) ∷ calls 0 (with_number binary.Add 1 (Reads x)) ∷ []) (omega arith);
+  handlers = vec [] (omega arith);
+}
+
+-- when Full => Put_Line (Integer'Image (X.Value)); Free (X);
+abbrev freeing_handler : Handler
+freeing_handler = record {
+  choices = vec (choice.Exception full ∷ []) (omega arith);
+  statements = vec (stmt.PutImage (Reads value_of_x) ∷ stmt.Free (record { 0 = 1 }) x ∷ []) (omega arith);
+}
+
+-- X := new Cell'(Value => 7); Show (0); Show_Two (1); Put_Line (Integer'Image (0));
+abbrev calling_all : List Stmt
+calling_all = x_is_seven ∷ calls 0 (Integer (pos 0)) ∷ calls 1 (Integer (pos 1)) ∷ stmt.PutImage (Integer (pos 0)) ∷ []
+
+abbrev program_with : (procedures : List Procedure) → length procedures ≤ 8 → (statements : List Stmt) → length statements ≤ 8 → (handlers : List Handler)
+    → length handlers ≤ 8 → Program
+program_with procedures less statements le handlers few = record {
+  types = vec types (omega arith);
+  procedures = vec procedures less;
+  variables = vec (link ∷ link ∷ []) (omega arith);
+  texts = vec [] (omega arith);
+  exceptions = vec exceptions (omega arith);
+  declarations = vec declarations (omega arith);
+  statements = vec statements le;
+  handlers = vec handlers few;
+}
+
+abbrev pub calling : Program
+calling = program_with (showing ∷ showing_two ∷ []) (omega arith) calling_all (omega arith) (freeing_handler ∷ []) (omega arith)
+
+pub calling_declares : body_forms calling ≡ calling_bodies
+calling_declares = simp (statement_rules, expression_rules)
+
+pub calling_form : stmt_forms calling ≡ calling_stmts
+calling_form = simp (statement_rules, expression_rules)
+
+pub calling_handles : handler_forms calling ≡ calling_handlers
+calling_handles = simp (statement_rules, expression_rules)
+
+pub calling_accepted : IsChecked calling
+unfolding uses_in
+calling_accepted = accepted_in calling calling_bodies calling_stmts calling_handlers calling_declares calling_form calling_handles _ _ refl refl refl
+
+-- Four calls, the last of which raises the exception.
+pub called : FinishesAfter calling_events calling
+unfolding next outcome_of
+called =
+    halts_after_in calling calling_bodies calling_stmts calling_handlers calling_declares calling_form calling_handles []
+    (steps 13 ++ grants true ∷ steps 49 ++ grants true ∷ steps 49 ++ grants true ∷ steps 44) calling_events Finished refl refl refl
+
+-- B : access Cell;
+abbrev borrower : Variable
+borrower = record link { borrows = true }
+
+abbrev b : Path
+b = record { root = record { 0 = 2 }; of_record = false; selectors = vec [] (omega arith); spot = spot }
+
+abbrev value_of_b : Path
+value_of_b = record { root = record { 0 = 2 }; of_record = false; selectors = vec (record { 0 = 0 } ∷ []) (omega arith); spot = spot }
+
+abbrev b_is_x : Stmt
+b_is_x = stmt.Assign b (right.Path x)
+
+-- X := new Cell'(Value => 7); B := X; Show (1); B := X; Put_Line (Integer'Image (B.Value));
+abbrev relending_all : List Stmt
+relending_all = x_is_seven ∷ b_is_x ∷ calls 0 (Integer (pos 1)) ∷ b_is_x ∷ stmt.PutImage (Reads value_of_b) ∷ []
+
+abbrev pub relending : Program
+relending = record {
+  types = vec types (omega arith);
+  procedures = vec (showing ∷ []) (omega arith);
+  variables = vec (link ∷ link ∷ borrower ∷ []) (omega arith);
+  texts = vec [] (omega arith);
+  exceptions = vec exceptions (omega arith);
+  declarations = vec (declarations ++ declaration.Variable (record { 0 = 2 }) None ∷ []) (omega arith);
+  statements = vec relending_all (omega arith);
+  handlers = vec [] (omega arith);
+}
+
+pub relending_declares : body_forms relending ≡ showing_body ∷ []
+relending_declares = simp (statement_rules, expression_rules)
+
+pub relending_form : stmt_forms relending ≡ relending_stmts
+relending_form = simp (statement_rules, expression_rules)
+
+pub relending_borrows : HasBorrower relending
+relending_borrows = refl
+
+pub relending_accepted : IsChecked relending
+unfolding uses_in
+relending_accepted = accepted_in relending (showing_body ∷ []) relending_stmts no_handlers relending_declares relending_form refl _ _ refl refl refl
+
+-- The borrower is lost behind the call, and gets its value once more.
+pub relends : FinishesAfter relending_events relending
+unfolding next outcome_of
+relends =
+    halts_after_in relending (showing_body ∷ []) relending_stmts no_handlers relending_declares relending_form refl []
+    (steps 16 ++ grants true ∷ steps 25 ++ grants true ∷ steps 35 ++ takes 0 ∷ steps 4) relending_events Finished refl refl refl
+
+-- procedure Stop is begin raise Full; end Stop;
+abbrev stopping_procedure : Procedure
+stopping_procedure = record {
+  formals = 0;
+  variables = vec [] (omega arith);
+  declarations = vec [] (omega arith);
+  statements = vec (stmt.Raise full ∷ []) (omega arith);
+  handlers = vec [] (omega arith);
+}
+
+-- X := new Cell'(Value => 7); Y := X; Free (Y); Stop; X := null;
+abbrev stopping_all : List Stmt
+stopping_all =
+    x_is_seven ∷ y_is_x ∷ stmt.Free (record { 0 = 1 }) y ∷ stmt.Call (record { 0 = 0 }) (vec [] (omega arith)) ∷ stmt.Assign x right.Null ∷ []
+
+-- when Full => Put_Line (Integer'Image (X.Value));
+abbrev following_handler : Handler
+following_handler = record {
+  choices = vec (choice.Exception full ∷ []) (omega arith);
+  statements = vec (stmt.PutImage (Reads value_of_x) ∷ []) (omega arith);
+}
+
+abbrev pub stopping : Program
+stopping = program_with (stopping_procedure ∷ []) (omega arith) stopping_all (omega arith) (following_handler ∷ []) (omega arith)
+
+pub stopping_declares : body_forms stopping ≡ stopping_bodies
+stopping_declares = simp statement_rules
+
+pub stopping_form : stmt_forms stopping ≡ stopping_stmts
+stopping_form = simp (statement_rules, expression_rules)
+
+pub stopping_handles : handler_forms stopping ≡ raising_handlers
+stopping_handles = simp (statement_rules, expression_rules)
+
+pub stopping_breaks : Breaks LostValue stopping
+unfolding uses_in
+stopping_breaks =
+    breaks_in stopping stopping_bodies stopping_stmts raising_handlers stopping_declares stopping_form stopping_handles LostValue spot refl refl refl
+
+-- Where the statements begin, and where they end, the handler would be fine.
+pub stopping_at_ends : IsFineAtEnds (hold.Null ∷ hold.Null ∷ []) stopping
+unfolding uses_in
+stopping_at_ends =
+    fine_at_ends_in stopping stopping_bodies stopping_stmts raising_handlers stopping_declares stopping_form stopping_handles
+    (hold.Null ∷ hold.Null ∷ []) _ _ _ _ refl refl refl
+
+-- The procedure is called when the object is gone.
+pub stops : HaltsAfter stopping_events (Erroneous FollowsGone) stopping
+unfolding next
+stops =
+    halts_after_in stopping stopping_bodies stopping_stmts raising_handlers stopping_declares stopping_form stopping_handles []
+    (steps 13 ++ grants true ∷ steps 20) stopping_events (Erroneous FollowsGone) refl refl refl

@@ -1,0 +1,145 @@
+-- The bodies, the statements and the events of the programs by which the laws show what calls do, and which rules they need.
+
+use Rattle.std.specs.Prelude.{ℕ, List, [], ◌∷◌, Some, None, false, pos}
+use Rattle.ada_values.specs.declared.operator.BinaryOperator.TheVariants as binary
+use Rattle.ada_program.specs.declared.program.Choice.TheVariants as choice
+use Rattle.ada_program.specs.declared.program.VariableKind.{VariableKind}
+use Rattle.ada_program.specs.declared.program.VariableKind.TheVariants as variable
+use Rattle.ada_program.specs.Form.{ExpressionForm, integer, reads, item_of_value, nothing, allocates, value_of, declares, StmtForm, assigns, frees, writes, chooses, calls, returns, raises, StmtsForm, no_stmts, a_stmt, otherwise, a_branch, HandlersForm, no_handlers, a_handler}
+use Rattle.ada_program.specs.ProgramForm.{VariableForm, BodyForm}
+use Rattle.ada_meaning.specs.declared.state.Value.TheVariants.{Names}
+use Rattle.ada_meaning.specs.declared.event.Cause.TheVariants.{Leaving, Freeing}
+use Rattle.ada_meaning.specs.declared.event.Line.TheVariants.{Image}
+use Rattle.ada_meaning.specs.Event.{Back, Followed, Left, Line}
+use Rattle.ada_meaning.specs.Run.{Event}
+use Rattle.ada_sound.specs.Examples.{example_spot, example_path, seven_to_x, with_number, value_at, full}
+use Rattle.ada_sound.specs.BorrowerExamples.{b_is_head}
+
+-- The words of examples of calls: in a body with a formal parameter, N : Integer has number 0, and P : Link, where it is declared, has number 1. Link is the
+-- access type of number 1, and Full is an exception of the program.
+
+-- A variable without a name.
+abbrev pub unnamed : VariableKind → VariableForm
+unnamed kind = record { name = []; spot = example_spot; kind = kind; borrows = false }
+
+-- What N holds.
+abbrev pub formal_now : ExpressionForm
+formal_now = reads (example_path 0 [])
+
+-- if N = n then .. end if;
+abbrev pub where_formal_is : ℕ → StmtForm → StmtForm
+where_formal_is n f = chooses (a_branch (with_number binary.Equal n formal_now) (a_stmt f no_stmts) (otherwise no_stmts))
+
+-- procedure Show (N : Integer) is P : Link;
+-- begin
+--    if N = 0 then return; end if;
+--    P := new Cell'(Value => N); Put_Line (Integer'Image (P.Value)); Free (P);
+--    if N = 2 then raise Full; end if;
+-- end Show;
+abbrev pub showing_stmts : StmtsForm
+showing_stmts =
+    a_stmt (where_formal_is 0 (returns example_spot))
+    (a_stmt (assigns (example_path 1 []) (allocates 1 (item_of_value formal_now ∷ [])))
+    (a_stmt (writes (value_at 1))
+    (a_stmt (frees 1 (example_path 1 []))
+    (a_stmt (where_formal_is 2 (raises full)) no_stmts))))
+
+-- The body of Show.
+abbrev pub showing_body : BodyForm
+showing_body = record {
+  formals = 1;
+  variables = unnamed variable.Integer ∷ unnamed (variable.Access (record { 0 = 1 })) ∷ [];
+  declarations = declares 1 nothing ∷ [];
+  statements = showing_stmts;
+  handlers = no_handlers;
+}
+
+-- procedure Show_Two (N : Integer) is begin Show (N); Show (N + 1); end Show_Two;
+abbrev pub showing_two_stmts : StmtsForm
+showing_two_stmts = a_stmt (calls 0 (formal_now ∷ [])) (a_stmt (calls 0 (with_number binary.Add 1 formal_now ∷ [])) no_stmts)
+
+-- The body of Show_Two.
+abbrev pub showing_two_body : BodyForm
+showing_two_body = record {
+  formals = 1;
+  variables = unnamed variable.Integer ∷ [];
+  declarations = [];
+  statements = showing_two_stmts;
+  handlers = no_handlers;
+}
+
+-- Both procedures.
+abbrev pub calling_bodies : List BodyForm
+calling_bodies = showing_body ∷ showing_two_body ∷ []
+
+-- X := new Cell'(Value => 7); Show (0); Show_Two (1); Put_Line (Integer'Image (0));
+abbrev pub calling_stmts : StmtsForm
+calling_stmts =
+    seven_to_x
+    (a_stmt (calls 0 (integer (pos 0) ∷ []))
+    (a_stmt (calls 1 (integer (pos 1) ∷ []))
+    (a_stmt (writes (integer (pos 0))) no_stmts)))
+
+-- when Full => Put_Line (Integer'Image (X.Value)); Free (X);
+abbrev pub calling_handlers : HandlersForm
+calling_handlers = a_handler (choice.Exception full ∷ []) (a_stmt (writes (value_at 0)) (a_stmt (frees 1 (example_path 0 [])) no_stmts)) no_handlers
+
+-- The first call of Show returns early: no object is made. Show_Two shows 1 and 2, each with an object of its own that Show frees; the second one raises
+-- Full, which leaves Show and Show_Two before the handler follows and frees what the main procedure owns.
+abbrev pub calling_events : List Event
+calling_events =
+    Left 1
+    ∷ Followed (Names (record { 0 = 1 }))
+    ∷ Line (Image (pos 1))
+    ∷ Back (Names (record { 0 = 1 })) 1 2 (Some 0) None (Freeing 4)
+    ∷ Left 3
+    ∷ Followed (Names (record { 0 = 2 }))
+    ∷ Line (Image (pos 2))
+    ∷ Back (Names (record { 0 = 2 })) 1 3 (Some 0) None (Freeing 6)
+    ∷ Left 5
+    ∷ Left 2
+    ∷ Followed (Names (record { 0 = 0 }))
+    ∷ Line (Image (pos 7))
+    ∷ Back (Names (record { 0 = 0 })) 1 1 (Some 0) None (Freeing 7)
+    ∷ Left 0
+    ∷ []
+
+-- B : access Cell has number 2 in the main procedure:
+-- X := new Cell'(Value => 7); B := X; Show (1); B := X; Put_Line (Integer'Image (B.Value));
+abbrev pub relending_stmts : StmtsForm
+relending_stmts =
+    seven_to_x
+    (a_stmt b_is_head
+    (a_stmt (calls 0 (integer (pos 1) ∷ []))
+    (a_stmt b_is_head
+    (a_stmt (writes (value_at 2)) no_stmts))))
+
+-- Show may free objects of Link, so B is lost behind the call, and borrows once more. Show frees its own object alone: X keeps its object until the end.
+abbrev pub relending_events : List Event
+relending_events =
+    Followed (Names (record { 0 = 1 }))
+    ∷ Line (Image (pos 1))
+    ∷ Back (Names (record { 0 = 1 })) 1 2 (Some 0) None (Freeing 2)
+    ∷ Left 1
+    ∷ Followed (Names (record { 0 = 0 }))
+    ∷ Line (Image (pos 7))
+    ∷ Back (Names (record { 0 = 0 })) 1 1 (Some 0) None (Leaving 0 0)
+    ∷ Left 0
+    ∷ []
+
+-- procedure Stop is begin raise Full; end Stop;
+abbrev pub stopping_bodies : List BodyForm
+stopping_bodies = record { formals = 0; variables = []; declarations = []; statements = a_stmt (raises full) no_stmts; handlers = no_handlers } ∷ []
+
+-- X := new Cell'(Value => 7); Y := X; Free (Y); Stop; X := null;
+abbrev pub stopping_stmts : StmtsForm
+stopping_stmts =
+    seven_to_x
+    (a_stmt (assigns (example_path 1 []) (value_of (example_path 0 [])))
+    (a_stmt (frees 1 (example_path 1 []))
+    (a_stmt (calls 0 [])
+    (a_stmt (assigns (example_path 0 []) nothing) no_stmts))))
+
+-- The object is freed, Stop is left, and then the handler looks for the object.
+abbrev pub stopping_events : List Event
+stopping_events = Back (Names (record { 0 = 0 })) 1 1 (Some 0) None (Freeing 1) ∷ Left 2 ∷ []
