@@ -4,7 +4,7 @@ use Rattle.std.proofs.Common.{◌≡◌, Bool, true, false, ◌||◌, ◌&&◌, 
 use Rattle.std.proofs.lemmas.Bool.{and_parts, and_from, false_from_ne_true, both_ways}
 use Rattle.std.specs.List.{slice_get}
 use Rattle.ada_effects.specs.declared.effect.Effect.{Effect as HeldEffect}
-use Rattle.ada_effects.specs.Effects.{Effect, untaken, passes, call_raises, path_raises, record_path_raises, expression_raises, expressions_raise, items_raise, initial_raises, condition_raises, right_raises, declaration_raises, declarations_raise, stmt_raises, stmts_raise, branches_raise, handlers_raise}
+use Rattle.ada_effects.specs.Effects.{Effect, untaken, passes, call_raises, path_raises, record_path_raises, expression_raises, actuals_raise, items_raise, initial_raises, condition_raises, right_raises, declaration_raises, declarations_raise, stmt_raises, stmts_raise, branches_raise, handlers_raise}
 use Rattle.ada_effects.specs.Found.{effects_in, left_of}
 use Rattle.ada_effects.specs.Taken.{with_handlers, have_others}
 use Rattle.ada_program.specs.declared.program.Exception.{Exception}
@@ -68,8 +68,8 @@ mutual
       either (p ConstraintError && bounds) (stmts_raise es p fs) (q ConstraintError && bounds) (stmts_raise es q fs) (checked p q w bounds) (stmts_stay es k fs p q w) h
   stmt_stays es k (exits condition spot) p q w h = checked p q w (condition_raises condition) h
   stmt_stays es k (calls procedure actuals) p q w h =
-      either (p ConstraintError && expressions_raise actuals) (call_raises (slice_get es procedure) p) (q ConstraintError && expressions_raise actuals) (call_raises (slice_get es procedure) q)
-      (checked p q w (expressions_raise actuals)) (call_stays es k procedure p q w) h
+      either (p ConstraintError && actuals_raise actuals) (call_raises (slice_get es procedure) p) (q ConstraintError && actuals_raise actuals) (call_raises (slice_get es procedure) q)
+      (checked p q w (actuals_raise actuals)) (call_stays es k procedure p q w) h
   stmt_stays es k (returns spot) p q w h = cc
   stmt_stays es k (raises e) p q w h = w e h
   stmt_stays es k (encloses ds fs hs) p q w h =
@@ -149,8 +149,8 @@ mutual
       (one_checked p (expression_raises low || expression_raises high)) (stmts_have_one es k fs p) h
   stmt_has_one es k (exits condition spot) p h = one_checked p (condition_raises condition) h
   stmt_has_one es k (calls procedure actuals) p h =
-      one_of p (λ r. r ConstraintError && expressions_raise actuals) (λ r. call_raises (slice_get es procedure) r)
-      (one_checked p (expressions_raise actuals)) (call_has_one es k procedure p) h
+      one_of p (λ r. r ConstraintError && actuals_raise actuals) (λ r. call_raises (slice_get es procedure) r)
+      (one_checked p (actuals_raise actuals)) (call_has_one es k procedure p) h
   stmt_has_one es k (returns spot) p h = cc
   stmt_has_one es k (raises e) p h = itself p e h
   stmt_has_one es k (encloses ds fs hs) p h =

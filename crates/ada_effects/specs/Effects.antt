@@ -9,7 +9,7 @@ use Rattle.ada_values.specs.declared.operator.BinaryOperator.{BinaryOperator}
 use Rattle.ada_values.specs.declared.operator.BinaryOperator.TheVariants as binary
 use Rattle.ada_program.specs.declared.program.Exception.{Exception}
 use Rattle.ada_program.specs.declared.program.Exception.TheVariants.{ConstraintError, StorageError, EndError}
-use Rattle.ada_program.specs.Form.{PathForm, RecordPathForm, ExpressionForm, integer, boolean, reads, is_null, applied_to, chained, LinksForm, no_more_links, a_link, ItemForm, null_item, item_of_path, item_of_value, item_of_record, RightForm, nothing, value_of, allocates, allocates_default, computes, DeclarationForm, collects, declares, declares_record, StmtForm, skips, assigns, assigns_record, frees, gets, writes, writes_text, chooses, repeats, counts, exits, calls, returns, raises, encloses, StmtsForm, no_stmts, a_stmt, BranchesForm, otherwise, a_branch, HandlersForm, no_handlers, a_handler}
+use Rattle.ada_program.specs.Form.{ActualForm, value_given, PathForm, RecordPathForm, ExpressionForm, integer, boolean, reads, is_null, applied_to, chained, LinksForm, no_more_links, a_link, ItemForm, null_item, item_of_path, item_of_value, item_of_record, RightForm, nothing, value_of, allocates, allocates_default, computes, DeclarationForm, collects, declares, declares_record, StmtForm, skips, assigns, assigns_record, frees, gets, writes, writes_text, chooses, repeats, counts, exits, calls, returns, raises, encloses, StmtsForm, no_stmts, a_stmt, BranchesForm, otherwise, a_branch, HandlersForm, no_handlers, a_handler}
 use Rattle.ada_program.specs.Handling.{is_taken}
 use Rattle.ada_program.specs.ProgramForm.{TypeForm, VariableForm, BodyForm, ProgramForm}
 use Rattle.ada_program.specs.WellFormed.{is_this, path_access}
@@ -67,10 +67,10 @@ abbrev mutual
   links_raise no_more_links = false
   links_raise (a_link operator e links) = binary_raises operator || expression_raises e || links_raise links
 
--- Whether one of these expressions may.
-abbrev pub expressions_raise : List ExpressionForm → Bool
-expressions_raise [] = false
-expressions_raise (e ∷ es) = expression_raises e || expressions_raise es
+-- Whether one of these actual parameters may.
+abbrev pub actuals_raise : List ActualForm → Bool
+actuals_raise [] = false
+actuals_raise (a ∷ rest) = expression_raises (value_given a) || actuals_raise rest
 
 -- Whether the items of an allocator may.
 abbrev pub item_raises : ItemForm → Bool
@@ -146,7 +146,7 @@ abbrev mutual
       (among ConstraintError && (expression_raises low || expression_raises high)) || stmts_raise effects among fs
   stmt_raises effects among (exits condition spot) = among ConstraintError && condition_raises condition
   stmt_raises effects among (calls procedure actuals) =
-      (among ConstraintError && expressions_raise actuals) || call_raises (slice_get effects procedure) among
+      (among ConstraintError && actuals_raise actuals) || call_raises (slice_get effects procedure) among
   stmt_raises effects among (returns spot) = false
   stmt_raises effects among (raises e) = among e
   stmt_raises effects among (encloses ds fs hs) = declarations_raise among ds || stmts_raise effects (untaken hs among) fs || handlers_raise effects among hs

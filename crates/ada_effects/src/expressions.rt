@@ -2,10 +2,10 @@
 
 ghost use Rattle.std.specs.Prelude.{◌≡◌, map};
 ghost use Rattle.ada_effects.specs.Effects as rules;
-ghost use Rattle.ada_program.specs.Form.{condition_form, expression_form, item_form, links_form, path_form, record_path_form};
+ghost use Rattle.ada_program.specs.Form.{actual_form, condition_form, expression_form, item_form, links_form, path_form, record_path_form, value_given};
 
 use ada_program::Path;
-use ada_program::program::{Expression, Item, Link, RecordPath};
+use ada_program::program::{Actual, Expression, Item, Link, RecordPath};
 use ada_values::operator::{BinaryOperator, UnaryOperator};
 
 /// Whether an expression may raise an exception.
@@ -74,12 +74,22 @@ pub fn record_path_raises(path: &RecordPath) -> bool
     !path.object.of_record || !path.object.selectors.is_empty()
 }
 
-/// Whether one of these expressions may.
-pub fn expressions_raise(expressions: &[Expression]) -> bool
-    ensures { result ≡ rules.expressions_raise (map expression_form expressions.now) }
+/// Whether an actual parameter may raise an exception.
+fn actual_raises(actual: &Actual) -> bool
+    ensures { result ≡ rules.expression_raises (value_given (actual_form actual.now)) }
 {
-    'expressions: for expression in expressions {
-        if expression_raises(expression) {
+    match actual {
+        Actual::In(value) => expression_raises(value),
+        Actual::InOut(path) => path_raises(path),
+    }
+}
+
+/// Whether one of these actual parameters may.
+pub fn actuals_raise(actuals: &[Actual]) -> bool
+    ensures { result ≡ rules.actuals_raise (map actual_form actuals.now) }
+{
+    'actuals: for actual in actuals {
+        if actual_raises(actual) {
             return true;
         }
     }

@@ -19,7 +19,7 @@ mod taken;
 
 pub use crate::effect::{Effect, effect_of};
 pub use crate::expressions::{
-    condition_raises, expression_raises, expressions_raise, items_raise, path_raises,
+    actuals_raise, condition_raises, expression_raises, items_raise, path_raises,
     record_path_raises,
 };
 pub use crate::raised::passes;

@@ -10,7 +10,7 @@ ghost use Rattle.ada_program.specs.Form.{StmtsForm, right_form, declaration_form
 
 use crate::effect::Effect;
 use crate::expressions::{
-    condition_raises, expression_raises, expressions_raise, items_raise, path_raises,
+    actuals_raise, condition_raises, expression_raises, items_raise, path_raises,
     record_path_raises,
 };
 use crate::found::Found;
@@ -191,11 +191,7 @@ fn find_in_statement(
             condition_raises(condition),
         ),
         Stmt::Call { procedure, actuals } => {
-            found.add_if(
-                taken,
-                Exception::ConstraintError,
-                expressions_raise(actuals),
-            )?;
+            found.add_if(taken, Exception::ConstraintError, actuals_raise(actuals))?;
             find_in_call(effects, *procedure, taken, found)
         }
         Stmt::Raise(exception) => found.add(taken, *exception),

@@ -10,23 +10,14 @@ use Rattle.ada_effects.specs.Found.{has_number}
 use Rattle.ada_program.specs.declared.program.Exception.{Exception}
 use Rattle.ada_program.specs.declared.program.TypeNo.{TypeNo}
 use Rattle.ada_program.specs.declared.program.Variable.{Variable}
-use Rattle.ada_program.specs.Form.{ExpressionForm}
 use Rattle.ada_program.specs.ProgramForm.{VariableForm, variable_form}
 use Rattle.ada_program.specs.WellFormed.{access_of}
 use Rattle.ada_flow.specs.Aliases.{is_alias, tells_aliases}
 use Rattle.ada_flow.specs.declared.marks.Marks.{Marks}
 use Rattle.ada_flow.specs.declared.rule.Hold.{Hold}
-use Rattle.ada_flow.specs.Flow.{Holds, is_among, is_freed, without_alias, without_freed, uses_in, uses_in_all, leftmost, broken_among}
+use Rattle.ada_flow.specs.Flow.{Holds, is_among, is_freed, without_alias, without_freed}
 use Rattle.ada_flow.specs.Told.{AreMarks, is_marked, marked_types, type_number}
 use Rattle.ada_flow.proofs.Aliased.{own_kept, first_not, second_not, not_so, told_of_take, told_of_itself}
-use Rattle.ada_flow.proofs.Leftmost.{broken_among_more, leftmost_of_one, leftmost_of_three}
-
--- the first actual parameter, and the others
-pub broken_in_more : (holds : Holds) (e : ExpressionForm) (es : List ExpressionForm) →
-    broken_among holds (uses_in_all (e ∷ es)) ≡ leftmost (broken_among holds (uses_in e)) (broken_among holds (uses_in_all es))
-broken_in_more holds e es = broken_among_more holds (uses_in e) (uses_in_all es)
-
-pub ruleset broken_steps = (broken_in_more, leftmost_of_one, leftmost_of_three)
 
 -- a type that is marked
 pub freed_is_marked : (marks : Marks) (access : Option ℕ) → is_freed (marked_types marks) access ≡ is_marked marks access

@@ -12,6 +12,8 @@ pub mod Behind
 pub mod Aliased
 -- what is left behind a Free
 pub mod Freed
+-- actual parameters, one behind the other
+pub mod Actuals
 -- what is left behind a call
 pub mod Called
 -- the first fault of bodies

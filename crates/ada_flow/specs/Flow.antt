@@ -8,10 +8,10 @@ use Rattle.ada_program.specs.declared.program.ComponentKind.{ComponentKind}
 use Rattle.ada_program.specs.declared.program.ComponentKind.TheVariants as component
 use Rattle.ada_program.specs.declared.program.Program.{Program}
 use Rattle.ada_program.specs.declared.program.VariableKind.{VariableKind}
-use Rattle.ada_program.specs.Form.{PathForm, RecordPathForm, ExpressionForm, integer, boolean, reads, is_null, applied_to, chained, LinksForm, no_more_links, a_link, ItemForm, null_item, item_of_path, item_of_value, item_of_record, RightForm, nothing, value_of, allocates, allocates_default, computes, StmtForm, skips, assigns, assigns_record, frees, gets, writes, writes_text, chooses, repeats, counts, exits, calls, returns, raises, encloses, StmtsForm, no_stmts, a_stmt, BranchesForm, otherwise, a_branch, HandlersForm, no_handlers, a_handler, DeclarationForm, collects, declares, declares_record}
+use Rattle.ada_program.specs.Form.{ActualForm, in_value, in_out_path, PathForm, RecordPathForm, ExpressionForm, integer, boolean, reads, is_null, applied_to, chained, LinksForm, no_more_links, a_link, ItemForm, null_item, item_of_path, item_of_value, item_of_record, RightForm, nothing, value_of, allocates, allocates_default, computes, StmtForm, skips, assigns, assigns_record, frees, gets, writes, writes_text, chooses, repeats, counts, exits, calls, returns, raises, encloses, StmtsForm, no_stmts, a_stmt, BranchesForm, otherwise, a_branch, HandlersForm, no_handlers, a_handler, DeclarationForm, collects, declares, declares_record}
 use Rattle.ada_program.specs.ProgramForm.{TypeForm, type_form, VariableForm, variable_form, BodyForm, ProgramForm, main_body, program_form}
 use Rattle.ada_program.specs.WellFormed.{record_components, reached_components, access_of, variable_kind, selected_kind, path_access, is_this, is_borrower}
-use Rattle.ada_effects.specs.Effects.{expression_raises, path_raises, record_path_raises, expressions_raise, items_raise, initial_raises, Effect, call_raises, passes, effect_of}
+use Rattle.ada_effects.specs.Effects.{expression_raises, path_raises, record_path_raises, actuals_raise, items_raise, initial_raises, Effect, call_raises, passes, effect_of}
 use Rattle.ada_flow.specs.declared.rule.Hold.{Hold}
 use Rattle.ada_flow.specs.declared.rule.Hold.TheVariants.{Null, Own, Alias, Lost}
 use Rattle.ada_flow.specs.declared.rule.Region.TheVariants.{Whole}
@@ -85,7 +85,7 @@ ends_with may_raise before after = goes (Some after) (raising_if may_raise befor
 
 -- What a statement uses: a path, whose value is read, or an access value that is compared with null, or lent to a borrower, or moved: out of a
 -- variable, or out of a component, which the same or the next statement overwrites then, or none does; or it is moved though an item before it moves
--- it already (4.8); or the path to the object in which a record lies; or a record as a whole, which goes to what stands here, and of which some
+-- it already (4.8); or its variable is given for a formal parameter of mode `in out`, though it is given for one before it (6.4.1); or the path to the object in which a record lies; or a record as a whole, which goes to what stands here, and of which some
 -- component owns what it names, or none does (4.3.1, 5.2).
 pub data Use : Type 0 where
   reads_it : PathForm → Use
@@ -93,6 +93,7 @@ pub data Use : Type 0 where
   borrows_it : PathForm → Use
   moves_it : (overwritten : Bool) → PathForm → Use
   moves_again : PathForm → Use
+  gives_again : PathForm → Use
   reaches_it : PathForm → Use
   copies_to : (owning : Bool) → Spot → Use
 
@@ -256,13 +257,15 @@ abbrev pub copied_to : (owning : Bool) → Spot → Option Breach
 copied_to false spot = None
 copied_to true spot = Some (spot, RecordCopied)
 
--- The rule that a use of a path breaks, if it breaks one: of two items that move one path, the second moves what is lost.
+-- The rule that a use of a path breaks, if it breaks one: of two items that move one path, the second moves what is lost; and no variable is given for
+-- two formal parameters that give a value back.
 abbrev pub broken_in : Holds → Use → Option Breach
 broken_in holds (reads_it path) = lost_behind path.selectors (hold_at holds path.root) path.spot
 broken_in holds (compares_it path) = lost_by (hold_at holds path.root) path.spot
 broken_in holds (borrows_it path) = lost_by (hold_at holds path.root) path.spot
 broken_in holds (moves_it overwritten path) = moved_behind overwritten path.selectors (hold_at holds path.root) path.spot
 broken_in holds (moves_again path) = Some (path.spot, LostValue)
+broken_in holds (gives_again path) = Some (path.spot, UnsafePath)
 broken_in holds (reaches_it path) = lost_by (hold_at holds path.root) path.spot
 broken_in holds (copies_to owning spot) = copied_to owning spot
 
@@ -497,16 +500,35 @@ abbrev pub left_by_call : List VariableForm → Option Effect → Holds → Hold
 left_by_call variables None holds = holds
 left_by_call variables (Some effect) holds = without_freed variables effect.frees holds
 
--- The paths in actual parameters, in order.
-abbrev pub uses_in_all : List ExpressionForm → List Use
-uses_in_all [] = []
-uses_in_all (e ∷ es) = uses_in e ++ uses_in_all es
+-- Is a variable one of these?
+abbrev pub is_given : List ℕ → (root : ℕ) → Bool
+is_given [] x = false
+is_given (y ∷ ys) x = (x == y) || is_given ys x
+
+-- How the path to what is given for a formal parameter of mode `in out` is used, where these variables are given before.
+abbrev pub given_use : (earlier : List ℕ) → PathForm → Use
+given_use earlier path = if is_given earlier path.root then gives_again path else reads_it path
+
+-- The paths in an actual parameter, where these variables are given before for formal ones of mode `in out`.
+abbrev pub uses_in_actual : (earlier : List ℕ) → ActualForm → List Use
+uses_in_actual earlier (in_value e) = uses_in e
+uses_in_actual earlier (in_out_path path) = given_use earlier path ∷ []
+
+-- The variable that is given for a formal parameter of mode `in out`, if one is.
+abbrev pub given_by : ActualForm → List ℕ
+given_by (in_value e) = []
+given_by (in_out_path path) = path.root ∷ []
+
+-- The paths in actual parameters, in order, where these variables are given before.
+abbrev pub uses_in_actuals : (earlier : List ℕ) → List ActualForm → List Use
+uses_in_actuals earlier [] = []
+uses_in_actuals earlier (a ∷ rest) = uses_in_actual earlier a ++ uses_in_actuals (given_by a ++ earlier) rest
 
 -- After a call with these actual parameters. Where it raises an exception, or its actual parameters do, as little is said as behind it.
-abbrev pub called : List VariableForm → Option Effect → (actuals : List ExpressionForm) → Holds → Outcome
+abbrev pub called : List VariableForm → Option Effect → (actuals : List ActualForm) → Holds → Outcome
 called variables effect actuals holds =
-    using_paths (uses_in_all actuals) holds
-    (ends_with (expressions_raise actuals || call_raises effect (λ e. true)) (left_by_call variables effect holds) (left_by_call variables effect holds))
+    using_paths (uses_in_actuals [] actuals) holds
+    (ends_with (actuals_raise actuals || call_raises effect (λ e. true)) (left_by_call variables effect holds) (left_by_call variables effect holds))
 
 -- Two ways that join behind an `if` (5.3): the first fault in text order stands.
 abbrev pub either_of : Outcome → Outcome → Outcome

@@ -27,12 +27,12 @@ use Rattle.ada_program.specs.declared.program.Stmt.{Stmt}
 use Rattle.ada_program.specs.declared.program.TypeNo.{TypeNo}
 use Rattle.ada_program.specs.declared.program.Variable.{Variable}
 use Rattle.ada_program.specs.declared.program.VariableNo.{VariableNo}
-use Rattle.ada_program.specs.Form.{PathForm, ItemForm, ExpressionForm, StmtsForm, branches_form, HandlersForm, no_handlers, a_handler, condition_form, declaration_form, handlers_form, path_form, right_form, stmts_form}
+use Rattle.ada_program.specs.Form.{ActualForm, PathForm, ItemForm, ExpressionForm, StmtsForm, branches_form, HandlersForm, no_handlers, a_handler, condition_form, declaration_form, handlers_form, path_form, right_form, stmts_form}
 use Rattle.ada_program.specs.ProgramForm.{TypeForm, type_form, VariableForm, variable_form, BodyForm}
 use Rattle.ada_program.specs.WellFormed.{access_of}
 use Rattle.ada_effects.specs.Effects.{Effect, passes}
 use Rattle.ada_effects.specs.Found.{effects_in as effects_held}
-use Rattle.ada_flow.specs.Flow.{Outcome, faults, goes, Holds, Gone, Around, are_as_good, if_own, is_among, is_left, join_option, left, left_option, in_loop, loop_flow, named_by_item, opened_by_all, counting_start, exit_flow, gives_path, raising_if, declarations_flow, handlers_flow, stmts_flow, branches_flow, program_flow}
+use Rattle.ada_flow.specs.Flow.{Outcome, faults, goes, Holds, Gone, Around, are_as_good, if_own, is_among, is_left, join_option, left, left_option, in_loop, loop_flow, named_by_item, opened_by_all, counting_start, exit_flow, given_by, gives_path, raising_if, declarations_flow, handlers_flow, stmts_flow, branches_flow, program_flow}
 
 -- The judgement of a whole program: no rule is broken, or this is the first one, and where.
 abbrev pub judgement : Outcome → Result (Unit {0}) (Spot × Rule)
@@ -257,14 +257,19 @@ abbrev pub named_by_items : List ItemForm → List PathForm
 named_by_items [] = []
 named_by_items (i ∷ is) = named_by_item i ++ named_by_items is
 
+-- The variables that are given for formal parameters of mode `in out` by these actual ones, behind earlier ones; the last stands first.
+abbrev pub given_behind : (earlier : List ℕ) → List ActualForm → List ℕ
+given_behind earlier [] = earlier
+given_behind earlier (a ∷ rest) = given_behind (given_by a ++ earlier) rest
+
 -- Declarations, in order.
 abbrev pub declarations_of : HeldAround → List Declaration → Holds → Outcome
 declarations_of around declarations holds = declarations_flow (types_in around) (variables_in around) (map declaration_form declarations) holds
 
--- A body, as the code keeps its parts; how many of its variables are formal parameters plays no part.
+-- A body, as the code keeps its parts; which of its variables are formal parameters plays no part.
 abbrev pub body_in : List Variable → List Declaration → List Stmt → List Handler → BodyForm
 body_in variables declarations statements handlers = record {
-  formals = 0;
+  formals = [];
   variables = map variable_form variables;
   declarations = map declaration_form declarations;
   statements = stmts_form statements;

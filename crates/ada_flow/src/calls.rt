@@ -1,39 +1,88 @@
 //! The flow of values through calls (6.4): what is lost behind one, and what it may raise.
 
-ghost use Rattle.std.specs.Prelude.{◌≡◌, ◌||◌, true, OnOk, Some, map};
+ghost use Rattle.std.specs.Prelude.{◌≡◌, ◌||◌, true, [], OnOk, Some, map};
 ghost use Rattle.std.specs.List.{slice_get};
 ghost use Rattle.ada_effects.specs.Effects as effects;
 ghost use Rattle.ada_effects.specs.Found.{effect_in, has_number};
 ghost use Rattle.ada_flow.specs.Flow as rules;
-ghost use Rattle.ada_flow.specs.Told.{Leads, broken, effects_in, is_marked, marked_types, variables_in};
-ghost use Rattle.ada_program.specs.Form.{expression_form};
+ghost use Rattle.ada_flow.specs.Told.{Leads, broken, effects_in, given_behind, is_marked, marked_types, variables_in};
+ghost use Rattle.ada_program.specs.Form.{actual_form, path_form};
 ghost use Rattle.ada_program.specs.ProgramForm.{variable_form};
 ghost use Rattle.ada_program.specs.WellFormed.{access_of};
 
 use crate::around::Around;
 use crate::fault::{Breach, FlowFault};
-use crate::follow::{broken_in, leftmost, unless_broken};
+use crate::follow::{broken_in, broken_in_path, leftmost, unless_broken};
 use crate::holds::have_alias;
 use crate::known::Known;
 use crate::marks::Marks;
 use crate::raised::Raised;
-use crate::rule::Hold;
-use ada_effects::{Effect, expressions_raise};
-use ada_program::program::{Expression, Variable, VariableKind};
-use ada_program::{ProcedureNo, TypeNo};
+use crate::rule::{Hold, Rule};
+use ada_effects::{Effect, actuals_raise};
+use ada_program::program::{Actual, Variable, VariableKind};
+use ada_program::{Path, ProcedureNo, TypeNo, VariableNo};
 use std::alloc::{AllocError, Global};
 
 /// The leftmost rule that actual parameters break.
-#[tactic(auto, using(std::proofs::lemmas::Grind::common_steps, crate::proofs::Called::broken_steps))]
-fn broken_in_all(holds: &[Hold], actuals: &[Expression]) -> Option<Breach>
+fn broken_in_actuals(holds: &[Hold], actuals: &[Actual]) -> Option<Breach>
     ensures { broken result
-        ≡ rules.broken_among holds.now (rules.uses_in_all (map expression_form actuals.now)) }
+        ≡ rules.broken_among holds.now (rules.uses_in_actuals [] (map actual_form actuals.now)) }
 {
     let mut found = None;
-    'actuals: for actual in actuals {
-        found = leftmost(found, broken_in(holds, actual));
+    for (number, actual) in actuals.iter().enumerate() {
+        found = leftmost(found, broken_in_actual(holds, &actuals[..number], actual));
     }
     found
+}
+
+/// The leftmost rule that an actual parameter breaks behind earlier ones of its call.
+fn broken_in_actual(holds: &[Hold], earlier: &[Actual], actual: &Actual) -> Option<Breach>
+    ensures { let given = given_behind [] (map actual_form earlier.now) in
+        broken result ≡ rules.broken_among holds.now (rules.uses_in_actual given (actual_form actual.now)) }
+{
+    match actual {
+        Actual::In(value) => broken_in(holds, value),
+        Actual::InOut(path) => leftmost(broken_in_variable(holds, earlier, path), None),
+    }
+}
+
+/// The rule that the path to a variable breaks which is given for a formal parameter of mode `in out`: no variable is given for
+/// two of these (6.4.1).
+fn broken_in_variable(holds: &[Hold], earlier: &[Actual], path: &Path) -> Option<Breach>
+    ensures { let given = given_behind [] (map actual_form earlier.now) in
+        broken result ≡ rules.broken_in holds.now (rules.given_use given (path_form path.now)) }
+{
+    if is_given(earlier, path.root) {
+        Some(Breach {
+            spot: path.spot,
+            rule: Rule::UnsafePath,
+        })
+    } else {
+        broken_in_path(holds, path)
+    }
+}
+
+/// Whether a variable is given for a formal parameter of mode `in out` by one of these actual parameters.
+#[tactic(auto, using(std::proofs::lemmas::Grind::common_steps, crate::proofs::Actuals::given_steps))]
+fn is_given(actuals: &[Actual], variable: VariableNo) -> bool
+    ensures { result ≡ rules.is_given (given_behind [] (map actual_form actuals.now)) variable.0 }
+{
+    'actuals: for actual in actuals {
+        if gives(actual, variable) {
+            return true;
+        }
+    }
+    false
+}
+
+/// Whether an actual parameter gives a variable for a formal one of mode `in out`.
+fn gives(actual: &Actual, variable: VariableNo) -> bool
+    ensures { result ≡ rules.is_given (rules.given_by (actual_form actual.now)) variable.0 }
+{
+    match actual {
+        Actual::In(_) => false,
+        Actual::InOut(path) => variable == path.root,
+    }
 }
 
 /// What is known of one variable where objects of the marked access types may be gone: an alias of one is lost.
@@ -116,13 +165,13 @@ pub(crate) fn call(
     known: &mut Known,
     raised: &mut Raised,
     procedure: ProcedureNo,
-    actuals: &[Expression],
+    actuals: &[Actual],
 ) -> Result<(), FlowFault>
     ensures { Leads result known.new.holds.items raised.old raised.new
-        (rules.called (variables_in around.now) (slice_get (effects_in around.now) procedure.0) (map expression_form actuals.now) known.old.holds.items) }
+        (rules.called (variables_in around.now) (slice_get (effects_in around.now) procedure.0) (map actual_form actuals.now) known.old.holds.items) }
 {
-    unless_broken(broken_in_all(known.holds(), actuals))?;
-    let may_raise = expressions_raise(actuals);
+    unless_broken(broken_in_actuals(known.holds(), actuals))?;
+    let may_raise = actuals_raise(actuals);
     match around.effects.get(procedure.0) {
         None => {
             raised.note_if(may_raise, alloc, known)?;

@@ -88,7 +88,7 @@ fn broken_in_links(holds: &[Hold], links: &[Link]) -> Option<Breach>
 }
 
 /// The rule that reading a path breaks: a component is not found behind a lost value.
-fn broken_in_path(holds: &[Hold], path: &Path) -> Option<Breach>
+pub(crate) fn broken_in_path(holds: &[Hold], path: &Path) -> Option<Breach>
     ensures { broken result ≡ rules.broken_in holds.now (rules.reads_it (path_form path.now)) }
 {
     if path.selectors.is_empty() {

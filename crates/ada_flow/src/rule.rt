@@ -32,6 +32,7 @@ pub enum Rule {
     /// At the end of a loop's body, or at an exit, less is known of a variable than at the loop's start.
     LoopState,
     /// A component is freed whose path follows a value of the component's own access type: the object that is freed may be one on the way.
+    /// Or a variable is given for two formal parameters of mode `in out`: it could get their values in either order.
     UnsafePath,
     /// A record is copied that has a component of an access type, or an aggregate with such a component stands outside an allocator: what it names
     /// would have two owners.

@@ -1,14 +1,17 @@
 -- Activations with the places of all of them behind one another.
 
-use Rattle.std.proofs.Common.{◌≡◌, ℕ, List, [], ◌∷◌, ◌++◌, drop, take, length, map, Result, Ok, Err, OnOk, OnErr, zero, suc, refl, ap, ◌∙◌, append_assoc}
+use Rattle.std.proofs.Common.{◌≡◌, ◌⊎◌, inl, inr, ℕ, List, [], ◌∷◌, ◌++◌, drop, take, length, map, Option, Some, None, Result, Ok, Err, OnOk, OnErr, zero, suc, refl, sym, ap, ◌∙◌, append_assoc, arith}
+use Rattle.std.specs.List.{slice_get}
+use Rattle.ada_program.specs.declared.program.Actual.{Actual}
 use Rattle.ada_program.specs.declared.program.Variable.{Variable}
+use Rattle.ada_program.specs.Form.{ActualForm, in_value, in_out_path, actual_form}
 use Rattle.ada_program.specs.ProgramForm.{VariableForm, variable_form}
 use Rattle.ada_meaning.specs.declared.state.Value.{Value}
 use Rattle.ada_meaning.specs.State.{Activation}
-use Rattle.ada_meaning.specs.Step.{operands_of, with_operands, blanks, given_places}
+use Rattle.ada_meaning.specs.Step.{operands_of, with_operands, blanks, given_places, copied_back, older, places_of, with_places}
 use Rattle.ada_meaning.specs.Named.{named}
 use Rattle.ada_interpreter.specs.declared.activations.Begun.{Begun}
-use Rattle.ada_interpreter.specs.Activations.{AreAwaited}
+use Rattle.ada_interpreter.specs.Activations.{activations_of, AreAwaited}
 
 -- fewer operands are awaited where more were
 pub awaited_after : {X E : Type 0} (left : List Value → List Value) (begun : List Begun) (before after : List Value) (r : Result X E) → left [] ≡ [] → OnOk r (after ≡ left before) → OnErr r (after ≡ before) → AreAwaited begun before → AreAwaited begun after
@@ -27,3 +30,32 @@ pub laid : {X E : Type 0} (before with_actuals after actuals : List Value) (vari
 laid before with_actuals after actuals variables behind (Err e) first rest is = tt
 laid before with_actuals after actuals variables behind (Ok x) first rest is =
     is ∙ rw (first, rest, drop_blanks (length actuals) variables) (append_assoc before actuals (drop (length actuals) (blanks named (map variable_form variables))))
+
+-- where there are no formal parameters, or no variables, nothing is given back
+pub none_gives : (actuals : List ActualForm) (places : List Value) → copied_back actuals [] places ≡ places
+none_gives [] places = refl
+none_gives (a ∷ rest) places = refl
+
+pub none_gets : (actuals : List ActualForm) (formals : List Value) → copied_back actuals formals [] ≡ []
+none_gets [] formals = refl
+none_gets (a ∷ rest) [] = refl
+none_gets (in_value e ∷ rest) (v ∷ vs) = none_gets rest vs
+none_gets (in_out_path path ∷ rest) (v ∷ vs) = none_gets rest vs
+
+-- nor where nothing is left of the actual parameters or of the formal ones
+pub no_more_gives : (actuals : List Actual) (formals places : List Value) → (actuals ≡ []) ⊎ (formals ≡ []) → places ≡ copied_back (map actual_form actuals) formals places
+no_more_gives actuals formals places (inl none) = rw none refl
+no_more_gives actuals formals places (inr none) = rw none (sym (none_gives (map actual_form actuals) places))
+
+-- the caller of the running activation gets back what its places get
+pub caller_gets : (begun : List Begun) (places later operands : List Value) (running caller : Begun) (actuals : List ActualForm) → Some running ≡ slice_get begun 0 → Some caller ≡ slice_get begun 1 → drop caller.base (take running.base later) ≡ copied_back actuals (drop running.base places) (drop caller.base (take running.base places)) → take caller.base (take running.base later) ≡ take caller.base (take running.base places) → older (activations_of begun later operands) ≡ with_places (copied_back actuals (places_of (activations_of begun places operands)) (places_of (older (activations_of begun places operands)))) (older (activations_of begun places operands))
+caller_gets [] places later operands running caller actuals first second given before = refl
+caller_gets (b ∷ []) places later operands running caller actuals first second given before = refl
+caller_gets (b ∷ c ∷ bs) places later operands running caller actuals first second given before =
+    grind (arith, first, second, given, before)
+
+-- where none waits for the running activation, none gets anything
+pub no_caller : (begun : List Begun) (places operands gets : List Value) → None ≡ slice_get begun 1 → older (activations_of begun places operands) ≡ with_places gets (older (activations_of begun places operands))
+no_caller [] places operands gets none = refl
+no_caller (b ∷ []) places operands gets none = refl
+no_caller (b ∷ c ∷ bs) places operands gets none = grind (arith, none)

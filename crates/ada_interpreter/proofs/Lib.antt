@@ -14,5 +14,5 @@ pub mod ComponentLemmas
 pub mod RecordLemmas
 -- activations with the places of all of them behind one another
 pub mod ActivationLemmas
--- expressions that are evaluated one after another
+-- actual parameters that are evaluated one after another
 pub mod CallLemmas

@@ -2,15 +2,16 @@
 
 ghost use Rattle.std.specs.Prelude.{◌≡◌, [], ◌∷◌, ◌++◌, take, drop, reverse, map, Some, None, IfOk, OnOk};
 ghost use Rattle.std.specs.List.{slice_index_or, slice_set};
+ghost use Rattle.ada_program.specs.Form.{actual_form};
 ghost use Rattle.ada_program.specs.ProgramForm.{variable_form};
-ghost use Rattle.ada_meaning.specs.Step.{first_or, older, places_of, operands_of, with_places, with_operands, in_front, blank, blanks, given_places};
+ghost use Rattle.ada_meaning.specs.Step.{first_or, older, places_of, operands_of, with_places, with_operands, in_front, blank, blanks, given_places, copied_back};
 ghost use Rattle.ada_meaning.specs.Named.{named};
 
 use crate::stack::Stack;
-use crate::values::{set_value_behind, value_at, values_behind};
+use crate::values::{set_value, set_value_behind, value_at, values_behind};
 use ada_meaning::Value;
 use ada_program::VariableNo;
-use ada_program::program::{ProcedureNo, Variable, VariableKind};
+use ada_program::program::{Actual, ProcedureNo, Variable, VariableKind};
 use ada_values::Value as Scalar;
 use std::alloc::{AllocError, Global};
 use std::marker::Model;
@@ -198,6 +199,21 @@ impl Activations {
         Ok(())
     }
 
+    /// The formal parameters of the running activation give back what they hold to its caller, where they are of mode
+    /// `in out` (6.4.1): each to the variable for which it stands. Takes no memory.
+    pub(crate) fn give_back(&mut self, actuals: &[Actual])
+        ensures { let caller = older self.old in
+            let places = copied_back (map actual_form actuals.now) (places_of self.old) (places_of caller) in
+            older self.new ≡ with_places places caller }
+    {
+        if let Some(running) = self.begun.at(0) {
+            if let Some(caller) = self.begun.at(1) {
+                let places = self.places.as_mut_slice();
+                copy_back_behind(places, caller.base, running.base, actuals);
+            }
+        }
+    }
+
     /// The running activation ends (6.5), and what its forms have computed goes: that of its caller goes on.
     pub(crate) fn end(&mut self)
         ensures { self.new ≡ older self.old }
@@ -206,6 +222,35 @@ impl Activations {
             self.operands.clear();
             self.places.truncate(running.base);
             self.begun.shorten();
+        }
+    }
+}
+
+/// The formal parameters in the places from `callee` on give back what they hold to their caller's variables, whose places
+/// are those from `caller` on in front of them.
+fn copy_back_behind(places: &mut [Value], caller: usize, callee: usize, actuals: &[Actual])
+    ensures given { let held = drop caller (take callee places.old) in
+        drop caller (take callee places.new)
+        ≡ copied_back (map actual_form actuals.now) (drop callee places.old) held }
+    ensures before { take caller (take callee places.new) ≡ take caller (take callee places.old) }
+{
+    if callee < places.len() {
+        let (callers, formals) = places.split_at_mut(callee);
+        if caller < callers.len() {
+            let (_, variables) = callers.split_at_mut(caller);
+            copy_back(variables, formals, actuals);
+        }
+    }
+}
+
+/// Each formal parameter of mode `in out` gives back what it holds to the variable for which it stands, from left to right
+/// (6.4.1).
+fn copy_back(variables: &mut [Value], formals: &[Value], actuals: &[Actual])
+    ensures { variables.new ≡ copied_back (map actual_form actuals.now) formals.now variables.old }
+{
+    for (actual, held) in actuals.iter().zip(formals) {
+        if let Actual::InOut(path) = actual {
+            set_value(variables, path.root.0, *held);
         }
     }
 }

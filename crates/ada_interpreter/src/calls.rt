@@ -1,8 +1,8 @@
 //! Calls of procedures: actual parameters, the beginning of a body, and its end.
 
-ghost use Rattle.std.specs.Prelude.{◌≡◌, map, false, OnOk};
+ghost use Rattle.std.specs.Prelude.{◌≡◌, map, length, false, OnOk};
 ghost use Rattle.std.specs.List.{slice_get};
-ghost use Rattle.ada_program.specs.Form.{expression_form};
+ghost use Rattle.ada_program.specs.Form.{actual_form};
 ghost use Rattle.ada_program.specs.ProgramForm.{body_form, body_forms};
 ghost use Rattle.ada_meaning.specs.Event.{Quiet};
 ghost use Rattle.ada_meaning.specs.Frame.{landing};
@@ -15,7 +15,7 @@ use crate::process::Process;
 use crate::turn::{QUIET, Turn};
 use ada_meaning::{Halt, Mode};
 use ada_program::Program;
-use ada_program::program::{Expression, Procedure, ProcedureNo};
+use ada_program::program::{Actual, Procedure, ProcedureNo};
 use std::alloc::AllocError;
 
 impl<'a> Process<'a> {
@@ -24,12 +24,12 @@ impl<'a> Process<'a> {
         &mut self,
         program: &'a Program,
         procedure: ProcedureNo,
-        actuals: &'a [Expression],
+        actuals: &'a [Actual],
         rest: Frame<'a>,
     ) -> Result<Turn, AllocError>
         ensures { let s = replaced (frame_of rest.entry) (state_of self.old) in
             let body = slice_get (body_forms program.now) procedure.0 in
-            Turns (step.call_next named procedure.0 (map expression_form actuals.now) body s)
+            Turns (step.call_next named procedure.0 (map actual_form actuals.now) body s)
             (state_of self.old) result (state_of self.new) }
     {
         match program.procedures.get(procedure.0) {
@@ -38,7 +38,7 @@ impl<'a> Process<'a> {
                 let calls = Frame::Calls {
                     procedure,
                     body,
-                    count: actuals.len(),
+                    actuals,
                 };
                 self.replace_by_two(calls, rest)?;
                 self.compute_all(actuals)?;
@@ -47,31 +47,32 @@ impl<'a> Process<'a> {
         }
     }
 
-    /// Expressions are evaluated one after another, before what else is left to do.
-    fn compute_all(&mut self, expressions: &'a [Expression]) -> Result<(), AllocError>
+    /// Actual parameters are evaluated one after another, before what else is left to do.
+    fn compute_all(&mut self, actuals: &'a [Actual]) -> Result<(), AllocError>
         ensures { let s = state_of self.old in
-            let forms = map expression_form expressions.now in
-            OnOk result (state_of self.new ≡ step.at (step.computing named forms s.control) s) }
+            let given = map actual_form actuals.now in
+            OnOk result (state_of self.new ≡ step.at (step.computing named given s.control) s) }
     {
-        let mut left = expressions.len();
-        'expressions: while left > 0 {
+        let mut left = actuals.len();
+        'actuals: while left > 0 {
             left -= 1;
-            self.push(Frame::Computes(&expressions[left]))?;
+            self.push(Frame::evaluating(&actuals[left]))?;
         }
         Ok(())
     }
 
-    /// The body of a procedure begins (6.4): its activation holds the actual parameters, which are the newest operands, as
-    /// many as `count`, and the body is a master of its own (7.6.1).
+    /// The body of a procedure begins (6.4): its activation holds the values of the actual parameters, which are the newest
+    /// operands, and the body is a master of its own (7.6.1).
     pub(crate) fn begin_body(
         &mut self,
         procedure: ProcedureNo,
         body: &'a Procedure,
-        count: usize,
+        actuals: &'a [Actual],
     ) -> Result<Turn, AllocError>
         ensures { let s = passed (state_of self.old) in
-            let actuals = step.newest_ones named count s in
-            Turns (step.moves Quiet (step.begun named procedure.0 (body_form body.now) actuals s))
+            let values = step.newest_ones named (length actuals.now) s in
+            let given = map actual_form actuals.now in
+            Turns (step.moves Quiet (step.begun named procedure.0 (body_form body.now) given values s))
             (state_of self.old) result (state_of self.new) }
     {
         self.replace_by_two(
@@ -80,34 +81,48 @@ impl<'a> Process<'a> {
                 statements: body.statements.as_slice(),
                 handlers: body.handlers.as_slice(),
             },
-            Frame::Returns,
+            Frame::Returns(actuals),
         )?;
         self.activations
-            .begin(procedure, body.variables.as_slice(), count)?;
+            .begin(procedure, body.variables.as_slice(), actuals.len())?;
         self.enter()?;
         Ok(QUIET)
     }
 
-    /// The end of a call's body (6.5): the activation of its caller goes on.
-    pub(crate) fn resume(&mut self) -> Turn
+    /// A call's body ends normally (6.4.1, 6.5): its caller gets back what it is to get, and goes on.
+    pub(crate) fn resume(&mut self, actuals: &[Actual]) -> Turn
+        ensures { let s = passed (state_of self.old) in
+            IsTurn (step.moves Quiet (step.returned (map actual_form actuals.now) s))
+            (state_of self.old) result (state_of self.new) }
+    {
+        self.activations.give_back(actuals);
+        self.break_off()
+    }
+
+    /// A jump comes to the end of a call's body. A return ends here, and the body ends normally (6.5). Any other jump
+    /// passes, and nothing is given back (6.4.1, 11.4).
+    pub(crate) fn leave_body(&mut self, mode: Mode, actuals: &'a [Actual]) -> Turn
+        ensures { let given = map actual_form actuals.now in
+            let s = step.left_by mode given (passed (state_of self.old)) in
+            IsTurn (step.pass_next named false (landing mode (frame_of (Frame.Returns actuals.entry))) mode s)
+            (state_of self.old) result (state_of self.new) }
+    {
+        match mode {
+            Mode::Returning => {
+                self.mode = Mode::Running;
+                self.resume(actuals)
+            }
+            Mode::Running | Mode::Raising(_) | Mode::Exiting => self.break_off(),
+        }
+    }
+
+    /// A call's body ends, and gives nothing more back: the activation of its caller goes on.
+    fn break_off(&mut self) -> Turn
         ensures { let s = passed (state_of self.old) in
             IsTurn (step.moves Quiet (step.resumed s)) (state_of self.old) result (state_of self.new) }
     {
         self.pass();
         self.activations.end();
         QUIET
-    }
-
-    /// A jump comes to the end of a call's body (6.5, 11.4): the activation of its caller goes on. A return ends here, and
-    /// any other jump passes.
-    pub(crate) fn leave_body(&mut self, mode: Mode) -> Turn
-        ensures { let s = step.resumed (passed (state_of self.old)) in
-            IsTurn (step.pass_next named false (landing mode (frame_of Frame.Returns)) mode s)
-            (state_of self.old) result (state_of self.new) }
-    {
-        if let Mode::Returning = mode {
-            self.mode = Mode::Running;
-        }
-        self.resume()
     }
 }

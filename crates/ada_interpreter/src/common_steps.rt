@@ -106,6 +106,10 @@ impl<'a> Process<'a> {
                     let expression = *expression;
                     self.compute_next(expression)
                 }
+                Frame::Reads(path) => {
+                    let path = *path;
+                    self.read_next(path)
+                }
                 Frame::Continues(links) => {
                     let links = *links;
                     self.go_on(links)?;

@@ -89,11 +89,12 @@ impl<'a> Process<'a> {
             Frame::Calls {
                 procedure,
                 body,
-                count,
-            } => self.begin_body(procedure, body, count),
-            Frame::Returns => Ok(self.resume()),
+                actuals,
+            } => self.begin_body(procedure, body, actuals),
+            Frame::Returns(actuals) => Ok(self.resume(actuals)),
             Frame::Evaluates(right) => self.evaluate(program, right),
             Frame::Computes(expression) => self.compute(expression),
+            Frame::Reads(path) => self.read(path),
             Frame::Follows(selectors) => self.follow(selectors),
             Frame::TestsNull { equal } => self.test_null(equal),
             Frame::Continues(links) => {
@@ -143,14 +144,14 @@ impl<'a> Process<'a> {
     {
         match self.frames.top() {
             None => Ok(Turn::Halts(end_of(mode))),
+            Some(Frame::Returns(actuals)) => {
+                let actuals = *actuals;
+                Ok(self.leave_body(mode, actuals))
+            }
             Some(frame) => {
-                if frame.is_return() {
-                    Ok(self.leave_body(mode))
-                } else {
-                    let is_master = frame.is_master();
-                    let landing = frame.landing(mode);
-                    self.discard(mode, is_master, landing)
-                }
+                let is_master = frame.is_master();
+                let landing = frame.landing(mode);
+                self.discard(mode, is_master, landing)
             }
         }
     }

@@ -1,16 +1,18 @@
 //! What is left to do.
 
 ghost use Rattle.std.specs.Prelude.{◌≡◌};
+ghost use Rattle.ada_program.specs.Form.{actual_form, value_given};
+ghost use Rattle.ada_meaning.specs.Frame as frame;
 ghost use Rattle.ada_meaning.specs.Frame.{is_master, is_return, exit_landing, return_landing, exception_landing, landing, begins_by};
 ghost use Rattle.ada_interpreter.specs.Process.{frame_of, landing_of};
 
 use crate::handling::{Landing, landing_among};
 use ada_meaning::{Cause, Exception, Mode, Value};
 use ada_program::program::{
-    Branch, ComponentNo, Declaration, Expression, Handler, Item, Link, Procedure, ProcedureNo,
-    Right,
+    Actual, Branch, ComponentNo, Declaration, Expression, Handler, Item, Link, Procedure,
+    ProcedureNo, Right,
 };
-use ada_program::{Stmt, TypeNo, VariableNo};
+use ada_program::{Path, Stmt, TypeNo, VariableNo};
 use ada_values::operator::{BinaryOperator, UnaryOperator};
 
 /// One thing that is left to do.
@@ -60,18 +62,21 @@ pub(crate) enum Frame<'a> {
     Closes,
     /// The innermost master is being left, newest item first; then the mode goes on (7.6.1).
     Leaves(Mode),
-    /// The newest operands are the actual parameters of a call, as many as `count`: the procedure's body begins (6.4).
+    /// The newest operands are the values of these actual parameters of a call: the procedure's body begins (6.4).
     Calls {
         procedure: ProcedureNo,
         body: &'a Procedure,
-        count: usize,
+        actuals: &'a [Actual],
     },
-    /// The body of a call is in front of this: its activation ends then, and that of its caller goes on (6.4, 6.5).
-    Returns,
+    /// The body of a call with these actual parameters is in front of this: its activation ends then, and that of its
+    /// caller goes on (6.4, 6.5).
+    Returns(&'a [Actual]),
     /// What is assigned is to be evaluated; null where nothing is written (5.2).
     Evaluates(Option<&'a Right>),
     /// An expression is to be evaluated: its value becomes the newest operand (4.4).
     Computes(&'a Expression),
+    /// A path is to be read, as an expression that is one is evaluated (4.1, 4.4).
+    Reads(&'a Path),
     /// The newest operand is an access value, and these components are named behind it (4.1.3).
     Follows(&'a [ComponentNo]),
     /// The newest operand is an access value: is it null, or is it not (4.5.2)?
@@ -158,6 +163,16 @@ pub(crate) enum Frame<'a> {
 }
 
 impl<'a> Frame<'a> {
+    /// An actual parameter is to be evaluated (6.4.1): the value that is given, or what the variable holds.
+    pub(crate) fn evaluating(actual: &'a Actual) -> Frame<'a>
+        ensures { frame_of result ≡ frame.Computes (value_given (actual_form actual.now)) }
+    {
+        match actual {
+            Actual::In(value) => Frame::Computes(value),
+            Actual::InOut(path) => Frame::Reads(path),
+        }
+    }
+
     /// Does it begin a statement?
     pub(crate) fn begins(&self) -> bool
         ensures { result ≡ begins_by (frame_of self.now) }
@@ -184,11 +199,11 @@ impl<'a> Frame<'a> {
     }
 
     /// Does the body of a call come to its end here?
-    pub(crate) fn is_return(&self) -> bool
+    fn is_return(&self) -> bool
         ensures { result ≡ is_return (frame_of self.now) }
     {
         match self {
-            Frame::Returns => true,
+            Frame::Returns(_) => true,
             _ => false,
         }
     }

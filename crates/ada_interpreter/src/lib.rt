@@ -6,9 +6,9 @@
 //!
 //! A step costs constant time, whatever the program has allocated and entered: a collection knows its members, an object
 //! its collection, and an access type its newest open collection. An exception looks at the handlers that it comes to,
-//! the step that copies or fills a record costs as much as the record is long, and the steps in which a call begins cost
-//! as much as it has actual parameters and its procedure has variables. Once the machine's stacks have grown, a call
-//! takes no memory.
+//! the step that copies or fills a record costs as much as the record is long, the steps in which a call begins cost
+//! as much as it has actual parameters and its procedure has variables, and the step in which it ends costs as much as
+//! it has actual parameters. Once the machine's stacks have grown, a call takes no memory.
 #![tactic(auto)]
 
 mod activations;

@@ -1,9 +1,9 @@
 -- Callers stay: no step changes an activation that waits.
 
-use Rattle.std.proofs.Common.{◌≡◌, ℕ, ◌<◌, Bool, true, false, List, [], ◌∷◌, ◌++◌, length, arith, refl, ap, ◌∙◌, subst}
+use Rattle.std.proofs.Common.{◌≡◌, inl, inr, ℕ, ◌<◌, ◌≤◌, Bool, true, false, List, [], ◌∷◌, ◌++◌, length, arith, refl, sym, ap, ◌∙◌, subst}
 use Rattle.ada_program.specs.declared.program.Program.{Program}
 use Rattle.ada_program.specs.declared.program.TypeDefinition.{TypeDefinition}
-use Rattle.ada_program.specs.Form.{no_stmts, a_stmt}
+use Rattle.ada_program.specs.Form.{ActualForm, no_stmts, a_stmt}
 use Rattle.ada_program.specs.ProgramForm.{BodyForm, body_forms}
 use Rattle.ada_meaning.specs.declared.state.Value.{Value}
 use Rattle.ada_meaning.specs.declared.state.Mode.{Mode}
@@ -11,13 +11,14 @@ use Rattle.ada_meaning.specs.declared.state.Mode.TheVariants.{Running, Raising, 
 use Rattle.ada_meaning.specs.Frame.{Frame, is_master, Landing, passes_on, goes_behind, goes_in, landing}
 use Rattle.ada_meaning.specs.Frame as frame
 use Rattle.ada_meaning.specs.State.{Activation}
-use Rattle.ada_meaning.specs.Step.{halts, moves, tells, asks, picks, at, resumed, unwound, frame_next, landed, pass_next, running_next, jump_next, mode_next}
+use Rattle.ada_meaning.specs.Step.{halts, moves, tells, asks, picks, at, resumed, returned, left_by, unwound, frame_next, landed, pass_next, running_next, jump_next, mode_next}
 use Rattle.ada_meaning.specs.Named.{State, Next, next, named}
 use Rattle.ada_meaning.specs.Run.{Event, Choice, settled, grants, takes, Leads}
-use Rattle.ada_meaning.specs.Calls.{callers_in, waiting, RunsOn, EndsBody, CallersStay, StepsKeepCallers, CallersHold, goes_on, calls_one, ends, WithinCall, here, there}
+use Rattle.ada_meaning.specs.Calls.{callers_in, waiting, RunsOn, EndsAbruptly, ComesBack, CallersStay, StepsKeepCallers, CallersHold, goes_on, calls_one, ends, breaks_off, WithinCall, here, there}
 use Rattle.ada_meaning.proofs.Activations.{Kept, shape, Keeps}
 use Rattle.ada_meaning.proofs.Activations.{kept_of}
 use Rattle.ada_meaning.proofs.Kept.{frame_keeps}
+use Rattle.ada_meaning.proofs.CopiedBack.{comes_back, older_callers}
 
 -- What is kept says that the running body goes on.
 runs_on : (xs ys : List (Activation Value)) → shape ys ≡ shape xs → RunsOn xs ys
@@ -46,9 +47,10 @@ keeps_stays before (picks n taking) keeps = λ i. goes_on (runs_on before.activa
 frame_stays :
     (types : List TypeDefinition) (bodies : List BodyForm) (f : Frame Value) (k : List (Frame Value)) (s : State) → s.mode ≡ Running → s.control ≡ f ∷ k
     → Stays s (frame_next named types bodies f (at k s))
-frame_stays types bodies (frame.Calls procedure body count) k s runs is =
-    calls_one (record { procedure = procedure; body = body; count = count; outer = k; runs = runs; first = is }) _ refl
-frame_stays types bodies frame.Returns k s runs is = ends (record { outer = k; first = is }) refl
+frame_stays types bodies (frame.Calls procedure body actuals) k s runs is =
+    calls_one (record { procedure = procedure; body = body; actuals = actuals; outer = k; runs = runs; first = is }) _ refl
+frame_stays types bodies (frame.Returns actuals) k s runs is =
+    ends (record { actuals = actuals; outer = k; first = is }) (inl runs) (comes_back actuals s.activations)
 frame_stays types bodies f k s runs is = keeps_stays s (frame_next named types bodies f (at k s)) (frame_keeps types bodies f (at k s) tt refl)
 
 running_stays :
@@ -82,31 +84,50 @@ left_stay before (tells request e s) left = absurd left
 left_stay before (asks request answers) left = absurd left
 left_stay before (picks n taking) left = absurd left
 
-left_end : (before : State) (coming : Next) → EndsBody before → AreLeft (callers_in before.activations) coming → Stays before coming
-left_end before (halts halt) body left = tt
-left_end before (moves e s) body left = ends body left
-left_end before (tells request e s) body left = absurd left
-left_end before (asks request answers) body left = absurd left
-left_end before (picks n taking) body left = absurd left
+-- At the end of a call's body a return gives back what the caller is to get, and any other jump leaves the callers as they were.
+returning_stays :
+    (actuals : List ActualForm) (k : List (Frame Value)) (s : State) → s.mode ≡ Returning → s.control ≡ frame.Returns actuals ∷ k
+    → CallersStay s (record (returned actuals s) { control = k; mode = Running })
+returning_stays actuals k s returns is =
+    ends (record { actuals = actuals; outer = k; first = is }) (inr returns) (comes_back actuals s.activations)
+
+broken_stays :
+    (actuals : List ActualForm) (k : List (Frame Value)) (mode : Mode) (s : State) → EndsAbruptly s.mode → s.control ≡ frame.Returns actuals ∷ k
+    → CallersStay s (record (resumed s) { control = k; mode = mode })
+broken_stays actuals k mode s abrupt is =
+    breaks_off (record { actuals = actuals; outer = k; first = is }) abrupt (older_callers s.activations)
+
+-- A frame that a jump passes.
+abbrev IsJump : Mode → Type 0
+IsJump Running = ⊥
+IsJump (Raising e) = Unit {0}
+IsJump Exiting = Unit {0}
+IsJump Returning = Unit {0}
+
+passed_end_stays :
+    (mode : Mode) (actuals : List ActualForm) (k : List (Frame Value)) (s : State) → IsJump mode → s.mode ≡ mode → s.control ≡ frame.Returns actuals ∷ k
+    → Stays s (pass_next named false (landing {V = Value} mode (frame.Returns actuals)) mode (left_by mode actuals (at k s)))
+passed_end_stays Running actuals k s jump m is = absurd jump
+passed_end_stays (Raising e) actuals k s jump m is = broken_stays actuals k s.mode s (subst EndsAbruptly (sym m) tt) is
+passed_end_stays Exiting actuals k s jump m is = broken_stays actuals k s.mode s (subst EndsAbruptly (sym m) tt) is
+passed_end_stays Returning actuals k s jump m is = returning_stays actuals k s m is
 
 passed_stays :
-    (mode : Mode) (f : Frame Value) (k : List (Frame Value)) (s : State) → s.control ≡ f ∷ k
-    → Stays s (pass_next named (is_master f) (landing mode f) mode (unwound f (at k s)))
-passed_stays mode frame.Returns k s is =
-    left_end s (pass_next named false (landing mode frame.Returns) mode (resumed (at k s))) (record { outer = k; first = is })
-    (pass_leaves false (landing mode frame.Returns) mode (resumed (at k s)))
-passed_stays mode f k s is =
+    (mode : Mode) (f : Frame Value) (k : List (Frame Value)) (s : State) → IsJump mode → s.mode ≡ mode → s.control ≡ f ∷ k
+    → Stays s (pass_next named (is_master f) (landing mode f) mode (unwound mode f (at k s)))
+passed_stays mode (frame.Returns actuals) k s jump m is = passed_end_stays mode actuals k s jump m is
+passed_stays mode f k s jump m is =
     left_stay s (pass_next named (is_master f) (landing mode f) mode (at k s)) (pass_leaves (is_master f) (landing mode f) mode (at k s))
 
-jump_stays : (mode : Mode) (k : List (Frame Value)) (s : State) → s.control ≡ k → Stays s (jump_next named mode k s)
-jump_stays mode [] s is = tt
-jump_stays mode (f ∷ k) s is = passed_stays mode f k s is
+jump_stays : (mode : Mode) (k : List (Frame Value)) (s : State) → IsJump mode → s.mode ≡ mode → s.control ≡ k → Stays s (jump_next named mode k s)
+jump_stays mode [] s jump m is = tt
+jump_stays mode (f ∷ k) s jump m is = passed_stays mode f k s jump m is
 
 mode_stays : (types : List TypeDefinition) (bodies : List BodyForm) (mode : Mode) (s : State) → s.mode ≡ mode → Stays s (mode_next named types bodies mode s)
 mode_stays types bodies Running s runs = running_stays types bodies s.control s runs refl
-mode_stays types bodies (Raising e) s runs = jump_stays (Raising e) s.control s refl
-mode_stays types bodies Exiting s runs = jump_stays Exiting s.control s refl
-mode_stays types bodies Returning s runs = jump_stays Returning s.control s refl
+mode_stays types bodies (Raising e) s raises = jump_stays (Raising e) s.control s tt raises refl
+mode_stays types bodies Exiting s exits = jump_stays Exiting s.control s tt exits refl
+mode_stays types bodies Returning s returns = jump_stays Returning s.control s tt returns refl
 
 next_stays : (types : List TypeDefinition) (bodies : List BodyForm) (s : State) → Stays s (next types bodies s)
 unfolding next
@@ -133,6 +154,15 @@ pub callers_stay : StepsKeepCallers
 callers_stay program before after choice e l =
     led before (next program.types.items (body_forms program) before) choice e after (next_stays program.types.items (body_forms program) before) l
 
+-- Where a body ends, no more activations are left than waited.
+no_more :
+    (actuals : List ActualForm) (callers xs : List (Activation Value)) (running : Activation Value) → ComesBack actuals (running ∷ callers) xs
+    → length xs ≤ length callers
+no_more actuals [] xs running back = let none : length xs ≡ 0 = ap length back in omega (arith, none)
+no_more actuals (caller ∷ suspended) [] running back = absurd back
+no_more actuals (caller ∷ suspended) (later ∷ behind) running back =
+    let same : length behind ≡ length suspended = ap length back.0 in omega (arith, same)
+
 -- Over a run: some activation runs, and behind it and others that began since, these callers wait.
 abbrev Wait : List (Activation Value) → List (Activation Value) → Type 0
 Wait callers xs = (later : Activation Value) × (inner : List (Activation Value)) × (xs ≡ later ∷ inner ++ callers)
@@ -146,6 +176,14 @@ module _ (callers : List (Activation Value)) where
   ends_wait [] xs deep is = let same : length xs ≡ length callers = ap length is in absurd (omega (arith, deep, same))
   ends_wait (later ∷ inner) xs deep is = (later, inner, is)
 
+  comes_wait :
+      (actuals : List ActualForm) (inner xs : List (Activation Value)) (running : Activation Value) → length callers < length xs
+      → ComesBack actuals (running ∷ inner ++ callers) xs → Wait callers xs
+  comes_wait actuals [] xs running deep back =
+      let same : length xs ≤ length callers = no_more actuals callers xs running back in absurd (omega (arith, deep, same))
+  comes_wait actuals (caller ∷ inner) [] running deep back = absurd back
+  comes_wait actuals (caller ∷ inner) (later ∷ behind) running deep back = (later, inner, ap (λ (ys : List (Activation Value)). later ∷ ys) back.0)
+
   step_waits :
       (before after : State) (running : Activation Value) (inner : List (Activation Value)) → before.activations ≡ running ∷ inner ++ callers
       → length callers < length after.activations → CallersStay before after → Wait callers after.activations
@@ -153,7 +191,10 @@ module _ (callers : List (Activation Value)) where
       goes_wait inner after.activations running (subst (λ (xs : List (Activation Value)). RunsOn xs after.activations) is runs)
   step_waits before after running inner is deep (calls_one begins callee called) =
       (callee, record running { operands = [] } ∷ inner, called ∙ ap (λ (xs : List (Activation Value)). callee ∷ waiting xs) is)
-  step_waits before after running inner is deep (ends body left) = ends_wait inner after.activations deep (left ∙ ap callers_in is)
+  step_waits before after running inner is deep (ends body normal back) =
+      comes_wait body.actuals inner after.activations running deep
+      (subst (λ (xs : List (Activation Value)). ComesBack body.actuals xs after.activations) is back)
+  step_waits before after running inner is deep (breaks_off body abrupt left) = ends_wait inner after.activations deep (left ∙ ap callers_in is)
 
   run_waits :
       (program : Program) (s last : State) (events : List Event) (running : Activation Value) (inner : List (Activation Value))

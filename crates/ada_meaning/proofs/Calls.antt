@@ -1,6 +1,6 @@
 -- What comes next where a call begins, and where its body ends.
 
-use Rattle.std.proofs.Common.{◌≡◌, ◌⊎◌, inl, inr, ℕ, zero, suc, pos, false, List, [], ◌∷◌, ◌++◌, length, map, take, drop, reverse, Some, refl, sym, ap, ◌∙◌, subst}
+use Rattle.std.proofs.Common.{◌≡◌, inl, inr, ℕ, zero, suc, pos, false, List, [], ◌∷◌, ◌++◌, length, map, take, drop, reverse, Some, refl, sym, ap, ◌∙◌, subst}
 use Rattle.std.specs.List.{slice_get}
 use Rattle.std.proofs.lemmas.List.{reverse-reverse, length-reverse}
 use Rattle.std.proofs.Math.Seq.{take-append_seam, drop-append_seam}
@@ -8,7 +8,7 @@ use Rattle.ada_program.specs.declared.program.Program.{Program}
 use Rattle.ada_program.specs.declared.program.TypeDefinition.{TypeDefinition}
 use Rattle.ada_program.specs.declared.program.VariableKind.{VariableKind}
 use Rattle.ada_program.specs.declared.program.VariableKind.TheVariants as variable
-use Rattle.ada_program.specs.Form.{ExpressionForm, calls, StmtsForm, a_stmt}
+use Rattle.ada_program.specs.Form.{ActualForm, value_given, calls, StmtsForm, a_stmt}
 use Rattle.ada_program.specs.ProgramForm.{VariableForm, BodyForm, body_forms}
 use Rattle.ada_meaning.specs.declared.state.Mode.{Mode}
 use Rattle.ada_meaning.specs.declared.state.Mode.TheVariants.{Running, Raising, Exiting, Returning}
@@ -17,10 +17,11 @@ use Rattle.ada_meaning.specs.Event.{Quiet}
 use Rattle.ada_meaning.specs.Frame.{Frame}
 use Rattle.ada_meaning.specs.Frame as frame
 use Rattle.ada_meaning.specs.State.{Activation}
-use Rattle.ada_meaning.specs.Step.{moves, at, blank, blanks, given_places, begun, computing, newest_ones, resumed}
+use Rattle.ada_meaning.specs.Step.{moves, at, blank, blanks, given_places, begun, computing, newest_ones, resumed, returned}
 use Rattle.ada_meaning.specs.Named.{State, Next, named, next}
 use Rattle.ada_meaning.specs.Run.{Event, Choice, settled, grants, takes, Leads}
-use Rattle.ada_meaning.specs.Calls.{ComesTo, EvaluatesActuals, CallsEvaluate, IsOfKind, AreOfKinds, HasBegun, ActualsArrive, HasReturned, CallersResume}
+use Rattle.ada_meaning.specs.Calls.{callers_in, EndsNormally, EndsAbruptly, ComesBack, ComesTo, EvaluatesActuals, CallsEvaluate, IsOfKind, AreOfKinds, HasBegun, ActualsArrive, HasReturned, CallersResume}
+use Rattle.ada_meaning.proofs.CopiedBack.{comes_back, older_callers}
 
 -- A step that is known, and that shows nothing.
 module _ (program : Program) (before known : State) (P : State → Type 0) (holds : P known) where
@@ -36,32 +37,33 @@ module _ (program : Program) (before known : State) (P : State → Type 0) (hold
   }
 
 -- Actual parameters that are evaluated.
-computing_all : (es : List ExpressionForm) (k : List (Frame Value)) → computing named es k ≡ map frame.Computes es ++ k
+computing_all :
+    (actuals : List ActualForm) (k : List (Frame Value)) → computing named actuals k ≡ map (λ (a : ActualForm). frame.Computes (value_given a)) actuals ++ k
 computing_all [] k = refl
-computing_all (e ∷ es) k = ap (λ (fs : List (Frame Value)). frame.Computes e ∷ fs) (computing_all es k)
+computing_all (a ∷ rest) k = ap (λ (fs : List (Frame Value)). frame.Computes (value_given a) ∷ fs) (computing_all rest k)
 
 module _ (types : List TypeDefinition) (bodies : List BodyForm) (procedure : ℕ) (outer : List (Frame Value)) where
-  abbrev evaluating : List ExpressionForm → BodyForm → StmtsForm → State → State
-  evaluating actuals body later s = record s { control = computing named actuals (frame.Calls procedure body (length actuals) ∷ frame.Does later ∷ outer) }
+  abbrev evaluating : List ActualForm → BodyForm → StmtsForm → State → State
+  evaluating actuals body later s = record s { control = computing named actuals (frame.Calls procedure body actuals ∷ frame.Does later ∷ outer) }
 
   call_step :
-      (actuals : List ExpressionForm) (body : BodyForm) (later : StmtsForm) (s : State) → slice_get bodies procedure ≡ Some body → s.mode ≡ Running
+      (actuals : List ActualForm) (body : BodyForm) (later : StmtsForm) (s : State) → slice_get bodies procedure ≡ Some body → s.mode ≡ Running
       → s.control ≡ frame.Does (a_stmt (calls procedure actuals) later) ∷ outer → next types bodies s ≡ moves Quiet (evaluating actuals body later s)
   unfolding next
   call_step actuals body later s named_so runs is = rw (runs, is, named_so) refl
 
   begin_step :
-      (body : BodyForm) (count : ℕ) (s : State) → s.mode ≡ Running → s.control ≡ frame.Calls procedure body count ∷ outer
-      → next types bodies s ≡ moves Quiet (begun named procedure body (newest_ones named count s) (at outer s))
+      (body : BodyForm) (given : List ActualForm) (s : State) → s.mode ≡ Running → s.control ≡ frame.Calls procedure body given ∷ outer
+      → next types bodies s ≡ moves Quiet (begun named procedure body given (newest_ones named (length given) s) (at outer s))
   unfolding next
-  begin_step body count s runs is = rw (runs, is) refl
+  begin_step body given s runs is = rw (runs, is) refl
 
 pub calls_evaluate : CallsEvaluate
 calls_evaluate program procedure actuals body later outer before named_so runs is =
     let known = evaluating program.types.items (body_forms program) procedure outer actuals body later before in
     comes_to program before known (EvaluatesActuals procedure actuals body later outer before)
     (record {
-      control = computing_all actuals (frame.Calls procedure body (length actuals) ∷ frame.Does later ∷ outer);
+      control = computing_all actuals (frame.Calls procedure body actuals ∷ frame.Does later ∷ outer);
       mode = runs;
       activations = refl;
       masters = refl;
@@ -93,14 +95,16 @@ others_given : (actuals : List Value) (xs : List VariableForm) → AreOfKinds (d
 others_given actuals xs =
     subst (AreOfKinds (drop (length actuals) xs)) (sym (drop-append_seam actuals (drop (length actuals) (blanks named xs)))) (are_of_kinds (length actuals) xs)
 
-module _ (procedure : ℕ) (body : BodyForm) (actuals pending : List Value) (caller : Activation Value) (callers : List (Activation Value))
-    (outer : List (Frame Value)) (before : State) where
-  taken : before.activations ≡ caller ∷ callers → caller.operands ≡ reverse actuals ++ pending → newest_ones named (length actuals) before ≡ actuals
-  taken active computed = rw (active, computed) (newest_are actuals pending)
+module _ (procedure : ℕ) (body : BodyForm) (given : List ActualForm) (actuals pending : List Value) (caller : Activation Value)
+    (callers : List (Activation Value)) (outer : List (Frame Value)) (before : State) where
+  taken :
+      length given ≡ length actuals → before.activations ≡ caller ∷ callers → caller.operands ≡ reverse actuals ++ pending
+      → newest_ones named (length given) before ≡ actuals
+  taken many active computed = rw (many, active, computed) (newest_are actuals pending)
 
   has_begun :
       before.mode ≡ Running → before.activations ≡ caller ∷ callers
-      → HasBegun procedure body actuals caller callers outer before (begun named procedure body actuals (at outer before))
+      → HasBegun procedure body given actuals caller callers outer before (begun named procedure body given actuals (at outer before))
   has_begun runs active = record {
     callee = record { procedure = Some procedure; places = given_places named actuals body.variables; operands = [] };
     activations = rw active refl;
@@ -116,12 +120,13 @@ module _ (procedure : ℕ) (body : BodyForm) (actuals pending : List Value) (cal
   }
 
 pub actuals_arrive : ActualsArrive
-actuals_arrive program procedure body actuals pending caller callers outer before runs is active computed =
-    comes_to program before (begun named procedure body actuals (at outer before)) (HasBegun procedure body actuals caller callers outer before)
-    (has_begun procedure body actuals pending caller callers outer before runs active)
-    (begin_step program.types.items (body_forms program) procedure outer body (length actuals) before runs is
-    ∙ ap (λ (vs : List Value). moves Quiet (begun named procedure body vs (at outer before)))
-    (taken procedure body actuals pending caller callers outer before active computed))
+actuals_arrive program procedure body given actuals pending caller callers outer before runs is many active computed =
+    comes_to program before (begun named procedure body given actuals (at outer before))
+    (HasBegun procedure body given actuals caller callers outer before)
+    (has_begun procedure body given actuals pending caller callers outer before runs active)
+    (begin_step program.types.items (body_forms program) procedure outer body given before runs is
+    ∙ ap (λ (vs : List Value). moves Quiet (begun named procedure body given vs (at outer before)))
+    (taken procedure body given actuals pending caller callers outer before many active computed))
 
 -- The end of a body, in each mode.
 abbrev mode_behind : Mode → Mode
@@ -130,32 +135,55 @@ mode_behind (Raising e) = Raising e
 mode_behind Exiting = Exiting
 mode_behind Returning = Running
 
-runs_behind : (mode : Mode) → (mode ≡ Running) ⊎ (mode ≡ Returning) → mode_behind mode ≡ Running
+runs_behind : (mode : Mode) → EndsNormally mode → mode_behind mode ≡ Running
 runs_behind mode (inl is) = ap mode_behind is
 runs_behind mode (inr is) = ap mode_behind is
 
-abbrev returned : List (Frame Value) → State → State
-returned outer s = record (resumed s) { control = outer; mode = mode_behind s.mode }
+-- What a body that ends leaves of the activations, where no exception passes and where one does.
+abbrev activations_behind : Mode → List ActualForm → State → List (Activation Value)
+activations_behind Running actuals s = (returned actuals s).activations
+activations_behind (Raising e) actuals s = (resumed s).activations
+activations_behind Exiting actuals s = (resumed s).activations
+activations_behind Returning actuals s = (returned actuals s).activations
 
-return_step :
-    (types : List TypeDefinition) (bodies : List BodyForm) (outer : List (Frame Value)) (mode : Mode) (s : State) → s.mode ≡ mode
-    → s.control ≡ frame.Returns ∷ outer → next types bodies s ≡ moves Quiet (record (resumed s) { control = outer; mode = mode_behind mode })
+abbrev ended : Mode → List ActualForm → List (Frame Value) → State → State
+ended mode actuals outer s = record s { activations = activations_behind mode actuals s; control = outer; mode = mode_behind mode }
+
+end_step :
+    (types : List TypeDefinition) (bodies : List BodyForm) (actuals : List ActualForm) (outer : List (Frame Value)) (mode : Mode) (s : State)
+    → s.mode ≡ mode → s.control ≡ frame.Returns actuals ∷ outer → next types bodies s ≡ moves Quiet (ended mode actuals outer s)
 unfolding next
-return_step types bodies outer Running s m is = rw (m, is) refl
-return_step types bodies outer (Raising e) s m is = rw (m, is) refl
-return_step types bodies outer Exiting s m is = rw (m, is) refl
-return_step types bodies outer Returning s m is = rw (m, is) refl
+end_step types bodies actuals outer Running s m is = rw (m, is) refl
+end_step types bodies actuals outer (Raising e) s m is = rw (m, is) refl
+end_step types bodies actuals outer Exiting s m is = rw (m, is) refl
+end_step types bodies actuals outer Returning s m is = rw (m, is) refl
+
+comes_behind : (mode : Mode) (actuals : List ActualForm) (s : State) → EndsNormally mode → ComesBack actuals s.activations (activations_behind mode actuals s)
+comes_behind Running actuals s normal = comes_back actuals s.activations
+comes_behind (Raising e) actuals s (inl is) = absurd (cc)
+comes_behind (Raising e) actuals s (inr is) = absurd (cc)
+comes_behind Exiting actuals s (inl is) = absurd (cc)
+comes_behind Exiting actuals s (inr is) = absurd (cc)
+comes_behind Returning actuals s normal = comes_back actuals s.activations
+
+holds_behind : (mode : Mode) (actuals : List ActualForm) (s : State) → EndsAbruptly mode → activations_behind mode actuals s ≡ callers_in s.activations
+holds_behind Running actuals s abrupt = absurd abrupt
+holds_behind (Raising e) actuals s abrupt = older_callers s.activations
+holds_behind Exiting actuals s abrupt = older_callers s.activations
+holds_behind Returning actuals s abrupt = absurd abrupt
 
 pub callers_resume : CallersResume
-callers_resume program callee callers outer before is active =
-    comes_to program before (returned outer before) (HasReturned callers outer before)
+callers_resume program actuals callee callers outer before is active =
+    let behind = activations_behind before.mode actuals before in
+    comes_to program before (ended before.mode actuals outer before) (HasReturned actuals callee callers outer before)
     (record {
-      activations = rw active refl;
+      gets_back = λ normal. subst (λ (xs : List (Activation Value)). ComesBack actuals xs behind) active (comes_behind before.mode actuals before normal);
+      holds_on = λ abrupt. holds_behind before.mode actuals before abrupt ∙ ap callers_in active;
       control = refl;
-      runs = λ either. runs_behind before.mode either;
+      runs = λ normal. runs_behind before.mode normal;
       raises = λ e raises. ap mode_behind raises;
       masters = refl;
       next = refl;
       alone = record { heap = refl; input = refl; allocated = refl; born = refl };
     })
-    (return_step program.types.items (body_forms program) outer before.mode before refl is)
+    (end_step program.types.items (body_forms program) actuals outer before.mode before refl is)

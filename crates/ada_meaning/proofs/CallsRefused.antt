@@ -1,19 +1,23 @@
 -- What the laws of calls refuse, and what they let pass.
 
-use Rattle.std.proofs.Common.{◌≡◌, ◌≢◌, ℕ, Bool, List, [], ◌∷◌, length, take, drop, None, arith, refl, ap, sym, ◌∙◌, inr, subst}
+use Rattle.std.proofs.Common.{◌≡◌, ◌≢◌, ◌⊎◌, ℕ, Bool, false, List, [], ◌∷◌, length, take, drop, Some, None, arith, refl, ap, sym, ◌∙◌, inl, inr, subst}
+use Rattle.ada_text.specs.declared.spot.Spot.{Spot}
 use Rattle.ada_values.specs.declared.value.Value.TheVariants as scalar
 use Rattle.ada_program.specs.declared.program.Exception.{Exception}
 use Rattle.ada_program.specs.declared.program.VariableKind.{VariableKind}
 use Rattle.ada_program.specs.declared.program.VariableKind.TheVariants as variable
+use Rattle.ada_program.specs.Form.{PathForm, ActualForm, in_value, in_out_path, ExpressionForm}
 use Rattle.ada_program.specs.ProgramForm.{VariableForm, BodyForm}
-use Rattle.ada_meaning.specs.declared.state.Mode.TheVariants.{Running, Raising, Returning}
+use Rattle.ada_meaning.specs.declared.state.Mode.{Mode}
+use Rattle.ada_meaning.specs.declared.state.Mode.TheVariants.{Running, Raising, Exiting, Returning}
 use Rattle.ada_meaning.specs.declared.state.Value.{Value}
 use Rattle.ada_meaning.specs.declared.state.Value.TheVariants.{Scalar}
 use Rattle.ada_meaning.specs.Frame.{Frame}
 use Rattle.ada_meaning.specs.Frame as frame
 use Rattle.ada_meaning.specs.State.{Activation}
 use Rattle.ada_meaning.specs.Named.{State}
-use Rattle.ada_meaning.specs.Calls.{callers_in, waiting, CallersStay, goes_on, calls_one, ends, IsOfKind, AreOfKinds, HasBegun, HasReturned}
+use Rattle.ada_meaning.specs.Calls.{callers_in, waiting, EndsBody, EndsNormally, EndsAbruptly, GetsBack, ComesBack, CallersStay, goes_on, calls_one, ends, breaks_off, IsOfKind, AreOfKinds, HasBegun, HasReturned}
+use Rattle.ada_meaning.proofs.CopiedBack.{comes_back}
 
 -- Callers stay.
 abbrev Actives : Type 0
@@ -23,16 +27,46 @@ Actives = List (Activation Value)
 abbrev active : Actives → State → State
 active xs s = record s { activations = xs }
 
--- A running body that assigns to its variable, and one that ends before two others.
+-- The body of a call with these actual parameters ends next.
+abbrev Ending : List ActualForm → State → Type 0
+Ending actuals s = (outer : List (Frame Value)) × (s.control ≡ frame.Returns actuals ∷ outer)
+
+-- The activation whose variables are these.
+abbrev holding : List Value → Activation Value → Activation Value
+holding vs a = record a { places = vs }
+
+-- The first variable is given for the only formal parameter, of mode `in out`.
+abbrev to_first : Spot → PathForm
+to_first spot = record { root = 0; of_record = false; selectors = []; spot = spot }
+
+abbrev first_given : Spot → List ActualForm
+first_given spot = in_out_path (to_first spot) ∷ []
+
+-- A body ends whose formal parameter holds one value; the variable of its caller held another one, and holds a third one behind the call.
+abbrev EndsWith : (callee caller : Activation Value) (formal before after : Value) → State → Type 0
+EndsWith a b u v w s = CallersStay (active (holding (u ∷ []) a ∷ holding (v ∷ []) b ∷ []) s) (active (holding (w ∷ []) b ∷ []) s)
+
+-- A running body that assigns to its variable; one that ends before two others; one whose formal parameter gives back what it holds; and one that an
+-- exception passes.
 assignment_passes :
-    (s : State) (a b : Activation Value) (u v : Value) → CallersStay (active (record a { places = u ∷ [] } ∷ b ∷ []) s)
-    (active (record a { places = v ∷ [] } ∷ b ∷ []) s)
+    (s : State) (a b : Activation Value) (u v : Value) → CallersStay (active (holding (u ∷ []) a ∷ b ∷ []) s) (active (holding (v ∷ []) a ∷ b ∷ []) s)
 assignment_passes s a b u v = goes_on (refl, refl, refl)
 
 end_passes :
-    (s : State) (outer : List (Frame Value)) (a b c : Activation Value) → s.control ≡ frame.Returns ∷ outer
-    → CallersStay (active (a ∷ b ∷ c ∷ []) s) (active (b ∷ c ∷ []) s)
-end_passes s outer a b c is = ends (record { outer = outer; first = is }) refl
+    (s : State) (a b c : Activation Value) → s.mode ≡ Running → Ending [] s → CallersStay (active (a ∷ b ∷ c ∷ []) s) (active (b ∷ c ∷ []) s)
+end_passes s a b c runs is = ends (record { actuals = []; outer = is.0; first = is.1 }) (inl runs) (comes_back [] (a ∷ b ∷ c ∷ []))
+
+giving_back_passes :
+    (s : State) (a b : Activation Value) (spot : Spot) (u v : Value) → s.mode ≡ Returning → Ending (first_given spot) s → EndsWith a b u v u s
+giving_back_passes s a b spot u v returns is =
+    ends (record { actuals = first_given spot; outer = is.0; first = is.1 }) (inr returns)
+    (comes_back (first_given spot) (holding (u ∷ []) a ∷ holding (v ∷ []) b ∷ []))
+
+raise_passes :
+    (s : State) (a b : Activation Value) (actuals : List ActualForm) (u v : Value) (e : Exception) → s.mode ≡ Raising e → Ending actuals s
+    → EndsWith a b u v v s
+raise_passes s a b actuals u v e raises is =
+    breaks_off (record { actuals = actuals; outer = is.0; first = is.1 }) (subst EndsAbruptly (sym raises) tt) refl
 
 -- So many activations can't be so many others.
 unlike : (xs ys : Actives) → length xs ≢ length ys → xs ≡ ys → ⊥
@@ -44,15 +78,18 @@ head_of x y xs ys is = cc
 -- Two activations dropped at once.
 two_dropped_refused : (s : State) (a b c : Activation Value) → CallersStay (active (a ∷ b ∷ c ∷ []) s) (active (c ∷ []) s) → ⊥
 two_dropped_refused s a b c (goes_on runs) = unlike [] (b ∷ c ∷ []) (λ is. absurd (omega (arith, is))) runs.0
-two_dropped_refused s a b c (calls_one begins callee called) = unlike (c ∷ []) (callee ∷ waiting (a ∷ b ∷ c ∷ [])) (λ is. absurd (omega (arith, is))) called
-two_dropped_refused s a b c (ends body left) = unlike (c ∷ []) (b ∷ c ∷ []) (λ is. absurd (omega (arith, is))) left
+two_dropped_refused s a b c (calls_one begins callee called) =
+    unlike (c ∷ []) (callee ∷ waiting (a ∷ b ∷ c ∷ [])) (λ is. absurd (omega (arith, is))) called
+two_dropped_refused s a b c (ends body normal back) = unlike [] (c ∷ []) (λ is. absurd (omega (arith, is))) back.0
+two_dropped_refused s a b c (breaks_off body abrupt left) = unlike (c ∷ []) (b ∷ c ∷ []) (λ is. absurd (omega (arith, is))) left
 
 -- A caller's variables changed while its callee runs.
 caller_changed_refused : (s : State) (a b c : Activation Value) → b ≢ c → CallersStay (active (a ∷ b ∷ []) s) (active (a ∷ c ∷ []) s) → ⊥
 caller_changed_refused s a b c apart (goes_on runs) = apart (sym (head_of c b [] [] runs.0))
 caller_changed_refused s a b c apart (calls_one begins callee called) =
     unlike (a ∷ c ∷ []) (callee ∷ waiting (a ∷ b ∷ [])) (λ is. absurd (omega (arith, is))) called
-caller_changed_refused s a b c apart (ends body left) = unlike (a ∷ c ∷ []) (b ∷ []) (λ is. absurd (omega (arith, is))) left
+caller_changed_refused s a b c apart (ends body normal back) = unlike (c ∷ []) [] (λ is. absurd (omega (arith, is))) back.0
+caller_changed_refused s a b c apart (breaks_off body abrupt left) = unlike (a ∷ c ∷ []) (b ∷ []) (λ is. absurd (omega (arith, is))) left
 
 -- A caller's variables changed where the call begins.
 calling_changes_refused :
@@ -62,18 +99,95 @@ calling_changes_refused s a b vs apart (goes_on runs) = unlike (record a { place
 calling_changes_refused s a b vs apart (calls_one begins callee called) =
     let behind : (record a { places = vs; operands = [] } ∷ []) ≡ (record a { operands = [] } ∷ []) = ap callers_in called in
     apart (ap (λ (x : Activation Value). x.places) (head_of (record a { places = vs; operands = [] }) (record a { operands = [] }) [] [] behind))
-calling_changes_refused s a b vs apart (ends body left) = unlike (b ∷ record a { places = vs; operands = [] } ∷ []) [] (λ is. absurd (omega (arith, is))) left
+calling_changes_refused s a b vs apart (ends body normal back) =
+    unlike (b ∷ record a { places = vs; operands = [] } ∷ []) [] (λ is. absurd (omega (arith, is))) back
+calling_changes_refused s a b vs apart (breaks_off body abrupt left) =
+    unlike (b ∷ record a { places = vs; operands = [] } ∷ []) [] (λ is. absurd (omega (arith, is))) left
 
 -- An activation that ends anywhere but at the end of its body.
+never_ends : (s : State) → s.control ≡ frame.Exits ∷ [] → EndsBody s → ⊥
+never_ends s is body = let never : frame.Exits ∷ [] ≡ frame.Returns body.actuals ∷ body.outer = sym is ∙ body.first in absurd (cc)
+
 early_end_refused : (s : State) (a b : Activation Value) → s.control ≡ frame.Exits ∷ [] → CallersStay (active (a ∷ b ∷ []) s) (active (b ∷ []) s) → ⊥
 early_end_refused s a b is (goes_on runs) = unlike [] (b ∷ []) (λ same. absurd (omega (arith, same))) runs.0
 early_end_refused s a b is (calls_one begins callee called) = unlike (b ∷ []) (callee ∷ waiting (a ∷ b ∷ [])) (λ same. absurd (omega (arith, same))) called
-early_end_refused s a b is (ends body left) = let never : frame.Exits ∷ [] ≡ frame.Returns ∷ body.outer = sym is ∙ body.first in absurd (cc)
+early_end_refused s a b is (ends body normal back) = never_ends (active (a ∷ b ∷ []) s) is body
+early_end_refused s a b is (breaks_off body abrupt left) = never_ends (active (a ∷ b ∷ []) s) is body
+
+-- Where a body ends normally, its caller gets back what it is to get, and nothing else can have happened.
+apart_modes : (mode : Mode) → EndsNormally mode → EndsAbruptly mode → ⊥
+apart_modes Running normal abrupt = abrupt
+apart_modes (Raising e) (inl is) abrupt = absurd (cc)
+apart_modes (Raising e) (inr is) abrupt = absurd (cc)
+apart_modes Exiting (inl is) abrupt = absurd (cc)
+apart_modes Exiting (inr is) abrupt = absurd (cc)
+apart_modes Returning normal abrupt = abrupt
+
+same_actuals :
+    (k outer behind : List (Frame Value)) (actuals given : List ActualForm) → k ≡ frame.Returns actuals ∷ outer → k ≡ frame.Returns given ∷ behind
+    → actuals ≡ given
+same_actuals k outer behind actuals given is also = cc
+
+returned_to :
+    (s : State) (callee caller later : Activation Value) (actuals : List ActualForm) → EndsNormally s.mode → Ending actuals s
+    → CallersStay (active (callee ∷ caller ∷ []) s) (active (later ∷ []) s) → GetsBack actuals callee caller later
+returned_to s callee caller later actuals normal is (goes_on runs) = absurd (unlike [] (caller ∷ []) (λ same. absurd (omega (arith, same))) runs.0)
+returned_to s callee caller later actuals normal is (calls_one begins one called) =
+    absurd (unlike (later ∷ []) (one ∷ waiting (callee ∷ caller ∷ [])) (λ same. absurd (omega (arith, same))) called)
+returned_to s callee caller later actuals normal is (ends body also back) =
+    subst (λ (given : List ActualForm). GetsBack given callee caller later)
+    (same_actuals s.control body.outer is.0 body.actuals actuals body.first is.1) back.1
+returned_to s callee caller later actuals normal is (breaks_off body abrupt left) = absurd (apart_modes s.mode normal abrupt)
+
+one_of : (u v : Value) → Some u ≡ Some v → u ≡ v
+one_of u v is = cc
+
+-- A return that gives nothing back.
+nothing_given :
+    (a b : Activation Value) (spot : Spot) (u v : Value) → u ≢ v
+    → GetsBack (first_given spot) (holding (u ∷ []) a) (holding (v ∷ []) b) (holding (v ∷ []) b) → ⊥
+nothing_given a b spot u v apart got = apart (sym (one_of v u (got.back [] [] (to_first spot) u refl (λ never. never) refl (omega arith))))
+
+nothing_back_refused :
+    (s : State) (a b : Activation Value) (spot : Spot) (u v : Value) → u ≢ v → EndsNormally s.mode → Ending (first_given spot) s → EndsWith a b u v v s → ⊥
+nothing_back_refused s a b spot u v apart normal is ended =
+    nothing_given a b spot u v apart (returned_to s (holding (u ∷ []) a) (holding (v ∷ []) b) (holding (v ∷ []) b) (first_given spot) normal is ended)
+
+-- A formal parameter of mode `in` that gives back what it holds.
+value_back_refused :
+    (s : State) (a b : Activation Value) (e : ExpressionForm) (u v : Value) → u ≢ v → EndsNormally s.mode → Ending (in_value e ∷ []) s
+    → EndsWith a b u v u s → ⊥
+value_back_refused s a b e u v apart normal is ended =
+    let got = returned_to s (holding (u ∷ []) a) (holding (v ∷ []) b) (holding (u ∷ []) b) (in_value e ∷ []) normal is ended in
+    apart (one_of u v (got.others 0 (λ never. never)))
+
+-- Two that stand for one variable, of which the first gives back last.
+first_back_refused :
+    (s : State) (a b : Activation Value) (spot : Spot) (u v w : Value) → u ≢ v → EndsNormally s.mode
+    → Ending (in_out_path (to_first spot) ∷ first_given spot) s
+    → CallersStay (active (holding (u ∷ v ∷ []) a ∷ holding (w ∷ []) b ∷ []) s) (active (holding (u ∷ []) b ∷ []) s) → ⊥
+first_back_refused s a b spot u v w apart normal is ended =
+    let both : List ActualForm = in_out_path (to_first spot) ∷ first_given spot in
+    let got = returned_to s (holding (u ∷ v ∷ []) a) (holding (w ∷ []) b) (holding (u ∷ []) b) both normal is ended in
+    apart (one_of u v (got.back (first_given spot) [] (to_first spot) v refl (λ never. never) refl (omega arith)))
+
+-- An exception that passes the body, and gives something back.
+first_held : (b : Activation Value) (u v : Value) → (holding (u ∷ []) b ∷ []) ≡ (holding (v ∷ []) b ∷ []) → u ≡ v
+first_held b u v is =
+    let places : (u ∷ []) ≡ (v ∷ []) = ap (λ (x : Activation Value). x.places) (head_of (holding (u ∷ []) b) (holding (v ∷ []) b) [] [] is) in cc
+
+raise_gives_refused : (s : State) (a b : Activation Value) (u v : Value) (e : Exception) → u ≢ v → s.mode ≡ Raising e → EndsWith a b u v u s → ⊥
+raise_gives_refused s a b u v e apart raises (goes_on runs) = unlike [] (holding (v ∷ []) b ∷ []) (λ same. absurd (omega (arith, same))) runs.0
+raise_gives_refused s a b u v e apart raises (calls_one begins callee called) =
+    unlike (holding (u ∷ []) b ∷ []) (callee ∷ waiting (holding (u ∷ []) a ∷ holding (v ∷ []) b ∷ [])) (λ same. absurd (omega (arith, same))) called
+raise_gives_refused s a b u v e apart raises (ends body normal back) = apart_modes s.mode normal (subst EndsAbruptly (sym raises) tt)
+raise_gives_refused s a b u v e apart raises (breaks_off body abrupt left) = apart (first_held b u v left)
 
 -- Actuals arrive: a callee whose places are these has begun.
 abbrev Given : BodyForm → List Value → List Value → State → State → Type 0
 Given body actuals vs before after =
-    (begun : HasBegun 0 body actuals (record { procedure = None; places = []; operands = [] }) [] [] before after) × (begun.callee.places ≡ vs)
+    (given : List ActualForm) × (begun : HasBegun 0 body given actuals (record { procedure = None; places = []; operands = [] }) [] [] before after)
+    × (begun.callee.places ≡ vs)
 
 first_of_two : (t u v w : Value) → (t ∷ u ∷ []) ≡ (v ∷ w ∷ []) → t ≡ v
 first_of_two t u v w is = cc
@@ -81,11 +195,11 @@ first_of_two t u v w is = cc
 -- In reverse order.
 reverse_refused :
     (body : BodyForm) (u v : Value) (behind : List Value) (before after : State) → u ≢ v → Given body (u ∷ v ∷ []) (v ∷ u ∷ behind) before after → ⊥
-reverse_refused body u v behind before after apart given = apart (sym (first_of_two v u u v (ap (take 2) (sym given.1) ∙ given.0.formals)))
+reverse_refused body u v behind before after apart given = apart (sym (first_of_two v u u v (ap (take 2) (sym given.2) ∙ given.1.formals)))
 
 -- In the last places, behind the body's own variables.
 last_places_refused : (body : BodyForm) (u v w : Value) (before after : State) → w ≢ u → Given body (u ∷ v ∷ []) (w ∷ u ∷ v ∷ []) before after → ⊥
-last_places_refused body u v w before after apart given = apart (first_of_two w u u v (ap (take 2) (sym given.1) ∙ given.0.formals))
+last_places_refused body u v w before after apart given = apart (first_of_two w u u v (ap (take 2) (sym given.2) ∙ given.1.formals))
 
 of_kinds_of :
     (n : ℕ) (xs ys : List VariableForm) (us vs : List Value) → xs ≡ ys → us ≡ vs → AreOfKinds (drop n xs) (drop n us) → AreOfKinds (drop n ys) (drop n vs)
@@ -95,36 +209,62 @@ of_kinds_of n xs ys us vs is same held =
 -- With no place for a variable of the body's own, or with a place too many, or with a Boolean in that of an Integer.
 no_place_refused : (body : BodyForm) (x : VariableForm) (before after : State) → body.variables ≡ x ∷ [] → Given body [] [] before after → ⊥
 no_place_refused body x before after is given =
-    of_kinds_of 0 body.variables (x ∷ []) given.0.callee.places [] is given.1 given.0.others
+    of_kinds_of 0 body.variables (x ∷ []) given.1.callee.places [] is given.2 given.1.others
 
 place_too_many_refused : (body : BodyForm) (u v : Value) (before after : State) → body.variables ≡ [] → Given body (u ∷ []) (u ∷ v ∷ []) before after → ⊥
 place_too_many_refused body u v before after is given =
-    of_kinds_of 1 body.variables [] given.0.callee.places (u ∷ v ∷ []) is given.1 given.0.others
+    of_kinds_of 1 body.variables [] given.1.callee.places (u ∷ v ∷ []) is given.2 given.1.others
 
 other_kind_refused :
     (body : BodyForm) (x : VariableForm) (b : Bool) (before after : State) → body.variables ≡ x ∷ [] → x.kind ≡ variable.Integer
     → Given body [] (Scalar (scalar.Boolean b) ∷ []) before after → ⊥
 other_kind_refused body x b before after is kind given =
     let others : AreOfKinds (x ∷ []) (Scalar (scalar.Boolean b) ∷ []) =
-    of_kinds_of 0 body.variables (x ∷ []) given.0.callee.places (Scalar (scalar.Boolean b) ∷ []) is given.1 given.0.others in
+    of_kinds_of 0 body.variables (x ∷ []) given.1.callee.places (Scalar (scalar.Boolean b) ∷ []) is given.2 given.1.others in
     let held : IsOfKind variable.Integer (Scalar (scalar.Boolean b)) = subst (λ (k : VariableKind). IsOfKind k (Scalar (scalar.Boolean b))) kind others.0 in
     let never : Scalar (scalar.Boolean b) ≡ Scalar (scalar.Integer held.0) = held.1 in
     absurd (cc)
 
 -- Callers resume: not a return that goes on in its caller, nor an exception that is lost there, nor a caller that is passed.
 passing_return_refused :
-    (callers : Actives) (outer : List (Frame Value)) (before after : State) → before.mode ≡ Returning → after.mode ≡ Returning
-    → HasReturned callers outer before after → ⊥
-passing_return_refused callers outer before after returns still returned =
+    (actuals : List ActualForm) (callee : Activation Value) (callers : Actives) (outer : List (Frame Value)) (before after : State)
+    → before.mode ≡ Returning → after.mode ≡ Returning → HasReturned actuals callee callers outer before after → ⊥
+passing_return_refused actuals callee callers outer before after returns still returned =
     let never : Returning ≡ Running = sym still ∙ returned.runs (inr returns) in absurd (cc)
 
 lost_exception_refused :
-    (callers : Actives) (outer : List (Frame Value)) (e : Exception) (before after : State) → before.mode ≡ Raising e → after.mode ≡ Running
-    → HasReturned callers outer before after → ⊥
-lost_exception_refused callers outer e before after raises runs returned =
+    (actuals : List ActualForm) (callee : Activation Value) (callers : Actives) (outer : List (Frame Value)) (e : Exception) (before after : State)
+    → before.mode ≡ Raising e → after.mode ≡ Running → HasReturned actuals callee callers outer before after → ⊥
+lost_exception_refused actuals callee callers outer e before after raises runs returned =
     let never : Running ≡ Raising e = sym runs ∙ returned.raises e raises in absurd (cc)
 
-passed_caller_refused :
-    (b c : Activation Value) (outer : List (Frame Value)) (before after : State) → after.activations ≡ c ∷ [] → HasReturned (b ∷ c ∷ []) outer before after → ⊥
-passed_caller_refused b c outer before after left returned =
-    unlike (c ∷ []) (b ∷ c ∷ []) (λ is. absurd (omega (arith, is))) (sym left ∙ returned.activations)
+either_end : (mode : Mode) → EndsNormally mode ⊎ EndsAbruptly mode
+either_end Running = inl (inl refl)
+either_end (Raising e) = inr tt
+either_end Exiting = inr tt
+either_end Returning = inl (inr refl)
+
+module _ (actuals : List ActualForm) (callee b c : Activation Value) (outer : List (Frame Value)) (before after : State) where
+  passed_by :
+      after.activations ≡ c ∷ [] → HasReturned actuals callee (b ∷ c ∷ []) outer before after → EndsNormally before.mode ⊎ EndsAbruptly before.mode → ⊥
+  passed_by left returned (inl normal) =
+      let back : ComesBack actuals (callee ∷ b ∷ c ∷ []) (c ∷ []) = subst (ComesBack actuals (callee ∷ b ∷ c ∷ [])) left (returned.gets_back normal) in
+      unlike [] (c ∷ []) (λ is. absurd (omega (arith, is))) back.0
+  passed_by left returned (inr abrupt) = unlike (c ∷ []) (b ∷ c ∷ []) (λ is. absurd (omega (arith, is))) (sym left ∙ returned.holds_on abrupt)
+
+  passed_caller_refused : after.activations ≡ c ∷ [] → HasReturned actuals callee (b ∷ c ∷ []) outer before after → ⊥
+  passed_caller_refused left returned = passed_by left returned (either_end before.mode)
+
+-- Nor a return that gives nothing back, nor an exception that gives something back.
+module _ (a b : Activation Value) (spot : Spot) (u v : Value) (outer : List (Frame Value)) (before after : State) where
+  abbrev HasReturnedOne : Type 0
+  HasReturnedOne = HasReturned (first_given spot) (holding (u ∷ []) a) (holding (v ∷ []) b ∷ []) outer before after
+
+  lost_value_refused : u ≢ v → before.mode ≡ Returning → after.activations ≡ holding (v ∷ []) b ∷ [] → HasReturnedOne → ⊥
+  lost_value_refused apart returns left returned =
+      let back = subst (ComesBack (first_given spot) (holding (u ∷ []) a ∷ holding (v ∷ []) b ∷ [])) left (returned.gets_back (inr returns)) in
+      nothing_given a b spot u v apart back.1
+
+  raised_value_refused : (e : Exception) → u ≢ v → before.mode ≡ Raising e → after.activations ≡ holding (u ∷ []) b ∷ [] → HasReturnedOne → ⊥
+  raised_value_refused e apart raises left returned =
+      apart (first_held b u v (sym left ∙ returned.holds_on (subst EndsAbruptly (sym raises) tt)))

@@ -4,7 +4,7 @@ use Rattle.std.proofs.Common.{◌≡◌, ℕ, ℤ, int_le, Bool, true, false, if
 use Rattle.std.specs.List.{slice_get, slice_set, slice_index_or}
 use Rattle.ada_program.specs.declared.program.Program.{Program}
 use Rattle.ada_program.specs.declared.program.TypeDefinition.{TypeDefinition}
-use Rattle.ada_program.specs.Form.{ExpressionForm, integer, boolean, reads, is_null, applied_to, chained, LinksForm, no_more_links, a_link, ItemForm, null_item, item_of_path, item_of_value, item_of_record, RightForm, nothing, value_of, allocates, allocates_default, computes, StmtForm, skips, assigns, assigns_record, frees, gets, writes, writes_text, chooses, repeats, counts, exits, calls, raises, encloses, StmtsForm, no_stmts, a_stmt, BranchesForm, otherwise, a_branch, HandlersForm, DeclarationForm, collects, declares, declares_record}
+use Rattle.ada_program.specs.Form.{ActualForm, ExpressionForm, integer, boolean, reads, is_null, applied_to, chained, LinksForm, no_more_links, a_link, ItemForm, null_item, item_of_path, item_of_value, item_of_record, RightForm, nothing, value_of, allocates, allocates_default, computes, StmtForm, skips, assigns, assigns_record, frees, gets, writes, writes_text, chooses, repeats, counts, exits, calls, raises, encloses, StmtsForm, no_stmts, a_stmt, BranchesForm, otherwise, a_branch, HandlersForm, DeclarationForm, collects, declares, declares_record}
 use Rattle.ada_program.specs.Form as form
 use Rattle.ada_program.specs.ProgramForm.{BodyForm, body_forms}
 use Rattle.ada_program.specs.Typed.{reached_of, words_of, width_of}
@@ -291,7 +291,7 @@ exited_does (Some true) s = same refl refl
 exited_does (Some false) s = same refl refl
 
 -- A call, and the end of one.
-call_does : (procedure : ℕ) (actuals : List ExpressionForm) (body : Option BodyForm) (s : State) → Does s.heap (call_next named procedure actuals body s)
+call_does : (procedure : ℕ) (actuals : List ActualForm) (body : Option BodyForm) (s : State) → Does s.heap (call_next named procedure actuals body s)
 call_does procedure actuals None s = tt
 call_does procedure actuals (Some b) s = same refl refl
 
@@ -366,8 +366,8 @@ frame_does types bodies frame.Exits s = exited_does (reads_boolean (newest named
 frame_does types bodies (frame.Handles hs) s = same refl refl
 frame_does types bodies frame.Closes s = same refl refl
 frame_does types bodies (frame.Leaves mode) s = leave_does mode s.masters s
-frame_does types bodies (frame.Calls procedure b count) s = same refl refl
-frame_does types bodies frame.Returns s = same refl refl
+frame_does types bodies (frame.Calls procedure b actuals) s = same refl refl
+frame_does types bodies (frame.Returns actuals) s = same refl refl
 frame_does types bodies (frame.Evaluates right) s = right_does types right s
 frame_does types bodies (frame.Computes e) s = expression_does e s
 frame_does types bodies (frame.Follows cs) s = path_does cs (newest named s) (popped s)
@@ -411,7 +411,7 @@ pass_does false l mode s = landed_does l s
 
 jump_does : (mode : Mode) (k : List (Frame Value)) (s : State) → Does s.heap (jump_next named mode k s)
 jump_does mode [] s = tt
-jump_does mode (f ∷ k) s = rw (unwound_by f (at k s)) (pass_does (is_master f) (landing mode f) mode (unwound_to f (at k s)))
+jump_does mode (f ∷ k) s = rw (unwound_by mode f (at k s)) (pass_does (is_master f) (landing mode f) mode (unwound_to mode f (at k s)))
 
 mode_does : (types : List TypeDefinition) (bodies : List BodyForm) (mode : Mode) (s : State) → Does s.heap (mode_next named types bodies mode s)
 mode_does types bodies Running s = running_does types bodies s.control s

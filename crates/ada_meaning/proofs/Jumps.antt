@@ -1,19 +1,28 @@
 -- What a jump does to activations where it passes a frame.
 
-use Rattle.std.proofs.Common.{◌≡◌, true, false, if◌then◌else◌, refl}
+use Rattle.std.proofs.Common.{◌≡◌, true, false, List, refl}
+use Rattle.ada_program.specs.Form.{ActualForm}
+use Rattle.ada_meaning.specs.declared.state.Mode.{Mode}
+use Rattle.ada_meaning.specs.declared.state.Mode.TheVariants.{Running, Raising, Exiting, Returning}
 use Rattle.ada_meaning.specs.declared.state.Value.{Value}
 use Rattle.ada_meaning.specs.Frame.{Frame, is_master, is_loop, is_return}
 use Rattle.ada_meaning.specs.Frame as frame
-use Rattle.ada_meaning.specs.Step.{older, unwound}
+use Rattle.ada_meaning.specs.Step.{left_by, unwound}
 use Rattle.ada_meaning.specs.Named.{State}
 
--- The activations that are left where a jump passes a frame: the running one ends at the end of a call's body, and nowhere else.
-abbrev pub unwound_to : Frame Value → State → State
-unwound_to f s = record s { activations = if is_return f then older s.activations else s.activations }
+-- A jump changes nothing but the activations where it passes a frame.
+abbrev pub unwound_to : Mode → Frame Value → State → State
+unwound_to mode f s = record s { activations = (unwound mode f s).activations }
 
-pub unwound_by : (f : Frame Value) (s : State) → unwound f s ≡ unwound_to f s
-unwound_by frame.Returns s = refl
-unwound_by f s = refl
+left_so : (mode : Mode) (actuals : List ActualForm) (s : State) → left_by mode actuals s ≡ unwound_to mode (frame.Returns actuals) s
+left_so Running actuals s = refl
+left_so (Raising e) actuals s = refl
+left_so Exiting actuals s = refl
+left_so Returning actuals s = refl
+
+pub unwound_by : (mode : Mode) (f : Frame Value) (s : State) → unwound mode f s ≡ unwound_to mode f s
+unwound_by mode (frame.Returns actuals) s = left_so mode actuals s
+unwound_by mode f s = refl
 
 -- No master is a loop, or the end of a call's body.
 pub master_no_loop : (f : Frame Value) → is_master f ≡ true → is_loop f ≡ false
@@ -22,5 +31,5 @@ master_no_loop (frame.Counts x value last fs) is = absurd (cc)
 master_no_loop f is = refl
 
 pub master_no_return : (f : Frame Value) → is_master f ≡ true → is_return f ≡ false
-master_no_return frame.Returns is = absurd (cc)
+master_no_return (frame.Returns actuals) is = absurd (cc)
 master_no_return f is = refl

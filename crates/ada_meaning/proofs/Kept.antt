@@ -3,7 +3,7 @@
 use Rattle.std.proofs.Common.{◌≡◌, ℕ, ℤ, int_le, Bool, true, false, if◌then◌else◌, List, [], ◌∷◌, Option, Some, None}
 use Rattle.std.specs.List.{slice_get}
 use Rattle.ada_program.specs.declared.program.TypeDefinition.{TypeDefinition}
-use Rattle.ada_program.specs.Form.{ExpressionForm, integer, boolean, reads, is_null, applied_to, chained, LinksForm, no_more_links, a_link, ItemForm, null_item, item_of_path, item_of_value, item_of_record, RightForm, nothing, value_of, allocates, allocates_default, computes, StmtForm, skips, assigns, assigns_record, frees, gets, writes, writes_text, chooses, repeats, counts, exits, calls, raises, encloses, StmtsForm, no_stmts, a_stmt, BranchesForm, otherwise, a_branch, HandlersForm, DeclarationForm, collects, declares, declares_record}
+use Rattle.ada_program.specs.Form.{ActualForm, ExpressionForm, integer, boolean, reads, is_null, applied_to, chained, LinksForm, no_more_links, a_link, ItemForm, null_item, item_of_path, item_of_value, item_of_record, RightForm, nothing, value_of, allocates, allocates_default, computes, StmtForm, skips, assigns, assigns_record, frees, gets, writes, writes_text, chooses, repeats, counts, exits, calls, raises, encloses, StmtsForm, no_stmts, a_stmt, BranchesForm, otherwise, a_branch, HandlersForm, DeclarationForm, collects, declares, declares_record}
 use Rattle.ada_program.specs.Form as form
 use Rattle.ada_program.specs.ProgramForm.{BodyForm}
 use Rattle.ada_program.specs.Typed.{words_of, width_of}
@@ -170,7 +170,7 @@ exited_keeps (Some false) s h = h
 
 -- A call, and the end of one.
 call_keeps :
-    {w : Shape} (procedure : ℕ) (actuals : List ExpressionForm) (body : Option BodyForm) (s : State) → shape s.activations ≡ w
+    {w : Shape} (procedure : ℕ) (actuals : List ActualForm) (body : Option BodyForm) (s : State) → shape s.activations ≡ w
     → Keeps w (call_next named procedure actuals body s)
 call_keeps procedure actuals None s h = tt
 call_keeps procedure actuals (Some b) s h = h
@@ -242,8 +242,8 @@ leave_keeps mode (m ∷ ms) s h = master_leave_keeps mode m.number m.items s h
 -- Each frame that is taken off.
 -- Neither the beginning nor the end of a call's body.
 abbrev pub IsWithin : Frame Value → Type 0
-IsWithin (frame.Calls procedure b count) = ⊥
-IsWithin frame.Returns = ⊥
+IsWithin (frame.Calls procedure b actuals) = ⊥
+IsWithin (frame.Returns actuals) = ⊥
 IsWithin f = Unit {0}
 
 pub frame_keeps :
@@ -261,8 +261,8 @@ frame_keeps types bodies frame.Exits s i h = exited_keeps (reads_boolean (newest
 frame_keeps types bodies (frame.Handles hs) s i h = h
 frame_keeps types bodies frame.Closes s i h = h
 frame_keeps types bodies (frame.Leaves mode) s i h = leave_keeps mode s.masters s h
-frame_keeps types bodies (frame.Calls procedure b count) s i h = absurd i
-frame_keeps types bodies frame.Returns s i h = absurd i
+frame_keeps types bodies (frame.Calls procedure b actuals) s i h = absurd i
+frame_keeps types bodies (frame.Returns actuals) s i h = absurd i
 frame_keeps types bodies (frame.Evaluates right) s i h = right_keeps types right s h
 frame_keeps types bodies (frame.Computes e) s i h = expression_keeps e s h
 frame_keeps types bodies (frame.Follows cs) s i h = path_keeps cs (newest named s) (popped s) (less s h)

@@ -11,6 +11,8 @@ pub mod Lives
 -- what steps keep of the activations
 pub mod Activations
 pub mod Kept
+-- what a caller gets back where the body of its call ends
+pub mod CopiedBack
 -- callers stay
 pub mod Callers
 -- what comes next where a call begins and ends

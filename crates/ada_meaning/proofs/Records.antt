@@ -34,12 +34,12 @@ module _ {X : Type 0} where
   set_own (y ∷ xs) zero x is = let same : y ≡ x = cc in ap (λ (z : X). z ∷ xs) (sym same)
   set_own (y ∷ xs) (suc i) x is = ap (λ (zs : List X). y ∷ zs) (set_own xs i x is)
 
-  get_set : (xs : List X) (i : ℕ) (x : X) → i < length xs → slice_get (slice_set xs i x) i ≡ Some x
+  pub get_set : (xs : List X) (i : ℕ) (x : X) → i < length xs → slice_get (slice_set xs i x) i ≡ Some x
   get_set [] i x lt = absurd (omega arith)
   get_set (y ∷ xs) zero x lt = refl
   get_set (y ∷ xs) (suc i) x lt = get_set xs i x (omega arith)
 
-  get_other : (xs : List X) (i j : ℕ) (x : X) → j ≢ i → slice_get (slice_set xs i x) j ≡ slice_get xs j
+  pub get_other : (xs : List X) (i j : ℕ) (x : X) → j ≢ i → slice_get (slice_set xs i x) j ≡ slice_get xs j
   get_other [] i j x apart = refl
   get_other (y ∷ xs) zero zero x apart = absurd (apart refl)
   get_other (y ∷ xs) zero (suc j) x apart = refl
@@ -51,7 +51,7 @@ module _ {X : Type 0} where
   set_twice (z ∷ xs) zero x y = refl
   set_twice (z ∷ xs) (suc i) x y = ap (λ (zs : List X). z ∷ zs) (set_twice xs i x y)
 
-  set_length : (xs : List X) (i : ℕ) (x : X) → length (slice_set xs i x) ≡ length xs
+  pub set_length : (xs : List X) (i : ℕ) (x : X) → length (slice_set xs i x) ≡ length xs
   set_length [] i x = refl
   set_length (y ∷ xs) zero x = refl
   set_length (y ∷ xs) (suc i) x = ap suc (set_length xs i x)

@@ -4,7 +4,7 @@ use Rattle.std.proofs.Common.{◌≡◌, ◌≢◌, ℕ, ℤ, ◌+◌, ◌<◌, 
 use Rattle.std.specs.List.{slice_get, slice_index_or}
 use Rattle.ada_program.specs.declared.program.Program.{Program}
 use Rattle.ada_program.specs.declared.program.TypeDefinition.{TypeDefinition}
-use Rattle.ada_program.specs.Form.{ExpressionForm, integer, boolean, reads, is_null, applied_to, chained, LinksForm, no_more_links, a_link, ItemForm, null_item, item_of_path, item_of_value, item_of_record, RightForm, nothing, value_of, allocates, allocates_default, computes, StmtForm, skips, assigns, assigns_record, frees, gets, writes, writes_text, chooses, repeats, counts, exits, calls, returns, raises, encloses, StmtsForm, no_stmts, a_stmt, BranchesForm, otherwise, a_branch, HandlersForm, DeclarationForm, collects, declares, declares_record}
+use Rattle.ada_program.specs.Form.{ActualForm, ExpressionForm, integer, boolean, reads, is_null, applied_to, chained, LinksForm, no_more_links, a_link, ItemForm, null_item, item_of_path, item_of_value, item_of_record, RightForm, nothing, value_of, allocates, allocates_default, computes, StmtForm, skips, assigns, assigns_record, frees, gets, writes, writes_text, chooses, repeats, counts, exits, calls, returns, raises, encloses, StmtsForm, no_stmts, a_stmt, BranchesForm, otherwise, a_branch, HandlersForm, DeclarationForm, collects, declares, declares_record}
 use Rattle.ada_program.specs.Handling.{handler_of}
 use Rattle.ada_program.specs.ProgramForm.{BodyForm, body_forms}
 use Rattle.ada_program.specs.Typed.{reached_of, words_of, width_of}
@@ -103,8 +103,8 @@ frame_passed frame.Exits passed exited returned run h i j = omega (arith, h)
 frame_passed (frame.Handles hs) passed exited returned run h i j = omega (arith, h)
 frame_passed frame.Closes passed exited returned run h i j = omega (arith, h)
 frame_passed (frame.Leaves mode) passed exited returned run h i j = omega (arith, mode_passed mode passed exited returned run h i j)
-frame_passed (frame.Calls procedure b count) passed exited returned run h i j = omega (arith, h)
-frame_passed frame.Returns passed exited returned run h i j = omega (arith, h)
+frame_passed (frame.Calls procedure b actuals) passed exited returned run h i j = omega (arith, h)
+frame_passed (frame.Returns actuals) passed exited returned run h i j = omega (arith, h)
 frame_passed (frame.Evaluates right) passed exited returned run h i j = omega (arith, h, some_right right)
 frame_passed (frame.Computes e) passed exited returned run h i j = omega (arith, h, some_expression e)
 frame_passed (frame.Follows cs) passed exited returned run h i j = omega (arith, h)
@@ -436,8 +436,8 @@ frame_lightens types bodies frame.Exits s w b h = exited_lightens (reads_boolean
 frame_lightens types bodies (frame.Handles hs) s w b h = omega (arith, h)
 frame_lightens types bodies frame.Closes s w b h = omega (arith, h)
 frame_lightens types bodies (frame.Leaves mode) s w b h = leave_lightens mode s.masters s w refl (omega (arith, h))
-frame_lightens types bodies (frame.Calls procedure body count) s w b h = omega (arith, h)
-frame_lightens types bodies frame.Returns s w b h = omega (arith, h)
+frame_lightens types bodies (frame.Calls procedure body actuals) s w b h = omega (arith, h)
+frame_lightens types bodies (frame.Returns actuals) s w b h = omega (arith, h)
 frame_lightens types bodies (frame.Evaluates right) s w b h = right_lightens types right s w (omega (arith, h))
 frame_lightens types bodies (frame.Computes e) s w b h = expression_lightens e s w (omega (arith, h))
 frame_lightens types bodies (frame.Follows cs) s w b h = path_lightens cs (newest named s) (popped s) w (omega (arith, h))
@@ -501,8 +501,8 @@ exception_lands e frame.Exits = tt
 exception_lands e (frame.Handles hs) = handler_lands (handler_of e hs)
 exception_lands e frame.Closes = tt
 exception_lands e (frame.Leaves mode) = tt
-exception_lands e (frame.Calls procedure b count) = tt
-exception_lands e frame.Returns = tt
+exception_lands e (frame.Calls procedure b actuals) = tt
+exception_lands e (frame.Returns actuals) = tt
 exception_lands e (frame.Evaluates right) = tt
 exception_lands e (frame.Computes x) = tt
 exception_lands e (frame.Follows cs) = tt
@@ -565,16 +565,16 @@ control_lightens :
 control_lightens types bodies Running k s w b h is = rw is (running_lightens types bodies k (at k s) w b h)
 control_lightens types bodies (Raising e) [] s w b h is = rw is (λ memory. cc)
 control_lightens types bodies (Raising e) (f ∷ k) s w b h is =
-    rw (is, unwound_by f (in_mode (Raising e) (at k s)))
-    (raise_lightens (is_master f) (has_handlers f) (exception_landing e f) e (unwound_to f (at k s)) w (exception_lands e f) (omega (arith, h)))
+    rw (is, unwound_by (Raising e) f (in_mode (Raising e) (at k s)))
+    (raise_lightens (is_master f) (has_handlers f) (exception_landing e f) e (unwound_to (Raising e) f (in_mode (Raising e) (at k s))) w (exception_lands e f) (omega (arith, h)))
 control_lightens types bodies Exiting [] s w b h is = rw is (λ memory. cc)
 control_lightens types bodies Exiting (f ∷ k) s w b h is =
-    rw (is, unwound_by f (in_mode Exiting (at k s)))
-    (exit_lightens (is_master f) (has_handlers f) (is_loop f) (unwound_to f (at k s)) w (master_no_loop f) (omega (arith, h)))
+    rw (is, unwound_by Exiting f (in_mode Exiting (at k s)))
+    (exit_lightens (is_master f) (has_handlers f) (is_loop f) (unwound_to Exiting f (in_mode Exiting (at k s))) w (master_no_loop f) (omega (arith, h)))
 control_lightens types bodies Returning [] s w b h is = rw is (λ memory. cc)
 control_lightens types bodies Returning (f ∷ k) s w b h is =
-    rw (is, unwound_by f (in_mode Returning (at k s)))
-    (return_lightens (is_master f) (has_handlers f) (is_return f) (unwound_to f (at k s)) w (master_no_return f) (omega (arith, h)))
+    rw (is, unwound_by Returning f (in_mode Returning (at k s)))
+    (return_lightens (is_master f) (has_handlers f) (is_return f) (unwound_to Returning f (in_mode Returning (at k s))) w (master_no_return f) (omega (arith, h)))
 
 next_lightens : (types : List TypeDefinition) (bodies : List BodyForm) (s : State) → begins s ≡ false → Lightens (next types bodies s) (load s)
 unfolding next
@@ -658,7 +658,7 @@ exit_goes_on : (condition : Option ExpressionForm) (s : State) → GoesOn (exit_
 exit_goes_on None s = tt
 exit_goes_on (Some e) s = tt
 
-call_goes_on : (procedure : ℕ) (actuals : List ExpressionForm) (body : Option BodyForm) (s : State) → GoesOn (call_next named procedure actuals body s)
+call_goes_on : (procedure : ℕ) (actuals : List ActualForm) (body : Option BodyForm) (s : State) → GoesOn (call_next named procedure actuals body s)
 call_goes_on procedure actuals None s = λ memory. cc
 call_goes_on procedure actuals (Some b) s = tt
 

@@ -7,9 +7,10 @@ use Rattle.ada_program.specs.declared.program.Exception.{Exception}
 use Rattle.ada_program.specs.declared.program.Program.{Program}
 use Rattle.ada_program.specs.declared.program.VariableKind.{VariableKind}
 use Rattle.ada_program.specs.declared.program.VariableKind.TheVariants as variable
-use Rattle.ada_program.specs.Form.{ExpressionForm, calls, StmtsForm, a_stmt}
+use Rattle.ada_program.specs.Form.{PathForm, ActualForm, in_value, in_out_path, value_given, calls, StmtsForm, a_stmt}
 use Rattle.ada_program.specs.ProgramForm.{VariableForm, BodyForm, body_forms}
-use Rattle.ada_meaning.specs.declared.state.Mode.TheVariants.{Running, Raising, Returning}
+use Rattle.ada_meaning.specs.declared.state.Mode.{Mode}
+use Rattle.ada_meaning.specs.declared.state.Mode.TheVariants.{Running, Raising, Exiting, Returning}
 use Rattle.ada_meaning.specs.declared.state.Value.{Value}
 use Rattle.ada_meaning.specs.declared.state.Value.TheVariants.{Null, Scalar}
 use Rattle.ada_meaning.specs.Event.{Quiet}
@@ -43,22 +44,59 @@ RunsOn (running ∷ callers) (later ∷ behind) =
 pub record BeginsCall (s : State) : Type 0 where
   pub procedure : ℕ
   pub body : BodyForm
-  pub count : ℕ
+  pub actuals : List ActualForm
   pub outer : List (Frame Value)
   pub runs : s.mode ≡ Running
-  pub first : s.control ≡ frame.Calls procedure body count ∷ outer
+  pub first : s.control ≡ frame.Calls procedure body actuals ∷ outer
 
 -- The body of a call ends next: all of it is done, or a jump has come to its end (6.5, 11.4).
 pub record EndsBody (s : State) : Type 0 where
+  pub actuals : List ActualForm
   pub outer : List (Frame Value)
-  pub first : s.control ≡ frame.Returns ∷ outer
+  pub first : s.control ≡ frame.Returns actuals ∷ outer
 
--- What a step makes of the activations: the running body goes on; or it calls, and waits behind the activation that begins; or it ends, and those that
--- waited for it are what there is. What a suspended caller's variables hold is the same before and after.
+-- The body of a call ends normally: all of it is done, or a return has come to its end (6.5).
+abbrev pub EndsNormally : Mode → Type 0
+EndsNormally mode = (mode ≡ Running) ⊎ (mode ≡ Returning)
+
+-- It ends by an exception, which passes it (11.4), or by an exit, of which no body that fits is left.
+abbrev pub EndsAbruptly : Mode → Type 0
+EndsAbruptly Running = ⊥
+EndsAbruptly (Raising e) = Unit {0}
+EndsAbruptly Exiting = Unit {0}
+EndsAbruptly Returning = ⊥
+
+-- A variable is given for a formal parameter of mode `in out` (6.4.1).
+abbrev pub IsGiven : (variable : ℕ) → List ActualForm → Type 0
+IsGiven x [] = ⊥
+IsGiven x (in_value e ∷ rest) = IsGiven x rest
+IsGiven x (in_out_path path ∷ rest) = (path.root ≡ x) ⊎ IsGiven x rest
+
+-- What a caller gets back, once the body of its call has ended normally (6.4.1): it has the same variables, and those that are given for no formal
+-- parameter of mode `in out` hold what they held. Each one that is given holds what the last formal parameter holds for which it is given.
+pub record GetsBack (actuals : List ActualForm) (callee caller later : Activation Value) : Type 0 where
+  pub procedure : later.procedure ≡ caller.procedure
+  pub operands : later.operands ≡ caller.operands
+  pub count : length later.places ≡ length caller.places
+  pub others : (x : ℕ) → (IsGiven x actuals → ⊥) → slice_get later.places x ≡ slice_get caller.places x
+  pub back :
+      (front behind : List ActualForm) (path : PathForm) (held : Value) → actuals ≡ front ++ in_out_path path ∷ behind → (IsGiven path.root behind → ⊥)
+      → slice_get callee.places (length front) ≡ Some held → path.root < length caller.places → slice_get later.places path.root ≡ Some held
+
+-- The running body ends normally, and its caller gets back what it is to get; those that wait for the caller are as they were.
+abbrev pub ComesBack : List ActualForm → (before after : List (Activation Value)) → Type 0
+ComesBack actuals [] after = (after ≡ [])
+ComesBack actuals (callee ∷ []) after = (after ≡ [])
+ComesBack actuals (callee ∷ caller ∷ suspended) [] = ⊥
+ComesBack actuals (callee ∷ caller ∷ suspended) (later ∷ behind) = (behind ≡ suspended) × GetsBack actuals callee caller later
+
+-- What a step makes of the activations: the running body goes on; or it calls, and waits behind the activation that begins; or it ends normally, and its
+-- caller gets back what it is to get; or it ends otherwise, and those that waited for it are as they were.
 pub data CallersStay (before after : State) : Type 0 where
   goes_on : RunsOn before.activations after.activations → CallersStay before after
   calls_one : BeginsCall before → (callee : Activation Value) → after.activations ≡ callee ∷ waiting before.activations → CallersStay before after
-  ends : EndsBody before → after.activations ≡ callers_in before.activations → CallersStay before after
+  ends : (body : EndsBody before) → EndsNormally before.mode → ComesBack body.actuals before.activations after.activations → CallersStay before after
+  breaks_off : EndsBody before → EndsAbruptly before.mode → after.activations ≡ callers_in before.activations → CallersStay before after
 
 -- Each step of a program does so, from whatever state.
 abbrev pub StepsKeepCallers : Type 0
@@ -94,9 +132,9 @@ pub record LeavesAlone (before after : State) : Type 0 where
   pub born : after.born ≡ before.born
 
 -- A call evaluates its actual parameters, in order, before the procedure's body begins; then the statements behind it are left (6.4).
-pub record EvaluatesActuals (procedure : ℕ) (actuals : List ExpressionForm) (body : BodyForm) (later : StmtsForm)
+pub record EvaluatesActuals (procedure : ℕ) (actuals : List ActualForm) (body : BodyForm) (later : StmtsForm)
     (outer : List (Frame Value)) (before after : State) : Type 0 where
-  pub control : after.control ≡ map frame.Computes actuals ++ frame.Calls procedure body (length actuals) ∷ frame.Does later ∷ outer
+  pub control : after.control ≡ map (λ a. frame.Computes (value_given a)) actuals ++ frame.Calls procedure body actuals ∷ frame.Does later ∷ outer
   pub mode : after.mode ≡ Running
   pub activations : after.activations ≡ before.activations
   pub masters : after.masters ≡ before.masters
@@ -106,7 +144,7 @@ pub record EvaluatesActuals (procedure : ℕ) (actuals : List ExpressionForm) (b
 -- The body that begins is that of the procedure which the call names.
 abbrev pub CallsEvaluate : Type 0
 CallsEvaluate =
-    (program : Program) (procedure : ℕ) (actuals : List ExpressionForm) (body : BodyForm) (later : StmtsForm) (outer : List (Frame Value)) (before : State)
+    (program : Program) (procedure : ℕ) (actuals : List ActualForm) (body : BodyForm) (later : StmtsForm) (outer : List (Frame Value)) (before : State)
     → slice_get (body_forms program) procedure ≡ Some body
     → before.mode ≡ Running → before.control ≡ frame.Does (a_stmt (calls procedure actuals) later) ∷ outer
     → ComesTo program before (EvaluatesActuals procedure actuals body later outer before)
@@ -126,7 +164,7 @@ AreOfKinds (x ∷ xs) [] = ⊥
 AreOfKinds (x ∷ xs) (v ∷ vs) = IsOfKind x.kind v × AreOfKinds xs vs
 
 -- An activation of a procedure's body has begun, with these actual parameters (6.4, 6.4.1).
-pub record HasBegun (procedure : ℕ) (body : BodyForm) (actuals : List Value) (caller : Activation Value)
+pub record HasBegun (procedure : ℕ) (body : BodyForm) (given : List ActualForm) (actuals : List Value) (caller : Activation Value)
     (callers : List (Activation Value)) (outer : List (Frame Value)) (before after : State) : Type 0 where
   pub callee : Activation Value
   -- it runs; its caller waits, and holds what it held
@@ -140,33 +178,37 @@ pub record HasBegun (procedure : ℕ) (body : BodyForm) (actuals : List Value) (
   pub masters : after.masters ≡ record { number = before.next; items = [] } ∷ before.masters
   pub next : after.next ≡ before.next + 1
   -- all of the body is left to do; then the call returns, and what was left comes
-  pub control : after.control ≡ frame.Elaborates body.declarations body.statements body.handlers ∷ frame.Returns ∷ outer
+  pub control : after.control ≡ frame.Elaborates body.declarations body.statements body.handlers ∷ frame.Returns given ∷ outer
   pub mode : after.mode ≡ Running
   pub alone : LeavesAlone before after
 
 -- Once the actual parameters are evaluated, the last one newest, the body begins with them. What was computed before them is dropped.
 abbrev pub ActualsArrive : Type 0
 ActualsArrive =
-    (program : Program) (procedure : ℕ) (body : BodyForm) (actuals pending : List Value) (caller : Activation Value) (callers : List (Activation Value))
+    (program : Program) (procedure : ℕ) (body : BodyForm) (given : List ActualForm) (actuals pending : List Value) (caller : Activation Value)
+    (callers : List (Activation Value))
     (outer : List (Frame Value)) (before : State)
-    → before.mode ≡ Running → before.control ≡ frame.Calls procedure body (length actuals) ∷ outer
+    → before.mode ≡ Running → before.control ≡ frame.Calls procedure body given ∷ outer → length given ≡ length actuals
     → before.activations ≡ caller ∷ callers → caller.operands ≡ reverse actuals ++ pending
-    → ComesTo program before (HasBegun procedure body actuals caller callers outer before)
+    → ComesTo program before (HasBegun procedure body given actuals caller callers outer before)
 
--- The body of a call has ended: its activation is gone, and what was behind the call is left. Its caller runs, where the body was done or a return has
--- come to its end (6.5); an exception goes on in it (11.4).
-pub record HasReturned (callers : List (Activation Value)) (outer : List (Frame Value)) (before after : State) : Type 0 where
-  pub activations : after.activations ≡ callers
+-- The body of a call has ended: its activation is gone, and what was behind the call is left. Where it has ended normally, its caller has what it gets
+-- back, and runs (6.4.1, 6.5); where an exception passes, it holds what it held, and the exception goes on in it (11.4).
+pub record HasReturned (actuals : List ActualForm) (callee : Activation Value) (callers : List (Activation Value)) (outer : List (Frame Value))
+    (before after : State) : Type 0 where
+  pub gets_back : EndsNormally before.mode → ComesBack actuals (callee ∷ callers) after.activations
+  pub holds_on : EndsAbruptly before.mode → after.activations ≡ callers
   pub control : after.control ≡ outer
-  pub runs : (before.mode ≡ Running) ⊎ (before.mode ≡ Returning) → after.mode ≡ Running
+  pub runs : EndsNormally before.mode → after.mode ≡ Running
   pub raises : (e : Exception) → before.mode ≡ Raising e → after.mode ≡ Raising e
   pub masters : after.masters ≡ before.masters
   pub next : after.next ≡ before.next
   pub alone : LeavesAlone before after
 
--- Where the end of a call's body is first of what is left, the caller is returned to, with what it held.
+-- Where the end of a call's body is first of what is left, the caller is returned to, with what it held and what it gets back.
 abbrev pub CallersResume : Type 0
 CallersResume =
-    (program : Program) (callee : Activation Value) (callers : List (Activation Value)) (outer : List (Frame Value)) (before : State)
-    → before.control ≡ frame.Returns ∷ outer → before.activations ≡ callee ∷ callers
-    → ComesTo program before (HasReturned callers outer before)
+    (program : Program) (actuals : List ActualForm) (callee : Activation Value) (callers : List (Activation Value)) (outer : List (Frame Value))
+    (before : State)
+    → before.control ≡ frame.Returns actuals ∷ outer → before.activations ≡ callee ∷ callers
+    → ComesTo program before (HasReturned actuals callee callers outer before)

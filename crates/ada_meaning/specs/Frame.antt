@@ -5,7 +5,7 @@ use Rattle.std.specs.Prelude.{ℕ, ℤ, Bool, true, false, if◌then◌else◌, 
 use Rattle.ada_values.specs.declared.operator.BinaryOperator.{BinaryOperator}
 use Rattle.ada_values.specs.declared.operator.UnaryOperator.{UnaryOperator}
 use Rattle.ada_program.specs.declared.program.Exception.{Exception}
-use Rattle.ada_program.specs.Form.{ExpressionForm, LinksForm, ItemForm, RightForm, StmtsForm, a_stmt, BranchesForm, HandlersForm, DeclarationForm}
+use Rattle.ada_program.specs.Form.{ActualForm, ExpressionForm, LinksForm, ItemForm, RightForm, StmtsForm, a_stmt, BranchesForm, HandlersForm, DeclarationForm}
 use Rattle.ada_program.specs.Handling.{handler_of}
 use Rattle.ada_program.specs.ProgramForm.{BodyForm}
 use Rattle.ada_meaning.specs.declared.state.Mode.{Mode}
@@ -36,10 +36,10 @@ pub data Frame (V : Type 0) : Type 0 where
   Closes : Frame V
   -- the innermost master is being left, newest item first; then the mode goes on (7.6.1)
   Leaves : Mode → Frame V
-  -- the newest operands are the actual parameters of a call, as many as `count`: the procedure's body begins (6.4)
-  Calls : (procedure : ℕ) → (body : BodyForm) → (count : ℕ) → Frame V
-  -- the body of a call is in front of this: its activation ends then, and that of its caller goes on (6.4, 6.5)
-  Returns : Frame V
+  -- the newest operands are the values of these actual parameters of a call: the procedure's body begins (6.4)
+  Calls : (procedure : ℕ) → (body : BodyForm) → (actuals : List ActualForm) → Frame V
+  -- the body of a call with these actual parameters is in front of this: its activation ends then, and that of its caller goes on (6.4, 6.5)
+  Returns : (actuals : List ActualForm) → Frame V
   -- what is assigned is to be evaluated: its value becomes the newest operand (5.2)
   Evaluates : RightForm → Frame V
   -- an expression is to be evaluated: its value becomes the newest operand (4.4)
@@ -105,7 +105,7 @@ is_loop f = false
 
 -- Does the body of a call come to its end here?
 abbrev pub is_return : {V : Type 0} → Frame V → Bool
-is_return Returns = true
+is_return (Returns actuals) = true
 is_return f = false
 
 -- Where a jump lands: it passes this frame; or it ends, and what is behind the frame is next; or it ends in these statements.

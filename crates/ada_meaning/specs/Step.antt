@@ -11,7 +11,7 @@ use Rattle.ada_program.specs.declared.program.ComponentKind.TheVariants as compo
 use Rattle.ada_program.specs.declared.program.TypeDefinition.{TypeDefinition}
 use Rattle.ada_program.specs.declared.program.VariableKind.{VariableKind}
 use Rattle.ada_program.specs.declared.program.VariableKind.TheVariants as variable
-use Rattle.ada_program.specs.Form.{ExpressionForm, integer, boolean, reads, is_null, applied_to, chained, LinksForm, no_more_links, a_link, ItemForm, null_item, item_of_path, item_of_value, item_of_record, RightForm, nothing, value_of, allocates, allocates_default, computes, StmtForm, skips, assigns, assigns_record, frees, gets, writes, writes_text, chooses, repeats, counts, exits, calls, returns, raises, encloses, StmtsForm, no_stmts, a_stmt, BranchesForm, otherwise, a_branch, HandlersForm, DeclarationForm, collects, declares, declares_record}
+use Rattle.ada_program.specs.Form.{ActualForm, in_value, in_out_path, value_given, ExpressionForm, integer, boolean, reads, is_null, applied_to, chained, LinksForm, no_more_links, a_link, ItemForm, null_item, item_of_path, item_of_value, item_of_record, RightForm, nothing, value_of, allocates, allocates_default, computes, StmtForm, skips, assigns, assigns_record, frees, gets, writes, writes_text, chooses, repeats, counts, exits, calls, returns, raises, encloses, StmtsForm, no_stmts, a_stmt, BranchesForm, otherwise, a_branch, HandlersForm, DeclarationForm, collects, declares, declares_record}
 use Rattle.ada_program.specs.ProgramForm.{VariableForm, BodyForm}
 use Rattle.ada_program.specs.Typed.{reached_of, words_of, width_of}
 use Rattle.ada_meaning.specs.declared.state.Mode.{Mode}
@@ -115,11 +115,6 @@ popped s = set_operands (older (operands s)) s
 abbrev pub resumed : {V H : Type 0} → State V H → State V H
 resumed s = record s { activations = older s.activations }
 
--- A jump passes a frame: behind the body of a call the activation of its caller goes on.
-abbrev pub unwound : {V H : Type 0} → Frame V → State V H → State V H
-unwound frame.Returns s = resumed s
-unwound f s = s
-
 -- A jump begins (5.7, 6.5, 11.3): what pending forms have computed is dropped, and the frames are passed that it does not stop at.
 abbrev pub jumping : {V H : Type 0} → Mode → State V H → State V H
 jumping mode s = record (set_operands [] s) { mode = mode }
@@ -127,6 +122,30 @@ jumping mode s = record (set_operands [] s) { mode = mode }
 -- An exception is raised (11.3).
 abbrev pub raised : {V H : Type 0} → Exception → State V H → State V H
 raised e s = jumping (Raising e) s
+
+-- What a caller's variables hold once these formal parameters give back what they hold: each of mode `in out` to the variable for which it stands, from left
+-- to right (6.4.1).
+abbrev pub copied_back : {V : Type 0} → List ActualForm → (formals : List V) → (places : List V) → List V
+copied_back [] vs places = places
+copied_back (a ∷ rest) [] places = places
+copied_back (in_value e ∷ rest) (v ∷ vs) places = copied_back rest vs places
+copied_back (in_out_path path ∷ rest) (v ∷ vs) places = copied_back rest vs (slice_set places path.root v)
+
+-- The running activation ends normally (6.4.1, 6.5): its caller gets back what it is to get, and goes on.
+abbrev pub returned : {V H : Type 0} → List ActualForm → State V H → State V H
+returned actuals s = set_places (copied_back actuals (places s) (places (resumed s))) (resumed s)
+
+-- A jump comes to the end of a call's body: a return ends it normally, and any other jump gives nothing back (6.4.1, 11.4).
+abbrev pub left_by : {V H : Type 0} → Mode → List ActualForm → State V H → State V H
+left_by Running actuals s = resumed s
+left_by (Raising e) actuals s = resumed s
+left_by Exiting actuals s = resumed s
+left_by Returning actuals s = returned actuals s
+
+-- A jump passes a frame: behind the body of a call the activation of its caller goes on.
+abbrev pub unwound : {V H : Type 0} → Mode → Frame V → State V H → State V H
+unwound mode (frame.Returns actuals) s = left_by mode actuals s
+unwound mode f s = s
 
 -- A variable gets a value (5.2).
 abbrev pub put : {V H : Type 0} → ℕ → V → State V H → State V H
@@ -528,19 +547,19 @@ module _ {V H : Type 0} (ops : Ops V H) where
   }
 
   -- The body is a master of its own (7.6.1), and all of it is left to do before the caller goes on.
-  abbrev pub begun : (procedure : ℕ) → BodyForm → (actuals : List V) → State V H → State V H
-  begun procedure b actuals s =
-      entered (activated procedure b actuals (at (frame.Elaborates b.declarations b.statements b.handlers ∷ frame.Returns ∷ s.control) s))
+  abbrev pub begun : (procedure : ℕ) → BodyForm → (actuals : List ActualForm) → (values : List V) → State V H → State V H
+  begun procedure b actuals values s =
+      entered (activated procedure b values (at (frame.Elaborates b.declarations b.statements b.handlers ∷ frame.Returns actuals ∷ s.control) s))
 
-  -- Expressions are evaluated one after another before what comes behind them.
-  abbrev pub computing : List ExpressionForm → List (Frame V) → List (Frame V)
+  -- Actual parameters are evaluated one after another before what comes behind them.
+  abbrev pub computing : List ActualForm → List (Frame V) → List (Frame V)
   computing [] k = k
-  computing (e ∷ es) k = frame.Computes e ∷ computing es k
+  computing (a ∷ rest) k = frame.Computes (value_given a) ∷ computing rest k
 
   -- A call (6.4): its actual parameters are evaluated, in order.
-  abbrev pub call_next : (procedure : ℕ) → (actuals : List ExpressionForm) → Option BodyForm → State V H → Next V H
+  abbrev pub call_next : (procedure : ℕ) → (actuals : List ActualForm) → Option BodyForm → State V H → Next V H
   call_next procedure actuals None s = halts Stuck
-  call_next procedure actuals (Some b) s = moves Quiet (at (computing actuals (frame.Calls procedure b (length actuals) ∷ s.control)) s)
+  call_next procedure actuals (Some b) s = moves Quiet (at (computing actuals (frame.Calls procedure b actuals ∷ s.control)) s)
 
   abbrev pub stmt_next : List BodyForm → StmtForm → State V H → Next V H
   stmt_next bodies skips s = moves Quiet s
@@ -640,8 +659,8 @@ module _ {V H : Type 0} (ops : Ops V H) where
   frame_next types bodies (frame.Handles hs) s = moves Quiet s
   frame_next types bodies frame.Closes s = moves Quiet (at (frame.Leaves Running ∷ s.control) s)
   frame_next types bodies (frame.Leaves mode) s = leave_next mode s.masters s
-  frame_next types bodies (frame.Calls procedure b count) s = moves Quiet (begun procedure b (newest_ones count s) s)
-  frame_next types bodies frame.Returns s = moves Quiet (resumed s)
+  frame_next types bodies (frame.Calls procedure b actuals) s = moves Quiet (begun procedure b actuals (newest_ones (length actuals) s) s)
+  frame_next types bodies (frame.Returns actuals) s = moves Quiet (returned actuals s)
   frame_next types bodies (frame.Evaluates right) s = right_next types right s
   frame_next types bodies (frame.Computes e) s = expression_next e s
   frame_next types bodies (frame.Follows cs) s = path_next cs (newest s) (popped s)
@@ -687,7 +706,7 @@ module _ {V H : Type 0} (ops : Ops V H) where
 
   abbrev pub jump_next : Mode → List (Frame V) → State V H → Next V H
   jump_next mode [] s = halts (end_of mode)
-  jump_next mode (f ∷ k) s = pass_next (is_master f) (landing mode f) mode (unwound f (at k s))
+  jump_next mode (f ∷ k) s = pass_next (is_master f) (landing mode f) mode (unwound mode f (at k s))
 
   abbrev pub mode_next : List TypeDefinition → List BodyForm → Mode → State V H → Next V H
   mode_next types bodies Running s = running_next types bodies s.control s

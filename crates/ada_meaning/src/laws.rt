@@ -61,18 +61,22 @@ pub fn copies_are_alike()
 
 /// Whatever step a program makes, the activations behind the running one are those before; or a
 /// call begins, and all those before wait behind the new one; or a body ends, and those that waited
-/// for it are what there is (6.4, 6.5).
+/// for it are what there is (6.4, 6.5). Of these the caller alone changes, and only where the body
+/// ends normally: the variables that it gave for formal parameters of mode `in out` get what the
+/// parameters hold, and no other variable changes (6.4.1). An exception gives nothing back (11.4).
 pub fn callers_stay()
     ensures { StepsKeepCallers }
 {}
 
-/// As long as a call lasts, its callers' variables hold what they held (6.4).
+/// As long as a call lasts, its callers' variables hold what they held (6.4), those too that get
+/// something back when it ends (6.4.1).
 pub fn callers_hold()
     ensures { CallersHold }
 {}
 
 /// A call evaluates its actual parameters in order, and then comes the body of the procedure that
-/// it names (6.4).
+/// it names (6.4). What is given for a formal parameter of mode `in out` is evaluated, too: its
+/// value is what the variable holds (6.4.1).
 pub fn calls_evaluate()
     ensures { CallsEvaluate }
 {}
@@ -85,7 +89,9 @@ pub fn actuals_arrive()
 {}
 
 /// Behind the body of a call, where it is done or a return has come to its end, the caller runs
-/// with what it held (6.5); an exception that comes there goes on in the caller (11.4).
+/// with what it held and what it gets back: a variable that is given for a formal parameter of mode
+/// `in out` holds what the last one holds for which it is given (6.4.1, 6.5). An exception that comes
+/// there goes on in the caller, which holds what it held (11.4).
 pub fn callers_resume()
     ensures { CallersResume }
 {}

@@ -3,6 +3,8 @@
 use Rattle.std.proofs.Common.{◌≡◌, true, false, List, [], ◌∷◌, ◌++◌, map, refl, arith}
 use Rattle.std.specs.Prelude.{None, Some, pos}
 use Rattle.std.specs.List.{filter}
+use Rattle.ada_program.specs.declared.program.Actual.TheVariants as actual
+use Rattle.ada_program.specs.declared.program.FormalMode.TheVariants as mode
 use Rattle.ada_program.specs.declared.program.Expression.{Integer, Path as Reads}
 use Rattle.ada_program.specs.declared.program.Right.TheVariants as right
 use Rattle.ada_program.specs.declared.program.Stmt.{Stmt}
@@ -43,7 +45,7 @@ block =
 
 abbrev procedure : Procedure
 procedure = record {
-  formals = 1;
+  formals = vec (mode.In ∷ []) (omega arith);
   variables = vec (of_integer ∷ of_integer ∷ []) (omega arith);
   declarations = vec [] (omega arith);
   statements = vec (block ∷ stmt.PutImage (Integer (pos 9)) ∷ []) (omega arith);
@@ -57,7 +59,7 @@ declared = declaration.Collection (record { 0 = 1 }) ∷ declaration.Variable (r
 abbrev caller : Stmt
 caller =
     stmt.Block (vec declared (omega arith))
-    (vec (makes 0 1 ∷ stmt.Call (record { 0 = 0 }) (vec (Integer (pos 3) ∷ []) (omega arith)) ∷ stmt.PutImage (Integer (pos 0)) ∷ []) (omega arith))
+    (vec (makes 0 1 ∷ stmt.Call (record { 0 = 0 }) (vec (actual.In (Integer (pos 3)) ∷ []) (omega arith)) ∷ stmt.PutImage (Integer (pos 0)) ∷ []) (omega arith))
     (vec [] (omega arith))
 
 abbrev pub program : Program

@@ -4,7 +4,7 @@ use Rattle.std.proofs.Common.{◌≡◌, ℕ, ℤ, Bool, true, false, if◌then�
 use Rattle.std.specs.Prelude.{int_le}
 use Rattle.std.specs.List.{slice_get}
 use Rattle.ada_program.specs.declared.program.TypeDefinition.{TypeDefinition}
-use Rattle.ada_program.specs.Form.{ExpressionForm, integer, boolean, reads, is_null, applied_to, chained, LinksForm, no_more_links, a_link, ItemForm, null_item, item_of_path, item_of_value, item_of_record, RightForm, nothing, value_of, allocates, allocates_default, computes, StmtForm, skips, assigns, assigns_record, frees, gets, writes, writes_text, chooses, repeats, counts, exits, calls, raises, encloses, StmtsForm, no_stmts, a_stmt, BranchesForm, otherwise, a_branch, HandlersForm, DeclarationForm, collects, declares, declares_record}
+use Rattle.ada_program.specs.Form.{ActualForm, ExpressionForm, integer, boolean, reads, is_null, applied_to, chained, LinksForm, no_more_links, a_link, ItemForm, null_item, item_of_path, item_of_value, item_of_record, RightForm, nothing, value_of, allocates, allocates_default, computes, StmtForm, skips, assigns, assigns_record, frees, gets, writes, writes_text, chooses, repeats, counts, exits, calls, raises, encloses, StmtsForm, no_stmts, a_stmt, BranchesForm, otherwise, a_branch, HandlersForm, DeclarationForm, collects, declares, declares_record}
 use Rattle.ada_program.specs.Form as form
 use Rattle.ada_program.specs.ProgramForm.{BodyForm}
 use Rattle.ada_program.specs.Typed.{words_of, width_of}
@@ -23,10 +23,11 @@ use Rattle.ada_meaning.specs.Frame.{Frame, is_master, Landing, passes_on, goes_b
 use Rattle.ada_meaning.specs.Frame as frame
 use Rattle.ada_meaning.specs.State.{declared, collection, record_object, home_of}
 use Rattle.ada_meaning.specs.Heap.{Cell, Found, on_null, on_gone, on_other, finds}
-use Rattle.ada_meaning.specs.Step.{record_in, newest_ones, without_newest, copied_next, copies_next, record_target_next, record_stored_next, store_record_next, record_next, halts, at, popped, held, newest, reading, component_next, follow_next, path_next, expression_next, null_test_next, is_decided, link_next, links_next, outcome_next, item_next, items_next, answered, new_next, right_next, free_next, end_next, same_pool, told_back, given_back, back_next, before_last, last_of, assign_next, target_next, stored_next, store_next, received_next, receive_next, frees_next, freed_next, free_component_next, free_in_next, branches_next, decided_next, turn_next, repeats_next, turned_next, count_turn_next, counts_next, ranges_next, gets_next, exit_next, exited_next, computing, call_next, stmt_next, stmts_next, line_next, declaration_next, declarations_next, frame_next, landed, resumed, unwound, pass_next, jump_next}
+use Rattle.ada_meaning.specs.Step.{record_in, newest_ones, without_newest, copied_next, copies_next, record_target_next, record_stored_next, store_record_next, record_next, halts, at, popped, held, newest, reading, component_next, follow_next, path_next, expression_next, null_test_next, is_decided, link_next, links_next, outcome_next, item_next, items_next, answered, new_next, right_next, free_next, end_next, same_pool, told_back, given_back, back_next, before_last, last_of, assign_next, target_next, stored_next, store_next, received_next, receive_next, frees_next, freed_next, free_component_next, free_in_next, branches_next, decided_next, turn_next, repeats_next, turned_next, count_turn_next, counts_next, ranges_next, gets_next, exit_next, exited_next, computing, call_next, stmt_next, stmts_next, line_next, declaration_next, declarations_next, frame_next, landed, unwound, pass_next, jump_next}
 use Rattle.ada_meaning.specs.Named.{Object, State, Next, named, look, lent, reads_boolean, reads_null, reads_integer, unary_given, binary_given}
 use Rattle.ada_meaning.specs.Run.{Event}
 use Rattle.ada_meaning.specs.Law.{left_by}
+use Rattle.ada_meaning.proofs.Jumps.{unwound_to, unwound_by}
 use Rattle.ada_order.proofs.Controls.{IsPlain, Plain, Work, stays, numbers, owns, enters, Does}
 
 -- A step of this state that leaves no master.
@@ -273,11 +274,11 @@ exited_works (Some true) s p = stays refl p refl refl
 exited_works (Some false) s p = stays refl p refl refl
 
 -- A call: its actual parameters are evaluated before its body begins.
-computing_is_plain : (es : List ExpressionForm) (k : List (Frame Value)) → Plain k → Plain (computing named es k)
+computing_is_plain : (actuals : List ActualForm) (k : List (Frame Value)) → Plain k → Plain (computing named actuals k)
 computing_is_plain [] k p = p
-computing_is_plain (e ∷ es) k p = (tt, computing_is_plain es k p)
+computing_is_plain (a ∷ rest) k p = (tt, computing_is_plain rest k p)
 
-call_works : (procedure : ℕ) (actuals : List ExpressionForm) (body : Option BodyForm) (s : State) → Plain s.control → Works s (call_next named procedure actuals body s)
+call_works : (procedure : ℕ) (actuals : List ActualForm) (body : Option BodyForm) (s : State) → Plain s.control → Works s (call_next named procedure actuals body s)
 call_works procedure actuals None s p = tt
 call_works procedure actuals (Some b) s p = stays refl (computing_is_plain actuals _ (tt, p)) refl refl
 
@@ -345,8 +346,8 @@ frame_works types bodies frame.Exits s is p = exited_works (reads_boolean (newes
 frame_works types bodies (frame.Handles hs) s is p = stays refl p refl refl
 frame_works types bodies frame.Closes s is p = stays refl (tt, p) refl refl
 frame_works types bodies (frame.Leaves mode) s is p = absurd is
-frame_works types bodies (frame.Calls procedure b count) s is p = enters refl (tt, (tt, p)) refl refl
-frame_works types bodies frame.Returns s is p = stays refl p refl refl
+frame_works types bodies (frame.Calls procedure b actuals) s is p = enters refl (tt, (tt, p)) refl refl
+frame_works types bodies (frame.Returns actuals) s is p = stays refl p refl refl
 frame_works types bodies (frame.Evaluates right) s is p = right_works types right s p
 frame_works types bodies (frame.Computes e) s is p = expression_works e s p
 frame_works types bodies (frame.Follows cs) s is p = path_works cs (newest named s) (popped s) p
@@ -384,9 +385,8 @@ pass_works : (master : Bool) (l : Landing) (mode : Mode) (s : State) → Plain s
 pass_works true l mode s p = stays refl (tt, p) refl refl
 pass_works false l mode s p = landed_works l s p
 
-unwound_works : (f : Frame Value) (mode : Mode) (s : State) → Plain s.control → Works s (pass_next named (is_master f) (landing mode f) mode (unwound f s))
-unwound_works frame.Returns mode s p = pass_works false (landing {V = Value} mode frame.Returns) mode (resumed s) p
-unwound_works f mode s p = pass_works (is_master f) (landing mode f) mode s p
+unwound_works : (f : Frame Value) (mode : Mode) (s : State) → Plain s.control → Works s (pass_next named (is_master f) (landing mode f) mode (unwound mode f s))
+unwound_works f mode s p = rw (unwound_by mode f s) (pass_works (is_master f) (landing mode f) mode (unwound_to mode f s) p)
 
 pub jump_works : (mode : Mode) (k : List (Frame Value)) (s : State) → Plain k → Works s (jump_next named mode k s)
 jump_works mode [] s p = tt

@@ -2,9 +2,10 @@
 
 use Rattle.std.specs.Prelude.{◌≡◌, ℕ, ℤ, Bool, true, false, List, [], ◌∷◌, map, Some, None, pos}
 use Rattle.std.specs.List.{filter}
+use Rattle.ada_program.specs.declared.program.FormalMode.TheVariants.{In}
 use Rattle.ada_program.specs.declared.program.Program.{Program}
 use Rattle.ada_program.specs.declared.program.VariableKind.TheVariants as variable
-use Rattle.ada_program.specs.Form.{PathForm, integer, reads, item_of_value, nothing, allocates, computes, StmtForm, skips, assigns, writes, calls, returns, encloses, StmtsForm, no_stmts, a_stmt, no_handlers, collects, declares, stmt_forms}
+use Rattle.ada_program.specs.Form.{PathForm, in_value, integer, reads, item_of_value, nothing, allocates, computes, StmtForm, skips, assigns, writes, calls, returns, encloses, StmtsForm, no_stmts, a_stmt, no_handlers, collects, declares, stmt_forms}
 use Rattle.ada_program.specs.ProgramForm.{VariableForm, BodyForm, body_forms}
 use Rattle.ada_meaning.specs.declared.state.Value.TheVariants.{Names}
 use Rattle.ada_meaning.specs.declared.event.Cause.TheVariants.{Leaving}
@@ -107,7 +108,7 @@ returning_block =
 -- procedure P (N : Integer) is begin declare .. end; Put_Line (Integer'Image (9)); end;
 abbrev pub returning_body : BodyForm
 returning_body = record {
-  formals = 1;
+  formals = In ∷ [];
   variables = of_integer ∷ of_integer ∷ [];
   declarations = [];
   statements = a_stmt returning_block (a_stmt (writes (integer (pos 9))) no_stmts);
@@ -120,7 +121,7 @@ calling_stmts =
     a_stmt
     (encloses (collects 1 ∷ declares 0 nothing ∷ [])
     (a_stmt (new_to 0 1)
-    (a_stmt (calls 0 (integer (pos 3) ∷ []))
+    (a_stmt (calls 0 (in_value (integer (pos 3)) ∷ []))
     (a_stmt (writes (integer (pos 0))) no_stmts)))
     no_handlers)
     no_stmts

@@ -6,6 +6,8 @@ use Rattle.std.specs.Global.{Box, Vec}
 use Rattle.ada_text.specs.declared.spot.Spot.{Spot}
 use Rattle.ada_values.specs.declared.operator.UnaryOperator.{UnaryOperator}
 use Rattle.ada_values.specs.declared.operator.BinaryOperator.{BinaryOperator}
+use Rattle.ada_program.specs.declared.program.Actual.{Actual}
+use Rattle.ada_program.specs.declared.program.Actual.TheVariants as actual
 use Rattle.ada_program.specs.declared.program.Declaration.{Declaration}
 use Rattle.ada_program.specs.declared.program.Declaration.TheVariants.{Collection, Variable, Record}
 use Rattle.ada_program.specs.declared.program.Expression.{Expression, Integer, Boolean, Path as Reads, NullTest, Unary, Chain, Unary', Chain', Row_of-Link, end_of-Link, more_of-Link, items-the_row-Link, items_hidden-the_row-Link-0}
@@ -69,6 +71,16 @@ pub data ItemForm : Type 0 where
   item_of_value : ExpressionForm → ItemForm
   item_of_record : RecordPathForm → ItemForm
 
+-- An actual parameter (6.4.1): the value of a formal one of mode `in`, or the path to the variable for which one of mode `in out` stands.
+pub data ActualForm : Type 0 where
+  in_value : ExpressionForm → ActualForm
+  in_out_path : PathForm → ActualForm
+
+-- The value that a formal parameter gets (6.4.1): one of mode `in out` gets what the variable holds.
+abbrev pub value_given : ActualForm → ExpressionForm
+value_given (in_value e) = e
+value_given (in_out_path path) = reads path
+
 -- What is assigned (5.2): null, the access value that a path names, a new object of an access type (4.8) with items for its components, or with
 -- what they hold at first (3.3.1), or an expression.
 pub data RightForm : Type 0 where
@@ -89,7 +101,7 @@ mutual
   -- A statement (5.1): what it assigns to what, or to which record (5.2), what it frees by the instance for which access type (13.11.2), to what
   -- the next number of the input goes, which value or which text it writes (A.10.7), among which statements it chooses (5.3), which it repeats,
   -- while a condition is true, for each value of a parameter, or for ever (5.5), the exit from the innermost loop, perhaps on a condition (5.7),
-  -- which procedure it calls, with which values of its formal parameters (6.4), the return from the body (6.5), the exception that it raises (11.3), or a block: a master of its own (5.6).
+  -- which procedure it calls, with which actual parameters (6.4), the return from the body (6.5), the exception that it raises (11.3), or a block: a master of its own (5.6).
   pub data StmtForm : Type 0 where
     skips : StmtForm
     assigns : (target : PathForm) → RightForm → StmtForm
@@ -102,7 +114,7 @@ mutual
     repeats : (condition : Option ExpressionForm) → StmtsForm → (end_spot : Spot) → StmtForm
     counts : (parameter : ℕ) → (low high : ExpressionForm) → StmtsForm → (end_spot : Spot) → StmtForm
     exits : (condition : Option ExpressionForm) → Spot → StmtForm
-    calls : (procedure : ℕ) → (actuals : List ExpressionForm) → StmtForm
+    calls : (procedure : ℕ) → (actuals : List ActualForm) → StmtForm
     returns : Spot → StmtForm
     raises : Exception → StmtForm
     encloses : List DeclarationForm → StmtsForm → HandlersForm → StmtForm
@@ -153,6 +165,11 @@ unfoldable mutual
 abbrev pub links_form : List Link → LinksForm
 links_form [] = no_more_links
 links_form (link ∷ links) = a_link link.operator (expression_form link.operand) (links_form links)
+
+-- An actual parameter.
+abbrev pub actual_form : Actual → ActualForm
+actual_form (actual.In e) = in_value (expression_form e)
+actual_form (actual.InOut path) = in_out_path (path_form path)
 
 -- An item.
 abbrev pub item_form : Item → ItemForm
@@ -205,7 +222,7 @@ unfoldable mutual
   stmt_form (stmt.For' parameter low high shape statements end_spot) =
       counts parameter.0 (expression_form low) (expression_form high) (stmts_row statements) end_spot
   stmt_form (stmt.Exit condition spot) = exits (condition_form condition) spot
-  stmt_form (stmt.Call procedure actuals) = calls procedure.0 (map expression_form actuals.items)
+  stmt_form (stmt.Call procedure actuals) = calls procedure.0 (map actual_form actuals.items)
   stmt_form (stmt.Return spot) = returns spot
   stmt_form (stmt.Raise e) = raises e
   stmt_form (stmt.Block' declarations shape statements size handlers) =
@@ -322,7 +339,7 @@ pub exits_form : (condition : Option Expression) (spot : Spot) → stmt_form (st
 unfolding stmt_form
 exits_form condition spot = refl
 
-pub calls_form : (procedure : ProcedureNo) (actuals : Vec Expression) → stmt_form (stmt.Call procedure actuals) ≡ calls procedure.0 (map expression_form actuals.items)
+pub calls_form : (procedure : ProcedureNo) (actuals : Vec Actual) → stmt_form (stmt.Call procedure actuals) ≡ calls procedure.0 (map actual_form actuals.items)
 unfolding stmt_form
 calls_form procedure actuals = refl
 

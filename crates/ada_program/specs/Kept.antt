@@ -38,7 +38,7 @@ abbrev pub texts_in : List (String Global) → List (List ℕ)
 texts_in texts = map string_bytes texts
 
 -- The profiles of procedures (6.1).
-abbrev pub profiles_in : List Procedure → List (List VariableKind)
+abbrev pub profiles_in : List Procedure → List fits.Profile
 profiles_in procedures = map fits.profile_of (map body_form procedures)
 
 -- What is held where a path leads (4.1).

@@ -1,10 +1,11 @@
 -- A whole program as plain data: its types, its variables, and what it does, whatever the program keeps them in.
 
-use Rattle.std.specs.Prelude.{ℕ, Bool, List, map, take, Option, Some, None}
+use Rattle.std.specs.Prelude.{ℕ, Bool, List, [], map, take, Option, Some, None}
 use Rattle.std.specs.List.{slice_get}
 use Rattle.std.specs.String.{string_bytes}
 use Rattle.ada_text.specs.declared.spot.Spot.{Spot}
 use Rattle.ada_program.specs.declared.program.ComponentKind.{ComponentKind}
+use Rattle.ada_program.specs.declared.program.FormalMode.{FormalMode}
 use Rattle.ada_program.specs.declared.program.Part.{Part}
 use Rattle.ada_program.specs.declared.program.PartKind.{PartKind}
 use Rattle.ada_program.specs.declared.program.Variable.{Variable}
@@ -35,10 +36,10 @@ pub record VariableForm : Type 0 where
   pub kind : VariableKind
   pub borrows : Bool
 
--- A body of a procedure (6.3): how many of its variables are formal parameters, the first ones; its variables, its declarations (3.11), its statements and
--- their handlers (11.2).
+-- A body of a procedure (6.3): the modes of its formal parameters, which are the first of its variables (6.2); its variables, its declarations (3.11), its
+-- statements and their handlers (11.2).
 pub record BodyForm : Type 0 where
-  pub formals : ℕ
+  pub formals : List FormalMode
   pub variables : List VariableForm
   pub declarations : List DeclarationForm
   pub statements : StmtsForm
@@ -74,7 +75,7 @@ variable_form o = record { name = string_bytes o.name; spot = o.spot; kind = o.k
 -- A procedure's body, whatever the program keeps its parts in.
 abbrev pub body_form : Procedure → BodyForm
 body_form b = record {
-  formals = b.formals;
+  formals = b.formals.items;
   variables = map variable_form b.variables.items;
   declarations = map declaration_form b.declarations.items;
   statements = stmts_form b.statements.items;
@@ -100,7 +101,7 @@ program_form p = record {
 
 -- The main procedure's body.
 abbrev pub main_body : ProgramForm → BodyForm
-main_body p = record { formals = 0; variables = p.variables; declarations = p.declarations; statements = p.statements; handlers = p.handlers }
+main_body p = record { formals = []; variables = p.variables; declarations = p.declarations; statements = p.statements; handlers = p.handlers }
 
 -- A program as the body of a procedure sees it: that body stands for the main one, and the procedures before it are those that it may call.
 abbrev pub seen_by : (number : ℕ) → BodyForm → ProgramForm → ProgramForm

@@ -12,11 +12,13 @@ use Rattle.ada_program.specs.declared.program.ComponentKind.{ComponentKind}
 use Rattle.ada_program.specs.declared.program.ComponentKind.TheVariants as component
 use Rattle.ada_program.specs.declared.program.Exception.{Exception}
 use Rattle.ada_program.specs.declared.program.Exception.TheVariants.{ConstraintError, ProgramError, StorageError, EndError, Declared}
+use Rattle.ada_program.specs.declared.program.FormalMode.{FormalMode}
+use Rattle.ada_program.specs.declared.program.FormalMode.TheVariants.{In, InOut}
 use Rattle.ada_program.specs.declared.program.VariableKind.{VariableKind}
 use Rattle.ada_program.specs.declared.program.VariableKind.TheVariants as variable
 use Rattle.ada_program.specs.declared.program.ScalarType.{ScalarType}
 use Rattle.ada_program.specs.declared.program.ScalarType.TheVariants.{Integer, Boolean}
-use Rattle.ada_program.specs.Form.{PathForm, RecordPathForm, ExpressionForm, integer, boolean, reads, is_null, applied_to, chained, LinksForm, no_more_links, a_link, ItemForm, null_item, item_of_path, item_of_value, item_of_record, RightForm, nothing, value_of, allocates, allocates_default, computes, StmtForm, skips, assigns, assigns_record, frees, gets, writes, writes_text, chooses, repeats, counts, exits, calls, returns, raises, encloses, StmtsForm, no_stmts, a_stmt, BranchesForm, otherwise, a_branch, HandlersForm, no_handlers, a_handler, DeclarationForm, collects, declares, declares_record}
+use Rattle.ada_program.specs.Form.{PathForm, ActualForm, in_value, in_out_path, value_given, RecordPathForm, ExpressionForm, integer, boolean, reads, is_null, applied_to, chained, LinksForm, no_more_links, a_link, ItemForm, null_item, item_of_path, item_of_value, item_of_record, RightForm, nothing, value_of, allocates, allocates_default, computes, StmtForm, skips, assigns, assigns_record, frees, gets, writes, writes_text, chooses, repeats, counts, exits, calls, returns, raises, encloses, StmtsForm, no_stmts, a_stmt, BranchesForm, otherwise, a_branch, HandlersForm, no_handlers, a_handler, DeclarationForm, collects, declares, declares_record}
 use Rattle.ada_program.specs.ProgramForm.{TypeForm, record_of, access_to, object_of, VariableForm, BodyForm, ProgramForm, main_body}
 
 -- The type that an access type designates (3.10): none, if it is no access type.
@@ -614,35 +616,74 @@ choice_fits exceptions choice.Others = true
 abbrev pub is_integer_target : List TypeForm → List VariableForm → PathForm → Bool
 is_integer_target types variables path = is_type Integer (scalar_of (path_kind types variables path))
 
+-- Is nothing named behind a variable?
+abbrev pub stands_alone : List ℕ → Bool
+stands_alone [] = true
+stands_alone (c ∷ cs) = false
+
+-- What is given to a formal parameter of mode `in out` is a variable (6.4.1): no component is given to one yet.
+abbrev pub is_variable : ActualForm → Bool
+is_variable (in_value e) = true
+is_variable (in_out_path path) = stands_alone path.selectors
+
 -- An actual parameter has the type of its formal one, an Integer or a Boolean (6.4.1): no formal parameter is anything else yet.
-abbrev pub actual_fits : List TypeForm → List VariableForm → VariableKind → ExpressionForm → Bool
-actual_fits types variables variable.Integer e = has_type types variables Integer e
-actual_fits types variables variable.Boolean e = has_type types variables Boolean e
-actual_fits types variables (variable.Access access) e = false
-actual_fits types variables (variable.Record object) e = false
+abbrev pub actual_fits : List TypeForm → List VariableForm → VariableKind → ActualForm → Bool
+actual_fits types variables variable.Integer a = has_type types variables Integer (value_given a) && is_variable a
+actual_fits types variables variable.Boolean a = has_type types variables Boolean (value_given a) && is_variable a
+actual_fits types variables (variable.Access access) a = false
+actual_fits types variables (variable.Record object) a = false
 
 -- There is an actual parameter for each formal one, in order (6.4.1).
-abbrev pub actuals_fit : List TypeForm → List VariableForm → List VariableKind → List ExpressionForm → Bool
+abbrev pub actuals_fit : List TypeForm → List VariableForm → List VariableKind → List ActualForm → Bool
 actuals_fit types variables [] [] = true
-actuals_fit types variables [] (e ∷ es) = false
+actuals_fit types variables [] (a ∷ rest) = false
 actuals_fit types variables (kind ∷ kinds) [] = false
-actuals_fit types variables (kind ∷ kinds) (e ∷ es) = actual_fits types variables kind e && actuals_fit types variables kinds es
+actuals_fit types variables (kind ∷ kinds) (a ∷ rest) = actual_fits types variables kind a && actuals_fit types variables kinds rest
+
+-- The mode in which an actual parameter is passed (6.2).
+abbrev pub mode_of : ActualForm → FormalMode
+mode_of (in_value e) = In
+mode_of (in_out_path path) = InOut
+
+-- Are two modes one?
+abbrev pub same_mode : FormalMode → FormalMode → Bool
+same_mode In In = true
+same_mode In InOut = false
+same_mode InOut In = false
+same_mode InOut InOut = true
+
+-- Each actual parameter is passed as its formal one says, in order (6.2).
+abbrev pub modes_fit : List FormalMode → List ActualForm → Bool
+modes_fit [] [] = true
+modes_fit [] (a ∷ rest) = false
+modes_fit (m ∷ ms) [] = false
+modes_fit (m ∷ ms) (a ∷ rest) = same_mode m (mode_of a) && modes_fit ms rest
+
+-- The profile of a procedure (6.1): what its formal parameters hold, and their modes, in order.
+pub record Profile : Type 0 where
+  pub kinds : List VariableKind
+  pub modes : List FormalMode
 
 -- There is a procedure with this profile, and the actual parameters suit it.
-abbrev pub suits_profile : List TypeForm → List VariableForm → Option (List VariableKind) → List ExpressionForm → Bool
+abbrev pub suits_profile : List TypeForm → List VariableForm → Option Profile → List ActualForm → Bool
 suits_profile types variables None actuals = false
-suits_profile types variables (Some kinds) actuals = actuals_fit types variables kinds actuals
+suits_profile types variables (Some profile) actuals =
+    actuals_fit types variables profile.kinds actuals && modes_fit profile.modes actuals
 
 -- What the variable holds.
 abbrev pub kind_held : VariableForm → VariableKind
 kind_held x = x.kind
 
--- The profile of a procedure (6.1): what its formal parameters hold, in order.
-abbrev pub profile_of : BodyForm → List VariableKind
-profile_of b = map kind_held (take b.formals b.variables)
+-- What the formal parameters of a body hold, in order: they are its first variables (6.1).
+abbrev pub formal_kinds : BodyForm → List VariableKind
+formal_kinds b = map kind_held (take (length b.formals) b.variables)
+
+-- The profile of a procedure.
+abbrev pub profile_of : BodyForm → Profile
+profile_of b = record { kinds = formal_kinds b; modes = b.formals }
 
 -- The profiles of the procedures that the main body of a program may call.
-abbrev pub callable_in : ProgramForm → List (List VariableKind)
+abbrev pub callable_in : ProgramForm → List Profile
 callable_in p = map profile_of p.bodies
 
 -- A part creates its collections first, each of an access type, and its variables, whose initial values fit (3.11).
@@ -655,7 +696,7 @@ abbrev mutual
   -- (A.10.7, 3.5), a condition is a Boolean (5.3), a loop repeats a statement and counts by an Integer (5.5), an exit stands inside a loop
   -- (5.7), a call is of one of the procedures that may be called, whose profiles these are, and suits it (6.4), an exception is one of the program (11.1), and
   -- each handler has a statement (11.2).
-  pub statement_fits : List TypeForm → List VariableForm → (texts exceptions : List (List ℕ)) → (callable : List (List VariableKind)) → (inside_loop : Bool) → StmtForm → Bool
+  pub statement_fits : List TypeForm → List VariableForm → (texts exceptions : List (List ℕ)) → (callable : List Profile) → (inside_loop : Bool) → StmtForm → Bool
   statement_fits types variables texts exceptions callable inside_loop skips = true
   statement_fits types variables texts exceptions callable inside_loop (assigns target right) =
       right_fits types variables (path_kind types variables target) right && lends_to variables (names_borrower variables target) right
@@ -681,20 +722,20 @@ abbrev mutual
       handlers_fit types variables texts exceptions callable inside_loop hs
 
   -- Statements, in order.
-  pub stmts_fit : List TypeForm → List VariableForm → (texts exceptions : List (List ℕ)) → (callable : List (List VariableKind)) → (inside_loop : Bool) → StmtsForm → Bool
+  pub stmts_fit : List TypeForm → List VariableForm → (texts exceptions : List (List ℕ)) → (callable : List Profile) → (inside_loop : Bool) → StmtsForm → Bool
   stmts_fit types variables texts exceptions callable inside_loop no_stmts = true
   stmts_fit types variables texts exceptions callable inside_loop (a_stmt f fs) =
       statement_fits types variables texts exceptions callable inside_loop f && stmts_fit types variables texts exceptions callable inside_loop fs
 
   -- Branches, each with a condition (5.3).
-  pub branches_fit : List TypeForm → List VariableForm → (texts exceptions : List (List ℕ)) → (callable : List (List VariableKind)) → (inside_loop : Bool) → BranchesForm → Bool
+  pub branches_fit : List TypeForm → List VariableForm → (texts exceptions : List (List ℕ)) → (callable : List Profile) → (inside_loop : Bool) → BranchesForm → Bool
   branches_fit types variables texts exceptions callable inside_loop (otherwise fs) = stmts_fit types variables texts exceptions callable inside_loop fs
   branches_fit types variables texts exceptions callable inside_loop (a_branch e fs branches) =
       has_type types variables Boolean e && stmts_fit types variables texts exceptions callable inside_loop fs &&
       branches_fit types variables texts exceptions callable inside_loop branches
 
   -- Handlers, each of exceptions of the program, and with a statement (11.2).
-  pub handlers_fit : List TypeForm → List VariableForm → (texts exceptions : List (List ℕ)) → (callable : List (List VariableKind)) → (inside_loop : Bool) → HandlersForm → Bool
+  pub handlers_fit : List TypeForm → List VariableForm → (texts exceptions : List (List ℕ)) → (callable : List Profile) → (inside_loop : Bool) → HandlersForm → Bool
   handlers_fit types variables texts exceptions callable inside_loop no_handlers = true
   handlers_fit types variables texts exceptions callable inside_loop (a_handler choices fs hs) =
       list_all (choice_fits exceptions) choices && has_statement fs && stmts_fit types variables texts exceptions callable inside_loop fs &&
@@ -702,13 +743,13 @@ abbrev mutual
 
 -- A procedure's body fits, where procedures with these profiles may be called: its variables behind the formal parameters are created once, in the order of
 -- the text (3.11), its declarations and its statements have the types that they want, and so have those of its handlers (11.2).
-abbrev pub body_fits : List TypeForm → (texts exceptions : List (List ℕ)) → (callable : List (List VariableKind)) → BodyForm → Bool
+abbrev pub body_fits : List TypeForm → (texts exceptions : List (List ℕ)) → (callable : List Profile) → BodyForm → Bool
 body_fits types texts exceptions callable b =
-    list_all (variable_fits types) b.variables && creates_from (length b.variables) b.formals (created_in b) && declarations_fit types b.variables b.declarations &&
+    list_all (variable_fits types) b.variables && creates_from (length b.variables) (length b.formals) (created_in b) && declarations_fit types b.variables b.declarations &&
     stmts_fit types b.variables texts exceptions callable false b.statements && handlers_fit types b.variables texts exceptions callable false b.handlers
 
 -- So does each of these, behind procedures with these profiles: a body calls procedures before it alone.
-abbrev pub bodies_fit : List TypeForm → (texts exceptions : List (List ℕ)) → (callable : List (List VariableKind)) → List BodyForm → Bool
+abbrev pub bodies_fit : List TypeForm → (texts exceptions : List (List ℕ)) → (callable : List Profile) → List BodyForm → Bool
 bodies_fit types texts exceptions callable [] = true
 bodies_fit types texts exceptions callable (b ∷ bs) =
     body_fits types texts exceptions callable b && bodies_fit types texts exceptions (callable ++ profile_of b ∷ []) bs

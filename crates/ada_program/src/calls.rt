@@ -1,14 +1,17 @@
 //! Whether a call fits: its procedure may be called, and its actual parameters suit the formal ones
 //! (6.4).
 
-ghost use Rattle.std.specs.Prelude.{◌≡◌, map, take};
+ghost use Rattle.std.specs.Prelude.{◌≡◌, ◌&&◌, Some, length, map, take};
 ghost use Rattle.std.specs.List.{slice_get};
-ghost use Rattle.ada_program.specs.Form.{expression_form};
+ghost use Rattle.ada_program.specs.Form.{actual_form, value_given};
 ghost use Rattle.ada_program.specs.Kept.{profiles_in, types_in, variables_in};
+ghost use Rattle.ada_program.specs.ProgramForm.{body_form};
 ghost use Rattle.ada_program.specs.WellFormed as fits;
 
-use crate::program::{Expression, Procedure, ScalarType, TypeDefinition, Variable, VariableKind};
-use crate::typing::has_type;
+use crate::program::{
+    Actual, FormalMode, Procedure, ScalarType, TypeDefinition, Variable, VariableKind,
+};
+use crate::typing::{has_type, is_type, read_type};
 
 /// Whether a procedure that may be called has the number, and the actual parameters suit it (6.4.1).
 pub(crate) fn call_fits(
@@ -16,23 +19,39 @@ pub(crate) fn call_fits(
     variables: &[Variable],
     callable: &[Procedure],
     number: usize,
-    actuals: &[Expression],
+    actuals: &[Actual],
 ) -> bool
     ensures { let profile = slice_get (profiles_in callable.now) number in
-        let given = map expression_form actuals.now in
+        let given = map actual_form actuals.now in
         result ≡ fits.suits_profile (types_in types.now) (variables_in variables.now) profile given }
 {
     match callable.get(number) {
         None => false,
-        Some(procedure) => actuals_fit(types, variables, formals_of(procedure), actuals),
+        Some(procedure) => suits(types, variables, procedure, actuals),
     }
+}
+
+/// Whether the actual parameters suit a procedure (6.4.1).
+#[tactic(auto, using(std::proofs::lemmas::Grind::common_steps, crate::proofs::Profiles::first_forms))]
+fn suits(
+    types: &[TypeDefinition],
+    variables: &[Variable],
+    procedure: &Procedure,
+    actuals: &[Actual],
+) -> bool
+    ensures { let profile = fits.profile_of (body_form procedure.now) in
+        let given = map actual_form actuals.now in
+        result ≡ fits.suits_profile (types_in types.now) (variables_in variables.now) (Some profile) given }
+{
+    actuals_fit(types, variables, formals_of(procedure), actuals)
+        && modes_fit(&procedure.formals, actuals)
 }
 
 /// The formal parameters of a procedure: the first of its variables (6.1).
 fn formals_of<'p>(procedure: &'p Procedure) -> &'p [Variable]
-    ensures { result.now ≡ take procedure.now.formals procedure.now.variables.items }
+    ensures { result.now ≡ take (length procedure.now.formals.items) procedure.now.variables.items }
 {
-    match procedure.variables.get(..procedure.formals) {
+    match procedure.variables.get(..procedure.formals.len()) {
         None => &procedure.variables,
         Some(formals) => formals,
     }
@@ -43,10 +62,10 @@ fn actuals_fit(
     types: &[TypeDefinition],
     variables: &[Variable],
     formals: &[Variable],
-    actuals: &[Expression],
+    actuals: &[Actual],
 ) -> bool
     ensures { let kinds = map fits.kind_held (variables_in formals.now) in
-        let given = map expression_form actuals.now in
+        let given = map actual_form actuals.now in
         result ≡ fits.actuals_fit (types_in types.now) (variables_in variables.now) kinds given }
 {
     let mut left = formals;
@@ -64,19 +83,66 @@ fn actuals_fit(
     left.first().is_none()
 }
 
-/// Whether an actual parameter has the type of its formal one (6.4.1).
+/// Whether an actual parameter suits a formal one that holds this (6.4.1).
 fn actual_fits(
     types: &[TypeDefinition],
     variables: &[Variable],
     kind: VariableKind,
-    actual: &Expression,
+    actual: &Actual,
 ) -> bool
-    ensures { let given = expression_form actual.now in
+    ensures { let given = actual_form actual.now in
         result ≡ fits.actual_fits (types_in types.now) (variables_in variables.now) kind given }
 {
     match kind {
-        VariableKind::Integer => has_type(types, variables, ScalarType::Integer, actual),
-        VariableKind::Boolean => has_type(types, variables, ScalarType::Boolean, actual),
+        VariableKind::Integer => is_given(types, variables, ScalarType::Integer, actual),
+        VariableKind::Boolean => is_given(types, variables, ScalarType::Boolean, actual),
         VariableKind::Access(_) | VariableKind::Record(_) => false,
+    }
+}
+
+/// Whether an actual parameter has the type; one that gets a value back is a variable (6.4.1).
+#[tactic(auto, using(std::proofs::lemmas::Grind::common_steps, crate::specs::Form::expression_rules))]
+fn is_given(
+    types: &[TypeDefinition],
+    variables: &[Variable],
+    type_wanted: ScalarType,
+    actual: &Actual,
+) -> bool
+    ensures { let given = actual_form actual.now in
+        let is_typed = fits.has_type (types_in types.now) (variables_in variables.now) type_wanted (value_given given) in
+        result ≡ (is_typed && fits.is_variable given) }
+{
+    match actual {
+        Actual::In(value) => has_type(types, variables, type_wanted, value),
+        Actual::InOut(path) => {
+            is_type(type_wanted, read_type(types, variables, path)) && path.selectors.is_empty()
+        }
+    }
+}
+
+/// Whether each actual parameter is passed as its formal one says, in order (6.2).
+fn modes_fit(modes: &[FormalMode], actuals: &[Actual]) -> bool
+    ensures { result ≡ fits.modes_fit modes.now (map actual_form actuals.now) }
+{
+    let mut left = modes;
+    'actuals: for actual in actuals {
+        let Some((mode, others)) = left.split_first() else {
+            return false;
+        };
+        if !is_passed(*mode, actual) {
+            return false;
+        }
+        left = others;
+    }
+    left.first().is_none()
+}
+
+/// Whether an actual parameter is passed in a mode (6.2).
+fn is_passed(mode: FormalMode, actual: &Actual) -> bool
+    ensures { result ≡ fits.same_mode mode (fits.mode_of (actual_form actual.now)) }
+{
+    match (mode, actual) {
+        (FormalMode::In, Actual::In(_)) | (FormalMode::InOut, Actual::InOut(_)) => true,
+        (FormalMode::In, Actual::InOut(_)) | (FormalMode::InOut, Actual::In(_)) => false,
     }
 }

@@ -109,10 +109,10 @@ pub(crate) fn creates_in_order(program: &Program) -> bool
 /// text (3.11).
 pub(crate) fn creates_locals(procedure: &Procedure) -> bool
     ensures { let body = body_form procedure.now in
-        result ≡ fits.creates_from (length body.variables) body.formals (fits.created_in body) }
+        result ≡ fits.creates_from (length body.variables) (length body.formals) (fits.created_in body) }
 {
     creates_from(
-        procedure.formals,
+        procedure.formals.len(),
         &procedure.variables,
         &procedure.declarations,
         &procedure.statements,

@@ -49,14 +49,23 @@ pub struct Program {
 /// A procedure that the program declares (6.1, 6.3): its variables, and what its body does.
 #[derive(Drop)]
 pub struct Procedure {
-    /// How many of its variables are formal parameters: the first ones. They are of mode `in`, Integers and Booleans.
-    pub formals: usize,
+    /// The modes of its formal parameters, in order: these are the first of its variables, Integers and Booleans.
+    pub formals: Vec<FormalMode>,
     pub variables: Vec<Variable>,
     /// What is elaborated before the statements, in order (3.11).
     pub declarations: Vec<Declaration>,
     pub statements: Vec<Stmt>,
     /// What handles the exceptions that the statements raise (11.2).
     pub handlers: Vec<Handler>,
+}
+
+/// The mode of a formal parameter (6.2).
+#[derive(Clone, Copy, Debug, PartialEq, Eq)]
+pub enum FormalMode {
+    /// The actual parameter gives a value.
+    In,
+    /// The actual parameter is a variable. Where the body ends normally, it gets what the formal parameter holds.
+    InOut,
 }
 
 /// A type that the program declares.
@@ -226,10 +235,10 @@ pub enum Stmt {
         condition: Option<Expression>,
         spot: Spot,
     },
-    /// A call of a procedure, with the values of its formal parameters, in order (6.4).
+    /// A call of a procedure, with an actual parameter for each formal one, in order (6.4).
     Call {
         procedure: ProcedureNo,
-        actuals: Vec<Expression>,
+        actuals: Vec<Actual>,
     },
     /// `return` (6.5).
     Return(Spot),
@@ -241,6 +250,15 @@ pub enum Stmt {
         statements: Vec<Stmt>,
         handlers: Vec<Handler>,
     },
+}
+
+/// An actual parameter (6.4.1).
+#[derive(Drop)]
+pub enum Actual {
+    /// The value of a formal parameter of mode `in`.
+    In(Expression),
+    /// The variable for which a formal parameter of mode `in out` stands.
+    InOut(Path),
 }
 
 /// A branch of an `if` (5.3).

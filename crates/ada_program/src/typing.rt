@@ -47,7 +47,11 @@ fn type_of(
 }
 
 /// The type of what an expression reads.
-fn read_type(types: &[TypeDefinition], variables: &[Variable], path: &Path) -> Option<ScalarType>
+pub(crate) fn read_type(
+    types: &[TypeDefinition],
+    variables: &[Variable],
+    path: &Path,
+) -> Option<ScalarType>
     ensures { result ≡ kept.read_type types.now variables.now path.now }
 {
     scalar_of(path_kind(types, variables, path))

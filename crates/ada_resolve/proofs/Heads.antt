@@ -3,27 +3,29 @@
 use Rattle.std.proofs.Common.{◌≡◌, ◌∙◌, ℕ, ◌+◌, Bool, true, false, cond, List, [], ◌∷◌, ◌++◌, length, length-append, refl, sym, ap, subst}
 use Rattle.std.specs.Prelude.{Option, Some, None, bytes_eq, codes, map, option_map, is_some}
 use Rattle.std.specs.List.{slice_get}
+use Rattle.std.proofs.lemmas.List.{append-nil, append_assoc}
 use Rattle.ada_text.specs.declared.spot.Spot.{Spot}
 use Rattle.ada_tree.specs.Declarations.{FormalTree, HeadTree}
 use Rattle.ada_tree.specs.Names.{Ident}
 use Rattle.ada_program.specs.declared.program.Exception.TheVariants as exception
+use Rattle.ada_program.specs.declared.program.FormalMode.{FormalMode}
+use Rattle.ada_program.specs.declared.program.FormalMode.TheVariants.{In, InOut}
 use Rattle.ada_program.specs.declared.program.VariableKind.{VariableKind}
-use Rattle.ada_program.specs.declared.program.VariableKind.TheVariants as variable
+use Rattle.ada_program.specs.declared.program.VariableNo.{VariableNo}
 use Rattle.ada_program.specs.Form.{StmtsForm, HandlersForm}
 use Rattle.ada_program.specs.ProgramForm.{VariableForm, BodyForm}
-use Rattle.ada_program.specs.WellFormed.{is_borrower}
 use Rattle.ada_resolve.specs.declared.fault.NameRule.TheVariants.{DeclaredTwice}
 use Rattle.ada_resolve.specs.declared.scope.Entity.{Entity}
 use Rattle.ada_resolve.specs.declared.scope.Entity.TheVariants as entity
 use Rattle.ada_resolve.specs.Known.{Known, Named, declared, entered, first_named, from_within, named, named_in, next_procedure, parts, visible}
-use Rattle.ada_resolve.specs.Procedures.{Formals, no_formals, formal_type, formal_kind, formal_type_wanted, formal_remark, formals_remark, mode_remark, with_constant, with_formal, with_formals, overriding_remark, body_head_remark, with_body, behind_head, body_of, body_ended}
+use Rattle.ada_resolve.specs.Procedures.{Formals, no_formals, formal_type, formal_kind, formal_mode, formal_entity, formal_type_wanted, formal_remark, formals_remark, mode_remark, with_formal, with_formals, overriding_remark, body_head_remark, with_body, behind_head, body_of, body_ended}
 use Rattle.ada_resolve.specs.Spots.{first_or}
-use Rattle.ada_resolve.specs.Naming.{Context, Place, Binding, Meaning, a_parameter, a_procedure, a_procedure_around, meaning_among}
-use Rattle.ada_resolve.specs.Reading.{read_at, IsNew, with_binding, with_new_constant, from_body, bound_outside, body_place, behind_body, in_body, IsHeadRead, IsScalarNamed, AreFormalsRead}
+use Rattle.ada_resolve.specs.Naming.{Context, Place, Binding, Meaning, a_parameter, a_variable, a_procedure, a_procedure_around, meaning_among}
+use Rattle.ada_resolve.specs.Reading.{read_at, with_binding, with_new_formal, from_body, bound_outside, body_place, behind_body, in_body, IsHeadRead, IsModeRead, IsScalarNamed, AreFormalsRead}
 use Rattle.ada_resolve.proofs.WellFormed.Names.{named_entered}
 use Rattle.ada_resolve.proofs.WellFormed.Remarks.{Quiet, quiet_if}
 use Rattle.ada_resolve.proofs.WellFormed.Tables.{get_more, get_last}
-use Rattle.ada_resolve.proofs.Standing.{Sound, around_body, InBody, left_body, ended_is, head_new}
+use Rattle.ada_resolve.proofs.Standing.{around_body, InBody, left_body, ended_is}
 use Rattle.ada_resolve.proofs.Agreeing.{bound_to, Stands, Agrees, Ahead, EntityRead, stands_among, stands_entered, stands_more, visible_read, not_predefined}
 use Rattle.ada_resolve.proofs.Elaborated.{new_there}
 
@@ -90,15 +92,29 @@ body_agrees k place head w = record {
   texts = w.texts;
 }
 
+-- what a formal of a mode is bound to
+abbrev meaning_of : FormalMode → ℕ → Meaning
+meaning_of In x = a_parameter x
+meaning_of InOut x = a_variable x
+
+formal_bound : (mode : FormalMode) (x : VariableNo) (kind : VariableKind) (n : ℕ) → n ≡ x.0 → bound_to (formal_entity mode x kind) ≡ Some (meaning_of mode n)
+formal_bound In x kind n same = ap (λ (i : ℕ). Some (a_parameter i)) (sym same)
+formal_bound InOut x kind n same = ap (λ (i : ℕ). Some (a_variable i)) (sym same)
+
+formal_place : (mode : FormalMode) (name : Ident) (place : Place) → with_new_formal mode name place ≡ record (with_binding name (meaning_of mode place.variables) place) { variables = place.variables + 1 }
+formal_place In name place = refl
+formal_place InOut name place = refl
+
 -- a formal is the next variable
-formal_agrees : (k m : Known) (place : Place) (f : FormalTree) (before : Formals) → Agrees (with_body before m) place → Agrees (with_body (with_formal k f before) m) (with_new_constant f.name place)
+formal_agrees : (k m : Known) (place : Place) (f : FormalTree) (before : Formals) → Agrees (with_body before m) place → Agrees (with_body (with_formal k f before) m) (with_new_formal (formal_mode f.input f.output) f.name place)
 unfolding with_formal
 formal_agrees k m place f before w =
+    let mode = formal_mode f.input f.output in
     let kind = formal_kind (formal_type k before f.type_name) in
-    let x = length before.variables in
-    record {
-      here = stands_entered before.names place.here f.name (entity.Parameter (record { 0 = x }) kind) (a_parameter place.variables)
-          (ap (λ (n : ℕ). Some (a_parameter n)) (sym w.variables)) w.here;
+    let x : VariableNo = record { 0 = length before.variables } in
+    subst (λ (p : Place). Agrees (with_body (with_formal k f before) m) p) (sym (formal_place mode f.name place)) (record {
+      here = stands_entered before.names place.here f.name (formal_entity mode x kind) (meaning_of mode place.variables)
+          (formal_bound mode x kind place.variables w.variables) w.here;
       outer = w.outer;
       first_type = w.first_type;
       types = w.types;
@@ -106,7 +122,11 @@ formal_agrees k m place f before w =
       variables = ap (λ (n : ℕ). n + 1) w.variables ∙ sym (length-append before.variables (record { name = f.name.text; spot = f.name.spot; kind = kind; borrows = false } ∷ []));
       exceptions = w.exceptions;
       texts = w.texts;
-    }
+    })
+
+formal_modes : (k : Known) (f : FormalTree) (before : Formals) → (with_formal k f before).modes ≡ before.modes ++ formal_mode f.input f.output ∷ []
+unfolding with_formal
+formal_modes k f before = refl
 
 formal_there : (k : Known) (f : FormalTree) (before : Formals) → slice_get (with_formal k f before).variables (length before.variables) ≡ Some (record { name = f.name.text; spot = f.name.spot; kind = formal_kind (formal_type k before f.type_name); borrows = false })
 unfolding with_formal
@@ -139,27 +159,31 @@ type_read k p (Some x) m name e unbound w s is =
     no_meaning : None ≡ Some s.0 → ⊥
     no_meaning so = cc so
 
-no_output : (first : Spot) (input output : Option Spot) → Quiet (mode_remark first input output) → output ≡ None
-no_output first input None q = refl
-no_output first None (Some out) q = absurd q
-no_output first (Some input) (Some out) q = absurd q
+-- the mode of a formal is the one that is written
+mode_read : (f : FormalTree) (input output : Option Spot) → f.input ≡ input → f.output ≡ output → Quiet (mode_remark input output) → IsModeRead f (formal_mode input output)
+mode_read f input None i o q = o
+mode_read f None (Some out) i o q = absurd q
+mode_read f (Some word) (Some out) i o q = (word, out, i, o)
 
 no_override : (o : Option Spot) → Quiet (overriding_remark o) → o ≡ None
 no_override None q = refl
 no_override (Some spot) q = absurd q
 
--- formals, one behind the other
-pub record FormalsRead (p : Context) (fs : List FormalTree) (m : Known) : Type 0 where
+-- formals, one behind the other: they have modes that come behind those before them
+pub record FormalsRead (p : Context) (fs : List FormalTree) (before all : List FormalMode) (m : Known) : Type 0 where
   pub end : Place
-  pub read : AreFormalsRead p fs end
+  pub modes : List FormalMode
+  pub read : AreFormalsRead p fs modes end
+  pub in_all : all ≡ before ++ modes
   pub agrees : Agrees m end
 
-formals_read : (k m : Known) (p o : Context) (first : Spot) (fs : List FormalTree) (before : Formals) → Agrees k o.place → Agrees (with_body before m) p.place → Quiet (formals_remark k first before fs) → ((x : ℕ) (v : VariableForm) → slice_get (with_formals k fs before).variables x ≡ Some v → slice_get p.variables x ≡ Some v) → FormalsRead p fs (with_body (with_formals k fs before) m)
+formals_read : (k m : Known) (p o : Context) (first : Spot) (fs : List FormalTree) (before : Formals) → Agrees k o.place → Agrees (with_body before m) p.place → Quiet (formals_remark k first before fs) → ((x : ℕ) (v : VariableForm) → slice_get (with_formals k fs before).variables x ≡ Some v → slice_get p.variables x ≡ Some v) → FormalsRead p fs before.modes (with_formals k fs before).modes (with_body (with_formals k fs before) m)
 unfolding formal_remark
-formals_read k m p o first [] before v w q ahead = record { end = p.place; read = refl; agrees = w }
+formals_read k m p o first [] before v w q ahead = record { end = p.place; modes = []; read = refl; in_all = sym (append-nil before.modes); agrees = w }
 formals_read k m p o first (f ∷ fs) before v w q ahead =
     let more = with_formal k f before in
-    let next = with_new_constant f.name p.place in
+    let mode = formal_mode f.input f.output in
+    let next = with_new_formal mode f.name p.place in
     let rest = formals_read k m (read_at next p) o first fs more v (formal_agrees k m p.place f before w) q.1 ahead in
     let kind = formal_kind (formal_type k before f.type_name) in
     let there : slice_get p.variables (length before.variables) ≡ Some (record { name = f.name.text; spot = f.name.spot; kind = kind; borrows = false }) =
@@ -167,10 +191,11 @@ formals_read k m p o first (f ∷ fs) before v w q ahead =
     (formals_grow k fs more (length before.variables) (record { name = f.name.text; spot = f.name.spot; kind = kind; borrows = false }) (formal_there k f before)) in
     record {
       end = rest.end;
+      modes = mode ∷ rest.modes;
       read = (
         kind,
         (not_bound (quiet_if (is_some (named f.name.text before.names)) f.name.spot DeclaredTwice q.0.1.1.0), not_predefined f.name q.0.1.0),
-        no_output first f.input f.output q.0.1.1.1.1.0,
+        mode_read f f.input f.output refl refl q.0.1.1.1.1.0,
         scalar_named f.type_name.text (formal_type k before f.type_name) first f.type_name
             (λ is. type_read k o (named f.type_name.text before.names) (meaning_among f.type_name.text p.place.here) f.type_name entity.Integer refl v (w.here f.type_name.text) is)
             (λ is. type_read k o (named f.type_name.text before.names) (meaning_among f.type_name.text p.place.here) f.type_name entity.Boolean refl v (w.here f.type_name.text) is)
@@ -178,6 +203,7 @@ formals_read k m p o first (f ∷ fs) before v w q ahead =
         ap (λ (n : ℕ). slice_get p.variables n) w.variables ∙ there,
         rest.read,
       );
+      in_all = rest.in_all ∙ (ap (λ (ms : List FormalMode). ms ++ rest.modes) (formal_modes k f before) ∙ append_assoc before.modes (mode ∷ []) rest.modes);
       agrees = rest.agrees;
     }
   where
@@ -192,7 +218,7 @@ formals_read k m p o first (f ∷ fs) before v w q ahead =
 pub record HeadRead (p : Context) (head : HeadTree) (b : BodyForm) (m : Known) : Type 0 where
   pub end : Place
   pub head_so : IsHeadRead p head
-  pub read : AreFormalsRead (in_body head.name b p) head.formals end
+  pub read : AreFormalsRead (in_body head.name b p) head.formals m.here.modes end
   pub agrees : Agrees m end
 
 pub head_read : (k : Known) (p : Context) (head : HeadTree) (b : BodyForm) → Agrees k p.place → Quiet (body_head_remark k head) → ((x : ℕ) (v : VariableForm) → slice_get (behind_head k head).variables x ≡ Some v → slice_get b.variables x ≡ Some v) → HeadRead p head b (behind_head k head)
@@ -203,7 +229,7 @@ head_read k p head b w q ahead =
     record {
       end = r.end;
       head_so = (new_there k p.place head.name first w q.1.1.1.1, no_override head.overriding q.1.1.0);
-      read = r.read;
+      read = subst (λ (ms : List FormalMode). AreFormalsRead (in_body head.name b p) head.formals ms r.end) (sym r.in_all) r.read;
       agrees = r.agrees;
     }
 

@@ -20,11 +20,13 @@ use Rattle.ada_program.specs.declared.program.PartKind.{PartKind}
 use Rattle.ada_program.specs.declared.program.PartKind.TheVariants as part
 use Rattle.ada_program.specs.declared.program.Exception.{Exception}
 use Rattle.ada_program.specs.declared.program.Exception.TheVariants as exception
+use Rattle.ada_program.specs.declared.program.FormalMode.{FormalMode}
+use Rattle.ada_program.specs.declared.program.FormalMode.TheVariants.{In, InOut}
 use Rattle.ada_program.specs.declared.program.VariableKind.{VariableKind}
 use Rattle.ada_program.specs.declared.program.VariableKind.TheVariants as variable
 use Rattle.ada_program.specs.declared.program.VariableNo.{VariableNo}
 use Rattle.ada_program.specs.declared.program.TypeNo.{TypeNo}
-use Rattle.ada_program.specs.Form.{PathForm, RecordPathForm, reads, ItemForm, RightForm, allocates, StmtForm, calls, ExpressionForm}
+use Rattle.ada_program.specs.Form.{ActualForm, PathForm, RecordPathForm, reads, ItemForm, RightForm, allocates, StmtForm, calls}
 use Rattle.ada_program.specs.ProgramForm.{PartForm, TypeForm, VariableForm, record_of, access_to, object_of}
 use Rattle.ada_program.specs.WellFormed as fits
 use Rattle.ada_resolve.specs.declared.components.KnownComponent.{KnownComponent}
@@ -58,7 +60,7 @@ use Rattle.ada_resolve.specs.Statements.{condition_remark, condition_meant, opti
 use Rattle.ada_resolve.specs.Types.{complete_found, complete_in, complete_remark, complete_type_wanted, designates}
 use Rattle.ada_resolve.specs.Remark.{Remark, wrong, ◌also◌, wrong_if}
 use Rattle.ada_resolve.specs.Spots.{expression_spot}
-use Rattle.ada_resolve.specs.Actuals.{given_all, given_all_remark, kind_wanted, profile}
+use Rattle.ada_resolve.specs.Actuals.{first_mode, given_all, given_all_remark, given_meant, given_remark, given_variable, kind_wanted, other_modes, profile, variable_wanted}
 use Rattle.ada_resolve.specs.Items.{Filling, component_for, item_meant, fits_remark, for_remark, is_alike, filled_for, filled_components, after_item, aggregate_meant, component_item_remark, first_filling, flattened, names_component, count_remark}
 use Rattle.ada_resolve.proofs.Agreeing.{Agrees, Ahead, EntityRead, Readable, visible_read, parameter_visible}
 use Rattle.ada_resolve.proofs.WellFormed.Remarks.{Quiet, quiet_unless}
@@ -855,17 +857,30 @@ scalar_read p e variable.Boolean m spot f r q = absurd q
 scalar_read p e (variable.Access t) m spot f r q = absurd q
 scalar_read p e (variable.Record t) m spot f r q = absurd q
 
-actuals_read : (k : Known) (p : Context) (called : Spot) (kinds : List VariableKind) (arguments : List ArgumentTree) → Readable k p → Quiet (given_all_remark k called kinds arguments) → AreActualsRead p arguments (given_all k kinds arguments)
-actuals_read k p called [] [] w q = tt
-actuals_read k p called [] (argument ∷ more) w q = absurd q.0
-actuals_read k p called (kind ∷ kinds) [] w q = absurd q
-actuals_read k p called (kind ∷ kinds) (expression_argument e ∷ more) w q = (
-  scalar_read p e kind (expression_meant k e) (expression_spot e) (expression_known k e w.fits q.0.0) (expression_read k p e w q.0.0) q.0.1,
-  actuals_read k p called kinds more w q.1,
-)
-actuals_read k p called (kind ∷ kinds) (argument ∷ more) w q = absurd q.0.0
+-- an actual parameter, before others that are read
+variable_given : (p : Context) (tree : PathTree) (kind : VariableKind) (m : Meant) (spot : Spot) (more : List ArgumentTree) (forms : List ActualForm) → IsMeant m → MeantRead p (path_expression tree) m → ((path : PathForm) → IsPathRead p tree path → IsTargetRead p tree path) → Quiet (variable_wanted kind m spot) → AreActualsRead p more forms → AreActualsRead p (expression_argument (path_expression tree) ∷ more) (given_variable m ∷ forms)
+variable_given p tree kind unknown spot more forms f r target q rest = absurd f
+variable_given p tree variable.Integer (integer_value (reads path)) spot more forms f r target q rest = (target path (path_of_value p tree path r), rest)
+variable_given p tree variable.Boolean (boolean_value (reads path)) spot more forms f r target q rest = (target path (path_of_value p tree path r), rest)
+variable_given p tree kind m spot more forms f r target q rest = absurd q
 
-called_so : (p : Context) (procedure : PathTree) (arguments : List ArgumentTree) (n : ℕ) (actuals : List ExpressionForm) → procedure.selectors ≡ [] → IsProcedureNamed p procedure.root.text n → AreActualsRead p arguments actuals → IsCallRead p procedure arguments (calls n actuals)
+actual_given : (k : Known) (p : Context) (mode : FormalMode) (kind : VariableKind) (argument : ArgumentTree) (more : List ArgumentTree) (forms : List ActualForm) → Readable k p → Quiet (given_remark k mode kind argument) → AreActualsRead p more forms → AreActualsRead p (argument ∷ more) (given_meant k mode argument ∷ forms)
+unfolding expression_remark
+actual_given k p In kind (expression_argument e) more forms w q rest =
+    (scalar_read p e kind (expression_meant k e) (expression_spot e) (expression_known k e w.fits q.0) (expression_read k p e w q.0) q.1, rest)
+actual_given k p InOut kind (expression_argument (path_expression tree)) more forms w q rest =
+    variable_given p tree kind (path_meant k tree) tree.root.spot more forms (path_known k tree w.fits q.0.1) (path_read k p tree w q.0.1)
+    (λ path r. target_read k p tree path w.agrees q.1.1 r) q.1.0 rest
+actual_given k p mode kind argument more forms w q rest = absurd q.0
+
+actuals_read : (k : Known) (p : Context) (called : Spot) (kinds : List VariableKind) (modes : List FormalMode) (arguments : List ArgumentTree) → Readable k p → Quiet (given_all_remark k called kinds modes arguments) → AreActualsRead p arguments (given_all k kinds modes arguments)
+actuals_read k p called [] modes [] w q = tt
+actuals_read k p called [] modes (argument ∷ more) w q = absurd q.0
+actuals_read k p called (kind ∷ kinds) modes [] w q = absurd q
+actuals_read k p called (kind ∷ kinds) modes (argument ∷ more) w q =
+    actual_given k p (first_mode modes) kind argument more (given_all k kinds (other_modes modes) more) w q.0 (actuals_read k p called kinds (other_modes modes) more w q.1)
+
+called_so : (p : Context) (procedure : PathTree) (arguments : List ArgumentTree) (n : ℕ) (actuals : List ActualForm) → procedure.selectors ≡ [] → IsProcedureNamed p procedure.root.text n → AreActualsRead p arguments actuals → IsCallRead p procedure arguments (calls n actuals)
 called_so p procedure [] n actuals alone named_so given = (alone, named_so, given)
 called_so p procedure (expression_argument (path_expression tree) ∷ []) n actuals alone named_so given = (alone, named_so, given)
 called_so p procedure (text_argument spot text ∷ []) n actuals alone named_so given = (alone, named_so, given)
@@ -883,7 +898,8 @@ own_read k p procedure arguments (Some (entity.Instance access)) true t s w q =
     taker_read k p procedure (callee.Free access) procedure.root.spot arguments (s refl, t (entity.Instance access) refl) w q
 own_read k p procedure arguments (Some (entity.Instance access)) false t s w q = absurd q
 own_read k p procedure arguments (Some (entity.Callable n)) true t s w q =
-    called_so p procedure arguments n.0 (given_all k (profile k n) arguments) (s refl) (t (entity.Callable n) refl) (actuals_read k p procedure.root.spot (profile k n) arguments w q)
+    called_so p procedure arguments n.0 (given_all k (profile k n).kinds (profile k n).modes arguments) (s refl) (t (entity.Callable n) refl)
+    (actuals_read k p procedure.root.spot (profile k n).kinds (profile k n).modes arguments w q)
 own_read k p procedure arguments (Some (entity.Callable n)) false t s w q = absurd q
 own_read k p procedure arguments (Some entity.Procedure) true t s w q = absurd q
 own_read k p procedure arguments (Some entity.Procedure) false t s w q = absurd q

@@ -7,8 +7,9 @@ use Rattle.std.proofs.lemmas.List.{append-nil}
 use Rattle.ada_text.specs.declared.spot.Spot.{Spot}
 use Rattle.ada_tree.specs.Names.{Ident, PathTree}
 use Rattle.ada_tree.specs.Expressions.{ExpressionTree, path_expression, ArgumentTree, expression_argument, text_argument, attribute_argument}
-use Rattle.ada_tree.specs.Statements.{body_declaration, a_declaration, DeclarationsTree, no_declarations, endless, while_scheme, for_scheme, StatementTree, null_statement, assignment, call, exit_statement, return_statement, raise_statement, if_statement, loop_statement, block, declare_block, StatementsTree, no_statements, a_statement, BranchesTree, no_branches, a_branch, HandlersTree, no_handlers, a_handler, SequenceTree, a_sequence, begin_of, UnitTree}
+use Rattle.ada_tree.specs.Statements.{body_declaration, a_declaration, DeclarationsTree, no_declarations, endless, while_scheme, for_scheme, StatementTree, null_statement, assignment, call, exit_statement, return_statement, raise_statement, if_statement, loop_statement, block, declare_block, StatementsTree, no_statements, a_statement, BranchesTree, no_branches, a_branch, HandlersTree, no_handlers, a_handler, SequenceTree, a_sequence, UnitTree}
 use Rattle.ada_program.specs.declared.program.Choice.{Choice}
+use Rattle.ada_program.specs.declared.program.FormalMode.{FormalMode}
 use Rattle.ada_program.specs.declared.program.VariableKind.TheVariants as variable
 use Rattle.ada_tree.specs.Declarations.{HeadTree}
 use Rattle.ada_program.specs.Form.{calls, DeclarationForm, ExpressionForm, StmtForm, skips, assigns, assigns_record, frees, gets, writes, writes_text, exits, returns, raises, chooses, repeats, counts, encloses, StmtsForm, no_stmts, a_stmt, BranchesForm, otherwise, HandlersForm}
@@ -25,7 +26,7 @@ use Rattle.ada_resolve.specs.declared.library.Withs.{Withs}
 use Rattle.ada_resolve.specs.Naming.{Context, Place}
 use Rattle.ada_resolve.specs.Reading.{read_at, inside, behind, with_new_constant, IsPartRead, IsExpressionRead, IsCallRead, IsSimpleRead, behind_simple, AreChoicesRead, IsStatementRead, AreStatementsRead, AreBranchesRead, AreHandlersRead, IsSequenceRead, is_one_of, IsHeadRead, AreFormalsRead, IsNextBody, IsEndName, in_body, behind_body, first_place, first_context, IsReadAs}
 use Rattle.ada_resolve.proofs.WellFormed.Tables.{get_last, both_parts}
-use Rattle.ada_resolve.proofs.Standing.{Grows, Keeps, complete_grows, gives_same, SequenceStays, sequence_stays, BodyStays, body_stays, ProcedureDone, procedure_done, declarations_done, told_sound, told_keeps, declarations_keep, ended_keeps, around_body, ended_is, behind_sound, Sound, Complete, Stays, OthersStay, made_from, first_sound, first_complete, if_done, loop_done, LoopDone, HeadIs, block_done, declare_done, SequenceDone, sequence_done, statements_done, branch_done, handler_done, simple_done, ended_sound, declarations_sound, begin_open, begin_complete, part_sound, part_complete, parameter_sound, parameter_complete, texts_stay, statement_stays, statements_stay, branches_stay, handlers_stay, body_done, BodyDone}
+use Rattle.ada_resolve.proofs.Standing.{Grows, Keeps, complete_grows, gives_same, SequenceStays, sequence_stays, BodyStays, body_stays, ProcedureDone, procedure_done, declarations_done, told_sound, told_keeps, declarations_keep, ended_keeps, head_formals, around_body, ended_is, behind_sound, Sound, Complete, Stays, OthersStay, made_from, first_sound, if_done, loop_done, LoopDone, HeadIs, block_done, declare_done, SequenceDone, sequence_done, statements_done, branch_done, handler_done, simple_done, ended_sound, declarations_sound, begin_complete, part_sound, parameter_sound, parameter_complete, texts_stay, statement_stays, statements_stay, branches_stay, handlers_stay, body_done, BodyDone}
 use Rattle.ada_resolve.proofs.Agreeing.{Agrees, Ahead, Readable, agrees_same, agrees_inside, agrees_parameter, agrees_behind, not_predefined}
 use Rattle.ada_resolve.proofs.Reading.{simple_read, condition_read, bound_read, choices_read}
 use Rattle.ada_resolve.proofs.Elaborated.{ahead_on, ahead_at, ahead_before, after_agrees, after_none, after_full, PartRead, LateRead, ends_read, nothing_left, part_first, late_none, late_first, complete_back, body_back, body_late}
@@ -263,7 +264,7 @@ record ProcedureRead (p : Context) (head : HeadTree) (inner : DeclarationsTree) 
   declared : Place
   done : Place
   head_so : IsHeadRead p head
-  formals_so : AreFormalsRead (in_body head.name b p) head.formals formals
+  formals_so : AreFormalsRead (in_body head.name b p) head.formals b.formals formals
   part_so : IsPartRead (read_at formals (in_body head.name b p)) (Some []) inner b.declarations declared
   body_so : IsSequenceRead (read_at declared (in_body head.name b p)) body b.statements b.handlers done
   next_so : IsNextBody p b formals done
@@ -280,9 +281,9 @@ inner_elaborated : (k : Known) (head : HeadTree) → (behind_head k head).here.e
 unfolding behind_head
 inner_elaborated k head = refl
 
-inner_first : (k : Known) (head : HeadTree) → (behind_head k head).here.first_variable ≡ length (behind_head k head).variables
+inner_modes : (k : Known) (head : HeadTree) → length (behind_head k head).here.modes ≡ length (behind_head k head).variables
 unfolding behind_head
-inner_first k head = refl
+inner_modes k head = (head_formals k.types k head.formals).modes
 
 procedure_read : (p : Context) (head : HeadTree) (inner : DeclarationsTree) (body : SequenceTree) (end_name : Option Ident) (at next : At) → Begun at.0 p → Ahead next.0 p → ProcedureDone head inner body end_name at next → ReadsPart inner → ReadsSequence false body → ProcedureRead p head inner body end_name next.0
 procedure_read p head inner body end_name at next w ahead d part_so sequence_so = record {
@@ -291,7 +292,7 @@ procedure_read p head inner body end_name at next w ahead d part_so sequence_so 
   declared = part.end;
   done = sequence.end;
   head_so = first.head_so;
-  formals_so = first.read;
+  formals_so = subst (λ (ms : List FormalMode). AreFormalsRead q head.formals ms first.end) (sym same_modes) first.read;
   part_so = subst (λ (es : List DeclarationForm). IsPartRead (read_at first.end q) (Some []) inner es part.end) (sym elaborated) (part.read [] nothing_yet);
   body_so = sequence.read;
   next_so = (body_there k z head d.done.0.0 d.done.0.1 p sequence.end stays.done_in next_ahead sequence.agrees, formals_count, sym sequence.agrees.variables);
@@ -358,13 +359,13 @@ procedure_read p head inner body end_name at next w ahead d part_so sequence_so 
         ap (λ (x : Part). x.elaborated) stays.sequence.stays.here ∙
         (part.elaborated ∙ ap (λ (es : List DeclarationForm). es ++ part.forms) nothing)
 
-    same_first : (after_types d.behind.0).here.first_variable ≡ d.behind.0.here.first_variable
-    same_first = (ended_keeps d.behind.0).first_variable
+    same_modes : z.here.modes ≡ (behind_head k head).here.modes
+    same_modes =
+        ap (λ (x : Part). x.modes) stays.sequence.stays.here ∙
+        ((ended_keeps d.behind.0).modes ∙ (inner_keeps.modes ∙ ap (λ (v : Known). v.here.modes) d.inner_known))
 
-    formals_count : z.here.first_variable ≡ first.end.variables
-    formals_count =
-        ap (λ (x : Part). x.first_variable) stays.sequence.stays.here ∙
-        (same_first ∙ (inner_keeps.first_variable ∙ (ap (λ (v : Known). v.here.first_variable) d.inner_known ∙ (inner_first k head ∙ sym first.agrees.variables))))
+    formals_count : length z.here.modes ≡ first.end.variables
+    formals_count = ap (λ (ms : List FormalMode). length ms) same_modes ∙ (inner_modes k head ∙ sym first.agrees.variables)
 
 -- a body among types, and one behind another
 body_first : (p : Context) (head : HeadTree) (inner : DeclarationsTree) (body : SequenceTree) (end_name : Option Ident) (ds : DeclarationsTree) (at next after : At) → Agrees at.0 p.place → types_go_on at.0 ≡ true → Complete at.0 → Ahead at.0 p → next.0.here.elaborated ≡ (after_types at.0).here.elaborated → (r : ProcedureRead p head inner body end_name next.0) → LateRead (read_at (behind_body head.name p.place r.done) p) ds next.0 after.0 → PartRead p (a_declaration (body_declaration head inner body end_name) ds) at.0 after.0

@@ -6,6 +6,7 @@ use Rattle.ada_tree.specs.Names.{Ident, SelectorTree, component, dereference, Pa
 use Rattle.ada_program.specs.Form.{DeclarationForm}
 use Rattle.ada_program.specs.ProgramForm.{TypeForm, VariableForm, BodyForm}
 use Rattle.ada_program.specs.WellFormed.{is_borrower}
+use Rattle.ada_program.specs.declared.program.FormalMode.{FormalMode}
 use Rattle.ada_program.specs.declared.program.ProcedureNo.{ProcedureNo}
 use Rattle.ada_program.specs.declared.program.VariableNo.{VariableNo}
 use Rattle.ada_resolve.specs.declared.fault.NameRule.TheVariants.{UnknownName, DeclaredTwice, NotInProfile, Layout, Limit}
@@ -26,13 +27,14 @@ pub record Named : Type 0 where
 
 -- A declarative part, or the scope of a loop parameter (8.1): the names that it declares so far, in order; the numbers of its first type, of its
 -- first variable behind formal parameters, and of the first procedure whose body ends in it; what it elaborates so far (3.11); and, where it is
--- that of a procedure's body, the variables of the body around.
+-- that of a procedure's body, the modes of the formal parameters, in order, and the variables of the body around.
 pub record Part : Type 0 where
   pub names : List Named
   pub first_type : ℕ
   pub first_variable : ℕ
   pub first_body : ℕ
   pub elaborated : List DeclarationForm
+  pub modes : List FormalMode
   pub around : Option (List VariableForm)
 
 -- What is known: the library units of the with clauses, the main procedure's name, the declarative part that declares here, those around it, the
@@ -56,7 +58,7 @@ parts known = known.here ∷ known.outer
 -- A declarative part in which nothing is declared yet, behind so many types, variables and bodies.
 abbrev pub part_from : (types variables bodies : ℕ) → Part
 part_from types variables bodies =
-    record { names = []; first_type = types; first_variable = variables; first_body = bodies; elaborated = []; around = None }
+    record { names = []; first_type = types; first_variable = variables; first_body = bodies; elaborated = []; modes = []; around = None }
 
 -- The part that begins at a place.
 abbrev pub next_part : Known → Part

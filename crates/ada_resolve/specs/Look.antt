@@ -24,7 +24,9 @@ use Rattle.ada_tree.specs.declared.records.ComponentDefinition.{ComponentDefinit
 use Rattle.ada_tree.specs.declared.records.RecordDefinition.{RecordDefinition}
 use Rattle.ada_tree.specs.declared.statements.Choice.{Choice}
 use Rattle.ada_tree.specs.declared.statements.Statement.{Statement}
-use Rattle.ada_program.specs.Form.{ExpressionForm, PathForm, RightForm, StmtForm}
+use Rattle.ada_program.specs.Form.{ActualForm, ExpressionForm, PathForm, RightForm, StmtForm}
+use Rattle.ada_program.specs.declared.program.FormalMode.{FormalMode}
+use Rattle.ada_program.specs.declared.program.FormalMode.TheVariants.{InOut}
 use Rattle.ada_program.specs.declared.program.Choice.{Choice as ChoiceOf}
 use Rattle.ada_program.specs.Kept.{variables_in}
 use Rattle.ada_program.specs.WellFormed.{kind_held}
@@ -270,24 +272,31 @@ line_look seen text argument = record {
 }
 
 -- A call of a procedure with these formal parameters (6.4.1).
-abbrev pub actuals_look : Seen → Spot → List Variable → List Argument → Look (List ExpressionForm)
-actuals_look seen called formals arguments = record {
-  remark = given_all_remark (known seen) called (map kind_held (variables_in formals)) (map argument_of arguments);
-  meaning = given_all (known seen) (map kind_held (variables_in formals)) (map argument_of arguments);
+abbrev pub actuals_look : Seen → Spot → List Variable → List FormalMode → List Argument → Look (List ActualForm)
+actuals_look seen called formals modes arguments = record {
+  remark = given_all_remark (known seen) called (map kind_held (variables_in formals)) modes (map argument_of arguments);
+  meaning = given_all (known seen) (map kind_held (variables_in formals)) modes (map argument_of arguments);
 }
 
 -- The actual parameters of a call of the procedure of a number.
-abbrev pub profile_look : Seen → ProcedureNo → Spot → List Argument → Look (List ExpressionForm)
+abbrev pub profile_look : Seen → ProcedureNo → Spot → List Argument → Look (List ActualForm)
 profile_look seen procedure called arguments = record {
-  remark = given_all_remark (known seen) called (profile (known seen) procedure) (map argument_of arguments);
-  meaning = given_all (known seen) (profile (known seen) procedure) (map argument_of arguments);
+  remark = procedure_call_remark (known seen) procedure called (map argument_of arguments);
+  meaning = given_all (known seen) (profile (known seen) procedure).kinds (profile (known seen) procedure).modes (map argument_of arguments);
 }
 
--- The actual parameter for a formal one that holds this.
-abbrev pub given_look : Seen → VariableKind → Argument → Look ExpressionForm
-given_look seen kind argument = record {
-  remark = given_remark (known seen) kind (argument_of argument);
-  meaning = given_meant (known seen) (argument_of argument);
+-- The actual parameter for a formal one of a mode that holds this.
+abbrev pub given_look : Seen → FormalMode → VariableKind → Argument → Look ActualForm
+given_look seen mode kind argument = record {
+  remark = given_remark (known seen) mode kind (argument_of argument);
+  meaning = given_meant (known seen) mode (argument_of argument);
+}
+
+-- The actual parameter for one of mode `in out` that holds this, where it is an expression.
+abbrev pub given_variable_look : Seen → VariableKind → Expression → Look ActualForm
+given_variable_look seen kind value = record {
+  remark = given_remark (known seen) InOut kind (expression_argument (expression_of value));
+  meaning = given_meant (known seen) InOut (expression_argument (expression_of value));
 }
 
 -- A call of the procedure of a number.

@@ -10,7 +10,7 @@ use Rattle.ada_tree.specs.Declarations.{formal_of, optional_aspect_of}
 use Rattle.ada_tree.specs.ExpressionView.{argument_of, expression_of, optional_right_of}
 use Rattle.ada_tree.specs.Expressions.{ExpressionTree}
 use Rattle.ada_tree.specs.Names.{Ident, ident_of, name_of, optional_ident_of}
-use Rattle.ada_tree.specs.Records.{ComponentTree, component_of, record_of, static_of}
+use Rattle.ada_tree.specs.Records.{component_of, record_of, static_of}
 use Rattle.ada_tree.specs.Statements.{DeclarationTree, access_type, borrower_declaration, constant_declaration, instance, object_declaration, record_type, HandlersTree, branches_from, handlers_from}
 use Rattle.ada_tree.specs.StatementView.{branch_of, handler_of, unit_of}
 use Rattle.ada_tree.specs.declared.declarations.Aspect.{Aspect}
@@ -29,13 +29,13 @@ use Rattle.ada_tree.specs.declared.unit.Unit.{Unit as UnitOf}
 use Rattle.ada_program.specs.Form.{BranchesForm, DeclarationForm, component_number, declaration_form, declares, declares_record}
 use Rattle.ada_program.specs.Kept.{variables_in}
 use Rattle.ada_program.specs.ProgramForm.{ProgramForm, VariableForm}
+use Rattle.ada_program.specs.declared.program.FormalMode.{FormalMode}
 use Rattle.ada_program.specs.declared.program.Branch.{Branch as BranchOf}
 use Rattle.ada_program.specs.declared.program.ComponentKind.{ComponentKind}
 use Rattle.ada_program.specs.declared.program.ComponentNo.{ComponentNo}
 use Rattle.ada_program.specs.declared.program.Declaration.{Declaration}
 use Rattle.ada_program.specs.declared.program.Item.{Item}
 use Rattle.ada_program.specs.declared.program.Right.{Right as RightOf}
-use Rattle.ada_program.specs.declared.program.Stmt.{Stmt}
 use Rattle.ada_program.specs.declared.program.TypeNo.{TypeNo}
 use Rattle.ada_program.specs.declared.program.Variable.{Variable}
 use Rattle.ada_program.specs.declared.program.VariableKind.{VariableKind}
@@ -293,10 +293,11 @@ procedure_outcome resolver unit = procedure_from (unit_of unit) (known_of resolv
 abbrev pub program_in : Resolver → Sequence → ProgramForm
 program_in resolver body = program_of (known_of resolver) (statements_in body.statements) (handlers_in body.handlers)
 
--- The part of a procedure's body, with these names, behind so many types, formal parameters and bodies; the variables of the body around are these.
-abbrev pub part_of_body : List Named → (types formals bodies : ℕ) → List VariableForm → Part
-part_of_body names types formals bodies around =
-    record { names = names; first_type = types; first_variable = formals; first_body = bodies; elaborated = []; around = Some around }
+-- The part of a procedure's body, with these names, behind so many types, formal parameters of these modes and bodies; the variables of the body around
+-- are these.
+abbrev pub part_of_body : List Named → (types formals bodies : ℕ) → List FormalMode → List VariableForm → Part
+part_of_body names types formals bodies modes around =
+    record { names = names; first_type = types; first_variable = formals; first_body = bodies; elaborated = []; modes = modes; around = Some around }
 
 -- The call changes in this way the formal parameters that are looked at.
 abbrev pub Declaring : Both (MutBor FormalsOf) (MutBor FormalsOf) → (Formals → Formals) → Type 0

@@ -91,7 +91,7 @@ IsNumberNamed p text n = IsBound p text (a_number n)
 abbrev pub IsVariableNamed : Context → List ℕ → ℕ → Type 0
 IsVariableNamed p text x = IsBound p text (a_variable x)
 
--- A name is that of the object of a number (3.3): of a variable, or of a constant, which a loop parameter and a formal parameter are.
+-- A name is that of the object of a number (3.3): of a variable, or of a constant, which a loop parameter and a formal parameter of mode `in` are.
 abbrev pub IsObjectNamed : Context → List ℕ → ℕ → Type 0
 IsObjectNamed p text x = IsVariableNamed p text x ⊎ IsBound p text (a_parameter x)
 

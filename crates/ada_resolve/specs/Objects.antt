@@ -7,7 +7,6 @@ use Rattle.ada_tree.specs.Expressions.{RightTree}
 use Rattle.ada_program.specs.ProgramForm.{TypeForm, VariableForm, record_of, access_to, object_of}
 use Rattle.ada_program.specs.declared.program.TypeNo.{TypeNo}
 use Rattle.ada_program.specs.declared.program.VariableKind.{VariableKind}
-use Rattle.ada_program.specs.declared.program.VariableNo.{VariableNo}
 use Rattle.ada_program.specs.declared.program.VariableKind.TheVariants as variable
 use Rattle.ada_resolve.specs.declared.fault.NameRule.TheVariants.{WrongType, NotInProfile, NoInitialValue}
 use Rattle.ada_resolve.specs.declared.rights.Held.{Held}

@@ -1,13 +1,16 @@
 -- Procedures: what is wrong with the head of a body, what is known where the body begins, and what is known behind it.
 
-use Rattle.std.specs.Prelude.{ℕ, false, not, List, [], ◌∷◌, ◌++◌, length, Option, Some, None, is_some}
+use Rattle.std.specs.Prelude.{false, not, List, [], ◌∷◌, ◌++◌, length, Option, Some, None, is_some}
 use Rattle.ada_text.specs.declared.spot.Spot.{Spot}
 use Rattle.ada_tree.specs.Declarations.{FormalTree, HeadTree}
 use Rattle.ada_tree.specs.Names.{Ident}
 use Rattle.ada_program.specs.Form.{StmtsForm, HandlersForm}
 use Rattle.ada_program.specs.ProgramForm.{VariableForm, BodyForm}
+use Rattle.ada_program.specs.declared.program.FormalMode.{FormalMode}
+use Rattle.ada_program.specs.declared.program.FormalMode.TheVariants.{In, InOut}
 use Rattle.ada_program.specs.declared.program.VariableKind.{VariableKind}
 use Rattle.ada_program.specs.declared.program.VariableKind.TheVariants as variable
+use Rattle.ada_program.specs.declared.program.VariableNo.{VariableNo}
 use Rattle.ada_resolve.specs.declared.fault.NameRule.TheVariants.{DeclaredTwice, WrongType, NotInProfile, Layout}
 use Rattle.ada_resolve.specs.declared.scope.Entity.{Entity}
 use Rattle.ada_resolve.specs.declared.scope.Entity.TheVariants as entity
@@ -16,24 +19,31 @@ use Rattle.ada_resolve.specs.Library.{is_primitive, is_taken}
 use Rattle.ada_resolve.specs.Remark.{Remark, fine, wrong, node, ◌also◌, wrong_if}
 use Rattle.ada_resolve.specs.Spots.{first_or}
 
--- The formal parameters of a procedure, as far as they are looked at (6.1): what their names stand for, and the variables that they are.
+-- The formal parameters of a procedure, as far as they are looked at (6.1): what their names stand for, the variables that they are, and their modes.
 pub record Formals : Type 0 where
   pub names : List Named
   pub variables : List VariableForm
+  pub modes : List FormalMode
 
 -- No formal is looked at yet.
 abbrev pub no_formals : Formals
-no_formals = record { names = []; variables = [] }
+no_formals = record { names = []; variables = []; modes = [] }
 
 -- What the type's name of a formal stands for: the formals before it are visible.
 abbrev pub formal_type : Known → Formals → Ident → Option Entity
 formal_type known before name = first_named (named name.text before.names) (visible known name.text)
 
--- What is wrong with the mode of a formal (6.1) in a body that begins at the spot: `out` is not in the profile, and `in out` is not in use yet.
-abbrev pub mode_remark : Spot → (input output : Option Spot) → Remark
-mode_remark first input None = fine
-mode_remark first None (Some out) = wrong out NotInProfile
-mode_remark first (Some input) (Some out) = wrong first NotInProfile
+-- What is wrong with the mode of a formal (6.1): `out` alone is not in the profile.
+abbrev pub mode_remark : (input output : Option Spot) → Remark
+mode_remark input None = fine
+mode_remark None (Some out) = wrong out NotInProfile
+mode_remark (Some input) (Some out) = fine
+
+-- The mode of a formal (6.1): `in out` where both words are written, and else `in`.
+abbrev pub formal_mode : (input output : Option Spot) → FormalMode
+formal_mode input None = In
+formal_mode None (Some out) = In
+formal_mode (Some input) (Some out) = InOut
 
 -- A type is wanted that is complete, in a body that begins at the spot: formals of access types and of record types are not in use yet.
 abbrev pub formal_type_wanted : Option Entity → Spot → Ident → Remark
@@ -52,7 +62,7 @@ formal_remark known first before f =
     wrong_if (is_taken f.name.text) f.name.spot DeclaredTwice also
     wrong_if (is_some (named f.name.text before.names)) f.name.spot DeclaredTwice also
     wrong_if (is_primitive f.name.text) f.name.spot NotInProfile also
-    mode_remark first f.input f.output also
+    mode_remark f.input f.output also
     formal_type_wanted (formal_type known before f.type_name) first f.type_name
 
 -- What a formal of a type holds: an Integer, where something is wrong.
@@ -61,16 +71,23 @@ formal_kind (Some entity.Boolean) = variable.Boolean
 formal_kind (Some other) = variable.Integer
 formal_kind None = variable.Integer
 
--- The formals with one more: a constant that holds this (6.2).
-abbrev pub with_constant : Ident → VariableKind → Formals → Formals
-with_constant name kind before = record {
-  names = entered name.text (entity.Parameter (record { 0 = length before.variables }) kind) before.names;
+-- What a formal of a mode is, which is the variable of a number and holds this (6.2): a constant, or a variable.
+abbrev pub formal_entity : FormalMode → VariableNo → VariableKind → Entity
+formal_entity In x kind = entity.Parameter x kind
+formal_entity InOut x kind = entity.Variable x kind
+
+-- The formals with one more, of a mode, which holds this (6.2).
+abbrev pub with_next : Ident → FormalMode → VariableKind → Formals → Formals
+with_next name mode kind before = record {
+  names = entered name.text (formal_entity mode (record { 0 = length before.variables }) kind) before.names;
   variables = before.variables ++ record { name = name.text; spot = name.spot; kind = kind; borrows = false } ∷ [];
+  modes = before.modes ++ mode ∷ [];
 }
 
 -- The formals with one more.
 unfoldable pub with_formal : Known → FormalTree → Formals → Formals
-with_formal known f before = with_constant f.name (formal_kind (formal_type known before f.type_name)) before
+with_formal known f before =
+    with_next f.name (formal_mode f.input f.output) (formal_kind (formal_type known before f.type_name)) before
 
 -- What is wrong with formals behind others.
 abbrev pub formals_remark : Known → Spot → Formals → List FormalTree → Remark
@@ -105,6 +122,7 @@ body_part known formals = record {
   first_variable = length formals.variables;
   first_body = length known.bodies;
   elaborated = [];
+  modes = formals.modes;
   around = Some known.variables;
 }
 
@@ -128,7 +146,7 @@ variables_around None = []
 -- What a body is, where these are its statements and its handlers (6.3).
 abbrev pub body_of : Known → StmtsForm → HandlersForm → BodyForm
 body_of known forms handled = record {
-  formals = known.here.first_variable;
+  formals = known.here.modes;
   variables = known.variables;
   declarations = known.here.elaborated;
   statements = forms;

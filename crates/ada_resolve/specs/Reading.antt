@@ -7,9 +7,10 @@ use Rattle.ada_values.specs.declared.operator.BinaryOperator.{BinaryOperator}
 use Rattle.ada_values.specs.declared.operator.BinaryOperator.TheVariants as binary
 use Rattle.ada_tree.specs.Names.{Ident, NameTree, SelectorTree, component, dereference, PathTree}
 use Rattle.ada_tree.specs.Expressions.{ExpressionTree, number_expression, null_expression, path_expression, aggregate_expression, enclosed_expression, unary_expression, binary_expression, ItemsTree, no_more_items, an_item, RightTree, expression_right, allocator_right, creation_right, ArgumentTree, expression_argument, text_argument, attribute_argument}
-use Rattle.ada_tree.specs.Records.{StaticTree}
 use Rattle.ada_tree.specs.Declarations.{ChoiceTree, named_choice, others_choice, FormalTree, HeadTree}
 use Rattle.ada_tree.specs.Statements.{DeclarationTree, exception_declaration, constant_declaration, object_declaration, borrower_declaration, incomplete_type, access_type, record_type, body_declaration, instance, DeclarationsTree, no_declarations, a_declaration, SchemeTree, endless, while_scheme, for_scheme, StatementTree, null_statement, assignment, call, if_statement, loop_statement, exit_statement, return_statement, raise_statement, block, declare_block, StatementsTree, no_statements, a_statement, BranchesTree, no_branches, a_branch, HandlersTree, no_handlers, a_handler, SequenceTree, a_sequence, UnitTree}
+use Rattle.ada_program.specs.declared.program.FormalMode.{FormalMode}
+use Rattle.ada_program.specs.declared.program.FormalMode.TheVariants.{In, InOut}
 use Rattle.ada_program.specs.declared.program.Choice.{Choice}
 use Rattle.ada_program.specs.declared.program.Choice.TheVariants as choice
 use Rattle.ada_program.specs.declared.program.ComponentKind.{ComponentKind}
@@ -18,7 +19,7 @@ use Rattle.ada_program.specs.declared.program.PartKind.TheVariants as part
 use Rattle.ada_program.specs.declared.program.TypeNo.{TypeNo}
 use Rattle.ada_program.specs.declared.program.VariableKind.{VariableKind}
 use Rattle.ada_program.specs.declared.program.VariableKind.TheVariants as variable
-use Rattle.ada_program.specs.Form.{DeclarationForm, collects, declares, declares_record, PathForm, RecordPathForm, ExpressionForm, integer, boolean, reads, is_null, applied_to, ItemForm, null_item, item_of_path, item_of_value, item_of_record, RightForm, nothing, value_of, allocates, allocates_default, computes, StmtForm, skips, assigns, assigns_record, frees, gets, writes, writes_text, chooses, repeats, counts, exits, calls, returns, raises, encloses, StmtsForm, no_stmts, a_stmt, BranchesForm, otherwise, HandlersForm}
+use Rattle.ada_program.specs.Form.{ActualForm, in_value, in_out_path, DeclarationForm, collects, declares, declares_record, PathForm, RecordPathForm, ExpressionForm, integer, boolean, reads, is_null, applied_to, ItemForm, null_item, item_of_path, item_of_value, item_of_record, RightForm, nothing, value_of, allocates, allocates_default, computes, StmtForm, skips, assigns, assigns_record, frees, gets, writes, writes_text, chooses, repeats, counts, exits, calls, returns, raises, encloses, StmtsForm, no_stmts, a_stmt, BranchesForm, otherwise, HandlersForm}
 use Rattle.ada_program.specs.Form as form
 use Rattle.ada_program.specs.ProgramForm.{PartForm, TypeForm, record_of, object_of, BodyForm, ProgramForm}
 use Rattle.ada_program.specs.WellFormed as fits
@@ -252,10 +253,12 @@ IsGet procedure = library_name procedure.root.text (parts_of procedure.selectors
 abbrev pub IsImage : Ident → Ident → Type 0
 IsImage prefix attribute = (prefix.text ≡ codes "INTEGER") × (attribute.text ≡ codes "IMAGE")
 
--- The actual parameters of a procedure, one for one: each is an expression (6.4.1).
-abbrev pub AreActualsRead : Context → List ArgumentTree → List ExpressionForm → Type 0
+-- The actual parameters of a procedure, one for one: each is an expression, or a variable for a formal parameter of mode `in out` (6.4.1).
+abbrev pub AreActualsRead : Context → List ArgumentTree → List ActualForm → Type 0
 AreActualsRead p [] [] = Unit {0}
-AreActualsRead p (expression_argument e ∷ arguments) (form ∷ forms) = IsExpressionRead p e form × AreActualsRead p arguments forms
+AreActualsRead p (expression_argument e ∷ arguments) (in_value form ∷ forms) = IsExpressionRead p e form × AreActualsRead p arguments forms
+AreActualsRead p (expression_argument (path_expression tree) ∷ arguments) (in_out_path path ∷ forms) =
+    IsTargetRead p tree path × AreActualsRead p arguments forms
 AreActualsRead p arguments forms = ⊥
 
 -- A call (6.4) of an instance frees what its one actual names, by the access type that the instance is for (13.11.2); a call of Get reads a
@@ -336,7 +339,7 @@ with_new_exception name place = record (with_binding name (an_exception place.ex
 abbrev pub with_new_variable : Ident → Place → Place
 with_new_variable name place = record (with_binding name (a_variable place.variables) place) { variables = place.variables + 1 }
 
--- The place once the next variable is the constant of the name: a loop parameter or a formal parameter (5.5, 6.2).
+-- The place once the next variable is the constant of the name: a loop parameter or a formal parameter of mode `in` (5.5, 6.2).
 abbrev pub with_new_constant : Ident → Place → Place
 with_new_constant name place = record (with_binding name (a_parameter place.variables) place) { variables = place.variables + 1 }
 
@@ -474,13 +477,25 @@ IsScalarNamed text variable.Integer = text ≡ codes "INTEGER"
 IsScalarNamed text variable.Boolean = text ≡ codes "BOOLEAN"
 IsScalarNamed text other = ⊥
 
--- Formal parameters of mode `in`, up to the last (6.1): each is the next variable, a constant of a new name, and has the type that is written.
-abbrev pub AreFormalsRead : Context → List FormalTree → (end : Place) → Type 0
-AreFormalsRead p [] end = end ≡ p.place
-AreFormalsRead p (f ∷ fs) end =
-    (kind : VariableKind) × IsNew p.place f.name × (f.output ≡ None) × IsScalarNamed f.type_name.text kind ×
+-- The mode that is written (6.1): `in out`, or `in`, perhaps without the word.
+abbrev pub IsModeRead : FormalTree → FormalMode → Type 0
+IsModeRead f In = f.output ≡ None
+IsModeRead f InOut = (input : Spot) × (output : Spot) × (f.input ≡ Some input) × (f.output ≡ Some output)
+
+-- A formal parameter of a mode is declared: one of mode `in` is a constant (6.2).
+abbrev pub with_new_formal : FormalMode → Ident → Place → Place
+with_new_formal In name place = with_new_constant name place
+with_new_formal InOut name place = with_new_variable name place
+
+-- Formal parameters, up to the last (6.1): each is the next variable, of a new name, and has the mode and the type that are written.
+abbrev pub AreFormalsRead : Context → List FormalTree → List FormalMode → (end : Place) → Type 0
+AreFormalsRead p [] [] end = end ≡ p.place
+AreFormalsRead p [] (mode ∷ modes) end = ⊥
+AreFormalsRead p (f ∷ fs) [] end = ⊥
+AreFormalsRead p (f ∷ fs) (mode ∷ modes) end =
+    (kind : VariableKind) × IsNew p.place f.name × IsModeRead f mode × IsScalarNamed f.type_name.text kind ×
     (slice_get p.variables p.place.variables ≡ Some (record { name = f.name.text; spot = f.name.spot; kind = kind; borrows = false })) ×
-    AreFormalsRead (read_at (with_new_constant f.name p.place) p) fs end
+    AreFormalsRead (read_at (with_new_formal mode f.name p.place) p) fs modes end
 
 -- What a name means in the body of a procedure, which means this around it: objects of the bodies around are out of reach there (the profile's).
 abbrev pub from_body : Meaning → Meaning
@@ -528,7 +543,7 @@ IsHeadRead p head = IsNew p.place head.name × (head.overriding ≡ None)
 -- variables.
 abbrev pub IsNextBody : Context → BodyForm → (formals end : Place) → Type 0
 IsNextBody p b formals end =
-    (slice_get p.bodies end.bodies ≡ Some b) × (b.formals ≡ formals.variables) × (length b.variables ≡ end.variables)
+    (slice_get p.bodies end.bodies ≡ Some b) × (length b.formals ≡ formals.variables) × (length b.variables ≡ end.variables)
 
 -- Where the types of a part end, all are completed, and the first of these declarations, up to the rest, create the collections of the access types
 -- that have none yet (7.6.1). Where they have ended before, nothing is created.
@@ -562,7 +577,7 @@ abbrev mutual
       IsPartRead (read_at (with_binding name (an_instance t) p.place) p) (Some (t ∷ made)) ds rest end
   IsPartRead p made (a_declaration (body_declaration head inner body end_name) ds) forms end =
       (b : BodyForm) × (rest : List DeclarationForm) × (formals declared done : Place) × DoTypesEnd p made forms rest × IsHeadRead p head ×
-      AreFormalsRead (in_body head.name b p) head.formals formals ×
+      AreFormalsRead (in_body head.name b p) head.formals b.formals formals ×
       IsPartRead (read_at formals (in_body head.name b p)) (Some []) inner b.declarations declared ×
       IsSequenceRead (read_at declared (in_body head.name b p)) body b.statements b.handlers done ×
       IsNextBody p b formals done × IsEndName head.name.text end_name ×

@@ -58,7 +58,7 @@ names_in entries = map named_of entries
 
 -- The formal parameters of a procedure, as far as they are looked at.
 abbrev pub formals_in : FormalsOf → Formals
-formals_in f = record { names = names_in f.names.entries; variables = map variable_form f.variables.items }
+formals_in f = record { names = names_in f.names.entries; variables = map variable_form f.variables.items; modes = f.modes.items }
 
 -- The variables of the body around, where there is one.
 abbrev pub optional_variables : Option (Vec Variable) → Option (List VariableForm)
@@ -73,6 +73,7 @@ part_of p = record {
   first_variable = p.first_variable;
   first_body = p.first_body;
   elaborated = map declaration_form p.declarations.items;
+  modes = p.modes.items;
   around = optional_variables p.around;
 }
 

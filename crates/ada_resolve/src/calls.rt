@@ -181,7 +181,7 @@ impl<'t> Resolver<'t> {
     }
 
     /// An expression that is no path is of the wrong kind.
-    fn no_path(&self, value: &Expression<'t>, notes: &mut Notes) -> Result<(), NameFault>
+    pub(crate) fn no_path(&self, value: &Expression<'t>, notes: &mut Notes) -> Result<(), NameFault>
         ensures remark { Remarks result notes
             (no_path_remark (known self) (expression_of value.now)) }
         ensures memory { IfErr result (λ e. e ≡ NameFault.NoMemory) }

@@ -6,7 +6,7 @@ ghost use Rattle.ada_tree.specs.Names.{ident_of};
 ghost use Rattle.ada_resolve.specs.Known.{named};
 ghost use Rattle.ada_resolve.specs.Look.{Looks, formals_look};
 ghost use Rattle.ada_resolve.specs.Method.{known, IsNoted, Declaring, next_formal_remark, with_next_formal};
-ghost use Rattle.ada_resolve.specs.Procedures.{formal_kind, formal_type, formal_type_wanted, mode_remark, no_formals, with_constant};
+ghost use Rattle.ada_resolve.specs.Procedures.{formal_kind, formal_type, formal_entity, formal_mode, formal_type_wanted, mode_remark, no_formals, with_next};
 ghost use Rattle.ada_resolve.specs.View.{formals_in};
 
 use crate::fault::{NameFault, NameRule};
@@ -14,7 +14,7 @@ use crate::library::{is_primitive, missing_rule};
 use crate::notes::Notes;
 use crate::resolver::Resolver;
 use crate::scope::{Entity, is_taken};
-use ada_program::program::{Variable, VariableKind};
+use ada_program::program::{FormalMode, Variable, VariableKind};
 use ada_program::{Spot, VariableNo};
 use ada_tree::declarations::Formal;
 use ada_tree::names::Identifier;
@@ -27,6 +27,8 @@ pub(crate) struct Formals<'t> {
     /// What their names stand for, in order.
     pub(crate) names: IndexMap<&'t str, Entity>,
     pub(crate) variables: Vec<Variable>,
+    /// Their modes, in order.
+    pub(crate) modes: Vec<FormalMode>,
 }
 
 impl<'t> Formals<'t> {
@@ -37,6 +39,7 @@ impl<'t> Formals<'t> {
         Formals {
             names: IndexMap::new(alloc),
             variables: Vec::new(alloc),
+            modes: Vec::new(alloc),
         }
     }
 
@@ -48,20 +51,21 @@ impl<'t> Formals<'t> {
         self.names.get(text).copied()
     }
 
-    /// One more, a constant that holds this.
+    /// One more of a mode, which holds this.
     #[tactic(auto, using(crate::proofs::Names::entered_map, crate::proofs::Names::map_snoc, crate::proofs::Names::mapped_length))]
     fn add(
         &mut self,
         alloc: Global,
         name: Identifier<'t>,
+        mode: FormalMode,
         kind: VariableKind,
     ) -> Result<(), NameFault>
-        ensures known { OnOk result (Declaring self (with_constant (ident_of name.entry) kind)) }
+        ensures known { OnOk result (Declaring self (with_next (ident_of name.entry) mode kind)) }
         ensures memory { IfErr result (λ e. e ≡ NameFault.NoMemory) }
     {
         let variable = VariableNo(self.variables.len());
         self.names
-            .insert(name.text, Entity::Parameter { variable, kind })?;
+            .insert(name.text, formal_entity(mode, variable, kind))?;
         let text = String::from_str(alloc, name.text)?;
         self.variables.push(Variable {
             name: text,
@@ -69,6 +73,7 @@ impl<'t> Formals<'t> {
             kind,
             borrows: false,
         })?;
+        self.modes.push(mode)?;
         Ok(())
     }
 }
@@ -112,10 +117,11 @@ impl<'t> Resolver<'t> {
             NameRule::DeclaredTwice,
         );
         notes.note_if(is_primitive(name.text), name.spot, NameRule::NotInProfile);
-        mode(first, formal.input, formal.output, notes);
+        mode_remark(formal.input, formal.output, notes);
         let found = self.formal_type(before, formal.type_name);
         formal_type_wanted(found, first, formal.type_name, notes);
-        before.add(self.alloc, name, formal_kind(found))
+        let mode = formal_mode(formal.input, formal.output);
+        before.add(self.alloc, name, mode, formal_kind(found))
     }
 
     /// What the type's name of a formal stands for: the formals before it are visible.
@@ -129,14 +135,32 @@ impl<'t> Resolver<'t> {
     }
 }
 
-/// The mode of a formal, in a body that begins at the spot: `in` alone is in use.
-fn mode(first: Spot, input: Option<Spot>, output: Option<Spot>, notes: &mut Notes)
-    ensures { IsNoted notes (mode_remark first input output) }
+/// What is wrong with the mode of a formal: `out` alone is not in the profile.
+fn mode_remark(input: Option<Spot>, output: Option<Spot>, notes: &mut Notes)
+    ensures { IsNoted notes (mode_remark input output) }
+{
+    if let (None, Some(out)) = (input, output) {
+        notes.note(out, NameRule::NotInProfile);
+    }
+}
+
+/// The mode of a formal: `in out` where both words are written.
+fn formal_mode(input: Option<Spot>, output: Option<Spot>) -> FormalMode
+    ensures { result ≡ formal_mode input output }
 {
     match (input, output) {
-        (_, None) => {}
-        (None, Some(out)) => notes.note(out, NameRule::NotInProfile),
-        (Some(_), Some(_)) => notes.note(first, NameRule::NotInProfile),
+        (Some(_), Some(_)) => FormalMode::InOut,
+        _ => FormalMode::In,
+    }
+}
+
+/// What a formal of a mode is: a constant, or a variable.
+fn formal_entity(mode: FormalMode, variable: VariableNo, kind: VariableKind) -> Entity
+    ensures { result ≡ formal_entity mode variable kind }
+{
+    match mode {
+        FormalMode::In => Entity::Parameter { variable, kind },
+        FormalMode::InOut => Entity::Variable { variable, kind },
     }
 }
 

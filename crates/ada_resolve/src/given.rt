@@ -1,10 +1,11 @@
 //! The actual parameters of calls of procedures (6.4.1).
 
-ghost use Rattle.std.specs.Prelude.{◌≡◌, take, IfErr};
-ghost use Rattle.ada_program.specs.Form.{expression_form};
-ghost use Rattle.ada_resolve.specs.Actuals.{kind_wanted};
-ghost use Rattle.ada_resolve.specs.Look.{Looks, actuals_look, given_look, procedure_call_look, profile_look};
+ghost use Rattle.std.specs.Prelude.{◌≡◌, pos, take, IfErr};
+ghost use Rattle.ada_program.specs.Form.{actual_form, expression_form, in_value, integer, path_form};
+ghost use Rattle.ada_resolve.specs.Actuals.{alone_wanted, first_mode, given_variable, kind_wanted, other_modes, variable_wanted};
+ghost use Rattle.ada_resolve.specs.Look.{Looks, actuals_look, given_look, given_variable_look, procedure_call_look, profile_look};
 ghost use Rattle.ada_resolve.specs.Method.{each, IsNoted, Remarks, too_many_remark};
+ghost use Rattle.ada_resolve.specs.Paths.{boolean_value, integer_value};
 ghost use Rattle.ada_resolve.specs.View.{meant_of, stmt_in};
 
 use crate::arguments::none_wanted;
@@ -14,8 +15,10 @@ use crate::notes::Notes;
 use crate::resolver::Resolver;
 use crate::spots::{argument_spot, expression_spot};
 use ada_program::Spot;
-use ada_program::program::{Expression, ProcedureNo, Stmt, Variable, VariableKind};
-use ada_tree::expressions::Argument;
+use ada_program::program::{
+    Actual, Expression, FormalMode, Path, ProcedureNo, Stmt, Variable, VariableKind,
+};
+use ada_tree::expressions::{Argument, Expression as Value};
 
 impl<'t> Resolver<'t> {
     /// A call of a procedure whose body has ended (6.4).
@@ -42,16 +45,16 @@ impl<'t> Resolver<'t> {
         called: Spot,
         arguments: &[Argument<'t>],
         notes: &mut Notes,
-    ) -> Result<Vec<Expression>, NameFault>
-        ensures { Looks (each expression_form) result notes
+    ) -> Result<Vec<Actual>, NameFault>
+        ensures { Looks (each actual_form) result notes
             (profile_look self procedure called arguments.now) }
     {
         match self.procedures.get(procedure.0) {
             Some(body) => {
-                let formals = first_variables(&body.variables, body.formals);
-                self.actuals(called, formals, arguments, notes)
+                let formals = first_variables(&body.variables, body.formals.len());
+                self.actuals(called, formals, &body.formals, arguments, notes)
             }
-            None => self.actuals(called, &[], arguments, notes),
+            None => self.actuals(called, &[], &[], arguments, notes),
         }
     }
 
@@ -60,19 +63,22 @@ impl<'t> Resolver<'t> {
         &self,
         called: Spot,
         formals: &[Variable],
+        modes: &[FormalMode],
         arguments: &[Argument<'t>],
         notes: &mut Notes,
-    ) -> Result<Vec<Expression>, NameFault>
-        ensures { Looks (each expression_form) result notes
-            (actuals_look self called formals.now arguments.now) }
+    ) -> Result<Vec<Actual>, NameFault>
+        ensures { Looks (each actual_form) result notes
+            (actuals_look self called formals.now modes.now arguments.now) }
     {
         let mut made = Vec::new(self.alloc);
+        let mut modes_left = modes;
         'formals: for formal in formals {
             let Some(argument) = arguments.get(made.len()) else {
                 notes.note(called, NameRule::WrongType);
                 return Ok(made);
             };
-            let given = self.given(formal.kind, argument, notes)?;
+            let given = self.given(first_mode(modes_left), formal.kind, argument, notes)?;
+            modes_left = other_modes(modes_left);
             made.push(given)?;
         }
         self.too_many(arguments.get(formals.len()..).unwrap_or(&[]), notes)?;
@@ -88,29 +94,158 @@ impl<'t> Resolver<'t> {
         self.arguments(arguments, notes)
     }
 
-    /// The actual parameter for a formal one that holds this: 0 where something is wrong.
+    /// The actual parameter for a formal one of a mode that holds this: 0 where something is wrong.
     #[tactic(auto, using(std::proofs::lemmas::Grind::common_steps, ada_program::specs::Form::expression_rules))]
     fn given(
         &self,
+        mode: FormalMode,
         kind: VariableKind,
         argument: &Argument<'t>,
         notes: &mut Notes,
-    ) -> Result<Expression, NameFault>
-        ensures { Looks expression_form result notes (given_look self kind argument.now) }
+    ) -> Result<Actual, NameFault>
+        ensures { Looks actual_form result notes (given_look self mode kind argument.now) }
     {
-        match argument {
-            Argument::Expression(value) => {
+        match (mode, argument) {
+            (FormalMode::In, Argument::Expression(value)) => {
                 let meant = self.expression(value, notes)?;
                 kind_wanted(kind, &meant, expression_spot(value), notes);
-                Ok(meant.into_scalar())
+                Ok(Actual::In(meant.into_scalar()))
             }
-            Argument::Text { .. } | Argument::Attribute { .. } => {
+            (FormalMode::InOut, Argument::Expression(value)) => {
+                self.given_variable(kind, value, notes)
+            }
+            (_, Argument::Text { .. } | Argument::Attribute { .. }) => {
                 notes.note(argument_spot(argument), NameRule::WrongType);
                 self.argument(argument, notes)?;
-                Ok(Expression::Integer(0))
+                Ok(no_actual())
             }
         }
     }
+
+    /// The variable that an actual parameter for a formal one of mode `in out` names: 0 where something is wrong.
+    #[tactic(auto, using(std::proofs::lemmas::Grind::common_steps, ada_tree::specs::ExpressionView::tree_rules, crate::proofs::Actuals::linked_given, crate::proofs::Actuals::linked_given_remark), unfolding(crate::specs::View::known_of, crate::specs::Expressions::expression_remark))]
+    fn given_variable(
+        &self,
+        kind: VariableKind,
+        value: &Value<'t>,
+        notes: &mut Notes,
+    ) -> Result<Actual, NameFault>
+        ensures { Looks actual_form result notes (given_variable_look self kind value.now) }
+    {
+        match value {
+            Value::Path(path) => {
+                let spot = path.root.spot;
+                notes.node(spot);
+                let meant = self.path(path, notes)?;
+                variable_wanted(kind, &meant, spot, notes);
+                self.written(path.root, notes);
+                Ok(given_variable(meant))
+            }
+            Value::Chain { first, links } if links.is_empty() => {
+                self.given_variable(kind, first, notes)
+            }
+            Value::Number { .. }
+            | Value::Null(_)
+            | Value::Aggregate { .. }
+            | Value::Enclosed { .. }
+            | Value::Unary { .. }
+            | Value::Chain { .. } => {
+                self.no_path(value, notes)?;
+                Ok(no_actual())
+            }
+        }
+    }
+}
+
+/// The first of these modes: `in`, where there is none.
+fn first_mode(modes: &[FormalMode]) -> FormalMode
+    ensures { result ≡ first_mode modes.now }
+{
+    match modes {
+        [mode, ..] => *mode,
+        [] => FormalMode::In,
+    }
+}
+
+/// The modes behind the first.
+fn other_modes(modes: &[FormalMode]) -> &[FormalMode]
+    ensures { result.now ≡ other_modes modes.now }
+{
+    match modes {
+        [_, others @ ..] => others,
+        [] => &[],
+    }
+}
+
+/// What a formal parameter gets where something is wrong with the actual one: 0.
+#[tactic(auto, using(ada_program::specs::Form::expression_rules))]
+fn no_actual() -> Actual
+    ensures { actual_form result ≡ in_value (integer (pos 0)) }
+{
+    Actual::In(Expression::Integer(0))
+}
+
+/// The variable for which a formal parameter of mode `in out` stands; 0 where something is wrong.
+fn given_variable(meant: Meant) -> Actual
+    ensures { actual_form result ≡ given_variable (meant_of meant) }
+{
+    match meant {
+        Meant::Integer(value) | Meant::Boolean(value) => given_path(value),
+        _ => no_actual(),
+    }
+}
+
+/// The variable whose value this is; 0 where it isn't that of a variable.
+#[tactic(auto, using(std::proofs::lemmas::Grind::common_steps, ada_program::specs::Form::expression_rules))]
+fn given_path(value: Expression) -> Actual
+    ensures integer { actual_form result ≡ given_variable (integer_value (expression_form value)) }
+    ensures boolean { actual_form result ≡ given_variable (boolean_value (expression_form value)) }
+{
+    match value {
+        Expression::Path(path) => Actual::InOut(path),
+        Expression::Integer(_)
+        | Expression::Boolean(_)
+        | Expression::NullTest { .. }
+        | Expression::Unary { .. }
+        | Expression::Chain { .. } => no_actual(),
+    }
+}
+
+/// A variable is wanted that holds this, for a formal parameter of mode `in out`.
+fn variable_wanted(kind: VariableKind, meant: &Meant, spot: Spot, notes: &mut Notes)
+    ensures { IsNoted notes (variable_wanted kind (meant_of meant.now) spot) }
+{
+    match (kind, meant) {
+        (_, Meant::Unknown) => {}
+        (VariableKind::Integer, Meant::Integer(value))
+        | (VariableKind::Boolean, Meant::Boolean(value)) => path_wanted(value, spot, notes),
+        _ => notes.note(spot, NameRule::WrongType),
+    }
+}
+
+/// The value, of the type that is wanted, is that of a variable alone.
+#[tactic(auto, using(std::proofs::lemmas::Grind::common_steps, ada_program::specs::Form::expression_rules))]
+fn path_wanted(value: &Expression, spot: Spot, notes: &mut Notes)
+    ensures integer { IsNoted notes
+        (variable_wanted VariableKind.Integer (integer_value (expression_form value.now)) spot) }
+    ensures boolean { IsNoted notes
+        (variable_wanted VariableKind.Boolean (boolean_value (expression_form value.now)) spot) }
+{
+    match value {
+        Expression::Path(path) => alone_wanted(path, spot, notes),
+        Expression::Integer(_)
+        | Expression::Boolean(_)
+        | Expression::NullTest { .. }
+        | Expression::Unary { .. }
+        | Expression::Chain { .. } => notes.note(spot, NameRule::WrongType),
+    }
+}
+
+/// No component is given to a formal parameter of mode `in out` yet.
+fn alone_wanted(path: &Path, spot: Spot, notes: &mut Notes)
+    ensures { IsNoted notes (alone_wanted (path_form path.now).selectors spot) }
+{
+    notes.note_if(!path.selectors.is_empty(), spot, NameRule::NotInProfile);
 }
 
 /// The first of some variables, up to a count.

@@ -15,7 +15,7 @@ ghost use Rattle.ada_resolve.specs.View.{names_in, optional_items, optional_vari
 use crate::fault::NameFault;
 use crate::scope::{Entity, Role};
 use ada_program::borrowers::is_borrower;
-use ada_program::program::{self, Declaration, Variable};
+use ada_program::program::{self, Declaration, FormalMode, Variable};
 use ada_program::{TypeNo, VariableNo};
 use indexmap::IndexMap;
 use std::alloc::Global;
@@ -33,8 +33,21 @@ pub(crate) struct Part<'t> {
     pub(crate) first_body: usize,
     /// What it elaborates, in order.
     declarations: Vec<Declaration>,
+    /// Where it is that of a procedure's body, the modes of the formal parameters, in order.
+    modes: Vec<FormalMode>,
     /// Where it is that of a procedure's body, the variables of the body around.
     around: Option<Vec<Variable>>,
+}
+
+/// What is left of a declarative part that ends.
+#[derive(Drop)]
+pub(crate) struct Contents {
+    /// What it elaborates, in order.
+    pub(crate) declarations: Vec<Declaration>,
+    /// The modes of the formal parameters, in order, where it is that of a procedure's body.
+    pub(crate) modes: Vec<FormalMode>,
+    /// The variables of the body around, where it is that of a procedure's body.
+    pub(crate) around: Option<Vec<Variable>>,
 }
 
 impl<'t> Part<'t> {
@@ -54,12 +67,13 @@ impl<'t> Part<'t> {
             first_variable,
             first_body,
             declarations: Vec::new(alloc),
+            modes: Vec::new(alloc),
             around: None,
         }
     }
 
-    /// The part of a procedure's body, with names of formal parameters, behind so many types and bodies; these are the
-    /// variables of the body around.
+    /// The part of a procedure's body, with names of formal parameters of these modes, behind so many types and bodies;
+    /// the last are the variables of the body around.
     #[tactic(auto, unfolding(crate::specs::View::part_of))]
     pub(crate) fn of_body(
         alloc: Global,
@@ -67,10 +81,11 @@ impl<'t> Part<'t> {
         first_type: usize,
         first_variable: usize,
         first_body: usize,
+        modes: Vec<FormalMode>,
         around: Vec<Variable>,
     ) -> Part<'t>
         ensures { part_of result ≡ part_of_body (names_in names.entry.entries) first_type first_variable
-            first_body (each variable_form around) }
+            first_body modes.items (each variable_form around) }
     {
         Part {
             names,
@@ -78,6 +93,7 @@ impl<'t> Part<'t> {
             first_variable,
             first_body,
             declarations: Vec::new(alloc),
+            modes,
             around: Some(around),
         }
     }
@@ -224,14 +240,15 @@ impl<'t> Part<'t> {
     pub(crate) fn into_declarations(self) -> Vec<Declaration>
         ensures { each declaration_form result ≡ (part_of self.entry).elaborated }
     {
-        self.into_contents().0
+        self.into_contents().declarations
     }
 
-    /// What it elaborates, in order, and the variables of the body around, where it is that of a procedure's body.
+    /// What is left of it, where it ends.
     #[tactic(auto, unfolding(crate::specs::View::part_of))]
-    pub(crate) fn into_contents(self) -> (Vec<Declaration>, Option<Vec<Variable>>)
-        ensures elaborated { each declaration_form result.0 ≡ (part_of self.entry).elaborated }
-        ensures around { optional_variables result.1 ≡ (part_of self.entry).around }
+    pub(crate) fn into_contents(self) -> Contents
+        ensures elaborated { each declaration_form result.declarations ≡ (part_of self.entry).elaborated }
+        ensures modes { result.modes.items ≡ (part_of self.entry).modes }
+        ensures around { optional_variables result.around ≡ (part_of self.entry).around }
     {
         let Part {
             names: _,
@@ -239,9 +256,14 @@ impl<'t> Part<'t> {
             first_variable: _,
             first_body: _,
             declarations,
+            modes,
             around,
         } = self;
-        (declarations, around)
+        Contents {
+            declarations,
+            modes,
+            around,
+        }
     }
 }
 

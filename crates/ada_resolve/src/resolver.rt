@@ -15,7 +15,7 @@ use crate::fault::{NameFault, NameRule};
 use crate::formals::Formals;
 use crate::library::{LibraryName, Withs, is_primitive, library_name, missing_rule};
 use crate::notes::Notes;
-use crate::part::{Part, is_in_procedure, named_in};
+use crate::part::{Contents, Part, is_in_procedure, named_in};
 use crate::procedures::Sequence;
 use crate::scope::{Entity, is_taken, predefined};
 use ada_program::program::{Declaration, Procedure, Variable};
@@ -122,7 +122,11 @@ impl<'t> Resolver<'t> {
         ensures known { OnOk result (Changes self (with_body (formals_in formals.entry))) }
         ensures memory { IfErr result (λ e. e ≡ NameFault.NoMemory) }
     {
-        let Formals { names, variables } = formals;
+        let Formals {
+            names,
+            variables,
+            modes,
+        } = formals;
         let first = variables.len();
         let around = mem::replace(&mut self.variables, variables);
         let inner = Part::of_body(
@@ -131,6 +135,7 @@ impl<'t> Resolver<'t> {
             self.types.len(),
             first,
             self.procedures.len(),
+            modes,
             around,
         );
         let outer = mem::replace(&mut self.here, inner);
@@ -144,24 +149,19 @@ impl<'t> Resolver<'t> {
         ensures known { OnOk result (Changes self (without_body_of body)) }
         ensures memory { IfErr result (λ e. e ≡ NameFault.NoMemory) }
     {
-        let formals = self.first_variable();
-        let (declarations, around) = self.take_part().into_contents();
+        let Contents {
+            declarations,
+            modes,
+            around,
+        } = self.take_part().into_contents();
         let variables = self.resume(around);
         self.add_procedure(Procedure {
-            formals,
+            formals: modes,
             variables,
             declarations,
             statements: body.statements,
             handlers: body.handlers,
         })
-    }
-
-    /// The number of the first variable of the innermost part behind formal parameters.
-    #[tactic(auto, unfolding(crate::specs::View::known_of, crate::specs::View::part_of))]
-    fn first_variable(&self) -> usize
-        ensures { result ≡ (known self).here.first_variable }
-    {
-        self.here.first_variable
     }
 
     /// There is this procedure too.

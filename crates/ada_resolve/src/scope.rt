@@ -37,7 +37,7 @@ pub(crate) enum Entity {
     Access(TypeNo),
     /// An instance of Unchecked_Deallocation for an access type (13.11.2).
     Instance(TypeNo),
-    /// A declared object (3.3.1), and what it holds.
+    /// A declared object (3.3.1), or a formal parameter of mode `in out` (6.2), and what it holds.
     Variable {
         variable: VariableNo,
         kind: VariableKind,

@@ -2,9 +2,8 @@
 
 use Rattle.std.proofs.Common.{◌≡◌, ℕ, zero, suc, ◌+◌, ◌&&◌, Bool, true, false, List, [], ◌∷◌, ◌++◌, length, map, Option, Some, None, arith, refl, subst, length-append}
 use Rattle.std.specs.List.{slice_get, list_all}
-use Rattle.ada_program.specs.declared.program.VariableKind.{VariableKind}
 use Rattle.ada_program.specs.ProgramForm.{TypeForm, BodyForm, ProgramForm}
-use Rattle.ada_program.specs.WellFormed.{IsWellFormed, creation, created_by_all, created_by_handlers, created_in, creations, created_in_all, creates_from, collections_first, collection_fits, variable_fits, initial_fits, declarations_fit, profile_of, callable_in, stmts_fit, handlers_fit, body_fits, bodies_fit}
+use Rattle.ada_program.specs.WellFormed.{IsWellFormed, Profile, creation, created_by_all, created_by_handlers, created_in, creations, created_in_all, creates_from, collections_first, collection_fits, variable_fits, initial_fits, declarations_fit, profile_of, callable_in, stmts_fit, handlers_fit, body_fits, bodies_fit}
 use Rattle.ada_program.specs.Nested.{Callees, call_nests, collected, part_nests, statements_nest, handlers_nest, body_nests, callees_from, callees_of, CollectionsNest}
 use Rattle.ada_scopes.proofs.Counts.{and_left, and_right}
 use Rattle.ada_scopes.proofs.Texts.{PartNests, StatementsNest, HandlersNest, BodyNests, BodiesNest, CallsNest, Once, once_left, once_right, all_once, part_holds, statements_hold, handlers_hold}
@@ -34,12 +33,12 @@ more_from types before bs procedure around nests = go (slice_get before procedur
         rw (got_from types before bs procedure f is) own
 
 -- A body nests where it is called, as it is checked.
-body_holds : (types : List TypeForm) (texts exceptions : List (List ℕ)) (callable : List (List VariableKind)) (before callees : Callees) (b : BodyForm) (around : List ℕ) → CallsNest before callees → body_fits types texts exceptions callable b ≡ true → Once types (created_in b) → body_nests types before b around ≡ true → BodyNests types callees around b
+body_holds : (types : List TypeForm) (texts exceptions : List (List ℕ)) (callable : List Profile) (before callees : Callees) (b : BodyForm) (around : List ℕ) → CallsNest before callees → body_fits types texts exceptions callable b ≡ true → Once types (created_in b) → body_nests types before b around ≡ true → BodyNests types callees around b
 body_holds types texts exceptions callable before callees b around more fits once nests =
     let ds = b.declarations in
     let there = collected ds ++ around in
     let variables_right = list_all (variable_fits types) b.variables in
-    let in_order = creates_from (length b.variables) b.formals (created_in b) in
+    let in_order = creates_from (length b.variables) (length b.formals) (created_in b) in
     let part_fits = declarations_fit types b.variables ds in
     let inner_fits = stmts_fit types b.variables texts exceptions callable false b.statements in
     let handled_fits = handlers_fit types b.variables texts exceptions callable false b.handlers in
@@ -68,7 +67,7 @@ body_holds types texts exceptions callable before callees b around more fits onc
           (once_right types (map creation ds ++ created_by_all b.statements) (created_by_handlers b.handlers) once) (and_right (part && inner) handled nests);
     }
 
-bodies_hold : (types : List TypeForm) (texts exceptions : List (List ℕ)) (callable : List (List VariableKind)) (before : Callees) (bs : List BodyForm) → bodies_fit types texts exceptions callable bs ≡ true → Once types (created_in_all bs) → (i : ℕ) (b : BodyForm) (around : List ℕ) → slice_get bs i ≡ Some b → call_nests (slice_get (callees_from types before bs) (length before + i)) around ≡ true → BodyNests types (callees_from types before bs) around b
+bodies_hold : (types : List TypeForm) (texts exceptions : List (List ℕ)) (callable : List Profile) (before : Callees) (bs : List BodyForm) → bodies_fit types texts exceptions callable bs ≡ true → Once types (created_in_all bs) → (i : ℕ) (b : BodyForm) (around : List ℕ) → slice_get bs i ≡ Some b → call_nests (slice_get (callees_from types before bs) (length before + i)) around ≡ true → BodyNests types (callees_from types before bs) around b
 bodies_hold types texts exceptions callable before [] fits once i b around is nests = absurd (cc)
 bodies_hold types texts exceptions callable before (x ∷ bs) fits once zero b around is nests =
     let own = body_nests types before x in

@@ -154,7 +154,7 @@ abbrev pub calling : Program
 calling = record {
   types = nested.types;
   procedures = vec (record {
-    formals = 0;
+    formals = vec [] (omega arith);
     variables = vec (of_type 3 ∷ []) (omega arith);
     declarations = vec (declaration.Collection (record { 0 = 3 }) ∷ with_nulls 0 3 (item.Null ∷ item.Null ∷ []) (omega arith) ∷ []) (omega arith);
     statements = vec (stmt.Null ∷ []) (omega arith);
@@ -173,7 +173,7 @@ calling_forms = a_stmt (calls 0 []) no_stmts
 
 abbrev calling_bodies : List BodyForm
 calling_bodies = record {
-  formals = 0;
+  formals = [];
   variables = map variable_form (of_type 3 ∷ []);
   declarations = collects 3 ∷ declares 0 (allocates 3 (null_item ∷ null_item ∷ [])) ∷ [];
   statements = a_stmt skips no_stmts;

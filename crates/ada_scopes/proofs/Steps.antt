@@ -6,7 +6,7 @@ use Rattle.std.proofs.lemmas.Bool.{eq-eqb}
 use Rattle.std.specs.List.{slice_get, list_all}
 use Rattle.ada_program.specs.declared.program.TypeDefinition.{TypeDefinition}
 use Rattle.ada_program.specs.declared.program.Exception.{Exception}
-use Rattle.ada_program.specs.Form.{ExpressionForm, ItemForm, RightForm, StmtForm, skips, assigns, assigns_record, frees, gets, writes, writes_text, chooses, repeats, counts, exits, calls, returns, raises, encloses, StmtsForm, no_stmts, a_stmt, BranchesForm, otherwise, a_branch, HandlersForm, no_handlers, a_handler, DeclarationForm, collects, declares, declares_record}
+use Rattle.ada_program.specs.Form.{ActualForm, ExpressionForm, ItemForm, RightForm, StmtForm, skips, assigns, assigns_record, frees, gets, writes, writes_text, chooses, repeats, counts, exits, calls, returns, raises, encloses, StmtsForm, no_stmts, a_stmt, BranchesForm, otherwise, a_branch, HandlersForm, no_handlers, a_handler, DeclarationForm, collects, declares, declares_record}
 use Rattle.ada_program.specs.Handling.{some_takes, handler_of}
 use Rattle.ada_program.specs.ProgramForm.{TypeForm, BodyForm}
 use Rattle.ada_program.specs.Typed.{reached_of, words_of, width_of}
@@ -21,7 +21,7 @@ use Rattle.ada_meaning.specs.Frame.{Frame, is_master, is_loop, is_return, Landin
 use Rattle.ada_meaning.specs.Frame as frame
 use Rattle.ada_meaning.specs.State.{collection, Master, height, home_of}
 use Rattle.ada_meaning.specs.Heap.{Cell, Found, on_null, on_gone, on_other, finds}
-use Rattle.ada_meaning.specs.Step.{moves, at, older, owning, popped, held, newest, newest_ones, without_newest, initial_values, record_cell, made, record_next, before_last, last_of, assign_next, target_next, stored_next, store_next, frees_next, branches_next, decided_next, turn_next, repeats_next, turned_next, count_turn_next, ranges_next, gets_next, received_next, receive_next, exit_next, exited_next, begun, computing, call_next, stmt_next, stmts_next, line_next, declarations_next, frame_next, resumed, unwound, landed, pass_next, running_next, jump_next, mode_next}
+use Rattle.ada_meaning.specs.Step.{moves, at, older, owning, popped, held, newest, newest_ones, without_newest, initial_values, record_cell, made, record_next, before_last, last_of, assign_next, target_next, stored_next, store_next, frees_next, branches_next, decided_next, turn_next, repeats_next, turned_next, count_turn_next, ranges_next, gets_next, received_next, receive_next, exit_next, exited_next, begun, computing, call_next, stmt_next, stmts_next, line_next, declarations_next, frame_next, resumed, returned, left_by, unwound, landed, pass_next, running_next, jump_next, mode_next}
 use Rattle.ada_meaning.specs.Named.{Object, State, next, named, look, lent, an_integer, filled, reads_boolean, reads_null, reads_integer, unary_given, binary_given}
 use Rattle.ada_scopes.proofs.Counts.{one, times, opened, Scopes, scopes, all_of}
 use Rattle.ada_scopes.proofs.Texts.{StatementNests, StatementsNest, BranchesNest, HandlersNest, BodyNests, BodiesNest}
@@ -119,24 +119,24 @@ module _ (types : List TypeForm) (callees : Callees) (bodies : List BodyForm) (n
   exited_good (Some false) s h = standing h.0 h.1
 
   -- A call: its actual parameters are evaluated before its body begins, which nests where it is called.
-  computing_nests : (es : List ExpressionForm) (ss : Scopes) (k : List (Frame Value)) → Nests types callees ss k → Nests types callees ss (computing named es k)
+  computing_nests : (actuals : List ActualForm) (ss : Scopes) (k : List (Frame Value)) → Nests types callees ss k → Nests types callees ss (computing named actuals k)
   computing_nests [] ss k n = n
-  computing_nests (e ∷ es) ss k n = (tt, computing_nests es ss k n)
+  computing_nests (a ∷ rest) ss k n = (tt, computing_nests rest ss k n)
 
-  call_good : (procedure : ℕ) (actuals : List ExpressionForm) (body : Option BodyForm) (s : State) (around : List ℕ) → slice_get bodies procedure ≡ body → Alike around (all_of (scopes s.masters)) → call_nests (slice_get callees procedure) around ≡ true → Stands types callees s → Good types callees (call_next named procedure actuals body s)
+  call_good : (procedure : ℕ) (actuals : List ActualForm) (body : Option BodyForm) (s : State) (around : List ℕ) → slice_get bodies procedure ≡ body → Alike around (all_of (scopes s.masters)) → call_nests (slice_get callees procedure) around ≡ true → Stands types callees s → Good types callees (call_next named procedure actuals body s)
   call_good procedure actuals None s around at_body alike nest h = tt
   call_good procedure actuals (Some b) s around at_body alike nest h =
       standing h.0
-      (computing_nests actuals (scopes s.masters) (frame.Calls procedure b (length actuals) ∷ s.control) ((around, alike, nesting procedure b around at_body nest), h.1))
+      (computing_nests actuals (scopes s.masters) (frame.Calls procedure b actuals ∷ s.control) ((around, alike, nesting procedure b around at_body nest), h.1))
 
-  body_begins : (procedure : ℕ) (b : BodyForm) (values : List Value) (s : State) → s.mode ≡ Running → Where (all_of (scopes s.masters)) (λ around. BodyNests types callees around b) → Stands types callees s → Nested types callees (begun named procedure b values s)
-  body_begins procedure b values s runs nest h = beginning (record {
+  body_begins : (procedure : ℕ) (b : BodyForm) (actuals : List ActualForm) (values : List Value) (s : State) → s.mode ≡ Running → Where (all_of (scopes s.masters)) (λ around. BodyNests types callees around b) → Stands types callees s → Nested types callees (begun named procedure b actuals values s)
+  body_begins procedure b actuals values s runs nest h = beginning (record {
     m = record { number = s.next; items = [] };
     rest = s.masters;
     ds = b.declarations;
     fs = b.statements;
     hs = b.handlers;
-    k = frame.Returns ∷ s.control;
+    k = frame.Returns actuals ∷ s.control;
     there = collected b.declarations ++ nest.0;
     masters = refl;
     control = refl;
@@ -222,8 +222,8 @@ module _ (types : List TypeForm) (callees : Callees) (bodies : List BodyForm) (n
   frame_good definitions (frame.Handles hs) s runs w nest n = standing w n
   frame_good definitions frame.Closes s runs w nest n = parting (whole_parts types s.masters s.heap w) runs n
   frame_good definitions (frame.Leaves mode) s runs w nest n = absurd nest
-  frame_good definitions (frame.Calls procedure b count) s runs w nest n = body_begins procedure b (newest_ones named count s) s runs nest (w, n)
-  frame_good definitions frame.Returns s runs w nest n = standing w n
+  frame_good definitions (frame.Calls procedure b actuals) s runs w nest n = body_begins procedure b actuals (newest_ones named (length actuals) s) s runs nest (w, n)
+  frame_good definitions (frame.Returns actuals) s runs w nest n = standing w n
   frame_good definitions (frame.Evaluates right) s runs w nest n = right_good types callees definitions right s (w, n)
   frame_good definitions (frame.Computes e) s runs w nest n = expression_good types callees e s (w, n)
   frame_good definitions (frame.Follows cs) s runs w nest n = path_good types callees cs (newest named s) (popped s) (w, n)
@@ -295,8 +295,15 @@ module _ (types : List TypeForm) (callees : Callees) (bodies : List BodyForm) (n
   pass_good true l mode s lands w n = parting (whole_parts types s.masters s.heap w) refl n
   pass_good false l mode s lands w n = landed_good l s lands (w, n)
 
-  unwound_good : (f : Frame Value) (mode : Mode) (s : State) → LandsHere (all_of (scopes s.masters)) (landing mode f) → Whole types s.masters s.heap → Nests types callees (behind (is_master f) (scopes s.masters)) s.control → Good types callees (pass_next named (is_master f) (landing mode f) mode (unwound f s))
-  unwound_good frame.Returns mode s lands w n = pass_good false (landing {V = Value} mode frame.Returns) mode (resumed s) lands w n
+  -- The end of a call changes nothing but the activations.
+  left_good : (mode : Mode) (actuals : List ActualForm) (l : Landing) (s : State) → LandsHere (all_of (scopes s.masters)) l → Whole types s.masters s.heap → Nests types callees (scopes s.masters) s.control → Good types callees (pass_next named false l mode (left_by mode actuals s))
+  left_good Running actuals l s lands w n = pass_good false l Running (resumed s) lands w n
+  left_good (Raising e) actuals l s lands w n = pass_good false l (Raising e) (resumed s) lands w n
+  left_good Exiting actuals l s lands w n = pass_good false l Exiting (resumed s) lands w n
+  left_good Returning actuals l s lands w n = pass_good false l Returning (returned actuals s) lands w n
+
+  unwound_good : (f : Frame Value) (mode : Mode) (s : State) → LandsHere (all_of (scopes s.masters)) (landing mode f) → Whole types s.masters s.heap → Nests types callees (behind (is_master f) (scopes s.masters)) s.control → Good types callees (pass_next named (is_master f) (landing mode f) mode (unwound mode f s))
+  unwound_good (frame.Returns actuals) mode s lands w n = left_good mode actuals (landing {V = Value} mode (frame.Returns actuals)) s lands w n
   unwound_good f mode s lands w n = pass_good (is_master f) (landing mode f) mode s lands w n
 
   jump_good : (mode : Mode) (k : List (Frame Value)) (s : State) → Whole types s.masters s.heap → Nests types callees (scopes s.masters) k → Good types callees (jump_next named mode k s)

@@ -5,11 +5,10 @@ use Rattle.std.specs.Prelude.{is_some}
 use Rattle.std.proofs.lemmas.Bool.{eqb-true}
 use Rattle.std.proofs.lemmas.List.Sums.{sum_by-cons}
 use Rattle.std.specs.List.{slice_get, list_all}
-use Rattle.ada_program.specs.declared.program.VariableKind.{VariableKind}
 use Rattle.ada_program.specs.declared.program.ScalarType.TheVariants.{Integer, Boolean}
 use Rattle.ada_program.specs.Form.{DeclarationForm, collects, declares, declares_record, StmtForm, skips, assigns, assigns_record, frees, gets, writes, writes_text, chooses, repeats, counts, exits, calls, returns, raises, encloses, StmtsForm, no_stmts, a_stmt, BranchesForm, otherwise, a_branch, HandlersForm, no_handlers, a_handler}
 use Rattle.ada_program.specs.ProgramForm.{TypeForm, record_of, access_to, object_of, VariableForm, BodyForm, ProgramForm}
-use Rattle.ada_program.specs.WellFormed.{IsWellFormed, all_creations, Creation, of_collection, of_variable, creation, created_by, created_by_all, created_by_branches, created_by_handlers, is_access, designated_in, collections_first, collection_fits, is_collection, has_collections, has_type, variable_fits, is_record_object, record_initial_fits, initial_fits, declarations_fit, is_type, scalar_of, variable_kind, condition_fits, has_statement, choice_fits, statement_fits, stmts_fit, branches_fit, handlers_fit, reached_components}
+use Rattle.ada_program.specs.WellFormed.{IsWellFormed, Profile, all_creations, Creation, of_collection, of_variable, creation, created_by, created_by_all, created_by_branches, created_by_handlers, is_access, designated_in, collections_first, collection_fits, is_collection, has_collections, has_type, variable_fits, is_record_object, record_initial_fits, initial_fits, declarations_fit, is_type, scalar_of, variable_kind, condition_fits, has_statement, choice_fits, statement_fits, stmts_fit, branches_fit, handlers_fit, reached_components}
 use Rattle.ada_program.specs.Nested.{Callees, call_nests, collected, record_objects, is_one_of, are_open, collection_nests, record_nests, part_nests, statement_nests, statements_nest, branches_nest, handlers_nest}
 use Rattle.ada_typed.proofs.Objects.{record_no_access}
 use Rattle.ada_scopes.proofs.Counts.{and_left, and_right, one, times, times_of, times_none, all_times}
@@ -206,7 +205,7 @@ abbrev pub CallsNest : Callees → Callees → Type 0
 CallsNest before callees = (procedure : ℕ) (around : List ℕ) → call_nests (slice_get before procedure) around ≡ true → call_nests (slice_get callees procedure) around ≡ true
 
 -- So it is of statements.
-module _ (types : List TypeForm) (variables : List VariableForm) (texts exceptions : List (List ℕ)) (callable : List (List VariableKind)) (right : list_all (variable_fits types) variables ≡ true) (before callees : Callees) (more : CallsNest before callees) where
+module _ (types : List TypeForm) (variables : List VariableForm) (texts exceptions : List (List ℕ)) (callable : List Profile) (right : list_all (variable_fits types) variables ≡ true) (before callees : Callees) (more : CallsNest before callees) where
   mutual
     statement_holds : (f : StmtForm) (inside : Bool) (around : List ℕ) → statement_fits types variables texts exceptions callable inside f ≡ true → Once types (created_by f) → statement_nests types before around f ≡ true → StatementNests types callees around f
     statement_holds skips inside around fits once nests = tt

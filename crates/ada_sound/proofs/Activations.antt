@@ -1,9 +1,7 @@
 -- What a call and its return do to what is relied on: the caller's variables are those of a suspended activation meanwhile.
 
-use Rattle.std.proofs.Common.{◌≡◌, ◌≢◌, ℕ, zero, suc, Bool, true, List, [], ◌∷◌, refl, sym, ap, ◌∙◌}
-use Rattle.std.specs.Prelude.{Option, Some, None}
+use Rattle.std.proofs.Common.{◌≡◌, ◌≢◌, ℕ, zero, suc, Bool, true, List, ◌∷◌, refl, ap}
 use Rattle.ada_program.specs.ProgramForm.{TypeForm, VariableForm}
-use Rattle.ada_flow.specs.declared.rule.Hold.{Hold}
 use Rattle.ada_flow.specs.declared.rule.Hold.TheVariants as hold
 use Rattle.ada_flow.specs.Flow.{Holds, hold_at}
 use Rattle.ada_meaning.specs.declared.state.Id.{Id}
@@ -11,7 +9,7 @@ use Rattle.ada_meaning.specs.declared.state.Value.{Value}
 use Rattle.ada_meaning.specs.declared.state.Value.TheVariants.{Null, Names}
 use Rattle.ada_meaning.specs.Named.{Object}
 use Rattle.ada_owners.specs.Places.{Place, variable, component, elsewhere, value_at, access_at}
-use Rattle.ada_owners.specs.Reliance.{Says, Owns, kind_of, Fits}
+use Rattle.ada_owners.specs.Reliance.{Says, Owns, kind_of}
 use Rattle.ada_owners.proofs.Calls.{as_callee, as_caller}
 use Rattle.ada_owners.proofs.Kernel as kernel
 use Rattle.ada_sound.proofs.Fits.{Outer, kinds_of, stacked, hold_in, IsBlank, place_at, is_object, Fit}

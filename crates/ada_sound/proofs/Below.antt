@@ -1,7 +1,7 @@
 -- What callers rely on lies in masters that were entered before their calls: none of it goes while a body is left.
 
-use Rattle.std.proofs.Common.{◌≡◌, ℕ, zero, suc, ◌≤◌, ◌<◌, ◌+◌, Bool, true, false, ◌||◌, List, [], ◌∷◌, ◌++◌, length, refl, sym, ◌∙◌, arith, length-append}
-use Rattle.std.specs.Prelude.{Option, Some, None, ◌==◌}
+use Rattle.std.proofs.Common.{◌≡◌, ℕ, zero, suc, ◌≤◌, Bool, true, false, List, [], ◌∷◌, ◌++◌, length, refl, sym, ◌∙◌, arith, length-append}
+use Rattle.std.specs.Prelude.{Some, ◌==◌}
 use Rattle.std.specs.List.{slice_get}
 use Rattle.std.proofs.lemmas.Bool.{eqb-true}
 use Rattle.ada_program.specs.ProgramForm.{ProgramForm}
@@ -13,12 +13,11 @@ use Rattle.ada_meaning.specs.Frame.{Leaves}
 use Rattle.ada_meaning.specs.State.{Item, Master, height}
 use Rattle.ada_meaning.specs.Law.{items_of}
 use Rattle.ada_meaning.specs.Named.{Object, object_at}
-use Rattle.ada_scopes.specs.Scopes.{is_number_of, is_innermost}
-use Rattle.ada_sound.proofs.Fits.{Outer, outer_hold, outer_value, IsRelied}
+use Rattle.ada_scopes.specs.Scopes.{is_number_of}
+use Rattle.ada_sound.proofs.Fits.{outer_hold, outer_value, IsRelied}
 use Rattle.ada_sound.proofs.Items.{Counted, height_is}
-use Rattle.ada_sound.proofs.Stored.{Stored}
 use Rattle.ada_sound.proofs.Leavings.{NamedBelow}
-use Rattle.ada_sound.proofs.Invariant.{Known, Control, Caller, Rooms, Roomed, RunsOn, Parting, Waits, AllWait, LieBelow, below, below_callers, outers, outer_in}
+use Rattle.ada_sound.proofs.Invariant.{Known, Control, Caller, Rooms, Roomed, RunsOn, Parting, AllWait, LieBelow, below, below_callers, outers, outer_in}
 
 -- Masters with rooms stand above those of the callers.
 roomed_high : (below ms : List Master) (rooms : Rooms) → Roomed below ms rooms → height below ≤ height ms

@@ -1,12 +1,10 @@
 -- Procedures of a program: what is known of their calls, by the procedures before them, and that each body breaks no rule.
 
-use Rattle.std.proofs.Common.{◌≡◌, ℕ, zero, suc, ◌+◌, ◌<◌, Bool, true, false, List, [], ◌∷◌, ◌++◌, length, take, refl, sym, ap, ◌∙◌, arith, length-append}
+use Rattle.std.proofs.Common.{◌≡◌, ℕ, zero, suc, ◌+◌, Bool, true, false, List, [], ◌∷◌, ◌++◌, length, take, refl, sym, ap, arith, length-append}
 use Rattle.std.specs.Prelude.{Option, Some, None, if◌then◌else◌}
 use Rattle.std.specs.List.{slice_get}
-use Rattle.ada_text.specs.declared.spot.Spot.{Spot}
 use Rattle.ada_program.specs.ProgramForm.{TypeForm, BodyForm, ProgramForm, main_body, seen_by, seen_in}
 use Rattle.ada_effects.specs.Effects.{Effect, effect_of, effects_from, effects_of}
-use Rattle.ada_flow.specs.declared.rule.Rule.{Rule}
 use Rattle.ada_flow.specs.Flow.{Holds, Outcome, faults, goes, body_flow, first_fault, bodies_flow, flow_of, is_left_of}
 use Rattle.ada_sound.proofs.Objects.{get_more, get_new}
 

@@ -1,27 +1,25 @@
 -- A body runs from where nothing is known of its variables: it breaks no rule, and ends as its caller waits for it.
 
-use Rattle.std.proofs.Common.{◌≡◌, ℕ, zero, suc, Bool, true, false, ◌||◌, List, [], ◌∷◌, refl, sym, subst}
+use Rattle.std.proofs.Common.{◌≡◌, ℕ, zero, suc, Bool, true, false, ◌||◌, List, [], ◌∷◌, refl}
 use Rattle.std.specs.Prelude.{Option, Some, None}
-use Rattle.std.specs.List.{slice_get}
 use Rattle.ada_program.specs.declared.program.Exception.{Exception}
 use Rattle.ada_program.specs.declared.program.Program.{Program}
 use Rattle.ada_program.specs.Handling.{is_same}
-use Rattle.ada_program.specs.ProgramForm.{TypeForm, VariableForm, BodyForm, ProgramForm, program_form, main_body, seen_by, seen_in}
-use Rattle.ada_program.specs.WellFormed.{access_of}
-use Rattle.ada_effects.specs.Effects.{Effect, untaken, declarations_raise, stmts_raise, handlers_raise, passes, stmts_free, handlers_free, call_frees, body_frees, effect_of, effects_from, effects_of}
+use Rattle.ada_program.specs.ProgramForm.{VariableForm, ProgramForm, main_body}
+use Rattle.ada_effects.specs.Effects.{Effect, untaken, declarations_raise, stmts_raise, handlers_raise, stmts_free, handlers_free, call_frees, body_frees, effects_of}
 use Rattle.ada_flow.specs.declared.rule.Hold.{Hold}
 use Rattle.ada_flow.specs.declared.rule.Hold.TheVariants as hold
-use Rattle.ada_flow.specs.Flow.{Holds, Outcome, goes, hold_at, variable_access, without_alias, is_freed, without_freed, left_by_call, left, gone_with, nothing_gone, collected, have_exit, handlers_have_exit, body_flow, first_holds}
-use Rattle.ada_meaning.specs.Frame.{Elaborates, Returns}
+use Rattle.ada_flow.specs.Flow.{Holds, hold_at, variable_access, without_alias, without_freed, left_by_call, left, gone_with, nothing_gone, collected, have_exit, handlers_have_exit, body_flow, first_holds}
+use Rattle.ada_meaning.specs.Frame.{Elaborates}
 use Rattle.ada_owners.specs.Reliance.{Borrows}
-use Rattle.ada_sound.proofs.Fits.{Outer, outer_access, outer_hold, NoOuterAlias}
+use Rattle.ada_sound.proofs.Fits.{Outer, NoOuterAlias}
 use Rattle.ada_sound.proofs.Outcomes.{goes_map, to_here}
 use Rattle.ada_sound.proofs.Leavings.{all_among}
 use Rattle.ada_sound.proofs.Raising.{or_left, or_right}
 use Rattle.ada_sound.proofs.Nestings.{part_from}
-use Rattle.ada_sound.proofs.Bodies.{IsFine, effect_at, callee_sees}
-use Rattle.ada_sound.proofs.Invariant.{Known, Control, Rooms, Goes, GoesBy, To, Ways, Raised, Outside, RunsOn, Spares, Where, body_among, outers, ways, at_end, returning}
-use Rattle.ada_sound.proofs.Callers.{Suspension, rest_of, callers_of, known_in}
+use Rattle.ada_sound.proofs.Bodies.{IsFine}
+use Rattle.ada_sound.proofs.Invariant.{Known, Goes, GoesBy, To, Ways, Raised, Outside, RunsOn, Spares, Where, body_among, ways}
+use Rattle.ada_sound.proofs.Callers.{Suspension, rest_of, known_in}
 
 -- What obeys the rules breaks none.
 pub goes_anywhere : (normal : Option Holds) → GoesBy normal (λ holds. Unit {0})
@@ -45,7 +43,7 @@ module _ (program : Program) (procedure : Option ℕ) (gs : List Suspension) whe
 
   ends : (gs : List Suspension) (holds : Holds) → (ways (known_in program procedure gs) (rest_of gs) []).normal holds
   ends [] holds = tt
-  ends (g ∷ gs) holds = refl
+  ends (g ∷ gs) holds = (refl, refl)
 
   raises : (gs : List Suspension) (e : Exception) (holds : Holds) → body_among p e ≡ true → (ways (known_in program procedure gs) (rest_of gs) []).raised e holds
   raises [] e holds may = tt
@@ -53,7 +51,7 @@ module _ (program : Program) (procedure : Option ℕ) (gs : List Suspension) whe
 
   returns : (gs : List Suspension) (holds : Holds) → (ways (known_in program procedure gs) (rest_of gs) []).returned holds
   returns [] holds = tt
-  returns (g ∷ gs) holds = refl
+  returns (g ∷ gs) holds = (refl, refl)
 
   abbrev outside : Ways
   outside = Outside p.variables (gone_with p.declarations) behind

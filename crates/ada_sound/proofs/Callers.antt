@@ -1,8 +1,9 @@
 -- Bodies of one program that have called one another: what is known of each.
 
 use Rattle.std.proofs.Common.{◌≡◌, ℕ, List, [], ◌∷◌}
-use Rattle.std.specs.Prelude.{Option, Some, None}
+use Rattle.std.specs.Prelude.{Option}
 use Rattle.ada_program.specs.declared.program.Program.{Program}
+use Rattle.ada_program.specs.Form.{ActualForm}
 use Rattle.ada_program.specs.ProgramForm.{program_form, seen_in}
 use Rattle.ada_flow.specs.Flow.{Holds}
 use Rattle.ada_meaning.specs.declared.state.Value.{Value}
@@ -14,10 +15,11 @@ use Rattle.ada_sound.specs.Agreement.{Turning, IsFlowAt, IsBehind, running_proce
 use Rattle.ada_sound.proofs.Bodies.{IsBody}
 use Rattle.ada_sound.proofs.Invariant.{Control, Rooms, Caller, Known, Standing}
 
--- A suspended activation: of which body it is, what is left to do once its call has come to its end, the masters that are entered then, and their rooms;
--- what its variables hold, and what is known of them behind the call.
+-- A suspended activation: of which body it is, what its call gives, what is left to do once that has come to its end, the masters that are entered then, and
+-- their rooms; what its variables hold, and what is known of them behind the call.
 pub record Suspension : Type 0 where
   pub procedure : Option ℕ
+  pub actuals : List ActualForm
   pub control : Control
   pub masters : List Master
   pub rooms : Rooms
@@ -27,7 +29,7 @@ pub record Suspension : Type 0 where
 -- What is left to do behind a body, by the activation that called it.
 abbrev pub rest_of : List Suspension → Control
 rest_of [] = []
-rest_of (g ∷ gs) = Returns ∷ g.control
+rest_of (g ∷ gs) = Returns g.actuals ∷ g.control
 
 -- Flow comes to a place on some way from the declarations of a body.
 abbrev pub Reaches : Program → (procedure : Option ℕ) → (rest : Control) → Control → Holds → Type 0
@@ -38,6 +40,7 @@ abbrev pub caller_of : Program → Suspension → List Suspension → Caller
 caller_of program g gs = record {
   program = seen_in g.procedure (program_form program);
   At = Reaches program g.procedure (rest_of gs);
+  actuals = g.actuals;
   control = g.control;
   masters = g.masters;
   rooms = g.rooms;

@@ -1,14 +1,15 @@
 -- The body of a procedure begins: what its caller knows waits for the end of the call.
 
-use Rattle.std.proofs.Common.{◌≡◌, ◌≢◌, ℕ, zero, suc, ◌≤◌, ◌<◌, Bool, true, false, List, [], ◌∷◌, length, refl, sym, ◌∙◌, subst, arith}
+use Rattle.std.proofs.Common.{◌≡◌, ℕ, zero, suc, ◌≤◌, Bool, true, false, List, [], ◌∷◌, length, refl, sym, ◌∙◌, subst, arith}
 use Rattle.std.specs.Prelude.{Option, Some, None}
 use Rattle.std.specs.List.{slice_get}
 use Rattle.std.proofs.Math.ListN.{replicate}
 use Rattle.ada_program.specs.declared.program.Exception.{Exception}
 use Rattle.ada_program.specs.declared.program.Program.{Program}
 use Rattle.ada_program.specs.Handling.{is_same}
-use Rattle.ada_program.specs.ProgramForm.{TypeForm, VariableForm, BodyForm, ProgramForm, program_form, main_body, seen_by, seen_in}
-use Rattle.ada_effects.specs.Effects.{Effect, call_raises, call_frees, body_raises, body_frees, effect_of, effects_from, effects_of}
+use Rattle.ada_program.specs.Form.{ActualForm}
+use Rattle.ada_program.specs.ProgramForm.{TypeForm, VariableForm, BodyForm, program_form, main_body}
+use Rattle.ada_effects.specs.Effects.{Effect, call_raises, call_frees, body_frees, effects_of}
 use Rattle.ada_flow.specs.declared.rule.Hold.{Hold}
 use Rattle.ada_flow.specs.declared.rule.Hold.TheVariants as hold
 use Rattle.ada_flow.specs.declared.rule.Region.TheVariants.{Whole}
@@ -16,29 +17,28 @@ use Rattle.ada_flow.specs.Flow.{Holds, hold_at, is_as_good, without_alias, witho
 use Rattle.ada_program.specs.WellFormed.{access_of}
 use Rattle.ada_meaning.specs.declared.state.Id.{Id}
 use Rattle.ada_meaning.specs.declared.state.Value.{Value}
-use Rattle.ada_meaning.specs.declared.state.Value.TheVariants.{Null, Names}
+use Rattle.ada_meaning.specs.declared.state.Value.TheVariants.{Names}
 use Rattle.ada_meaning.specs.declared.state.Mode.TheVariants.{Running}
-use Rattle.ada_meaning.specs.declared.state.Stage.TheVariants.{Existing, Gone}
 use Rattle.ada_meaning.specs.Event.{Quiet}
-use Rattle.ada_meaning.specs.Frame.{Elaborates, Calls, Returns}
+use Rattle.ada_meaning.specs.Frame.{Elaborates, Returns}
 use Rattle.ada_meaning.specs.State.{Activation, Master, height}
-use Rattle.ada_meaning.specs.Step.{newest_ones, begun, given_places}
+use Rattle.ada_meaning.specs.Step.{begun, given_places}
 use Rattle.ada_meaning.specs.Law.{items_of}
 use Rattle.ada_meaning.specs.Named.{Object, State, named, object_at}
 use Rattle.ada_owners.specs.Places.{variable, access_at}
 use Rattle.ada_owners.specs.Reliance.{Says, IsOf}
 use Rattle.ada_owners.specs.Keeping.{IsThere}
 use Rattle.ada_owners.proofs.Reliances.{good_lost}
-use Rattle.ada_sound.specs.Agreement.{running_procedure}
-use Rattle.ada_sound.proofs.Fits.{Outer, none_spared, Fit, IsRelied, place_at, weaker_fit, there_by}
+use Rattle.ada_sound.proofs.Fits.{none_spared, Fit, IsRelied, place_at, weaker_fit, there_by}
 use Rattle.ada_sound.proofs.Items.{item_below, height_is}
 use Rattle.ada_sound.proofs.Stored.{Stored, Sane, stored_entered}
 use Rattle.ada_sound.proofs.Activations.{called_fit}
+use Rattle.ada_sound.proofs.GivenBack.{get_less}
 use Rattle.ada_sound.proofs.Outcomes.{to_here}
 use Rattle.ada_sound.proofs.Ready.{stays}
 use Rattle.ada_sound.proofs.Bodies.{effect_at, callee_get, callee_sees}
-use Rattle.ada_sound.proofs.Invariant.{Known, Control, Rooms, RunsOn, Working, CallsOn, Waits, Standing, body_among, below, outers, outer_of}
-use Rattle.ada_sound.proofs.Callers.{Suspension, caller_of, callers_of, known_in, AreOf, Stands}
+use Rattle.ada_sound.proofs.Invariant.{Known, Control, Rooms, RunsOn, Working, CallsOn, Waits, body_among, outers, outer_of}
+use Rattle.ada_sound.proofs.Callers.{Suspension, caller_of, callers_of, known_in, Stands}
 use Rattle.ada_sound.proofs.Returns.{Crosses, same_types}
 
 -- Nothing is known of the variables of a body that begins.
@@ -93,7 +93,7 @@ relied_says heap (hold.Own r) kind o relied s = s
 relied_says heap (hold.Alias r) kind o relied s = s
 relied_says heap hold.Lost kind o relied s = absurd relied
 
-module _ (program : Program) (number : ℕ) (b : BodyForm) (k : Control) (a : Activation Value) (rest : List (Activation Value)) (gs : List Suspension) (s : State) where
+module _ (program : Program) (number : ℕ) (b : BodyForm) (given : List ActualForm) (k : Control) (a : Activation Value) (rest : List (Activation Value)) (gs : List Suspension) (s : State) where
   abbrev pub caller : Known
   caller = known_in program a.procedure gs
 
@@ -101,6 +101,7 @@ module _ (program : Program) (number : ℕ) (b : BodyForm) (k : Control) (a : Ac
   abbrev pub suspended : Rooms → Holds → Suspension
   suspended rooms holds = record {
     procedure = a.procedure;
+    actuals = given;
     control = k;
     masters = s.masters;
     rooms = rooms;
@@ -109,7 +110,7 @@ module _ (program : Program) (number : ℕ) (b : BodyForm) (k : Control) (a : Ac
   }
 
   -- What is known of the caller's variables, once no more is relied on than behind the call.
-  module _ (w : Working caller s.heap a.places s.masters (CallsOn caller number b k)) where
+  module _ (w : Working caller s.heap a.places s.masters (CallsOn caller number b given k)) where
     abbrev pub waiting : Suspension
     waiting = suspended w.rooms w.holds
 
@@ -150,6 +151,7 @@ module _ (program : Program) (number : ℕ) (b : BodyForm) (k : Control) (a : Ac
         roomed = w.roomed;
         nulls = caller_fit.nulls;
         objects = caller_fit.objects;
+        lost = get_less given w.holds waiting.holds (call_good caller.program.variables (slice_get (effects_of caller.program) number) w.holds) w.rest.4;
       }
 
       caller_low : (x : ℕ) (o : Id) → IsRelied (hold_at waiting.holds x) → place_at a.places x ≡ Names o → (object : Object) × (object_at s.heap o ≡ Some object) × (suc object.cell.home.item ≤ height s.masters)
@@ -157,10 +159,10 @@ module _ (program : Program) (number : ℕ) (b : BodyForm) (k : Control) (a : Ac
           home_low s.heap s.masters o w.stored (there_by s.heap _ o (relied_says s.heap (hold_at waiting.holds x) _ o relied (caller_fit.owners.fit.relied (variable x) o names)))
 
       -- The body begins, if it runs from where nothing is known of its variables.
-      pub calls_fine : RunsOn callee (Elaborates b.declarations b.statements b.handlers ∷ Returns ∷ k) (gone_with b.declarations ∷ []) (first_holds b.variables) → (actuals : List Value) → Crosses program s.heap Quiet (begun named number b actuals (record s { activations = a ∷ rest; control = k; mode = Running }))
+      pub calls_fine : RunsOn callee (Elaborates b.declarations b.statements b.handlers ∷ Returns given ∷ k) (gone_with b.declarations ∷ []) (first_holds b.variables) → (actuals : List Value) → Crosses program s.heap Quiet (begun named number b given actuals (record s { activations = a ∷ rest; control = k; mode = Running }))
       calls_fine runs actuals = record {
         suspensions = waiting ∷ gs;
-        stepped = stays callee Quiet (begun named number b actuals (record s { activations = a ∷ rest; control = k; mode = Running })) (
+        stepped = stays callee Quiet (begun named number b given actuals (record s { activations = a ∷ rest; control = k; mode = Running })) (
           tt,
           record {
             rooms = gone_with b.declarations ∷ [];
@@ -173,7 +175,7 @@ module _ (program : Program) (number : ℕ) (b : BodyForm) (k : Control) (a : Ac
         ) tt;
         stands = record {
           body = (b, callee_get (program_form program) a.procedure number b stands.body w.rest.0);
-          behind = (k, refl);
+          behind = (given, k, refl);
           bodies = (refl, stands.body, stands.behind, stands.bodies);
           standing = record {
             suspended = (refl, refl, stands.standing.suspended);

@@ -4,6 +4,8 @@ use Rattle.std.proofs.Common.{◌≡◌, ◌≤◌, ℕ, true, false, List, [], 
 use Rattle.std.specs.Prelude.{None, pos}
 use Rattle.ada_values.specs.declared.operator.BinaryOperator.TheVariants as binary
 use Rattle.ada_values.specs.Outcome.{outcome_of}
+use Rattle.ada_program.specs.declared.program.Actual.TheVariants as actual
+use Rattle.ada_program.specs.declared.program.FormalMode.TheVariants.{In, InOut}
 use Rattle.ada_program.specs.declared.program.Expression.{Expression, Integer, Path as Reads}
 use Rattle.ada_program.specs.declared.program.Item.TheVariants as item
 use Rattle.ada_program.specs.declared.program.Right.TheVariants as right
@@ -17,7 +19,7 @@ use Rattle.ada_program.specs.declared.program.Stmt as stmt
 use Rattle.ada_program.specs.declared.program.Variable.{Variable}
 use Rattle.ada_program.specs.declared.program.VariableKind.TheVariants as variable
 use Rattle.ada_program.specs.declared.program.Program.{Program}
-use Rattle.ada_program.specs.Form.{stmt_forms, handler_forms, no_handlers, statement_rules, expression_rules}
+use Rattle.ada_program.specs.Form.{expression_form, stmt_forms, handler_forms, no_handlers, statement_rules, expression_rules}
 use Rattle.ada_program.specs.ProgramForm.{body_forms}
 use Rattle.ada_flow.specs.declared.rule.Hold.TheVariants as hold
 use Rattle.ada_flow.specs.declared.rule.Rule.TheVariants.{LostValue}
@@ -29,9 +31,9 @@ use Rattle.ada_meaning.specs.Run.{grants, takes}
 use Rattle.ada_sound.specs.Always.{IsChecked, FinishesAfter, Breaks, IsFineAtEnds, HaltsAfter}
 use Rattle.ada_sound.specs.Examples.{full, raising_handlers}
 use Rattle.ada_sound.specs.BorrowerExamples.{HasBorrower}
-use Rattle.ada_sound.specs.CallExamples.{showing_body, calling_bodies, calling_stmts, calling_handlers, calling_events, relending_stmts, relending_events, stopping_bodies, stopping_stmts, stopping_events}
+use Rattle.ada_sound.specs.CallExamples.{showing_body, calling_bodies, calling_stmts, calling_handlers, calling_events, relending_stmts, relending_events, giving_bodies, giving_stmts, giving_handlers, giving_events, stopping_bodies, stopping_stmts, stopping_events}
 use Rattle.ada_sound.proofs.Choices.{accepted_in, breaks_in, fine_at_ends_in, halts_after_in}
-use Rattle.ada_sound.proofs.Example.{steps, vec, no_name, spot, types, link, exceptions, declarations, with_number, x, y, value_of_x, value_of_y, x_is_seven, y_is_x}
+use Rattle.ada_sound.proofs.Example.{steps, vec, no_name, spot, types, link, exceptions, declarations, with_number, x, y, n, n_declared, value_of_x, value_of_y, x_is_seven, y_is_x}
 
 -- The formal parameter N, and the variable P behind it.
 abbrev an_integer : Variable
@@ -39,7 +41,7 @@ an_integer = record { name = no_name; spot = spot; kind = variable.Integer; borr
 
 -- A call.
 abbrev calls : ℕ → Expression → Stmt
-calls procedure actual = stmt.Call (record { 0 = procedure }) (vec (actual ∷ []) (omega arith))
+calls procedure e = stmt.Call (record { 0 = procedure }) (vec (actual.In e ∷ []) (omega arith))
 
 -- if N = n then .. end if;
 abbrev where_formal_is : ℕ → Stmt → Stmt
@@ -65,7 +67,7 @@ showing_all =
 
 abbrev showing : Procedure
 showing = record {
-  formals = 1;
+  formals = vec (In ∷ []) (omega arith);
   variables = vec (an_integer ∷ link ∷ []) (omega arith);
   declarations = vec (declaration.Variable (record { 0 = 1 }) None ∷ []) (omega arith);
   statements = vec showing_all (omega arith);
@@ -75,7 +77,7 @@ showing = record {
 -- procedure Show_Two (N : Integer) is begin Show (N); Show (N + 1); end Show_Two;
 abbrev showing_two : Procedure
 showing_two = record {
-  formals = 1;
+  formals = vec (In ∷ []) (omega arith);
   variables = vec (an_integer ∷ []) (omega arith);
   declarations = vec [] (omega arith);
   statements = vec (calls 0 (Reads x) ∷ calls 0 (with_number binary.Add 1 (Reads x)) ∷ []) (omega arith);
@@ -178,10 +180,73 @@ relends =
     halts_after_in relending (showing_body ∷ []) relending_stmts no_handlers relending_declares relending_form refl []
     (steps 16 ++ grants true ∷ steps 25 ++ grants true ∷ steps 35 ++ takes 0 ∷ steps 4) relending_events Finished refl refl refl
 
+-- procedure Inc (N : in out Integer) is begin N := N + 1; end Inc;
+abbrev incrementing : Procedure
+incrementing = record {
+  formals = vec (InOut ∷ []) (omega arith);
+  variables = vec (an_integer ∷ []) (omega arith);
+  declarations = vec [] (omega arith);
+  statements = vec (stmt.Assign x (right.Value (with_number binary.Add 1 (Reads x))) ∷ []) (omega arith);
+  handlers = vec [] (omega arith);
+}
+
+-- A call of such a procedure.
+abbrev gives_to : ℕ → Path → Stmt
+gives_to procedure path = stmt.Call (record { 0 = procedure }) (vec (actual.InOut path ∷ []) (omega arith))
+
+-- procedure Fail (N : in out Integer) is begin Inc (N); Put_Line (Integer'Image (N)); raise Full; end Fail;
+abbrev failing : Procedure
+failing = record {
+  formals = vec (InOut ∷ []) (omega arith);
+  variables = vec (an_integer ∷ []) (omega arith);
+  declarations = vec [] (omega arith);
+  statements = vec (gives_to 0 x ∷ stmt.PutImage (Reads x) ∷ stmt.Raise full ∷ []) (omega arith);
+  handlers = vec [] (omega arith);
+}
+
+-- when Full => Put_Line (Integer'Image (N));
+abbrev writing_handler : Handler
+writing_handler = record {
+  choices = vec (choice.Exception full ∷ []) (omega arith);
+  statements = vec (stmt.PutImage (Reads n) ∷ []) (omega arith);
+}
+
+-- N : Integer := 0; and Inc (N); Put_Line (Integer'Image (N)); Fail (N);
+abbrev pub giving : Program
+giving = record {
+  types = vec types (omega arith);
+  procedures = vec (incrementing ∷ failing ∷ []) (omega arith);
+  variables = vec (link ∷ link ∷ an_integer ∷ []) (omega arith);
+  texts = vec [] (omega arith);
+  exceptions = vec exceptions (omega arith);
+  declarations = vec (declarations ++ n_declared ∷ []) (omega arith);
+  statements = vec (gives_to 0 n ∷ stmt.PutImage (Reads n) ∷ gives_to 1 n ∷ []) (omega arith);
+  handlers = vec (writing_handler ∷ []) (omega arith);
+}
+
+pub giving_declares : body_forms giving ≡ giving_bodies
+giving_declares = simp (statement_rules, expression_rules)
+
+pub giving_form : stmt_forms giving ≡ giving_stmts
+giving_form = simp (statement_rules, expression_rules)
+
+pub giving_handles : handler_forms giving ≡ giving_handlers
+giving_handles = simp (statement_rules, expression_rules)
+
+pub giving_accepted : IsChecked giving
+unfolding uses_in expression_form
+giving_accepted = accepted_in giving giving_bodies giving_stmts giving_handlers giving_declares giving_form giving_handles _ _ refl refl refl
+
+-- The variable gets back what Inc leaves, and nothing where the exception leaves Fail.
+pub gives_back : FinishesAfter giving_events giving
+unfolding next outcome_of expression_form
+gives_back =
+    halts_after_in giving giving_bodies giving_stmts giving_handlers giving_declares giving_form giving_handles [] (steps 76) giving_events Finished refl refl refl
+
 -- procedure Stop is begin raise Full; end Stop;
 abbrev stopping_procedure : Procedure
 stopping_procedure = record {
-  formals = 0;
+  formals = vec [] (omega arith);
   variables = vec [] (omega arith);
   declarations = vec [] (omega arith);
   statements = vec (stmt.Raise full ∷ []) (omega arith);

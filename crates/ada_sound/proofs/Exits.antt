@@ -1,13 +1,12 @@
 -- No exit of a well-formed body leads out of the body: each stands inside a loop (5.7).
 
-use Rattle.std.proofs.Common.{◌≡◌, Bool, true, false, ◌&&◌, ◌||◌, List, [], ◌∷◌, refl}
+use Rattle.std.proofs.Common.{◌≡◌, Bool, true, false, ◌&&◌, ◌||◌, List, refl}
 use Rattle.std.proofs.lemmas.Bool.{and_parts}
 use Rattle.ada_program.specs.Form.{StmtForm, skips, assigns, assigns_record, frees, gets, writes, writes_text, chooses, repeats, counts, exits, calls, returns, raises, encloses, StmtsForm, no_stmts, a_stmt, BranchesForm, otherwise, a_branch, HandlersForm, no_handlers, a_handler}
-use Rattle.ada_program.specs.declared.program.VariableKind.{VariableKind}
 use Rattle.ada_program.specs.ProgramForm.{TypeForm, VariableForm}
 use Rattle.std.specs.Prelude.{ℕ}
 use Rattle.std.specs.List.{list_all}
-use Rattle.ada_program.specs.WellFormed.{has_type, has_statement, choice_fits, declarations_fit, statement_fits, stmts_fit, branches_fit, handlers_fit}
+use Rattle.ada_program.specs.WellFormed.{Profile, has_type, has_statement, choice_fits, declarations_fit, statement_fits, stmts_fit, branches_fit, handlers_fit}
 use Rattle.ada_program.specs.declared.program.ScalarType.TheVariants.{Boolean}
 use Rattle.ada_flow.specs.Flow.{has_exit, have_exit, branches_have_exit, handlers_have_exit}
 
@@ -15,7 +14,7 @@ use Rattle.ada_flow.specs.Flow.{has_exit, have_exit, branches_have_exit, handler
 neither : (a b : Bool) → a ≡ false → b ≡ false → (a || b) ≡ false
 neither a b e f = rw (e, f) refl
 
-module _ (types : List TypeForm) (variables : List VariableForm) (texts exceptions : List (List ℕ)) (callable : List (List VariableKind)) where
+module _ (types : List TypeForm) (variables : List VariableForm) (texts exceptions : List (List ℕ)) (callable : List Profile) where
   mutual
     no_exit : (f : StmtForm) → statement_fits types variables texts exceptions callable false f ≡ true → has_exit f ≡ false
     no_exit skips fits = refl

@@ -6,7 +6,7 @@ use Rattle.ada_text.specs.declared.spot.Spot.{Spot}
 use Rattle.std.specs.List.{list_any, slice_get, slice_set}
 use Rattle.ada_program.specs.declared.program.Exception.{Exception}
 use Rattle.ada_program.specs.declared.program.Exception.TheVariants.{ConstraintError, StorageError, EndError}
-use Rattle.ada_program.specs.Form.{PathForm, ExpressionForm, ItemForm, null_item, item_of_path, item_of_value, item_of_record, RightForm, nothing, value_of, allocates, allocates_default, computes, assigns, StmtsForm, a_stmt, BranchesForm, HandlersForm, DeclarationForm}
+use Rattle.ada_program.specs.Form.{ActualForm, PathForm, ExpressionForm, ItemForm, null_item, item_of_path, item_of_value, item_of_record, RightForm, nothing, value_of, allocates, allocates_default, computes, assigns, StmtsForm, a_stmt, BranchesForm, HandlersForm, DeclarationForm}
 use Rattle.ada_program.specs.declared.program.ComponentKind.{ComponentKind}
 use Rattle.ada_program.specs.ProgramForm.{TypeForm, VariableForm, BodyForm, ProgramForm, main_body}
 use Rattle.ada_program.specs.declared.program.VariableKind.{VariableKind}
@@ -28,6 +28,7 @@ use Rattle.ada_meaning.specs.declared.event.Halt.{Halt}
 use Rattle.ada_meaning.specs.declared.event.Halt.TheVariants.{Finished, Unhandled, Erroneous, Stuck, Memory}
 use Rattle.ada_meaning.specs.Frame.{Frame, Elaborates, Does, Decides, Repeats, Turns, Ranges, Counts, Exits, Handles, Closes, Leaves, Calls, Returns, Evaluates, Computes, Follows, TestsNull, Continues, Applies, AppliesAlone, Fills, Copies, Creates, Stores, Targets, StoresIn, TargetsRecord, StoresRecord, Receives, FreesIn, Declares, DeclaresRecord, Writes, Ends, GivesBack, Clears, ClearsIn}
 use Rattle.ada_meaning.specs.Event.{Born, Finalized, Back, Followed, Left, Line, Quiet}
+use Rattle.ada_meaning.specs.Calls.{IsGiven}
 use Rattle.ada_meaning.specs.State.{Activation, Owned, declared, collection, record_object, Item, Master, height}
 use Rattle.ada_meaning.specs.Heap.{Home, finds}
 use Rattle.ada_meaning.specs.Step.{halts, moves, tells, asks, picks, first_or, older, in_front, before_last, last_of, places, operands}
@@ -67,11 +68,13 @@ Roomed below ms [] = ms ≡ below
 Roomed below [] (gone ∷ rooms) = ⊥
 Roomed below (m ∷ ms) (gone ∷ rooms) = ItemsAmong m.items gone.types × Roomed below ms rooms
 
--- A caller, whose activation is suspended: the program as its body sees it, and what is known where flow comes to a place in it; what is left to do once
--- its call has come to its end, the masters that are entered then, and their rooms; what its variables hold, and what is known of them behind the call.
+-- A caller, whose activation is suspended: the program as its body sees it, and what is known where flow comes to a place in it; what its call gives, what is
+-- left to do once that has come to its end, the masters that are entered then, and their rooms; what its variables hold, and what is known of them behind
+-- the call.
 pub record Caller : Type 1 where
   pub program : ProgramForm
   pub At : Control → Holds → Type 0
+  pub actuals : List ActualForm
   pub control : Control
   pub masters : List Master
   pub rooms : Rooms
@@ -274,21 +277,21 @@ abbrev pub body_among : ProgramForm → Exception → Bool
 body_among p e = body_raises (effects_of p) (main_body p) (is_same e)
 
 -- The body of a call comes to its end: its caller goes on with what it was to do.
-abbrev pub returning : ProgramForm → List Caller → Control → Ways
-returning p [] k = nowhere
-returning p (w ∷ ws) k = record {
-  normal = λ holds. k ≡ w.control;
+abbrev pub returning : ProgramForm → List Caller → List ActualForm → Control → Ways
+returning p [] actuals k = nowhere
+returning p (w ∷ ws) actuals k = record {
+  normal = λ holds. (actuals ≡ w.actuals) × (k ≡ w.control);
   raised = λ e holds. (body_among p e ≡ true) × (k ≡ w.control);
   exited = λ holds. ⊥;
-  returned = λ holds. k ≡ w.control;
+  returned = λ holds. (actuals ≡ w.actuals) × (k ≡ w.control);
 }
 
 -- What is left to do, by the mode that it is come to in. A form that waits for a value is passed by a jump alone.
 abbrev pub ways : Known → Control → Rooms → Ways
 ways known [] [] = at_end known.callers
 ways known [] (gone ∷ rooms) = nowhere
-ways known (Returns ∷ k) [] = returning known.program known.callers k
-ways known (Returns ∷ k) (gone ∷ rooms) = nowhere
+ways known (Returns actuals ∷ k) [] = returning known.program known.callers actuals k
+ways known (Returns actuals ∷ k) (gone ∷ rooms) = nowhere
 ways known (Elaborates ds fs hs ∷ k) [] = nowhere
 ways known (Elaborates ds fs hs ∷ k) (gone ∷ rooms) = record (Outside known.program.variables gone (ways known k rooms)) {
   normal = λ holds. AllAmong (collected ds) gone.types × Elaborating known ds (Doing known fs (Handles hs ∷ Closes ∷ k) (Handled known hs (Closes ∷ k) (Outside known.program.variables gone (ways known k rooms)))) (Outside known.program.variables gone (ways known k rooms)) holds;
@@ -592,14 +595,19 @@ TurningOn known e body k rooms holds =
 abbrev pub ExitingTo : Known → Control → Rooms → Holds → Type 0
 ExitingTo known k rooms holds = RunsOn known k rooms holds × (ways known k rooms).exited holds
 
+-- Nothing relies on the variables that get back what formal parameters hold.
+abbrev pub GetLost : List ActualForm → Holds → Type 0
+GetLost actuals holds = (x : ℕ) → IsGiven x actuals → hold_at holds x ≡ hold.Lost
+
 -- A call is next (6.4): of a procedure that the running body may call. Behind it, and where it raises an exception, aliases of what it frees are lost.
-abbrev pub CallsOn : Known → (procedure : ℕ) → BodyForm → Control → Rooms → Holds → Type 0
-CallsOn known procedure b k rooms holds =
+abbrev pub CallsOn : Known → (procedure : ℕ) → BodyForm → List ActualForm → Control → Rooms → Holds → Type 0
+CallsOn known procedure b actuals k rooms holds =
     (slice_get known.program.bodies procedure ≡ Some b)
     × RunsOn known k rooms (left_by_call known.program.variables (slice_get (effects_of known.program) procedure) holds)
     × ((e : Exception) → call_raises (slice_get (effects_of known.program) procedure) (is_same e) ≡ true
     → To ((ways known k rooms).raised e) (left_by_call known.program.variables (slice_get (effects_of known.program) procedure) holds))
     × Spares known (call_frees (slice_get (effects_of known.program) procedure))
+    × GetLost actuals holds
 
 -- What is left of an expression, or of an allocator's items, breaks no rule; and nothing relies on an expression's value. These are the operands
 -- below the one that is awaited.
@@ -622,7 +630,7 @@ Awaits known heap places below (AppliesAlone operator ∷ k) rooms holds =
 Awaits known heap places below (Fills items ∷ k) rooms holds = (v : Value) → FillsTo known heap places items k (v ∷ below) rooms holds
 Awaits known heap places below (Stores x ∷ k) rooms holds = RunsOn known k rooms (slice_set holds x hold.Lost)
 Awaits known heap places below (Declares x ∷ k) rooms holds = HasRoom rooms × RunsOn known k rooms (slice_set holds x hold.Lost)
-Awaits known heap places below (Calls procedure b count ∷ k) rooms holds = CallsOn known procedure b k rooms holds
+Awaits known heap places below (Calls procedure b actuals ∷ k) rooms holds = CallsOn known procedure b actuals k rooms holds
 Awaits known heap places below (StoresIn o c ∷ k) rooms holds = Accepts known heap o c None × RunsOn known k rooms holds
 Awaits known heap places below (Writes ∷ k) rooms holds = RunsOn known k rooms holds
 Awaits known heap places below (f ∷ k) rooms holds = ⊥
@@ -815,8 +823,8 @@ ReadyBy known (Counts x next last body) k heap places operands masters = Working
 ReadyBy known Exits k heap places operands masters = Working known heap places masters (ExitingTo known k)
 ReadyBy known (Handles hs) k heap places operands masters = Working known heap places masters (RunsOn known (Handles hs ∷ k))
 ReadyBy known Closes k heap places operands masters = Working known heap places masters (RunsOn known (Closes ∷ k))
-ReadyBy known (Calls procedure b count) k heap places operands masters = Working known heap places masters (CallsOn known procedure b k)
-ReadyBy known Returns k heap places operands masters = Working known heap places masters (RunsOn known (Returns ∷ k))
+ReadyBy known (Calls procedure b actuals) k heap places operands masters = Working known heap places masters (CallsOn known procedure b actuals k)
+ReadyBy known (Returns actuals) k heap places operands masters = Working known heap places masters (RunsOn known (Returns actuals ∷ k))
 ReadyBy known (Leaves mode) k heap places operands masters = Parting known heap places masters (RunsOn known (Leaves mode ∷ k))
 ReadyBy known (Evaluates right) k heap places operands masters = EvaluatesTo known right k heap places masters
 ReadyBy known (Computes e) k heap places operands masters = Working known heap places masters (Computing known heap places operands e k)
@@ -872,13 +880,14 @@ abbrev pub known_of : Caller → List Caller → Known
 known_of w ws = record { program = w.program; At = w.At; callers = ws }
 
 -- A caller waits for a body: it goes on with what is known of its variables, behind the call and where the body raises an exception; its masters have their
--- rooms; what is called null is null, and a record object that is not lost is there.
+-- rooms; what is called null is null, and a record object that is not lost is there; and nothing relies on the variables that get something back.
 pub record Waits (body : ProgramForm) (w : Caller) (ws : List Caller) : Type 0 where
   pub goes_on : To (RunsOn (known_of w ws) w.control w.rooms) w.holds
   pub raises : (e : Exception) → body_among body e ≡ true → To ((ways (known_of w ws) w.control w.rooms).raised e) w.holds
   pub roomed : Roomed (below_callers ws) w.masters w.rooms
   pub nulls : (x : ℕ) → IsBlank (hold_at w.holds x) (place_at w.places x)
   pub objects : (x : ℕ) → is_object w.program.variables x ≡ true → hold_at w.holds x ≢ hold.Lost → place_at w.places x ≢ Null
+  pub lost : GetLost w.actuals w.holds
 
 -- So does each caller, for the body that it called.
 abbrev pub AllWait : ProgramForm → List Caller → Type 0

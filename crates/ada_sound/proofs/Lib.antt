@@ -70,6 +70,8 @@ pub mod Releases
 pub mod Records
 -- records are copied and assigned to as wholes
 pub mod Wholes
+-- what variables get back from a call
+pub mod GivenBack
 -- calls begin
 pub mod CallStatements
 -- declarations and statements

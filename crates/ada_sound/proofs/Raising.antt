@@ -18,7 +18,7 @@ use Rattle.ada_program.specs.declared.program.Exception.TheVariants.{ConstraintE
 use Rattle.ada_program.specs.Form.{RightForm, nothing, value_of, allocates, allocates_default, computes, DeclarationForm, collects, declares, declares_record, StmtForm, skips, assigns, assigns_record, frees, gets, writes, writes_text, chooses, repeats, counts, exits, calls, returns, raises, encloses, StmtsForm, no_stmts, a_stmt, BranchesForm, otherwise, a_branch, HandlersForm, no_handlers, a_handler}
 use Rattle.ada_program.specs.Handling.{is_same, handler_of, is_taken}
 use Rattle.ada_program.specs.ProgramForm.{TypeForm, BodyForm, ProgramForm}
-use Rattle.ada_effects.specs.Effects.{Effect, effect_of, effects_from, effects_of, call_raises, expressions_raise, expression_raises, condition_raises, items_raise, path_raises, record_path_raises, initial_raises, untaken, unary_raises, binary_raises, right_raises, declaration_raises, declarations_raise, stmt_raises, stmts_raise, branches_raise, handlers_raise}
+use Rattle.ada_effects.specs.Effects.{Effect, effect_of, effects_from, effects_of, call_raises, actuals_raise, expression_raises, condition_raises, items_raise, path_raises, record_path_raises, initial_raises, untaken, unary_raises, binary_raises, right_raises, declaration_raises, declarations_raise, stmt_raises, stmts_raise, branches_raise, handlers_raise}
 use Rattle.ada_meaning.specs.declared.state.Value.{Value}
 use Rattle.ada_meaning.specs.declared.state.Value.TheVariants.{Null, Names, Scalar}
 use Rattle.ada_meaning.specs.Named.{as_value, unary_given, binary_given}
@@ -128,8 +128,8 @@ mutual
       (λ i. and_first (among ConstraintError) (expression_raises low || expression_raises high) (more ConstraintError) (m ConstraintError) i) (stmts_more effects all fs among more m) is
   stmt_more effects all (exits condition spot) among more m is = and_first (among ConstraintError) (condition_raises condition) (more ConstraintError) (m ConstraintError) is
   stmt_more effects all (calls procedure actuals) among more m is =
-      or_map (among ConstraintError && expressions_raise actuals) (call_raises (slice_get effects procedure) among) (more ConstraintError && expressions_raise actuals) (call_raises (slice_get effects procedure) more)
-      (λ i. and_first (among ConstraintError) (expressions_raise actuals) (more ConstraintError) (m ConstraintError) i) (call_more effects all procedure among more m) is
+      or_map (among ConstraintError && actuals_raise actuals) (call_raises (slice_get effects procedure) among) (more ConstraintError && actuals_raise actuals) (call_raises (slice_get effects procedure) more)
+      (λ i. and_first (among ConstraintError) (actuals_raise actuals) (more ConstraintError) (m ConstraintError) i) (call_more effects all procedure among more m) is
   stmt_more effects all (returns spot) among more m is = is
   stmt_more effects all (raises e) among more m is = m e is
   stmt_more effects all (encloses ds fs hs) among more m is =

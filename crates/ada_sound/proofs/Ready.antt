@@ -70,7 +70,7 @@ module _ (known : Known) where
   runs_ready (Handles hs ∷ k) heap places operands ms w = w
   runs_ready (Closes ∷ k) heap places operands ms w = w
   runs_ready (Leaves mode ∷ k) heap places operands ms w = parts w
-  runs_ready (Returns ∷ k) heap places operands ms w = w
+  runs_ready (Returns actuals ∷ k) heap places operands ms w = w
   runs_ready (f ∷ k) heap places operands ms w = absurd (w.rest)
 
   -- What is left goes on in a mode.
@@ -120,7 +120,7 @@ module _ (known : Known) where
     fit = put_lost x v w.fit;
     rest = w.rest;
   }
-  awaits_ready (Calls procedure b count ∷ k) heap places v below ms w = w
+  awaits_ready (Calls procedure b actuals ∷ k) heap places v below ms w = w
   awaits_ready (Writes ∷ k) heap places v below ms w = w
   awaits_ready (f ∷ k) heap places v below ms w = absurd (w.rest)
 

@@ -1,10 +1,11 @@
 -- The body of a call comes to its end, by a return or by an exception: its caller goes on.
 
-use Rattle.std.proofs.Common.{◌≡◌, ℕ, true, List, [], ◌∷◌, refl, sym, ◌∙◌, subst}
+use Rattle.std.proofs.Common.{◌≡◌, ℕ, List, [], ◌∷◌, refl, sym, ◌∙◌, subst}
 use Rattle.std.specs.Prelude.{Option, Some, None}
 use Rattle.std.specs.List.{slice_get}
 use Rattle.ada_program.specs.declared.program.Exception.{Exception}
 use Rattle.ada_program.specs.declared.program.Program.{Program}
+use Rattle.ada_program.specs.Form.{ActualForm}
 use Rattle.ada_program.specs.ProgramForm.{TypeForm, BodyForm, ProgramForm, program_form, seen_at, seen_in}
 use Rattle.ada_flow.specs.Flow.{Holds}
 use Rattle.ada_meaning.specs.declared.state.Value.{Value}
@@ -13,15 +14,17 @@ use Rattle.ada_meaning.specs.declared.state.Mode.TheVariants.{Running, Raising, 
 use Rattle.ada_meaning.specs.Event.{Quiet}
 use Rattle.ada_meaning.specs.Frame.{Returns}
 use Rattle.ada_meaning.specs.State.{Activation, Master}
+use Rattle.ada_meaning.specs.Step.{places_of, with_places, copied_back}
 use Rattle.ada_meaning.specs.Named.{Object, State}
 use Rattle.ada_meaning.specs.Run.{Event}
 use Rattle.ada_sound.specs.Agreement.{running_procedure}
-use Rattle.ada_sound.proofs.Fits.{Outer, none_spared, Fit}
+use Rattle.ada_sound.proofs.Fits.{none_spared, Fit}
 use Rattle.ada_sound.proofs.Stored.{Stored}
 use Rattle.ada_sound.proofs.Activations.{returned_fit}
+use Rattle.ada_sound.proofs.GivenBack.{copied_fit}
 use Rattle.ada_sound.proofs.Ready.{at_less, goes_ready, stays}
-use Rattle.ada_sound.proofs.Invariant.{Known, Control, Rooms, Roomed, GoesOn, Working, Stepped, Waits, AllWait, Standing, below, outers, outer_of}
-use Rattle.ada_sound.proofs.Callers.{Suspension, caller_of, callers_of, known_in, AreOf, Stands}
+use Rattle.ada_sound.proofs.Invariant.{Known, Control, Rooms, Roomed, GoesOn, Working, Stepped, Waits, AllWait, below, outers, outer_of}
+use Rattle.ada_sound.proofs.Callers.{Suspension, caller_of, callers_of, known_in, Stands}
 
 -- What a step from one body to another keeps: it is known what it leads to, and so are the callers.
 pub record Crosses (program : Program) (before : List Object) (e : Event) (after : State) : Type 0 where
@@ -58,31 +61,39 @@ module _ (program : Program) (procedure : Option ℕ) (g : Suspension) (gs : Lis
         returned_fit caller.program.types (outers caller) (outer_of (caller_of program g gs)) none_spared heap callee.program.variables places holds waits.nulls waits.objects
         (subst (λ (types : List TypeForm). Fit types callee.program.variables (outers callee) none_spared heap places holds) same_here f)
 
-    -- The caller at work, once its masters are the innermost ones.
-    abbrev caller_works : (holds : Holds) → WaitsForIt → Stored None heap masters → masters ≡ g.masters → Fit callee.program.types callee.program.variables (outers callee) none_spared heap places holds → Working caller heap g.places masters (λ rooms known. Unit {0})
-    caller_works holds waits stored same fit = record {
+    -- The caller at work, once its masters are the innermost ones: with what it held, or with what it gets back.
+    abbrev caller_works : (held : List Value) → Stored None heap masters → WaitsForIt → masters ≡ g.masters → Fit caller.program.types caller.program.variables (outers caller) none_spared heap held g.holds → Working caller heap held masters (λ rooms known. Unit {0})
+    caller_works held stored waits same fit = record {
       rooms = g.rooms;
       holds = g.holds;
       stored = stored;
       roomed = rw same waits.roomed;
-      fit = caller_fit holds waits fit;
+      fit = fit;
       rest = tt;
     }
 
-    module _ (k : Control) (waits : WaitsForIt) where
-      returns_by : (rooms : Rooms) (holds : Holds) → Stored None heap masters → Roomed (below callee) masters rooms → Fit callee.program.types callee.program.variables (outers callee) none_spared heap places holds → GoesOn callee Running (Returns ∷ k) rooms holds → Working caller heap g.places masters (GoesOn caller Running k)
-      returns_by [] holds stored roomed fit is = rw is (at_less (caller_works holds waits stored roomed fit) waits.goes_on)
+    module _ (actuals : List ActualForm) (k : Control) (waits : WaitsForIt) where
+      -- What the caller has then.
+      abbrev given_back : List Value
+      given_back = copied_back actuals places g.places
+
+      gets_back : (holds : Holds) → Stored None heap masters → masters ≡ g.masters → Fit callee.program.types callee.program.variables (outers callee) none_spared heap places holds → (actuals ≡ g.actuals) × (k ≡ g.control) → Working caller heap given_back masters (GoesOn caller Running k)
+      gets_back holds stored same f (given, is) =
+          rw is (at_less (caller_works given_back stored waits same (copied_fit actuals places g.places (rw given waits.lost) (caller_fit holds waits f))) waits.goes_on)
+
+      returns_by : (rooms : Rooms) (holds : Holds) → Stored None heap masters → Roomed (below callee) masters rooms → Fit callee.program.types callee.program.variables (outers callee) none_spared heap places holds → GoesOn callee Running (Returns actuals ∷ k) rooms holds → Working caller heap given_back masters (GoesOn caller Running k)
+      returns_by [] holds stored roomed fit is = gets_back holds stored roomed fit is
       returns_by (gone ∷ rooms) holds stored roomed fit is = absurd is
 
-      returning_by : (rooms : Rooms) (holds : Holds) → Stored None heap masters → Roomed (below callee) masters rooms → Fit callee.program.types callee.program.variables (outers callee) none_spared heap places holds → GoesOn callee Returning (Returns ∷ k) rooms holds → Working caller heap g.places masters (GoesOn caller Running k)
-      returning_by [] holds stored roomed fit is = rw is (at_less (caller_works holds waits stored roomed fit) waits.goes_on)
+      returning_by : (rooms : Rooms) (holds : Holds) → Stored None heap masters → Roomed (below callee) masters rooms → Fit callee.program.types callee.program.variables (outers callee) none_spared heap places holds → GoesOn callee Returning (Returns actuals ∷ k) rooms holds → Working caller heap given_back masters (GoesOn caller Running k)
+      returning_by [] holds stored roomed fit is = gets_back holds stored roomed fit is
       returning_by (gone ∷ rooms) holds stored roomed fit is = absurd is
 
-      raising_by : (e : Exception) (rooms : Rooms) (holds : Holds) → Stored None heap masters → Roomed (below callee) masters rooms → Fit callee.program.types callee.program.variables (outers callee) none_spared heap places holds → GoesOn callee (Raising e) (Returns ∷ k) rooms holds → Working caller heap g.places masters (GoesOn caller (Raising e) k)
-      raising_by e [] holds stored roomed fit (may, is) = rw is (at_less (caller_works holds waits stored roomed fit) (waits.raises e may))
+      raising_by : (e : Exception) (rooms : Rooms) (holds : Holds) → Stored None heap masters → Roomed (below callee) masters rooms → Fit callee.program.types callee.program.variables (outers callee) none_spared heap places holds → GoesOn callee (Raising e) (Returns actuals ∷ k) rooms holds → Working caller heap g.places masters (GoesOn caller (Raising e) k)
+      raising_by e [] holds stored roomed fit (may, is) = rw is (at_less (caller_works g.places stored waits roomed (caller_fit holds waits fit)) (waits.raises e may))
       raising_by e (gone ∷ rooms) holds stored roomed fit is = absurd is
 
-      exiting_by : (rooms : Rooms) (holds : Holds) → GoesOn callee Exiting (Returns ∷ k) rooms holds → ⊥
+      exiting_by : (rooms : Rooms) (holds : Holds) → GoesOn callee Exiting (Returns actuals ∷ k) rooms holds → ⊥
       exiting_by [] holds is = is
       exiting_by (gone ∷ rooms) holds is = is
 
@@ -91,15 +102,15 @@ abbrev pub resumed_in : Mode → Control → List (Activation Value) → State �
 resumed_in mode k rest s = record s { activations = rest; control = k; mode = mode }
 
 -- The body of a call has a caller.
-no_caller : (program : Program) (procedure : Option ℕ) (mode : Mode) (k : Control) (rooms : Rooms) (holds : Holds) → GoesOn (known_in program procedure []) mode (Returns ∷ k) rooms holds → ⊥
-no_caller program procedure Running k [] holds g = g
-no_caller program procedure (Raising e) k [] holds g = g
-no_caller program procedure Exiting k [] holds g = g
-no_caller program procedure Returning k [] holds g = g
-no_caller program procedure Running k (gone ∷ rooms) holds g = g
-no_caller program procedure (Raising e) k (gone ∷ rooms) holds g = g
-no_caller program procedure Exiting k (gone ∷ rooms) holds g = g
-no_caller program procedure Returning k (gone ∷ rooms) holds g = g
+no_caller : (program : Program) (procedure : Option ℕ) (mode : Mode) (actuals : List ActualForm) (k : Control) (rooms : Rooms) (holds : Holds) → GoesOn (known_in program procedure []) mode (Returns actuals ∷ k) rooms holds → ⊥
+no_caller program procedure Running actuals k [] holds g = g
+no_caller program procedure (Raising e) actuals k [] holds g = g
+no_caller program procedure Exiting actuals k [] holds g = g
+no_caller program procedure Returning actuals k [] holds g = g
+no_caller program procedure Running actuals k (gone ∷ rooms) holds g = g
+no_caller program procedure (Raising e) actuals k (gone ∷ rooms) holds g = g
+no_caller program procedure Exiting actuals k (gone ∷ rooms) holds g = g
+no_caller program procedure Returning actuals k (gone ∷ rooms) holds g = g
 
 -- What a mode comes to behind the body of a call: a return lands there.
 abbrev pub behind_call : Mode → Mode
@@ -108,17 +119,27 @@ behind_call (Raising e) = Raising e
 behind_call Exiting = Exiting
 behind_call Returning = Running
 
-module _ (program : Program) (a : Activation Value) (k : Control) (s : State) where
-  -- Whatever goes on in the caller is known there.
-  resumes : (mode : Mode) (b : Activation Value) (rest : List (Activation Value)) (g : Suspension) (gs : List Suspension) → Stands program (g ∷ gs) (record s { activations = a ∷ b ∷ rest }) → Working (known_in program g.procedure gs) s.heap g.places s.masters (GoesOn (known_in program g.procedure gs) mode k) → Crosses program s.heap Quiet (resumed_in mode k (b ∷ rest) s)
-  resumes mode b rest g gs stands w =
+-- The activations behind it: where the body ends normally, the caller gets back what it is to get.
+abbrev pub ended : List ActualForm → List Value → List (Activation Value) → List (Activation Value)
+ended actuals values rest = with_places (copied_back actuals values (places_of rest)) rest
+
+abbrev pub behind_body : Mode → List ActualForm → List Value → List (Activation Value) → List (Activation Value)
+behind_body Running actuals values rest = ended actuals values rest
+behind_body (Raising e) actuals values rest = rest
+behind_body Exiting actuals values rest = rest
+behind_body Returning actuals values rest = ended actuals values rest
+
+module _ (program : Program) (a : Activation Value) (actuals : List ActualForm) (k : Control) (s : State) where
+  -- Whatever goes on in the caller is known there, with what its variables hold then.
+  resumes : (mode : Mode) (held : List Value) (b : Activation Value) (rest : List (Activation Value)) (g : Suspension) (gs : List Suspension) → Stands program (g ∷ gs) (record s { activations = a ∷ b ∷ rest }) → Working (known_in program g.procedure gs) s.heap held s.masters (GoesOn (known_in program g.procedure gs) mode k) → Crosses program s.heap Quiet (resumed_in mode k (record b { places = held } ∷ rest) s)
+  resumes mode held b rest g gs stands w =
       let of = stands.bodies.0 in
-      let places = stands.standing.suspended.0 in
       let operands = stands.standing.suspended.1 in
+      let after = resumed_in mode k (record b { places = held } ∷ rest) s in
       record {
         suspensions = gs;
-        stepped = subst (λ (procedure : Option ℕ). Stepped (known_in program procedure gs) s.heap Quiet (resumed_in mode k (b ∷ rest) s)) (sym of)
-            (stays (known_in program g.procedure gs) Quiet (resumed_in mode k (b ∷ rest) s) (tt, rw (places, operands) (goes_ready (known_in program g.procedure gs) mode k s.heap g.places [] s.masters w)) tt);
+        stepped = subst (λ (procedure : Option ℕ). Stepped (known_in program procedure gs) s.heap Quiet after) (sym of)
+            (stays (known_in program g.procedure gs) Quiet after (tt, rw operands (goes_ready (known_in program g.procedure gs) mode k s.heap held [] s.masters w)) tt);
         stands = record {
           body = rw of stands.bodies.1;
           behind = rw of stands.bodies.2;
@@ -131,15 +152,26 @@ module _ (program : Program) (a : Activation Value) (k : Control) (s : State) wh
         };
       }
 
+  -- The caller goes on with what it held, or with what it gets back.
+  goes_back : (mode : Mode) (b : Activation Value) (rest : List (Activation Value)) (g : Suspension) (gs : List Suspension) → Stands program (g ∷ gs) (record s { activations = a ∷ b ∷ rest }) → Working (known_in program g.procedure gs) s.heap g.places s.masters (GoesOn (known_in program g.procedure gs) mode k) → Crosses program s.heap Quiet (resumed_in mode k (b ∷ rest) s)
+  goes_back mode b rest g gs stands w =
+      let places = stands.standing.suspended.0 in
+      resumes mode b.places b rest g gs stands (rw places w)
+
+  gets_on : (b : Activation Value) (rest : List (Activation Value)) (g : Suspension) (gs : List Suspension) → Stands program (g ∷ gs) (record s { activations = a ∷ b ∷ rest }) → Working (known_in program g.procedure gs) s.heap (copied_back actuals a.places g.places) s.masters (GoesOn (known_in program g.procedure gs) Running k) → Crosses program s.heap Quiet (resumed_in Running k (ended actuals a.places (b ∷ rest)) s)
+  gets_on b rest g gs stands w =
+      let places = stands.standing.suspended.0 in
+      resumes Running (copied_back actuals a.places b.places) b rest g gs stands (rw places w)
+
   -- A body is left, in whatever mode: its caller goes on.
-  pub left_fine : (mode : Mode) (rest : List (Activation Value)) (gs : List Suspension) → Stands program gs (record s { activations = a ∷ rest }) → Working (known_in program a.procedure gs) s.heap a.places s.masters (GoesOn (known_in program a.procedure gs) mode (Returns ∷ k)) → Crosses program s.heap Quiet (resumed_in (behind_call mode) k rest s)
-  left_fine mode [] [] stands w = absurd (no_caller program a.procedure mode k w.rooms w.holds w.rest)
+  pub left_fine : (mode : Mode) (rest : List (Activation Value)) (gs : List Suspension) → Stands program gs (record s { activations = a ∷ rest }) → Working (known_in program a.procedure gs) s.heap a.places s.masters (GoesOn (known_in program a.procedure gs) mode (Returns actuals ∷ k)) → Crosses program s.heap Quiet (resumed_in (behind_call mode) k (behind_body mode actuals a.places rest) s)
+  left_fine mode [] [] stands w = absurd (no_caller program a.procedure mode actuals k w.rooms w.holds w.rest)
   left_fine mode [] (g ∷ gs) stands w = absurd stands.bodies
   left_fine mode (b ∷ rest) [] stands w = absurd stands.bodies
   left_fine Running (b ∷ rest) (g ∷ gs) stands w =
-      resumes Running b rest g gs stands (returns_by program a.procedure g gs s.heap a.places s.masters k stands.standing.waiting.0 w.rooms w.holds w.stored w.roomed w.fit w.rest)
+      gets_on b rest g gs stands (returns_by program a.procedure g gs s.heap a.places s.masters actuals k stands.standing.waiting.0 w.rooms w.holds w.stored w.roomed w.fit w.rest)
   left_fine (Raising e) (b ∷ rest) (g ∷ gs) stands w =
-      resumes (Raising e) b rest g gs stands (raising_by program a.procedure g gs s.heap a.places s.masters k stands.standing.waiting.0 e w.rooms w.holds w.stored w.roomed w.fit w.rest)
-  left_fine Exiting (b ∷ rest) (g ∷ gs) stands w = absurd (exiting_by program a.procedure g gs s.heap a.places s.masters k stands.standing.waiting.0 w.rooms w.holds w.rest)
+      goes_back (Raising e) b rest g gs stands (raising_by program a.procedure g gs s.heap a.places s.masters actuals k stands.standing.waiting.0 e w.rooms w.holds w.stored w.roomed w.fit w.rest)
+  left_fine Exiting (b ∷ rest) (g ∷ gs) stands w = absurd (exiting_by program a.procedure g gs s.heap a.places s.masters actuals k stands.standing.waiting.0 w.rooms w.holds w.rest)
   left_fine Returning (b ∷ rest) (g ∷ gs) stands w =
-      resumes Running b rest g gs stands (returning_by program a.procedure g gs s.heap a.places s.masters k stands.standing.waiting.0 w.rooms w.holds w.stored w.roomed w.fit w.rest)
+      gets_on b rest g gs stands (returning_by program a.procedure g gs s.heap a.places s.masters actuals k stands.standing.waiting.0 w.rooms w.holds w.stored w.roomed w.fit w.rest)

@@ -7,6 +7,7 @@ use Rattle.std.proofs.lemmas.Option.{slice_get-get_or}
 use Rattle.std.proofs.lemmas.List.Elements.{All-nil, All-cons}
 use Rattle.std.proofs.lemmas.List.Kept.{AllPairs-cons}
 use Rattle.ada_program.specs.declared.program.Program.{Program}
+use Rattle.ada_program.specs.Form.{ActualForm}
 use Rattle.ada_program.specs.ProgramForm.{TypeForm, BodyForm, ProgramForm, program_form, body_forms, main_body, seen_by, seen_in}
 use Rattle.ada_program.specs.WellFormed.{IsWellFormed}
 use Rattle.ada_effects.specs.Effects.{body_frees, effects_of}
@@ -34,7 +35,7 @@ use Rattle.ada_typed.specs.Holding.{cells_of}
 use Rattle.ada_typed.proofs.Values.{AreFilled, filled_at}
 use Rattle.ada_typed.proofs.Control as typed
 use Rattle.ada_typed.proofs.Evaluations as typing
-use Rattle.ada_typed.proofs.Bodies.{sees}
+use Rattle.ada_typed.proofs.Bodies.{seen_fits, sees}
 use Rattle.ada_typed.proofs.Kept.{crosses, Keeps, Each}
 use Rattle.ada_typed.proofs.KeptSteps.{frame_keeps, pass_keeps}
 use Rattle.ada_typed.proofs.Runs.{step_typed}
@@ -45,13 +46,15 @@ use Rattle.ada_sound.proofs.Defaults.{reached_same, Reaches}
 use Rattle.ada_sound.proofs.Items.{NoMaster, items_fall}
 use Rattle.ada_sound.proofs.Stored.{Stored}
 use Rattle.ada_sound.proofs.Alters.{BackIn, StaysItself, Alters}
-use Rattle.ada_sound.proofs.Invariant.{Known, Control, Caller, AreSuspended, Working, RunsOn, CallsOn, Spares, AllWait, LieBelow, ReadyIn, Says, Stepped, EndsWell, Fine, outers}
+use Rattle.ada_sound.proofs.Invariant.{Known, Control, Caller, AreSuspended, Working, RunsOn, CallsOn, Spares, AllWait, LieBelow, Says, Stepped, EndsWell, Fine, outers}
 use Rattle.ada_sound.proofs.Callers.{Suspension, rest_of, callers_of, known_in, AreOf, Stands}
 use Rattle.ada_sound.proofs.Bodies.{IsBody, seen_is, callee_get}
 use Rattle.ada_sound.proofs.Returns.{Crosses, same_types, left_fine}
 use Rattle.ada_sound.proofs.Calls.{callee, waiting, freed_by_call, calls_fine}
 use Rattle.ada_sound.proofs.BodyRuns.{body_runs, call_spares}
 use Rattle.ada_sound.proofs.Below.{named_below}
+use Rattle.ada_sound.proofs.Scalars.{scalars_lost}
+use Rattle.ada_sound.proofs.CallStatements.{MayCall}
 use Rattle.ada_sound.proofs.Steps as inside
 use Rattle.ada_sound.proofs.StoredStates.{IsStored, ready_stored}
 use Rattle.ada_sound.proofs.Starts.{Sound, body_obeys, none_out, none_on}
@@ -223,10 +226,10 @@ fine_in program s gs stands (asks request answered) same fine = λ granted. kept
 fine_in program s gs stands (picks n taken) same fine = λ i lt. kept_on program s (taken i) gs stands Quiet (same i lt) (fine i lt).alters (fine i lt)
 
 -- The body of a procedure runs when it is called.
-module _ (program : Program) (number : ℕ) (b : BodyForm) (k : Control) (a : Activation Value) (gs : List Suspension) (s : State) (well : IsWellFormed (program_form program)) (obeys : ObeysRules program)
-    (w : Working (known_in program a.procedure gs) s.heap a.places s.masters (CallsOn (known_in program a.procedure gs) number b k)) (is : IsBody (program_form program) a.procedure) where
+module _ (program : Program) (number : ℕ) (b : BodyForm) (given : List ActualForm) (k : Control) (a : Activation Value) (gs : List Suspension) (s : State) (well : IsWellFormed (program_form program)) (obeys : ObeysRules program)
+    (w : Working (known_in program a.procedure gs) s.heap a.places s.masters (CallsOn (known_in program a.procedure gs) number b given k)) (is : IsBody (program_form program) a.procedure) where
   abbrev called : Known
-  called = callee program number b k a [] gs s w
+  called = callee program number b given k a [] gs s w
 
   seen_body : slice_get (program_form program).bodies number ≡ Some b
   seen_body = callee_get (program_form program) a.procedure number b is w.rest.0
@@ -236,14 +239,14 @@ module _ (program : Program) (number : ℕ) (b : BodyForm) (k : Control) (a : Ac
 
   spares_called : (rest : List (Activation Value)) → Stands program gs (record s { activations = a ∷ rest }) → Spares called (body_frees called.program.types (effects_of called.program) (main_body called.program))
   spares_called rest stands t may =
-      let freed = freed_by_call program number b k a rest gs s w stands t may in
+      let freed = freed_by_call program number b given k a rest gs s w stands t may in
       let caller = known_in program a.procedure gs in
       call_spares caller.program.variables (slice_get (effects_of caller.program) number) a.places w.holds (outers caller) t freed (w.rest.3 t freed)
 
-  runs_called : (rest : List (Activation Value)) → Stands program gs (record s { activations = a ∷ rest }) → RunsOn called (Elaborates b.declarations b.statements b.handlers ∷ Returns ∷ k) (gone_with b.declarations ∷ []) (first_holds b.variables)
+  runs_called : (rest : List (Activation Value)) → Stands program gs (record s { activations = a ∷ rest }) → RunsOn called (Elaborates b.declarations b.statements b.handlers ∷ Returns given ∷ k) (gone_with b.declarations ∷ []) (first_holds b.variables)
   runs_called rest stands =
-      subst (λ (c : BodyForm). RunsOn called (Elaborates c.declarations c.statements c.handlers ∷ Returns ∷ k) (gone_with c.declarations ∷ []) (first_holds c.variables)) same_body
-      (body_runs program (Some number) (waiting program number b k a [] gs s w ∷ gs) (body_obeys program (Some number) (b, seen_body) obeys) (none_out program (Some number) well) (none_on program (Some number) well) (spares_called rest stands))
+      subst (λ (c : BodyForm). RunsOn called (Elaborates c.declarations c.statements c.handlers ∷ Returns given ∷ k) (gone_with c.declarations ∷ []) (first_holds c.variables)) same_body
+      (body_runs program (Some number) (waiting program number b given k a [] gs s w ∷ gs) (body_obeys program (Some number) (b, seen_body) obeys) (none_out program (Some number) well) (none_on program (Some number) well) (spares_called rest stands))
 
 filled_in : (p : ProgramForm) (s : State) → typed.TypedIn p s → AreFilled p.types (cells_of s.heap) (cells_of s.heap)
 filled_in p s (typed.running kinds ready fits) = ready.filled
@@ -272,13 +275,20 @@ reaches_in program procedure gs =
     subst (λ (types : List TypeForm). ((access : ℕ) → reached_of program.types.items access ≡ reached_components types access) × ((t : ℕ) → components_of program.types.items t ≡ record_components types t))
     (sym (same_types procedure (program_form program))) (reached_same program.types.items)
 
+-- What a body sees is there, and in it flow calls Integers and Booleans lost.
+may_call : (program : Program) (procedure : Option ℕ) (gs : List Suspension) → IsWellFormed (program_form program) → MayCall (known_in program procedure gs) (body_forms program)
+may_call program procedure gs well = record {
+  among = sees (program_form program) procedure;
+  lost = λ place at reached. scalars_lost program procedure (rest_of gs) reached.0 place at (seen_fits (program_form program) well procedure) reached.1;
+}
+
 -- A step that begins no call and ends none.
 ordinary : (program : Program) (s : State) (sound : Sound program s) → inside.crosses s.mode s.control ≡ false → (n : Next) → mode_next named program.types.items (body_forms program) s.mode s ≡ n → Each (SameBody s) n → FineIn program s n
 unfolding next
 ordinary program s sound inner n is same =
     let known = known_in program (running_procedure s) sound.suspensions in
     fine_in program s sound.suspensions sound.stands n same
-    (subst (λ (coming : Next). Fine known s.heap s.masters coming) is (inside.fine known program.types.items (reaches_in program (running_procedure s) sound.suspensions) (body_forms program) (sees (program_form program) (running_procedure s)) s inner sound.typed.inside (held_inside_it program s sound)
+    (subst (λ (coming : Next). Fine known s.heap s.masters coming) is (inside.fine known program.types.items (reaches_in program (running_procedure s) sound.suspensions) (body_forms program) (may_call program (running_procedure s) sound.suspensions sound.well) s inner sound.typed.inside (held_inside_it program s sound)
     (λ left behind runs at_leaving. named_below known s.heap sound.stands.standing.waiting sound.stands.standing.low left behind s.masters (rw (runs, at_leaving) at (sound.ready.1)))
     sound.ready))
 
@@ -306,24 +316,24 @@ module _ (program : Program) (a : Activation Value) (rest : List (Activation Val
 
   -- The step of a frame, where no jump is on its way.
   running_step : (f : Frame Value) → Sound program (state_with Running (f ∷ k) (a ∷ rest) s) → FineIn program (state_with Running (f ∷ k) (a ∷ rest) s) (mode_next named program.types.items (body_forms program) Running (state_with Running (f ∷ k) (a ∷ rest) s))
-  running_step (Calls number b count) sound =
+  running_step (Calls number b actuals) sound =
       let w = sound.ready.1 in
-      let stands = restand Running (Calls number b count) sound.suspensions sound.stands in
-      calls_fine program number b k a rest sound.suspensions s w stands (runs_called program number b k a sound.suspensions s sound.well sound.obeys w stands.body rest stands) _
-  running_step Returns sound = left_fine program a k s Running rest sound.suspensions (restand Running Returns sound.suspensions sound.stands) sound.ready.1
+      let stands = restand Running (Calls number b actuals) sound.suspensions sound.stands in
+      calls_fine program number b actuals k a rest sound.suspensions s w stands (runs_called program number b actuals k a sound.suspensions s sound.well sound.obeys w stands.body rest stands) _
+  running_step (Returns actuals) sound = left_fine program a actuals k s Running rest sound.suspensions (restand Running (Returns actuals) sound.suspensions sound.stands) sound.ready.1
   running_step f sound = crossing_none f refl sound
 
   -- While a jump is on its way.
   raising_step : (e : Exception) (f : Frame Value) → Sound program (state_with (Raising e) (f ∷ k) (a ∷ rest) s) → FineIn program (state_with (Raising e) (f ∷ k) (a ∷ rest) s) (jump_next named (Raising e) (f ∷ k) (state_with (Raising e) (f ∷ k) (a ∷ rest) s))
-  raising_step e Returns sound = left_fine program a k s (Raising e) rest sound.suspensions (restand (Raising e) Returns sound.suspensions sound.stands) sound.ready.1
+  raising_step e (Returns actuals) sound = left_fine program a actuals k s (Raising e) rest sound.suspensions (restand (Raising e) (Returns actuals) sound.suspensions sound.stands) sound.ready.1
   raising_step e f sound = passing_none (Raising e) f refl _ refl refl sound
 
   exiting_step : (f : Frame Value) → Sound program (state_with Exiting (f ∷ k) (a ∷ rest) s) → FineIn program (state_with Exiting (f ∷ k) (a ∷ rest) s) (jump_next named Exiting (f ∷ k) (state_with Exiting (f ∷ k) (a ∷ rest) s))
-  exiting_step Returns sound = left_fine program a k s Exiting rest sound.suspensions (restand Exiting Returns sound.suspensions sound.stands) sound.ready.1
+  exiting_step (Returns actuals) sound = left_fine program a actuals k s Exiting rest sound.suspensions (restand Exiting (Returns actuals) sound.suspensions sound.stands) sound.ready.1
   exiting_step f sound = passing_none Exiting f refl _ refl refl sound
 
   returning_step : (f : Frame Value) → Sound program (state_with Returning (f ∷ k) (a ∷ rest) s) → FineIn program (state_with Returning (f ∷ k) (a ∷ rest) s) (jump_next named Returning (f ∷ k) (state_with Returning (f ∷ k) (a ∷ rest) s))
-  returning_step Returns sound = left_fine program a k s Returning rest sound.suspensions (restand Returning Returns sound.suspensions sound.stands) sound.ready.1
+  returning_step (Returns actuals) sound = left_fine program a actuals k s Returning rest sound.suspensions (restand Returning (Returns actuals) sound.suspensions sound.stands) sound.ready.1
   returning_step f sound = passing_none Returning f refl _ refl refl sound
 
 -- Any step.

@@ -1,13 +1,13 @@
 -- The first state of a program that is well formed, whose collections nest, and that obeys the rules keeps the invariant.
 
-use Rattle.std.proofs.Common.{◌≡◌, ℕ, true, false, List, [], ◌∷◌, length, map, refl, sym, subst}
-use Rattle.std.specs.Prelude.{ℤ, Option, Some, None}
+use Rattle.std.proofs.Common.{◌≡◌, ℕ, false, List, [], ◌∷◌, length, refl, sym, subst}
+use Rattle.std.specs.Prelude.{ℤ, Option, None}
 use Rattle.ada_program.specs.declared.program.Program.{Program}
-use Rattle.ada_program.specs.ProgramForm.{TypeForm, ProgramForm, program_form, main_body, seen_in}
+use Rattle.ada_program.specs.ProgramForm.{TypeForm, program_form, main_body, seen_in}
 use Rattle.ada_program.specs.WellFormed.{IsWellFormed}
 use Rattle.ada_program.specs.Nested.{CollectionsNest}
 use Rattle.ada_effects.specs.Effects.{body_frees, effects_of}
-use Rattle.ada_flow.specs.Flow.{Holds, body_flow, first_holds, gone_with, have_exit, handlers_have_exit, variables_of, flow_of, ObeysRules}
+use Rattle.ada_flow.specs.Flow.{body_flow, first_holds, gone_with, have_exit, handlers_have_exit, ObeysRules}
 use Rattle.ada_meaning.specs.Step.{blanks}
 use Rattle.ada_meaning.specs.Named.{State, named}
 use Rattle.ada_meaning.specs.Run.{first_state}
@@ -21,7 +21,7 @@ use Rattle.ada_sound.proofs.Calls.{lost_at}
 use Rattle.ada_sound.proofs.Bodies.{IsBody, IsFine, obeys_in}
 use Rattle.ada_sound.proofs.BodyRuns.{body_runs, none_suspended}
 use Rattle.ada_sound.proofs.Exits.{no_exits, no_exit_handlers}
-use Rattle.ada_sound.proofs.Invariant.{RunsOn, Ready}
+use Rattle.ada_sound.proofs.Invariant.{Ready}
 use Rattle.ada_sound.proofs.Callers.{Suspension, known_in, Stands}
 use Rattle.ada_sound.proofs.Returns.{same_types}
 

@@ -39,7 +39,7 @@ use Rattle.ada_sound.proofs.Leavings.{all_among}
 use Rattle.ada_sound.proofs.Targets.{component_begins, get_begins, half_begins}
 use Rattle.ada_sound.proofs.Frees.{free_fine}
 use Rattle.ada_sound.proofs.Releases.{free_begins}
-use Rattle.ada_sound.proofs.CallStatements.{AreAmong, call_begins}
+use Rattle.ada_sound.proofs.CallStatements.{MayCall, call_begins}
 
 -- Which exceptions a Free may raise, and which Get may.
 abbrev free_among : PathForm → Exception → Bool
@@ -274,39 +274,39 @@ module _ (known : Known) where
         (first.0, (λ may. first.2 may ConstraintError (or_left (expression_raises low) (expression_raises high) may)), (second.0, (λ may. second.2 may ConstraintError (or_right (expression_raises low) (expression_raises high) may)), (λ v. second.1)))
 
     -- Statements.
-    stmt_fine : (bodies : List BodyForm) → AreAmong known.program.bodies bodies → (inside : Bool) (here : Where) (f : StmtForm) (fs : StmtsForm) (k : Control) → Pooled known.program.types s.heap → statement_fits known.program.types known.program.variables known.program.texts known.program.exceptions (callable_in known.program) inside f ≡ true → Working known s.heap a.places s.masters (λ rooms holds. Starting known here f fs k (ways known k rooms) holds) → Fine known s.heap s.masters (stmt_next named bodies f (running (Does fs ∷ k) a rest s))
-    stmt_fine bodies among inside here skips fs k pooled fits w = runs_on known (Does fs ∷ k) a rest s (at_work w w.rest.1.0) Quiet tt
-    stmt_fine bodies among inside here (assigns target right) fs k pooled fits w =
+    stmt_fine : (bodies : List BodyForm) → MayCall known bodies → (inside : Bool) (here : Where) (f : StmtForm) (fs : StmtsForm) (k : Control) → Pooled known.program.types s.heap → statement_fits known.program.types known.program.variables known.program.texts known.program.exceptions (callable_in known.program) inside f ≡ true → Working known s.heap a.places s.masters (λ rooms holds. Starting known here f fs k (ways known k rooms) holds) → Fine known s.heap s.masters (stmt_next named bodies f (running (Does fs ∷ k) a rest s))
+    stmt_fine bodies calling inside here skips fs k pooled fits w = runs_on known (Does fs ∷ k) a rest s (at_work w w.rest.1.0) Quiet tt
+    stmt_fine bodies calling inside here (assigns target right) fs k pooled fits w =
         let types = known.program.types in
         let variables = known.program.variables in
         let leads = right_leads types variables (path_kind types variables target) right (and_parts (right_fits types variables (path_kind types variables target) right) (lends_to variables (names_borrower variables target) right) fits).0 in
         assign_fine target.selectors target right fs k refl (root_object types variables target leads.0 leads.1) (at_work w w.rest.1)
-    stmt_fine bodies among inside here (assigns_record target items) fs k pooled fits w =
+    stmt_fine bodies calling inside here (assigns_record target items) fs k pooled fits w =
         let there = record_there known.program.types known.program.variables target (and_parts _ _ fits).0 in
         record_begins known a rest s target items fs k there (at_work w w.rest.1)
-    stmt_fine bodies among inside here (frees access path) fs k pooled fits w = frees_fine path.selectors access path fs k pooled (and_parts _ _ fits).0 w.rest.4 refl (at_work w w.rest.1)
-    stmt_fine bodies among inside here (gets target) fs k pooled fits w = (
+    stmt_fine bodies calling inside here (frees access path) fs k pooled fits w = frees_fine path.selectors access path fs k pooled (and_parts _ _ fits).0 w.rest.4 refl (at_work w w.rest.1)
+    stmt_fine bodies calling inside here (gets target) fs k pooled fits w = (
         let types = known.program.types in
         let variables = known.program.variables in
         let leads = integer_leads (path_kind types variables target) fits in
         gets_fine target.selectors target s.input fs k refl (root_object types variables target leads.0 leads.1) (at_work w w.rest.1)
         )
-    stmt_fine bodies among inside here (writes e) fs k pooled fits w =
+    stmt_fine bodies calling inside here (writes e) fs k pooled fits w =
         let h = computed_goes e w.holds (RunsOn known (Does fs ∷ k) w.rooms) (Raised (λ x. is_same x ConstraintError && expression_raises e) (ways known k w.rooms)) w.rest.1 in
         ready_on known (Computes e ∷ Writes ∷ Does fs ∷ k) a rest s a.operands (at_work w (h.0, (λ may. h.2 may ConstraintError may), h.1))
-    stmt_fine bodies among inside here (writes_text text) fs k pooled fits w = runs_on known (Does fs ∷ k) a rest s (at_work w w.rest.1.0) (Line _) tt
-    stmt_fine bodies among inside here (chooses branches) fs k pooled fits w = branches_fine branches (Does fs ∷ k) (at_work w (chooses_from known here branches fs k (ways known k w.rooms) w.holds w.rest))
-    stmt_fine bodies among inside here (repeats condition body end_spot) fs k pooled fits w =
+    stmt_fine bodies calling inside here (writes_text text) fs k pooled fits w = runs_on known (Does fs ∷ k) a rest s (at_work w w.rest.1.0) (Line _) tt
+    stmt_fine bodies calling inside here (chooses branches) fs k pooled fits w = branches_fine branches (Does fs ∷ k) (at_work w (chooses_from known here branches fs k (ways known k w.rooms) w.holds w.rest))
+    stmt_fine bodies calling inside here (repeats condition body end_spot) fs k pooled fits w =
         runs_on known (Repeats condition body ∷ Does fs ∷ k) a rest s (at_work w (repeats_from known here condition body end_spot fs k (ways known k w.rooms) w.holds w.rest)) Quiet tt
-    stmt_fine bodies among inside here (counts x low high body end_spot) fs k pooled fits w =
+    stmt_fine bodies calling inside here (counts x low high body end_spot) fs k pooled fits w =
         ready_on known (Computes low ∷ Computes high ∷ Ranges x body ∷ Does fs ∷ k) a rest s a.operands
         (at_work w (bounds_fine x low high body fs k w.rooms w.holds (counts_from known here x low high body end_spot fs k (ways known k w.rooms) w.holds w.rest)))
-    stmt_fine bodies among inside here (exits condition spot) fs k pooled fits w =
+    stmt_fine bodies calling inside here (exits condition spot) fs k pooled fits w =
         exit_fine condition (Does fs ∷ k) (at_work w (exit_parts known here.start here.inside condition spot w.holds (RunsOn known (Does fs ∷ k) w.rooms) (Raised (λ e. is_same e ConstraintError && condition_raises condition) (ways known k w.rooms)) (ways known k w.rooms).exited w.rest.1 (w.rest.2 refl)))
-    stmt_fine bodies among inside here (calls procedure actuals) fs k pooled fits w = call_begins known bodies among here procedure actuals fs k a rest s fits w
-    stmt_fine bodies among inside here (returns spot) fs k pooled fits w = jumps known (Does fs ∷ k) a rest s Returning (at_work w (w.rest.3 w.holds))
-    stmt_fine bodies among inside here (raises e) fs k pooled fits w = jumps_less known (Does fs ∷ k) a rest s (Raising e) (at_work w (w.rest.1.1 e (same_here e)))
-    stmt_fine bodies among inside here (encloses ds body hs) fs k pooled fits w =
+    stmt_fine bodies calling inside here (calls procedure actuals) fs k pooled fits w = call_begins known bodies calling here procedure actuals fs k a rest s fits w
+    stmt_fine bodies calling inside here (returns spot) fs k pooled fits w = jumps known (Does fs ∷ k) a rest s Returning (at_work w (w.rest.3 w.holds))
+    stmt_fine bodies calling inside here (raises e) fs k pooled fits w = jumps_less known (Does fs ∷ k) a rest s (Raising e) (at_work w (w.rest.1.1 e (same_here e)))
+    stmt_fine bodies calling inside here (encloses ds body hs) fs k pooled fits w =
         stays known Quiet _ (
           tt,
           record {
@@ -319,7 +319,7 @@ module _ (known : Known) where
           },
         ) tt
 
-    pub stmts_fine : (bodies : List BodyForm) → AreAmong known.program.bodies bodies → (inside : Bool) (fs : StmtsForm) (k : Control) → Pooled known.program.types s.heap → stmts_fit known.program.types known.program.variables known.program.texts known.program.exceptions (callable_in known.program) inside fs ≡ true → Resumes known s.heap a.places s.masters (Does fs ∷ k) → Fine known s.heap s.masters (stmts_next named bodies fs (running k a rest s))
-    stmts_fine bodies among inside fs k pooled fits (inr h) = half_begins known a rest s bodies fs k h
-    stmts_fine bodies among inside no_stmts k pooled fits (inl w) = runs_on known k a rest s (at_less w w.rest.2.0) Quiet tt
-    stmts_fine bodies among inside (a_stmt f fs) k pooled fits (inl w) = stmt_fine bodies among inside w.rest.0 f fs k pooled (and_parts _ _ fits).0 (at_work w (starts known f fs k (ways known k w.rooms) w.holds w.rest))
+    pub stmts_fine : (bodies : List BodyForm) → MayCall known bodies → (inside : Bool) (fs : StmtsForm) (k : Control) → Pooled known.program.types s.heap → stmts_fit known.program.types known.program.variables known.program.texts known.program.exceptions (callable_in known.program) inside fs ≡ true → Resumes known s.heap a.places s.masters (Does fs ∷ k) → Fine known s.heap s.masters (stmts_next named bodies fs (running k a rest s))
+    stmts_fine bodies calling inside fs k pooled fits (inr h) = half_begins known a rest s bodies fs k h
+    stmts_fine bodies calling inside no_stmts k pooled fits (inl w) = runs_on known k a rest s (at_less w w.rest.2.0) Quiet tt
+    stmts_fine bodies calling inside (a_stmt f fs) k pooled fits (inl w) = stmt_fine bodies calling inside w.rest.0 f fs k pooled (and_parts _ _ fits).0 (at_work w (starts known f fs k (ways known k w.rooms) w.holds w.rest))

@@ -29,7 +29,7 @@ use Rattle.ada_sound.proofs.Ready.{running, at_work, at_less, runs_on}
 use Rattle.ada_sound.proofs.Raising.{unary_only, binary_only}
 use Rattle.ada_sound.proofs.Expressions.{outcome_fine, null_test_fine, expression_fine, links_fine}
 use Rattle.ada_sound.proofs.Statements.{declarations_fine, repeats_fine, counts_fine, ranges_fine, decided_fine, turned_fine, exited_fine, stmts_fine}
-use Rattle.ada_sound.proofs.CallStatements.{AreAmong}
+use Rattle.ada_sound.proofs.CallStatements.{MayCall}
 use Rattle.ada_sound.proofs.Allocators.{items_fine, creates_fine}
 use Rattle.ada_sound.proofs.Defaults.{Reaches}
 use Rattle.ada_sound.proofs.Evaluations.{right_fine, follows_fine, stores_fine, declares_fine, writes_fine}
@@ -83,7 +83,7 @@ crosses Exiting (f ∷ k) = is_return f
 crosses Returning (f ∷ k) = is_return f
 
 module _ (known : Known) where
-  module _ (types : List TypeDefinition) (reaches : Reaches known types) (bodies : List BodyForm) (among : AreAmong known.program.bodies bodies) (k : Control) (a : Activation Value) (rest : List (Activation Value)) (s : State) where
+  module _ (types : List TypeDefinition) (reaches : Reaches known types) (bodies : List BodyForm) (calling : MayCall known bodies) (k : Control) (a : Activation Value) (rest : List (Activation Value)) (s : State) where
     -- Frames that take an operand, which is there.
     path_fine : (cs : List ℕ) (operands : List Value) → RunsTyped known s.heap (Follows cs ∷ k) a.places operands → ReadyBy known (Follows cs) k s.heap a.places operands s.masters → Fine known s.heap s.masters (frame_next named types bodies (Follows cs) (running k (record a { operands = operands }) rest s))
     path_fine cs [] t r = let fits = t.1 in absurd (no_operand (cells_of s.heap) t.0 fits.1 fits.0 fits.3 t.2)
@@ -107,7 +107,7 @@ module _ (known : Known) where
 
     frame_fine : (f : Frame Value) → crosses Running (f ∷ k) ≡ false → RunsTyped known s.heap (f ∷ k) a.places a.operands → Pooled known.program.types s.heap → HeldIn s.heap s.masters → ((mode : Mode) (behind : Control) → f ∷ k ≡ Leaves mode ∷ behind → NamedBelow (outers known) s.heap s.masters) → ReadyBy known f k s.heap a.places a.operands s.masters → Fine known s.heap s.masters (frame_next named types bodies f (running k a rest s))
     frame_fine (Elaborates ds fs hs) inner t pooled held low r = declarations_fine known a rest s fs hs k types ds t.3 t.1.2 r
-    frame_fine (Does fs) inner t pooled held low r = stmts_fine known a rest s bodies among t.1.1 fs k pooled t.1.2 r
+    frame_fine (Does fs) inner t pooled held low r = stmts_fine known a rest s bodies calling t.1.1 fs k pooled t.1.2 r
     frame_fine (Decides fs branches) inner t pooled held low r = decided_fine known (record a { operands = older a.operands }) rest s fs branches (named.reads_boolean (first_or Null a.operands)) k r
     frame_fine (Repeats condition body) inner t pooled held low r = repeats_fine known a rest s condition body k r
     frame_fine (Turns e body) inner t pooled held low r = turned_fine known (record a { operands = older a.operands }) rest s e body (named.reads_boolean (first_or Null a.operands)) k r
@@ -117,8 +117,8 @@ module _ (known : Known) where
     frame_fine (Handles hs) inner t pooled held low r = runs_on known k a rest s (at_less r r.rest) Quiet tt
     frame_fine Closes inner t pooled held low r = closes_fine known k a rest s Running r
     frame_fine (Leaves mode) inner t pooled held low r = leave_fine known mode k a rest s s.masters r held (low mode k refl)
-    frame_fine (Calls procedure b count) inner t pooled held low r = absurd (cc inner)
-    frame_fine Returns inner t pooled held low r = absurd (cc inner)
+    frame_fine (Calls procedure b actuals) inner t pooled held low r = absurd (cc inner)
+    frame_fine (Returns actuals) inner t pooled held low r = absurd (cc inner)
     frame_fine (Evaluates right) inner t pooled held low r = right_fine known k a rest s types reaches right t.0 t.1 r
     frame_fine (Computes e) inner t pooled held low r = expression_fine known k a rest s e t.1.0 t.1.1 r
     frame_fine (Follows cs) inner t pooled held low r = path_fine cs a.operands t r
@@ -149,22 +149,22 @@ module _ (known : Known) where
     frame_fine (Clears x) inner t pooled held low r = stores_fine known k a rest s x Null a.operands (inl r)
     frame_fine (ClearsIn o c) inner t pooled held low r = clear_fine known k a rest s o c r
 
-  mode_fine : (types : List TypeDefinition) → Reaches known types → (bodies : List BodyForm) → AreAmong known.program.bodies bodies → (mode : Mode) (k : Control) (a : Activation Value) (rest : List (Activation Value)) (s : State) → crosses mode k ≡ false → (mode ≡ Running → RunsTyped known s.heap k a.places a.operands) → Pooled known.program.types s.heap → HeldIn s.heap s.masters → ((left : Mode) (behind : Control) → mode ≡ Running → k ≡ Leaves left ∷ behind → NamedBelow (outers known) s.heap s.masters) → ReadyIn known mode k s.heap a.places a.operands s.masters → Fine known s.heap s.masters (mode_next named types bodies mode (record s { mode = mode; control = k; activations = a ∷ rest }))
-  mode_fine types reaches bodies among Running [] a rest s inner t pooled held low r = r
-  mode_fine types reaches bodies among Running (f ∷ k) a rest s inner t pooled held low r = frame_fine types reaches bodies among k a rest s f inner (t refl) pooled held (λ left behind is. low left behind refl is) r
-  mode_fine types reaches bodies among (Raising e) [] a rest s inner t pooled held low r = r
-  mode_fine types reaches bodies among (Raising e) (f ∷ k) a rest s inner t pooled held low r = raising_fine known k a rest s e f inner r
-  mode_fine types reaches bodies among Exiting [] a rest s inner t pooled held low r = tt
-  mode_fine types reaches bodies among Exiting (f ∷ k) a rest s inner t pooled held low r = exiting_fine known k a rest s f inner r
-  mode_fine types reaches bodies among Returning [] a rest s inner t pooled held low r = r
-  mode_fine types reaches bodies among Returning (f ∷ k) a rest s inner t pooled held low r = returning_fine known k a rest s f inner r
+  mode_fine : (types : List TypeDefinition) → Reaches known types → (bodies : List BodyForm) → MayCall known bodies → (mode : Mode) (k : Control) (a : Activation Value) (rest : List (Activation Value)) (s : State) → crosses mode k ≡ false → (mode ≡ Running → RunsTyped known s.heap k a.places a.operands) → Pooled known.program.types s.heap → HeldIn s.heap s.masters → ((left : Mode) (behind : Control) → mode ≡ Running → k ≡ Leaves left ∷ behind → NamedBelow (outers known) s.heap s.masters) → ReadyIn known mode k s.heap a.places a.operands s.masters → Fine known s.heap s.masters (mode_next named types bodies mode (record s { mode = mode; control = k; activations = a ∷ rest }))
+  mode_fine types reaches bodies calling Running [] a rest s inner t pooled held low r = r
+  mode_fine types reaches bodies calling Running (f ∷ k) a rest s inner t pooled held low r = frame_fine types reaches bodies calling k a rest s f inner (t refl) pooled held (λ left behind is. low left behind refl is) r
+  mode_fine types reaches bodies calling (Raising e) [] a rest s inner t pooled held low r = r
+  mode_fine types reaches bodies calling (Raising e) (f ∷ k) a rest s inner t pooled held low r = raising_fine known k a rest s e f inner r
+  mode_fine types reaches bodies calling Exiting [] a rest s inner t pooled held low r = tt
+  mode_fine types reaches bodies calling Exiting (f ∷ k) a rest s inner t pooled held low r = exiting_fine known k a rest s f inner r
+  mode_fine types reaches bodies calling Returning [] a rest s inner t pooled held low r = r
+  mode_fine types reaches bodies calling Returning (f ∷ k) a rest s inner t pooled held low r = returning_fine known k a rest s f inner r
 
-  active_fine : (types : List TypeDefinition) → Reaches known types → (bodies : List BodyForm) → AreAmong known.program.bodies bodies → (all : List (Activation Value)) (s : State) → IsActive all → crosses s.mode s.control ≡ false → (s.mode ≡ Running → RunsTyped known s.heap s.control (places_of all) (operands_of all)) → Pooled known.program.types s.heap → HeldIn s.heap s.masters → ((left : Mode) (behind : Control) → s.mode ≡ Running → s.control ≡ Leaves left ∷ behind → NamedBelow (outers known) s.heap s.masters) → Ready known (record s { activations = all }) → Fine known s.heap s.masters (mode_next named types bodies s.mode (record s { activations = all }))
-  active_fine types reaches bodies among [] s i inner t pooled held low r = absurd i
-  active_fine types reaches bodies among (a ∷ rest) s i inner t pooled held low r = mode_fine types reaches bodies among s.mode s.control a rest s inner t pooled held low r.1
+  active_fine : (types : List TypeDefinition) → Reaches known types → (bodies : List BodyForm) → MayCall known bodies → (all : List (Activation Value)) (s : State) → IsActive all → crosses s.mode s.control ≡ false → (s.mode ≡ Running → RunsTyped known s.heap s.control (places_of all) (operands_of all)) → Pooled known.program.types s.heap → HeldIn s.heap s.masters → ((left : Mode) (behind : Control) → s.mode ≡ Running → s.control ≡ Leaves left ∷ behind → NamedBelow (outers known) s.heap s.masters) → Ready known (record s { activations = all }) → Fine known s.heap s.masters (mode_next named types bodies s.mode (record s { activations = all }))
+  active_fine types reaches bodies calling [] s i inner t pooled held low r = absurd i
+  active_fine types reaches bodies calling (a ∷ rest) s i inner t pooled held low r = mode_fine types reaches bodies calling s.mode s.control a rest s inner t pooled held low r.1
 
   -- One step keeps the invariant, where no body begins and none ends.
-  pub fine : (types : List TypeDefinition) → Reaches known types → (bodies : List BodyForm) → AreAmong known.program.bodies bodies → (s : State) → crosses s.mode s.control ≡ false → typed.TypedIn known.program s → InnermostHeldInside s → ((left : Mode) (behind : Control) → s.mode ≡ Running → s.control ≡ Leaves left ∷ behind → NamedBelow (outers known) s.heap s.masters) → Ready known s → Fine known s.heap s.masters (next types bodies s)
+  pub fine : (types : List TypeDefinition) → Reaches known types → (bodies : List BodyForm) → MayCall known bodies → (s : State) → crosses s.mode s.control ≡ false → typed.TypedIn known.program s → InnermostHeldInside s → ((left : Mode) (behind : Control) → s.mode ≡ Running → s.control ≡ Leaves left ∷ behind → NamedBelow (outers known) s.heap s.masters) → Ready known s → Fine known s.heap s.masters (next types bodies s)
   unfolding next
-  fine types reaches bodies among s inner typing held low r =
-      active_fine types reaches bodies among s.activations s r.0 inner (runs_typed known s typing) (pooled_in known.program s typing) held low r
+  fine types reaches bodies calling s inner typing held low r =
+      active_fine types reaches bodies calling s.activations s r.0 inner (runs_typed known s typing) (pooled_in known.program s typing) held low r

@@ -92,8 +92,8 @@ module _ (known : Known) where
   frame_stored (Handles hs) k heap places operands ms r = (None, r.stored)
   frame_stored Closes k heap places operands ms r = (None, r.stored)
   frame_stored (Leaves mode) k heap places operands ms r = (None, r.stored)
-  frame_stored (Calls procedure b count) k heap places operands ms r = (None, r.stored)
-  frame_stored Returns k heap places operands ms r = (None, r.stored)
+  frame_stored (Calls procedure b actuals) k heap places operands ms r = (None, r.stored)
+  frame_stored (Returns actuals) k heap places operands ms r = (None, r.stored)
   frame_stored (Evaluates right) k heap places operands ms r = right_stored right k heap places ms r
   frame_stored (Computes e) k heap places operands ms r = (None, r.stored)
   frame_stored (Follows cs) k heap places operands ms r = path_stored (first_or Null operands) cs k heap places ms r

@@ -5,7 +5,7 @@ use Rattle.std.specs.List.{slice_get}
 use Rattle.ada_program.specs.declared.program.Choice.{Choice}
 use Rattle.ada_program.specs.declared.program.Program.{Program}
 use Rattle.ada_text.specs.declared.spot.Spot.{Spot}
-use Rattle.ada_program.specs.Form.{PathForm, ExpressionForm, nothing, DeclarationForm, StmtForm, assigns, chooses, repeats, counts, encloses, StmtsForm, a_stmt, BranchesForm, otherwise, a_branch, HandlersForm, a_handler}
+use Rattle.ada_program.specs.Form.{ActualForm, PathForm, ExpressionForm, nothing, DeclarationForm, StmtForm, assigns, chooses, repeats, counts, encloses, StmtsForm, a_stmt, BranchesForm, otherwise, a_branch, HandlersForm, a_handler}
 use Rattle.ada_program.specs.ProgramForm.{TypeForm, VariableForm, ProgramForm, program_form, seen_in}
 use Rattle.ada_program.specs.declared.program.TypeNo.{TypeNo}
 use Rattle.ada_program.specs.declared.program.VariableKind.TheVariants as variable
@@ -141,7 +141,7 @@ running_procedure s = procedure_of s.activations
 -- What is left to do behind a body: nothing behind the main one, and what its caller was to do behind that of a procedure (6.5).
 abbrev pub IsBehind : (procedure : Option ℕ) → (rest : Place) → Type 0
 IsBehind None rest = rest ≡ []
-IsBehind (Some number) rest = (k : Place) × (rest ≡ frame.Returns ∷ k)
+IsBehind (Some number) rest = (actuals : List ActualForm) × (k : Place) × (rest ≡ frame.Returns actuals ∷ k)
 
 -- The holds that flow gives at a place, on this way from the declarations of a program's main body.
 abbrev pub IsFlowIn : (p : ProgramForm) (rest : Place) (way : List Turning) (place : Place) (holds : Holds) → Type 0

@@ -3,9 +3,10 @@
 use Rattle.std.specs.Prelude.{ℕ, List, [], ◌∷◌, Some, None, false, pos}
 use Rattle.ada_values.specs.declared.operator.BinaryOperator.TheVariants as binary
 use Rattle.ada_program.specs.declared.program.Choice.TheVariants as choice
+use Rattle.ada_program.specs.declared.program.FormalMode.TheVariants.{In, InOut}
 use Rattle.ada_program.specs.declared.program.VariableKind.{VariableKind}
 use Rattle.ada_program.specs.declared.program.VariableKind.TheVariants as variable
-use Rattle.ada_program.specs.Form.{ExpressionForm, integer, reads, item_of_value, nothing, allocates, value_of, declares, StmtForm, assigns, frees, writes, chooses, calls, returns, raises, StmtsForm, no_stmts, a_stmt, otherwise, a_branch, HandlersForm, no_handlers, a_handler}
+use Rattle.ada_program.specs.Form.{ActualForm, in_value, in_out_path, ExpressionForm, integer, reads, item_of_value, nothing, allocates, value_of, computes, declares, StmtForm, assigns, frees, writes, chooses, calls, returns, raises, StmtsForm, no_stmts, a_stmt, otherwise, a_branch, HandlersForm, no_handlers, a_handler}
 use Rattle.ada_program.specs.ProgramForm.{VariableForm, BodyForm}
 use Rattle.ada_meaning.specs.declared.state.Value.TheVariants.{Names}
 use Rattle.ada_meaning.specs.declared.event.Cause.TheVariants.{Leaving, Freeing}
@@ -47,7 +48,7 @@ showing_stmts =
 -- The body of Show.
 abbrev pub showing_body : BodyForm
 showing_body = record {
-  formals = 1;
+  formals = In ∷ [];
   variables = unnamed variable.Integer ∷ unnamed (variable.Access (record { 0 = 1 })) ∷ [];
   declarations = declares 1 nothing ∷ [];
   statements = showing_stmts;
@@ -56,12 +57,12 @@ showing_body = record {
 
 -- procedure Show_Two (N : Integer) is begin Show (N); Show (N + 1); end Show_Two;
 abbrev pub showing_two_stmts : StmtsForm
-showing_two_stmts = a_stmt (calls 0 (formal_now ∷ [])) (a_stmt (calls 0 (with_number binary.Add 1 formal_now ∷ [])) no_stmts)
+showing_two_stmts = a_stmt (calls 0 (in_value formal_now ∷ [])) (a_stmt (calls 0 (in_value (with_number binary.Add 1 formal_now) ∷ [])) no_stmts)
 
 -- The body of Show_Two.
 abbrev pub showing_two_body : BodyForm
 showing_two_body = record {
-  formals = 1;
+  formals = In ∷ [];
   variables = unnamed variable.Integer ∷ [];
   declarations = [];
   statements = showing_two_stmts;
@@ -76,8 +77,8 @@ calling_bodies = showing_body ∷ showing_two_body ∷ []
 abbrev pub calling_stmts : StmtsForm
 calling_stmts =
     seven_to_x
-    (a_stmt (calls 0 (integer (pos 0) ∷ []))
-    (a_stmt (calls 1 (integer (pos 1) ∷ []))
+    (a_stmt (calls 0 (in_value (integer (pos 0)) ∷ []))
+    (a_stmt (calls 1 (in_value (integer (pos 1)) ∷ []))
     (a_stmt (writes (integer (pos 0))) no_stmts)))
 
 -- when Full => Put_Line (Integer'Image (X.Value)); Free (X);
@@ -110,7 +111,7 @@ abbrev pub relending_stmts : StmtsForm
 relending_stmts =
     seven_to_x
     (a_stmt b_is_head
-    (a_stmt (calls 0 (integer (pos 1) ∷ []))
+    (a_stmt (calls 0 (in_value (integer (pos 1)) ∷ []))
     (a_stmt b_is_head
     (a_stmt (writes (value_at 2)) no_stmts))))
 
@@ -127,9 +128,61 @@ relending_events =
     ∷ Left 0
     ∷ []
 
+-- procedure Inc (N : in out Integer) is begin N := N + 1; end Inc;
+abbrev pub incrementing_body : BodyForm
+incrementing_body = record {
+  formals = InOut ∷ [];
+  variables = unnamed variable.Integer ∷ [];
+  declarations = [];
+  statements = a_stmt (assigns (example_path 0 []) (computes (with_number binary.Add 1 formal_now))) no_stmts;
+  handlers = no_handlers;
+}
+
+-- The variable of a number is given for the formal parameter of such a procedure.
+abbrev pub gives : (variable : ℕ) → List ActualForm
+gives x = in_out_path (example_path x []) ∷ []
+
+-- procedure Fail (N : in out Integer) is begin Inc (N); Put_Line (Integer'Image (N)); raise Full; end Fail;
+abbrev pub failing_body : BodyForm
+failing_body = record {
+  formals = InOut ∷ [];
+  variables = unnamed variable.Integer ∷ [];
+  declarations = [];
+  statements = a_stmt (calls 0 (gives 0)) (a_stmt (writes formal_now) (a_stmt (raises full) no_stmts));
+  handlers = no_handlers;
+}
+
+-- Both procedures.
+abbrev pub giving_bodies : List BodyForm
+giving_bodies = incrementing_body ∷ failing_body ∷ []
+
+-- N : Integer := 0 has number 2 in the main procedure: what it holds.
+abbrev pub variable_now : ExpressionForm
+variable_now = reads (example_path 2 [])
+
+-- Inc (N); Put_Line (Integer'Image (N)); Fail (N);
+abbrev pub giving_stmts : StmtsForm
+giving_stmts = a_stmt (calls 0 (gives 2)) (a_stmt (writes variable_now) (a_stmt (calls 1 (gives 2)) no_stmts))
+
+-- when Full => Put_Line (Integer'Image (N));
+abbrev pub giving_handlers : HandlersForm
+giving_handlers = a_handler (choice.Exception full ∷ []) (a_stmt (writes variable_now) no_stmts) no_handlers
+
+-- Inc gives 1 back to the main procedure, and then 2 to Fail. The exception that leaves Fail gives nothing back: N is 1 in the handler.
+abbrev pub giving_events : List Event
+giving_events =
+    Left 1
+    ∷ Line (Image (pos 1))
+    ∷ Left 3
+    ∷ Line (Image (pos 2))
+    ∷ Left 2
+    ∷ Line (Image (pos 1))
+    ∷ Left 0
+    ∷ []
+
 -- procedure Stop is begin raise Full; end Stop;
 abbrev pub stopping_bodies : List BodyForm
-stopping_bodies = record { formals = 0; variables = []; declarations = []; statements = a_stmt (raises full) no_stmts; handlers = no_handlers } ∷ []
+stopping_bodies = record { formals = []; variables = []; declarations = []; statements = a_stmt (raises full) no_stmts; handlers = no_handlers } ∷ []
 
 -- X := new Cell'(Value => 7); Y := X; Free (Y); Stop; X := null;
 abbrev pub stopping_stmts : StmtsForm

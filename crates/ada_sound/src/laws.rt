@@ -181,9 +181,9 @@ pub fn borrowers_only_borrow()
     ensures lost_is_refused { owners.LostIsNotBorrowed }
 {}
 
-/// A call leaves the caller's variables as they are (6.4), but for those that hold an alias of an access type of which
-/// the procedure may free an object (13.11.2): these are lost behind the call, and where it raises an exception. So it
-/// moves nothing: what is owned before it is owned after.
+/// A call leaves what the caller's variables own and borrow as it is (6.4), but for aliases of an access type of which the
+/// procedure may free an object (13.11.2): these are lost behind the call, and where it raises an exception. So it moves
+/// nothing: what is owned before it is owned after.
 pub fn calls_forget_aliases()
     ensures no_alias { callees.CallLeavesNoAlias }
     ensures no_alias_where_raised { callees.RaisedCallLeavesNoAlias }
@@ -193,9 +193,16 @@ pub fn calls_forget_aliases()
     ensures others_stay_where_raised { callees.RaisedCallKeepsOthers }
 {}
 
-/// No actual parameter follows a value that is lost, or compares it with null (4.1, 4.5.2, 6.4.1).
+/// No actual parameter follows a value that is lost, or compares it with null (4.1, 4.5.2, 6.4.1): such a call breaks a
+/// rule, and where it gives no variable twice, the rule of lost values.
 pub fn lost_is_no_actual()
     ensures { callees.LostIsNoActual }
+{}
+
+/// Where a call breaks no rule, no variable is given for two formal parameters of mode `in out` (6.4.1): so none gets two
+/// values back.
+pub fn one_variable_each()
+    ensures { callees.NoneIsGivenTwice }
 {}
 
 /// The laws are not empty: a program is accepted and comes to a statement; it finishes after it has followed an access
@@ -221,7 +228,8 @@ pub fn lost_is_no_actual()
 /// one of which calls the other one twice: a call returns early, the two nested ones make an object each and free it, and
 /// the second of these raises an exception, which leaves both procedures; the handler in the main procedure follows and
 /// frees what that one still owns. And one whose borrower has a value where it calls a procedure that frees an object of
-/// the same access type, and gets its value once more behind it.
+/// the same access type, and gets its value once more behind it. And one whose variable gets a value back from a call that
+/// ends normally, through a call in a call, and none from a call that an exception leaves.
 pub fn premises_are_met()
     ensures begins { (program : Program) × IsChecked program × ReachesStatement program }
     ensures finishes { (program : Program) × IsChecked program × FinishesAfter examples.example_events program }
@@ -273,6 +281,10 @@ pub fn premises_are_met()
     ensures borrows_around_calls { (program : Program) × (body_forms program ≡ call_examples.showing_body ∷ [])
         × (stmt_forms program ≡ call_examples.relending_stmts) × borrower_examples.HasBorrower program
         × IsChecked program × FinishesAfter call_examples.relending_events program }
+    ensures gives_back { (program : Program) × (body_forms program ≡ call_examples.giving_bodies)
+        × (stmt_forms program ≡ call_examples.giving_stmts)
+        × (handler_forms program ≡ call_examples.giving_handlers)
+        × IsChecked program × FinishesAfter call_examples.giving_events program }
 {}
 
 /// The rules are needed. Of programs that are well formed and whose collections nest, one that breaks the rules follows

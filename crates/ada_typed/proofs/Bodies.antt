@@ -3,9 +3,8 @@
 use Rattle.std.proofs.Common.{◌≡◌, ℕ, zero, suc, true, false, List, [], ◌∷◌, ◌++◌, length, map, take, Option, Some, None, ◌&&◌, refl, sym, ap, subst}
 use Rattle.std.proofs.lemmas.List.{append-nil, append_assoc}
 use Rattle.std.specs.List.{slice_get, list_all}
-use Rattle.ada_program.specs.declared.program.VariableKind.{VariableKind}
 use Rattle.ada_program.specs.ProgramForm.{TypeForm, BodyForm, ProgramForm, seen_by, seen_at, seen_in}
-use Rattle.ada_program.specs.WellFormed.{IsWellFormed, type_fits, variable_fits, collections_first, collection_fits, initial_fits, declarations_fit, stmts_fit, handlers_fit, profile_of, callable_in, created_in, creates_from, body_fits, bodies_fit}
+use Rattle.ada_program.specs.WellFormed.{IsWellFormed, type_fits, variable_fits, collections_first, collection_fits, initial_fits, declarations_fit, stmts_fit, handlers_fit, Profile, profile_of, callable_in, created_in, creates_from, body_fits, bodies_fit}
 use Rattle.ada_typed.proofs.Operators.{and_left, and_right}
 
 -- What holds of a well-formed program as one of its bodies sees it (6.3).
@@ -23,15 +22,15 @@ abbrev pub Sees : List BodyForm → ProgramForm → Type 0
 Sees bodies own = (number : ℕ) (b : BodyForm) → slice_get own.bodies number ≡ Some b → slice_get bodies number ≡ Some b
 
 -- Of the bodies of a program, each fits behind those before it.
-pub body_at : (types : List TypeForm) (texts exceptions : List (List ℕ)) (callable : List (List VariableKind)) (bs : List BodyForm) (number : ℕ) (b : BodyForm) → bodies_fit types texts exceptions callable bs ≡ true → slice_get bs number ≡ Some b → body_fits types texts exceptions (callable ++ map profile_of (take number bs)) b ≡ true
+pub body_at : (types : List TypeForm) (texts exceptions : List (List ℕ)) (callable : List Profile) (bs : List BodyForm) (number : ℕ) (b : BodyForm) → bodies_fit types texts exceptions callable bs ≡ true → slice_get bs number ≡ Some b → body_fits types texts exceptions (callable ++ map profile_of (take number bs)) b ≡ true
 body_at types texts exceptions callable [] number b fit is = absurd (cc)
 body_at types texts exceptions callable (c ∷ bs) zero b fit is =
     let one : c ≡ b = cc in
     subst (λ (x : BodyForm). body_fits types texts exceptions (callable ++ []) x ≡ true) one
-    (subst (λ (profiles : List (List VariableKind)). body_fits types texts exceptions profiles c ≡ true) (sym (append-nil callable))
+    (subst (λ (profiles : List Profile). body_fits types texts exceptions profiles c ≡ true) (sym (append-nil callable))
     (and_left (body_fits types texts exceptions callable c) (bodies_fit types texts exceptions (callable ++ profile_of c ∷ []) bs) fit))
 body_at types texts exceptions callable (c ∷ bs) (suc number) b fit is =
-    subst (λ (profiles : List (List VariableKind)). body_fits types texts exceptions profiles b ≡ true) (append_assoc callable (profile_of c ∷ []) (map profile_of (take number bs)))
+    subst (λ (profiles : List Profile). body_fits types texts exceptions profiles b ≡ true) (append_assoc callable (profile_of c ∷ []) (map profile_of (take number bs)))
     (body_at types texts exceptions (callable ++ profile_of c ∷ []) bs number b (and_right (body_fits types texts exceptions callable c) (bodies_fit types texts exceptions (callable ++ profile_of c ∷ []) bs) fit) is)
 
 -- What is said of one body, in parts.
@@ -40,7 +39,7 @@ seen_body p well number b is =
     let callable = map profile_of (take number p.bodies) in
     let whole = body_at p.types p.texts p.exceptions [] p.bodies number b well.bodies_fit is in
     let variables = list_all (variable_fits p.types) b.variables in
-    let creates = creates_from (length b.variables) b.formals (created_in b) in
+    let creates = creates_from (length b.variables) (length b.formals) (created_in b) in
     let declared = declarations_fit p.types b.variables b.declarations in
     let statements = stmts_fit p.types b.variables p.texts p.exceptions callable false b.statements in
     let handled = handlers_fit p.types b.variables p.texts p.exceptions callable false b.handlers in

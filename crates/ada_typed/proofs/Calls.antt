@@ -6,65 +6,72 @@ use Rattle.std.proofs.Common.{◌≡◌, ℕ, ◌≤◌, if◌then◌else◌, Bo
 use Rattle.std.specs.List.{slice_get}
 use Rattle.ada_program.specs.declared.program.TypeDefinition.{TypeDefinition}
 use Rattle.ada_program.specs.declared.program.VariableKind.{VariableKind}
+use Rattle.ada_program.specs.Form.{ActualForm}
 use Rattle.ada_program.specs.ProgramForm.{TypeForm, BodyForm, ProgramForm, type_form, seen_by, seen_in}
-use Rattle.ada_program.specs.WellFormed.{IsWellFormed, profile_of}
+use Rattle.ada_program.specs.WellFormed.{IsWellFormed, actuals_fit, formal_kinds}
 use Rattle.ada_meaning.specs.declared.state.Value.{Value}
 use Rattle.ada_meaning.specs.declared.state.Mode.{Mode}
 use Rattle.ada_meaning.specs.declared.state.Mode.TheVariants.{Running, Raising, Exiting, Returning}
 use Rattle.ada_meaning.specs.Frame.{Frame, is_master, is_return, landing}
 use Rattle.ada_meaning.specs.Frame as frame
 use Rattle.ada_meaning.specs.State.{Activation}
-use Rattle.ada_meaning.specs.Step.{procedure_of, halts, moves, tells, asks, picks, at, older, in_front, newest_ones, resumed, unwound, begun, given_places, frame_next, pass_next, running_next, jump_next, mode_next}
+use Rattle.ada_meaning.specs.Step.{procedure_of, halts, moves, tells, asks, picks, at, older, in_front, newest_ones, returned, left_by, unwound, begun, given_places, frame_next, pass_next, running_next, jump_next, mode_next}
 use Rattle.ada_meaning.specs.Named.{State, Next, named, next}
-use Rattle.ada_typed.proofs.Values.{AreFilled, AreHeld, AreComputed}
-use Rattle.ada_typed.proofs.Control.{AtReturn, WaitsFirst, Waiting, Fits, depth, depth_behind, Ready, Jumps, Goes, Typed, TypedIn, running, on_jump, catches}
+use Rattle.ada_typed.proofs.Values.{AreFilled, AreHeld, AreComputed, IsActive}
+use Rattle.ada_typed.proofs.Control.{AtReturn, kinds_at, kinds_in, actuals_at, Suspended, WaitsFirst, Waiting, Fits, depth, depth_behind, Ready, Jumps, Goes, Typed, TypedIn, running, on_jump, catches}
 use Rattle.ada_typed.proofs.Later.{waiting_later}
 use Rattle.ada_typed.proofs.Evaluations.{Comes, Fine, ready_at}
 use Rattle.ada_typed.proofs.Bodies.{SeenFits, seen_fits, sees, types_seen, seen_as}
-use Rattle.ada_typed.proofs.Actuals.{given, held_given}
-use Rattle.ada_typed.proofs.Kept.{behind_call, Keeps, Each}
+use Rattle.ada_typed.proofs.Actuals.{as_many, given, held_given, formals_held, GiveBack, gives_back, held_back}
+use Rattle.ada_typed.proofs.Kept.{Behind, behind_call, Keeps, Each}
 use Rattle.ada_typed.proofs.KeptSteps.{frame_keeps, pass_keeps}
 use Rattle.ada_typed.proofs.Steps.{frame_fine}
 use Rattle.ada_typed.proofs.Jumps.{passing_fine, ends_fine}
 
--- What waits is said of what is left to do behind the body that runs, whatever is left of this body.
-abbrev WaitsAt : ProgramForm → Cells → Option (List (Frame Value)) → List (Activation Value) → Type 0
-WaitsAt p cells None suspended = (suspended ≡ [])
-WaitsAt p cells (Some k) suspended = WaitsFirst p cells k suspended (Waiting p cells k (older suspended))
+-- What waits for the end of this body is said of what is left to do behind it, whatever is left of the body.
+abbrev WaitsAt : ProgramForm → Cells → (callee : Option ℕ) → Option Behind → List (Activation Value) → Type 0
+WaitsAt p cells callee None suspended = (suspended ≡ [])
+WaitsAt p cells callee (Some behind) suspended =
+    WaitsFirst p cells callee behind.actuals behind.left suspended (Waiting p cells (procedure_of suspended) behind.left (older suspended))
 
-module _ (p : ProgramForm) (cells : Cells) where
-  to_behind : (return : Bool) (k : List (Frame Value)) (suspended : List (Activation Value)) → (Waiting p cells k suspended → WaitsAt p cells (behind_call k) suspended) → AtReturn return (WaitsFirst p cells k suspended (Waiting p cells k (older suspended))) (Waiting p cells k suspended) → WaitsAt p cells (if return then Some k else behind_call k) suspended
-  to_behind true k suspended later h = h
-  to_behind false k suspended later h = later h
+module _ (p : ProgramForm) (cells : Cells) (callee : Option ℕ) where
+  -- What waits where a call ends with these actual parameters.
+  abbrev WaitsHere : List ActualForm → List (Frame Value) → List (Activation Value) → Type 0
+  WaitsHere actuals k suspended = WaitsFirst p cells callee actuals k suspended (Waiting p cells (procedure_of suspended) k (older suspended))
 
-  from_behind : (return : Bool) (k : List (Frame Value)) (suspended : List (Activation Value)) → (WaitsAt p cells (behind_call k) suspended → Waiting p cells k suspended) → WaitsAt p cells (if return then Some k else behind_call k) suspended → AtReturn return (WaitsFirst p cells k suspended (Waiting p cells k (older suspended))) (Waiting p cells k suspended)
-  from_behind true k suspended later h = h
-  from_behind false k suspended later h = later h
+  to_behind : (return : Bool) (actuals : List ActualForm) (k : List (Frame Value)) (suspended : List (Activation Value)) → (Waiting p cells callee k suspended → WaitsAt p cells callee (behind_call k) suspended) → AtReturn return (WaitsHere actuals k suspended) (Waiting p cells callee k suspended) → WaitsAt p cells callee (if return then Some (record { actuals = actuals; left = k }) else behind_call k) suspended
+  to_behind true actuals k suspended later h = h
+  to_behind false actuals k suspended later h = later h
 
-  waits_at : (k : List (Frame Value)) (suspended : List (Activation Value)) → Waiting p cells k suspended → WaitsAt p cells (behind_call k) suspended
+  from_behind : (return : Bool) (actuals : List ActualForm) (k : List (Frame Value)) (suspended : List (Activation Value)) → (WaitsAt p cells callee (behind_call k) suspended → Waiting p cells callee k suspended) → WaitsAt p cells callee (if return then Some (record { actuals = actuals; left = k }) else behind_call k) suspended → AtReturn return (WaitsHere actuals k suspended) (Waiting p cells callee k suspended)
+  from_behind true actuals k suspended later h = h
+  from_behind false actuals k suspended later h = later h
+
+  waits_at : (k : List (Frame Value)) (suspended : List (Activation Value)) → Waiting p cells callee k suspended → WaitsAt p cells callee (behind_call k) suspended
   waits_at [] suspended h = h
-  waits_at (f ∷ k) suspended h = to_behind (is_return f) k suspended (waits_at k suspended) h
+  waits_at (f ∷ k) suspended h = to_behind (is_return f) (actuals_at f) k suspended (waits_at k suspended) h
 
-  at_waits : (k : List (Frame Value)) (suspended : List (Activation Value)) → WaitsAt p cells (behind_call k) suspended → Waiting p cells k suspended
+  at_waits : (k : List (Frame Value)) (suspended : List (Activation Value)) → WaitsAt p cells callee (behind_call k) suspended → Waiting p cells callee k suspended
   at_waits [] suspended h = h
-  at_waits (f ∷ k) suspended h = from_behind (is_return f) k suspended (at_waits k suspended) h
+  at_waits (f ∷ k) suspended h = from_behind (is_return f) (actuals_at f) k suspended (at_waits k suspended) h
 
   -- The same is behind the body that runs: the same waits.
-  pub waiting_behind : (k l : List (Frame Value)) (suspended : List (Activation Value)) → behind_call l ≡ behind_call k → Waiting p cells k suspended → Waiting p cells l suspended
-  waiting_behind k l suspended same h = at_waits l suspended (subst (λ (o : Option (List (Frame Value))). WaitsAt p cells o suspended) (sym same) (waits_at k suspended h))
+  pub waiting_behind : (k l : List (Frame Value)) (suspended : List (Activation Value)) → behind_call l ≡ behind_call k → Waiting p cells callee k suspended → Waiting p cells callee l suspended
+  waiting_behind k l suspended same h = at_waits l suspended (subst (λ (o : Option Behind). WaitsAt p cells callee o suspended) (sym same) (waits_at k suspended h))
 
 -- A step inside the running body.
 module _ (p : ProgramForm) where
   -- What holds of the activations that wait, while a body runs.
   abbrev Waits : State → Type 0
-  Waits s = Waiting p (cells_of s.heap) s.control (older s.activations)
+  Waits s = Waiting p (cells_of s.heap) (procedure_of s.activations) s.control (older s.activations)
 
   kept_typed : (s after : State) → Keeps s after → Waits s → TypedIn (seen_now p s) after → Typed p after
   kept_typed s after keeps waiting typed = record {
     inside = subst (λ (procedure : Option ℕ). TypedIn (seen_in procedure p) after) (sym keeps.procedure) typed;
-    waiting = subst (λ (suspended : List (Activation Value)). Waiting p (cells_of after.heap) after.control suspended) (sym keeps.suspended)
-        (waiting_behind p (cells_of after.heap) s.control after.control (older s.activations) keeps.behind
-        (waiting_later p (cells_of s.heap) (cells_of after.heap) keeps.stay s.control (older s.activations) waiting));
+    waiting = subst (λ (callee : Option ℕ). Waiting p (cells_of after.heap) callee after.control (older after.activations)) (sym keeps.procedure)
+        (subst (λ (suspended : List (Activation Value)). Waiting p (cells_of after.heap) (procedure_of s.activations) after.control suspended) (sym keeps.suspended)
+        (waiting_behind p (cells_of after.heap) (procedure_of s.activations) s.control after.control (older s.activations) keeps.behind
+        (waiting_later p (cells_of s.heap) (cells_of after.heap) keeps.stay (procedure_of s.activations) s.control (older s.activations) waiting)));
   }
 
   inside_comes : (s : State) (n : Next) → Waits s → Fine (seen_now p s) n → Each (Keeps s) n → Comes (Typed p) n
@@ -75,8 +82,10 @@ module _ (p : ProgramForm) where
   inside_comes s (picks n taking) waiting fine keeps = λ i lt. kept_typed s (taking i) (keeps i lt) waiting (fine i lt)
 
   -- What waits behind a frame that ends no call.
-  waits_further : (f : Frame Value) (k : List (Frame Value)) (cells : Cells) (suspended : List (Activation Value)) → is_return f ≡ false → Waiting p cells (f ∷ k) suspended → Waiting p cells k suspended
-  waits_further f k cells suspended none waiting = waiting_behind p cells (f ∷ k) k suspended (sym (ap (λ (return : Bool). if return then Some k else behind_call k) none)) waiting
+  waits_further : (f : Frame Value) (k : List (Frame Value)) (cells : Cells) (callee : Option ℕ) (suspended : List (Activation Value)) → is_return f ≡ false → Waiting p cells callee (f ∷ k) suspended → Waiting p cells callee k suspended
+  waits_further f k cells callee suspended none waiting =
+      waiting_behind p cells callee (f ∷ k) k suspended
+      (sym (ap (λ (return : Bool). if return then Some (record { actuals = actuals_at f; left = k }) else behind_call k) none)) waiting
 
 -- Each body sees the same types.
 pub same_filled : (p : ProgramForm) (procedure : Option ℕ) (cells : Cells) → AreFilled (seen_in procedure p).types cells cells → AreFilled p.types cells cells
@@ -85,93 +94,112 @@ same_filled p procedure cells filled = subst (λ (types : List TypeForm). AreFil
 pub filled_seen : (p : ProgramForm) (procedure : Option ℕ) (cells : Cells) → AreFilled p.types cells cells → AreFilled (seen_in procedure p).types cells cells
 filled_seen p procedure cells filled = subst (λ (types : List TypeForm). AreFilled types cells cells) (sym (types_seen p procedure)) filled
 
+-- What comes back to the caller that waits first.
+comes_back : (p : ProgramForm) (cells : Cells) (a c : Activation Value) (actuals : List ActualForm) (k : List (Frame Value)) → AreHeld cells (seen_in a.procedure p).variables a.places → Suspended (seen_in c.procedure p) cells (kinds_in p a.procedure) actuals k c → GiveBack cells (seen_in c.procedure p).variables actuals a.places
+comes_back p cells a c actuals k held waits =
+    let own = seen_in c.procedure p in
+    gives_back own.types cells own.variables (kinds_in p a.procedure) actuals a.places waits.suits (formals_held p cells a.procedure a.places held)
+
 module _ (p : ProgramForm) (well : IsWellFormed p) where
   -- A call begins (6.4): the caller waits, and the places of the body hold values of their kinds.
-  begun_typed : (number : ℕ) (b : BodyForm) (count : ℕ) (acts : List (Activation Value)) (s : State) (kinds : List VariableKind) → Ready (seen_in (procedure_of acts) p) kinds (record s { activations = acts }) → Fits (seen_in (procedure_of acts) p) (cells_of s.heap) kinds (frame.Calls number b count ∷ s.control) → Waiting p (cells_of s.heap) s.control (older acts) → Typed p (begun named number b (newest_ones named count (record s { activations = acts })) (record s { activations = acts }))
-  begun_typed number b count [] s kinds ready fits waiting = absurd ready.active
-  begun_typed number b count (a ∷ suspended) s kinds ready fits waiting =
+  begun_typed : (number : ℕ) (b : BodyForm) (actuals : List ActualForm) (acts : List (Activation Value)) (s : State) (kinds : List VariableKind) → Ready (seen_in (procedure_of acts) p) kinds (record s { activations = acts }) → Fits (seen_in (procedure_of acts) p) (cells_of s.heap) kinds (frame.Calls number b actuals ∷ s.control) → Waiting p (cells_of s.heap) (procedure_of acts) s.control (older acts) → Typed p (begun named number b actuals (newest_ones named (length actuals) (record s { activations = acts })) (record s { activations = acts }))
+  begun_typed number b actuals [] s kinds ready fits waiting = absurd ready.active
+  begun_typed number b actuals (a ∷ suspended) s kinds ready fits waiting =
       let cells = cells_of s.heap in
       let called : slice_get p.bodies number ≡ Some b = sees p a.procedure number b fits.0 in
       let same : seen_in (Some number) p ≡ seen_by number b p = seen_as p number b called in
       let body : SeenFits (seen_by number b p) = subst SeenFits same (seen_fits p well (Some number)) in
-      let computed : AreComputed cells (in_front (profile_of b) []) a.operands = subst (λ (ks : List VariableKind). AreComputed cells ks a.operands) fits.1 ready.active.1 in
-      let actuals = reverse (take (length (profile_of b)) a.operands) in
-      let places : AreHeld cells b.variables (given_places named actuals b.variables) = held_given cells b.variables b.formals actuals (given cells (profile_of b) a.operands computed) in
-      let held = subst (λ (m : ℕ). AreHeld cells b.variables (given_places named (reverse (take m a.operands)) b.variables)) (sym fits.2) places in
-      let after = begun named number b (reverse (take count a.operands)) (record s { activations = a ∷ suspended }) in
+      let own = seen_in a.procedure p in
+      let computed : AreComputed cells (in_front (formal_kinds b) []) a.operands = subst (λ (ks : List VariableKind). AreComputed cells ks a.operands) fits.1 ready.active.1 in
+      let values = reverse (take (length (formal_kinds b)) a.operands) in
+      let places : AreHeld cells b.variables (given_places named values b.variables) = held_given cells b.variables (length b.formals) values (given cells (formal_kinds b) a.operands computed) in
+      let held =
+      subst (λ (m : ℕ). AreHeld cells b.variables (given_places named (reverse (take m a.operands)) b.variables))
+      (sym (as_many own.types own.variables (formal_kinds b) actuals fits.2)) places in
+      let suits = subst (λ (found : Option BodyForm). actuals_fit own.types own.variables (kinds_at found) actuals ≡ true) (sym called) fits.2 in
+      let after = begun named number b actuals (reverse (take (length actuals) a.operands)) (record s { activations = a ∷ suspended }) in
       let inside : TypedIn (seen_by number b p) after =
       running [] (record { filled = same_filled p a.procedure cells ready.filled; active = (held, tt); runs = ready.runs; deep = omega (arith, ready.deep) })
       (refl, false, body.initials_fit, body.statements_fit, body.handlers_fit, tt, refl) in
       record {
         inside = subst (λ (own : ProgramForm). TypedIn own after) (sym same) inside;
-        waiting = (record { no_operands = refl; held = ready.active.0; fits = fits.3 }, waiting);
+        waiting = (record { no_operands = refl; held = ready.active.0; suits = suits; fits = fits.3 }, waiting);
       }
 
-  -- A call ends (6.5): the activation of its caller goes on, where a jump goes on or none is left.
-  resumed_runs : (acts : List (Activation Value)) (s : State) → AreFilled p.types (cells_of s.heap) (cells_of s.heap) → s.mode ≡ Running → depth s.control ≤ length s.masters → WaitsFirst p (cells_of s.heap) s.control (older acts) (Waiting p (cells_of s.heap) s.control (older (older acts))) → Typed p (record s { activations = older acts })
-  resumed_runs [] s filled runs deep waiting = absurd waiting
-  resumed_runs (a ∷ []) s filled runs deep waiting = absurd waiting
-  resumed_runs (a ∷ c ∷ suspended) s filled runs deep waiting = record {
-    inside = running [] (record { filled = filled_seen p c.procedure (cells_of s.heap) filled; active = (waiting.0.held, tt); runs = runs; deep = deep }) waiting.0.fits;
-    waiting = waiting.1;
-  }
+  -- What waits for the end of a call behind which this is left, where these are the activations.
+  abbrev WaitFor : List ActualForm → List (Activation Value) → State → Type 0
+  WaitFor actuals acts s = WaitsHere p (cells_of s.heap) (procedure_of acts) actuals s.control (older acts)
 
-  resumed_jumps : (e : Mode) (acts : List (Activation Value)) (s : State) → AreFilled p.types (cells_of s.heap) (cells_of s.heap) → s.mode ≡ e → depth s.control ≤ length s.masters → ((procedure : Option ℕ) → Fits (seen_in procedure p) (cells_of s.heap) [] s.control → Goes (seen_in procedure p) (cells_of s.heap) e s.control) → WaitsFirst p (cells_of s.heap) s.control (older acts) (Waiting p (cells_of s.heap) s.control (older (older acts))) → Typed p (record s { activations = older acts })
-  resumed_jumps e [] s filled jumps deep goes waiting = absurd waiting
-  resumed_jumps e (a ∷ []) s filled jumps deep goes waiting = absurd waiting
-  resumed_jumps e (a ∷ c ∷ suspended) s filled jumps deep goes waiting = record {
+  -- A call ends normally (6.4.1, 6.5): its caller gets back what it is to get, and goes on.
+  returned_runs : (actuals : List ActualForm) (acts : List (Activation Value)) (kinds : List VariableKind) (s : State) → AreFilled p.types (cells_of s.heap) (cells_of s.heap) → IsActive (cells_of s.heap) (seen_in (procedure_of acts) p).variables kinds acts → s.mode ≡ Running → depth s.control ≤ length s.masters → WaitFor actuals acts s → Typed p (returned actuals (record s { activations = acts }))
+  returned_runs actuals [] kinds s filled active runs deep waiting = absurd waiting
+  returned_runs actuals (a ∷ []) kinds s filled active runs deep waiting = absurd waiting
+  returned_runs actuals (a ∷ c ∷ suspended) kinds s filled active runs deep waiting =
+      let cells = cells_of s.heap in
+      let back = comes_back p cells a c actuals s.control active.0 waiting.0 in
+      let held = held_back cells (seen_in c.procedure p).variables actuals a.places c.places back waiting.0.held in
+      record {
+        inside = running [] (record { filled = filled_seen p c.procedure cells filled; active = (held, tt); runs = runs; deep = deep }) waiting.0.fits;
+        waiting = waiting.1;
+      }
+
+  -- A jump passes the end of a call (11.4): it goes on in the caller.
+  resumed_jumps : (actuals : List ActualForm) (e : Mode) (acts : List (Activation Value)) (s : State) → AreFilled p.types (cells_of s.heap) (cells_of s.heap) → s.mode ≡ e → depth s.control ≤ length s.masters → ((procedure : Option ℕ) → Fits (seen_in procedure p) (cells_of s.heap) [] s.control → Goes (seen_in procedure p) (cells_of s.heap) e s.control) → WaitFor actuals acts s → Typed p (record s { activations = older acts })
+  resumed_jumps actuals e [] s filled jumps deep goes waiting = absurd waiting
+  resumed_jumps actuals e (a ∷ []) s filled jumps deep goes waiting = absurd waiting
+  resumed_jumps actuals e (a ∷ c ∷ suspended) s filled jumps deep goes waiting = record {
     inside = on_jump e (record { filled = filled_seen p c.procedure (cells_of s.heap) filled; active = (waiting.0.held, tt); jumps = jumps; deep = deep }) (goes c.procedure waiting.0.fits);
     waiting = waiting.1;
   }
 
   -- Each frame that is taken off.
-  frame_comes : (types : List TypeDefinition) → map type_form types ≡ p.types → (f : Frame Value) (s : State) (kinds : List VariableKind) → Ready (seen_now p s) kinds s → depth (f ∷ s.control) ≤ length s.masters → Fits (seen_now p s) (cells_of s.heap) kinds (f ∷ s.control) → Waiting p (cells_of s.heap) (f ∷ s.control) (older s.activations) → Comes (Typed p) (frame_next named types p.bodies f s)
-  frame_comes types shown (frame.Calls number b count) s kinds ready deep fits waiting = begun_typed number b count s.activations s kinds ready fits waiting
-  frame_comes types shown frame.Returns s kinds ready deep fits waiting =
-      resumed_runs s.activations s (same_filled p (procedure_of s.activations) (cells_of s.heap) ready.filled) ready.runs deep waiting
+  frame_comes : (types : List TypeDefinition) → map type_form types ≡ p.types → (f : Frame Value) (s : State) (kinds : List VariableKind) → Ready (seen_now p s) kinds s → depth (f ∷ s.control) ≤ length s.masters → Fits (seen_now p s) (cells_of s.heap) kinds (f ∷ s.control) → Waiting p (cells_of s.heap) (procedure_of s.activations) (f ∷ s.control) (older s.activations) → Comes (Typed p) (frame_next named types p.bodies f s)
+  frame_comes types shown (frame.Calls number b actuals) s kinds ready deep fits waiting = begun_typed number b actuals s.activations s kinds ready fits waiting
+  frame_comes types shown (frame.Returns actuals) s kinds ready deep fits waiting =
+      returned_runs actuals s.activations kinds s (same_filled p (procedure_of s.activations) (cells_of s.heap) ready.filled) ready.active ready.runs deep waiting
   frame_comes types shown f s kinds ready deep fits waiting =
       let own = procedure_of s.activations in
       inside_comes p s (frame_next named types p.bodies f s) waiting
       (frame_fine (seen_now p s) (seen_fits p well own) p.bodies (sees p own) types (shown ∙ sym (types_seen p own)) f refl s kinds ready deep fits)
       (frame_keeps types p.bodies f s refl)
 
-  running_comes : (types : List TypeDefinition) → map type_form types ≡ p.types → (k : List (Frame Value)) (s : State) (kinds : List VariableKind) → s.control ≡ k → Ready (seen_now p s) kinds s → Fits (seen_now p s) (cells_of s.heap) kinds k → Waiting p (cells_of s.heap) k (older s.activations) → Comes (Typed p) (running_next named types p.bodies k s)
+  running_comes : (types : List TypeDefinition) → map type_form types ≡ p.types → (k : List (Frame Value)) (s : State) (kinds : List VariableKind) → s.control ≡ k → Ready (seen_now p s) kinds s → Fits (seen_now p s) (cells_of s.heap) kinds k → Waiting p (cells_of s.heap) (procedure_of s.activations) k (older s.activations) → Comes (Typed p) (running_next named types p.bodies k s)
   running_comes types shown [] s kinds is ready fits waiting = tt
   running_comes types shown (f ∷ k) s kinds is ready fits waiting =
       let same : depth s.control ≡ depth (f ∷ k) = ap depth is in
       frame_comes types shown f (at k s) kinds (ready_at (seen_now p s) kinds s k ready (omega (arith, ready.deep, same, depth_behind f k))) (omega (arith, ready.deep, same)) fits waiting
 
   -- A jump comes to the end of a call: an exit never does (5.7).
-  return_comes : (mode : Mode) (s : State) → Goes (seen_now p s) (cells_of s.heap) mode (frame.Returns ∷ s.control) → Jumps (seen_now p s) mode s → Waiting p (cells_of s.heap) (frame.Returns ∷ s.control) (older s.activations) → Comes (Typed p) (pass_next named false (landing {V = Value} mode frame.Returns) mode (resumed s))
-  return_comes Running s goes jumps waiting = absurd goes
-  return_comes (Raising e) s goes jumps waiting =
+  return_comes : (mode : Mode) (actuals : List ActualForm) (s : State) → Goes (seen_now p s) (cells_of s.heap) mode (frame.Returns actuals ∷ s.control) → Jumps (seen_now p s) mode s → WaitFor actuals s.activations s → Comes (Typed p) (pass_next named false (landing {V = Value} mode (frame.Returns actuals)) mode (left_by mode actuals s))
+  return_comes Running actuals s goes jumps waiting = absurd goes
+  return_comes (Raising e) actuals s goes jumps waiting =
       let filled = same_filled p (procedure_of s.activations) (cells_of s.heap) jumps.filled in
-      resumed_jumps (Raising e) s.activations s filled jumps.jumps jumps.deep (λ procedure fits. catches (seen_in procedure p) (cells_of s.heap) s.control [] fits) waiting
-  return_comes Exiting s goes jumps waiting = absurd goes.0
-  return_comes Returning s goes jumps waiting =
-      resumed_runs s.activations (record s { mode = Running }) (same_filled p (procedure_of s.activations) (cells_of s.heap) jumps.filled) refl jumps.deep waiting
+      resumed_jumps actuals (Raising e) s.activations s filled jumps.jumps jumps.deep (λ procedure fits. catches (seen_in procedure p) (cells_of s.heap) s.control [] fits) waiting
+  return_comes Exiting actuals s goes jumps waiting = absurd goes.0
+  return_comes Returning actuals s goes jumps waiting =
+      returned_runs actuals s.activations [] (record s { mode = Running }) (same_filled p (procedure_of s.activations) (cells_of s.heap) jumps.filled) jumps.active refl jumps.deep waiting
 
-  passing_comes : (mode : Mode) (f : Frame Value) (s : State) → Goes (seen_now p s) (cells_of s.heap) mode (f ∷ s.control) → Jumps (seen_now p s) mode s → depth (f ∷ s.control) ≤ length s.masters → Waiting p (cells_of s.heap) (f ∷ s.control) (older s.activations) → Comes (Typed p) (pass_next named (is_master f) (landing mode f) mode (unwound f s))
-  passing_comes mode frame.Returns s goes jumps deep waiting = return_comes mode s goes jumps waiting
+  passing_comes : (mode : Mode) (f : Frame Value) (s : State) → Goes (seen_now p s) (cells_of s.heap) mode (f ∷ s.control) → Jumps (seen_now p s) mode s → depth (f ∷ s.control) ≤ length s.masters → Waiting p (cells_of s.heap) (procedure_of s.activations) (f ∷ s.control) (older s.activations) → Comes (Typed p) (pass_next named (is_master f) (landing mode f) mode (unwound mode f s))
+  passing_comes mode (frame.Returns actuals) s goes jumps deep waiting = return_comes mode actuals s goes jumps waiting
   passing_comes mode f s goes jumps deep waiting =
       let own = procedure_of s.activations in
       inside_comes p s (pass_next named (is_master f) (landing mode f) mode s) waiting
       (passing_fine (seen_now p s) mode f s refl goes jumps deep) (pass_keeps (is_master f) (landing mode f) mode s)
 
-  jump_comes : (mode : Mode) (k : List (Frame Value)) (s : State) → s.control ≡ k → Goes (seen_now p s) (cells_of s.heap) mode k → Jumps (seen_now p s) mode s → Waiting p (cells_of s.heap) k (older s.activations) → Comes (Typed p) (jump_next named mode k s)
+  jump_comes : (mode : Mode) (k : List (Frame Value)) (s : State) → s.control ≡ k → Goes (seen_now p s) (cells_of s.heap) mode k → Jumps (seen_now p s) mode s → Waiting p (cells_of s.heap) (procedure_of s.activations) k (older s.activations) → Comes (Typed p) (jump_next named mode k s)
   jump_comes mode [] s is goes jumps waiting = ends_fine (seen_now p s) (cells_of s.heap) mode goes
   jump_comes mode (f ∷ k) s is goes jumps waiting =
       let same : depth s.control ≡ depth (f ∷ k) = ap depth is in
       passing_comes mode f (at k s) goes (record { filled = jumps.filled; active = jumps.active; jumps = jumps.jumps; deep = omega (arith, jumps.deep, same, depth_behind f k) }) (omega (arith, jumps.deep, same)) waiting
 
   -- What comes next in a mode.
-  mode_comes : (types : List TypeDefinition) (mode : Mode) (s : State) → Goes (seen_now p s) (cells_of s.heap) mode s.control → Jumps (seen_now p s) mode s → Waiting p (cells_of s.heap) s.control (older s.activations) → Comes (Typed p) (mode_next named types p.bodies mode s)
+  mode_comes : (types : List TypeDefinition) (mode : Mode) (s : State) → Goes (seen_now p s) (cells_of s.heap) mode s.control → Jumps (seen_now p s) mode s → Waiting p (cells_of s.heap) (procedure_of s.activations) s.control (older s.activations) → Comes (Typed p) (mode_next named types p.bodies mode s)
   mode_comes types Running s goes jumps waiting = absurd goes
   mode_comes types (Raising e) s goes jumps waiting = jump_comes (Raising e) s.control s refl goes jumps waiting
   mode_comes types Exiting s goes jumps waiting = jump_comes Exiting s.control s refl goes jumps waiting
   mode_comes types Returning s goes jumps waiting = jump_comes Returning s.control s refl goes jumps waiting
 
-  inside_next : (types : List TypeDefinition) → map type_form types ≡ p.types → (s : State) → TypedIn (seen_now p s) s → Waiting p (cells_of s.heap) s.control (older s.activations) → Comes (Typed p) (next types p.bodies s)
+  inside_next : (types : List TypeDefinition) → map type_form types ≡ p.types → (s : State) → TypedIn (seen_now p s) s → Waiting p (cells_of s.heap) (procedure_of s.activations) s.control (older s.activations) → Comes (Typed p) (next types p.bodies s)
   unfolding next
   inside_next types shown s (running kinds ready fits) waiting =
       subst (λ (mode : Mode). Comes (Typed p) (mode_next named types p.bodies mode s)) (sym ready.runs) (running_comes types shown s.control s kinds refl ready fits waiting)
@@ -181,3 +209,21 @@ module _ (p : ProgramForm) (well : IsWellFormed p) where
   -- A typed state's next step is fine.
   pub next_fine : (types : List TypeDefinition) → map type_form types ≡ p.types → (s : State) → Typed p s → Comes (Typed p) (next types p.bodies s)
   next_fine types shown s typed = inside_next types shown s typed.inside typed.waiting
+
+-- The running body's variables hold values of their kinds, whether or not a jump is on its way.
+active_in : (own : ProgramForm) (s : State) → TypedIn own s → (kinds : List VariableKind) × IsActive (cells_of s.heap) own.variables kinds s.activations
+active_in own s (running kinds ready fits) = (kinds, ready.active)
+active_in own s (on_jump mode jumps goes) = ([], jumps.active)
+
+-- Wherever a call ends next: each value that its caller is to get back is a scalar, and the variable that gets it is of that scalar's type.
+pub typed_comes_back : (p : ProgramForm) (s : State) (actuals : List ActualForm) (outer : List (Frame Value)) (a c : Activation Value) (suspended : List (Activation Value)) → Typed p s → s.control ≡ frame.Returns actuals ∷ outer → s.activations ≡ a ∷ c ∷ suspended → GiveBack (cells_of s.heap) (seen_in c.procedure p).variables actuals a.places
+typed_comes_back p s actuals outer a c suspended typed at_return are =
+    let cells = cells_of s.heap in
+    let active = active_in (seen_now p s) s typed.inside in
+    let runs : IsActive cells (seen_in a.procedure p).variables active.0 (a ∷ c ∷ suspended) =
+    subst (λ (acts : List (Activation Value)). IsActive cells (seen_in (procedure_of acts) p).variables active.0 acts) are active.1 in
+    let behind : Waiting p cells (procedure_of s.activations) (frame.Returns actuals ∷ outer) (older s.activations) =
+    subst (λ (k : List (Frame Value)). Waiting p cells (procedure_of s.activations) k (older s.activations)) at_return typed.waiting in
+    let waits : WaitsHere p cells a.procedure actuals outer (c ∷ suspended) =
+    subst (λ (acts : List (Activation Value)). Waiting p cells (procedure_of acts) (frame.Returns actuals ∷ outer) (older acts)) are behind in
+    comes_back p cells a c actuals outer runs.0 waits.0

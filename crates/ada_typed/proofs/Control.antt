@@ -9,9 +9,9 @@ use Rattle.ada_program.specs.declared.program.ScalarType.{ScalarType}
 use Rattle.ada_program.specs.declared.program.TypeNo.{TypeNo}
 use Rattle.ada_program.specs.declared.program.VariableKind.{VariableKind}
 use Rattle.ada_program.specs.declared.program.VariableKind.TheVariants as variable
-use Rattle.ada_program.specs.Form.{HandlersForm}
-use Rattle.ada_program.specs.ProgramForm.{ProgramForm, seen_in}
-use Rattle.ada_program.specs.WellFormed.{is_access, reached_components, record_components, held_kind, variable_kind, selected_kind, selectors_kind, unary_type, binary_type, type_of, chain_type, has_record_at, items_fit, kind_takes, initial_fits, condition_fits, has_statement, stmts_fit, branches_fit, handlers_fit, profile_of, callable_in}
+use Rattle.ada_program.specs.Form.{ActualForm, HandlersForm}
+use Rattle.ada_program.specs.ProgramForm.{BodyForm, ProgramForm, seen_in}
+use Rattle.ada_program.specs.WellFormed.{is_access, reached_components, record_components, held_kind, variable_kind, selected_kind, selectors_kind, unary_type, binary_type, type_of, chain_type, has_record_at, items_fit, kind_takes, initial_fits, condition_fits, has_statement, stmts_fit, branches_fit, handlers_fit, actuals_fit, formal_kinds, callable_in}
 use Rattle.ada_meaning.specs.declared.state.Value.{Value}
 use Rattle.ada_meaning.specs.declared.state.Value.TheVariants.{Null, Names, Scalar}
 use Rattle.ada_meaning.specs.declared.state.Mode.{Mode}
@@ -20,7 +20,7 @@ use Rattle.ada_meaning.specs.Frame.{Frame, is_loop, is_return}
 use Rattle.ada_meaning.specs.Frame as frame
 use Rattle.ada_meaning.specs.Named.{State}
 use Rattle.ada_meaning.specs.State.{Activation}
-use Rattle.ada_meaning.specs.Step.{in_front, older}
+use Rattle.ada_meaning.specs.Step.{procedure_of, in_front, older}
 use Rattle.ada_typed.proofs.Values.{AreFilled, AreHeld, AreComputed, IsActive, kind_of}
 
 -- The kinds of operands, newest first, once values for these components have been computed in order.
@@ -80,8 +80,8 @@ abbrev mutual
   Fits p cells kinds (frame.Handles hs ∷ k) = (kinds ≡ []) × (inside : Bool) × (handlers_fit p.types p.variables p.texts p.exceptions (callable_in p) inside hs ≡ true) × WhereInside inside (Lands p cells k) × Fits p cells [] k
   Fits p cells kinds (frame.Closes ∷ k) = Fits p cells kinds k
   Fits p cells kinds (frame.Leaves mode ∷ k) = FitsBehind mode (Fits p cells kinds k) (Lands p cells k) (Catches p cells k)
-  Fits p cells kinds (frame.Calls procedure b count ∷ k) = (slice_get p.bodies procedure ≡ Some b) × (kinds ≡ in_front (profile_of b) []) × (count ≡ length (profile_of b)) × Fits p cells [] k
-  Fits p cells kinds (frame.Returns ∷ k) = (kinds ≡ [])
+  Fits p cells kinds (frame.Calls procedure b actuals ∷ k) = (slice_get p.bodies procedure ≡ Some b) × (kinds ≡ in_front (formal_kinds b) []) × (actuals_fit p.types p.variables (formal_kinds b) actuals ≡ true) × Fits p cells [] k
+  Fits p cells kinds (frame.Returns actuals ∷ k) = (kinds ≡ [])
   Fits p cells kinds (frame.Evaluates right ∷ k) = (kind : VariableKind) × (kind_takes p.types p.variables kind right ≡ true) × Fits p cells (kind ∷ kinds) k
   Fits p cells kinds (frame.Computes e ∷ k) = (t : ScalarType) × (type_of p.types p.variables e ≡ Some t) × Fits p cells (kind_of t ∷ kinds) k
   Fits p cells kinds (frame.Follows cs ∷ k) = (ks : List VariableKind) × (from : VariableKind) × (to : VariableKind) × (kinds ≡ from ∷ ks) × (selectors_kind p.types (Some from) cs ≡ Some to) × Fits p cells (to ∷ ks) k
@@ -131,8 +131,8 @@ depth (frame.Exits ∷ k) = depth k
 depth (frame.Handles hs ∷ k) = depth k
 depth (frame.Closes ∷ k) = 1 + depth k
 depth (frame.Leaves mode ∷ k) = 1 + depth k
-depth (frame.Calls procedure b count ∷ k) = depth k
-depth (frame.Returns ∷ k) = depth k
+depth (frame.Calls procedure b actuals ∷ k) = depth k
+depth (frame.Returns actuals ∷ k) = depth k
 depth (frame.Evaluates right ∷ k) = depth k
 depth (frame.Computes e ∷ k) = depth k
 depth (frame.Follows cs ∷ k) = depth k
@@ -170,8 +170,8 @@ depth_behind frame.Exits k = omega arith
 depth_behind (frame.Handles hs) k = omega arith
 depth_behind frame.Closes k = omega arith
 depth_behind (frame.Leaves mode) k = omega arith
-depth_behind (frame.Calls procedure b count) k = omega arith
-depth_behind frame.Returns k = omega arith
+depth_behind (frame.Calls procedure b actuals) k = omega arith
+depth_behind (frame.Returns actuals) k = omega arith
 depth_behind (frame.Evaluates right) k = omega arith
 depth_behind (frame.Computes e) k = omega arith
 depth_behind (frame.Follows cs) k = omega arith
@@ -220,28 +220,44 @@ pub data TypedIn (own : ProgramForm) (s : State) : Type 0 where
   running : (kinds : List VariableKind) → Ready own kinds s → Fits own (cells_of s.heap) kinds s.control → TypedIn own s
   on_jump : (mode : Mode) → Jumps own mode s → Goes own (cells_of s.heap) mode s.control → TypedIn own s
 
--- What holds of an activation that waits for the end of a call, by the program as its body sees it: no form of it waits for a value, its variables hold
--- values of their kinds, and what is left of its body fits.
-pub record Suspended (own : ProgramForm) (cells : Cells) (k : List (Frame Value)) (a : Activation Value) : Type 0 where
+-- What the formal parameters hold of the procedure that was found (6.1).
+abbrev pub kinds_at : Option BodyForm → List VariableKind
+kinds_at None = []
+kinds_at (Some b) = formal_kinds b
+
+-- What the formal parameters hold of the body of this procedure: the main body has none.
+abbrev pub kinds_in : ProgramForm → (procedure : Option ℕ) → List VariableKind
+kinds_in p None = []
+kinds_in p (Some number) = kinds_at (slice_get p.bodies number)
+
+-- The actual parameters of the call that ends at a frame.
+abbrev pub actuals_at : Frame Value → List ActualForm
+actuals_at (frame.Returns actuals) = actuals
+actuals_at f = []
+
+-- What holds of an activation that waits for the end of a call with these actual parameters, by the program as its body sees it: no form of it waits for a
+-- value, its variables hold values of their kinds, the actual parameters suit formal ones of these kinds, and what is left of its body fits.
+pub record Suspended (own : ProgramForm) (cells : Cells) (kinds : List VariableKind) (actuals : List ActualForm) (k : List (Frame Value)) (a : Activation Value) : Type 0 where
   pub no_operands : a.operands ≡ []
   pub held : AreHeld cells own.variables a.places
+  pub suits : actuals_fit own.types own.variables kinds actuals ≡ true
   pub fits : Fits own cells [] k
 
--- The first of these activations waits so for the end of a call behind which this is left to do, and the others wait, too.
-abbrev pub WaitsFirst : ProgramForm → Cells → (behind : List (Frame Value)) → List (Activation Value) → (others : Type 0) → Type 0
-WaitsFirst p cells k [] others = ⊥
-WaitsFirst p cells k (a ∷ suspended) others = Suspended (seen_in a.procedure p) cells k a × others
+-- The first of these activations waits so for the end of this body's call, behind which this is left to do, and the others wait, too.
+abbrev pub WaitsFirst : ProgramForm → Cells → (callee : Option ℕ) → List ActualForm → (behind : List (Frame Value)) → List (Activation Value) → (others : Type 0) → Type 0
+WaitsFirst p cells callee actuals k [] others = ⊥
+WaitsFirst p cells callee actuals k (a ∷ suspended) others = Suspended (seen_in a.procedure p) cells (kinds_in p callee) actuals k a × others
 
--- For each end of a call there is one activation that waits for it, the innermost first (6.4).
-abbrev pub Waiting : ProgramForm → Cells → List (Frame Value) → (suspended : List (Activation Value)) → Type 0
-Waiting p cells [] suspended = (suspended ≡ [])
-Waiting p cells (f ∷ k) suspended =
-    AtReturn (is_return f) (WaitsFirst p cells k suspended (Waiting p cells k (older suspended))) (Waiting p cells k suspended)
+-- For each end of a call there is one activation that waits for it, the innermost first (6.4): this body is what runs now.
+abbrev pub Waiting : ProgramForm → Cells → (callee : Option ℕ) → List (Frame Value) → (suspended : List (Activation Value)) → Type 0
+Waiting p cells callee [] suspended = (suspended ≡ [])
+Waiting p cells callee (f ∷ k) suspended =
+    AtReturn (is_return f) (WaitsFirst p cells callee (actuals_at f) k suspended (Waiting p cells (procedure_of suspended) k (older suspended))) (Waiting p cells callee k suspended)
 
 -- A state of a run of a well-formed program: what holds of the running body, and of the activations that wait for it.
 pub record Typed (p : ProgramForm) (s : State) : Type 0 where
   pub inside : TypedIn (seen_now p s) s
-  pub waiting : Waiting p (cells_of s.heap) s.control (older s.activations)
+  pub waiting : Waiting p (cells_of s.heap) (procedure_of s.activations) s.control (older s.activations)
 
 -- What holds of the running body.
 pub inside_of : (p : ProgramForm) (s : State) → Typed p s → TypedIn (seen_now p s) s
@@ -265,8 +281,8 @@ module _ (p : ProgramForm) where
   catches cells (frame.Leaves (Raising e) ∷ k) kinds fits = fits
   catches cells (frame.Leaves Exiting ∷ k) kinds fits = fits.1
   catches cells (frame.Leaves Returning ∷ k) kinds fits = fits
-  catches cells (frame.Calls procedure b count ∷ k) kinds fits = catches cells k [] fits.3
-  catches cells (frame.Returns ∷ k) kinds fits = tt
+  catches cells (frame.Calls procedure b actuals ∷ k) kinds fits = catches cells k [] fits.3
+  catches cells (frame.Returns actuals ∷ k) kinds fits = tt
   catches cells (frame.Evaluates right ∷ k) kinds fits = catches cells k (fits.0 ∷ kinds) fits.2
   catches cells (frame.Computes e ∷ k) kinds fits = catches cells k (kind_of fits.0 ∷ kinds) fits.2
   catches cells (frame.Follows cs ∷ k) kinds fits = catches cells k (fits.2 ∷ fits.0) fits.5

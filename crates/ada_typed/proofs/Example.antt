@@ -9,6 +9,8 @@ use Rattle.ada_program.specs.declared.program.Path.{Path}
 use Rattle.ada_program.specs.declared.program.RecordPath.{RecordPath}
 use Rattle.ada_program.specs.declared.program.Item.TheVariants as item
 use Rattle.ada_program.specs.declared.program.Right.TheVariants as right
+use Rattle.ada_program.specs.declared.program.Actual.TheVariants as actual
+use Rattle.ada_program.specs.declared.program.FormalMode.TheVariants as mode
 use Rattle.ada_program.specs.declared.program.Stmt as stmt
 use Rattle.ada_program.specs.declared.program.Stmt.{Stmt}
 use Rattle.ada_program.specs.declared.program.ComponentKind.TheVariants as kind
@@ -26,7 +28,7 @@ use Rattle.ada_program.specs.declared.program.Choice.TheVariants as choice
 use Rattle.ada_program.specs.declared.program.Exception.{Exception}
 use Rattle.ada_program.specs.declared.program.Exception.TheVariants.{ProgramError, Declared}
 use Rattle.ada_program.specs.declared.program.Handler.{Handler}
-use Rattle.ada_program.specs.Form.{expression_form, stmt_form, path_form, record_path_form, item_of_record, integer, reads, is_null, StmtsForm, no_stmts, a_stmt, assigns, assigns_record, allocates_default, computes, gets, writes, frees, chooses, repeats, counts, exits, calls, returns, raises, encloses, otherwise, a_branch, HandlersForm, no_handlers, a_handler, declaration_forms, stmt_forms, handler_forms, statement_rules, expression_rules}
+use Rattle.ada_program.specs.Form.{expression_form, stmt_form, path_form, record_path_form, item_of_record, in_out_path, integer, reads, is_null, StmtsForm, no_stmts, a_stmt, assigns, assigns_record, allocates_default, computes, gets, writes, frees, chooses, repeats, counts, exits, calls, returns, raises, encloses, otherwise, a_branch, HandlersForm, no_handlers, a_handler, declaration_forms, stmt_forms, handler_forms, statement_rules, expression_rules}
 use Rattle.ada_program.specs.ProgramForm.{BodyForm, body_form, body_forms, program_form}
 use Rattle.ada_program.specs.WellFormed.{Creation, creation, created_by_all, created_by_handlers, created_in_all, creates_from, has_collections, IsWellFormed, stmts_fit, bodies_fit, callable_in}
 use Rattle.ada_meaning.specs.declared.event.Halt.TheVariants.{Finished}
@@ -132,7 +134,7 @@ statements =
     ∷ stmt.For (record { 0 = 3 }) (Integer (pos 1)) (Integer (pos 1)) (vec counted (omega arith)) spot
     ∷ stmt.Assign x_path (right.Default (record { 0 = 1 }))
     ∷ stmt.Free (record { 0 = 1 }) x_path
-    ∷ stmt.Call (record { 0 = 0 }) (vec (Reads n_path ∷ []) (omega arith))
+    ∷ stmt.Call (record { 0 = 0 }) (vec (actual.InOut n_path ∷ []) (omega arith))
     ∷ []
 
 -- P; Q: the variables of a procedure have numbers of their own.
@@ -142,10 +144,10 @@ p_path = x_path
 abbrev q_path : Path
 q_path = n_path
 
--- procedure Show (P : in Integer) is Q : Integer := P; begin Put_Line (Integer'Image (Q)); return; end Show;
+-- procedure Show (P : in out Integer) is Q : Integer := P; begin Put_Line (Integer'Image (Q)); return; end Show;
 abbrev show : Procedure
 show = record {
-  formals = 1;
+  formals = vec (mode.InOut ∷ []) (omega arith);
   variables =
       vec (record { name = no_name; spot = spot; kind = variable.Integer; borrows = false } ∷ record { name = no_name; spot = spot; kind = variable.Integer; borrows = false } ∷ [])
       (omega arith);
@@ -187,7 +189,7 @@ abbrev forms : StmtsForm
 forms =
     a_stmt (repeats None turn_forms spot) (
     a_stmt (counts 3 (integer (pos 1)) (integer (pos 1)) counted_forms spot) (
-    a_stmt (assigns (path_form x_path) (allocates_default 1)) (a_stmt (frees 1 (path_form x_path)) (a_stmt (calls 0 (reads (path_form n_path) ∷ [])) no_stmts))))
+    a_stmt (assigns (path_form x_path) (allocates_default 1)) (a_stmt (frees 1 (path_form x_path)) (a_stmt (calls 0 (in_out_path (path_form n_path) ∷ [])) no_stmts))))
 
 statements_are : stmt_forms program ≡ forms
 statements_are = simp (statement_rules, expression_rules)

@@ -34,8 +34,8 @@ module _ (p : ProgramForm) where
   master_deep frame.Exits k is = absurd (cc)
   master_deep (frame.Handles hs) k is = absurd (cc)
   master_deep (frame.Leaves mode) k is = absurd (cc)
-  master_deep (frame.Calls procedure b count) k is = absurd (cc)
-  master_deep frame.Returns k is = absurd (cc)
+  master_deep (frame.Calls procedure b actuals) k is = absurd (cc)
+  master_deep (frame.Returns actuals) k is = absurd (cc)
   master_deep (frame.Evaluates right) k is = absurd (cc)
   master_deep (frame.Computes e) k is = absurd (cc)
   master_deep (frame.Follows cs) k is = absurd (cc)
@@ -78,8 +78,8 @@ module _ (p : ProgramForm) where
   landing_comes e frame.Exits = refl
   landing_comes e (frame.Handles hs) = refl
   landing_comes e (frame.Leaves mode) = refl
-  landing_comes e (frame.Calls procedure b count) = refl
-  landing_comes e frame.Returns = refl
+  landing_comes e (frame.Calls procedure b actuals) = refl
+  landing_comes e (frame.Returns actuals) = refl
   landing_comes e (frame.Evaluates right) = refl
   landing_comes e (frame.Computes x) = refl
   landing_comes e (frame.Follows cs) = refl

@@ -4,6 +4,7 @@ use Rattle.ada_typed.specs.Holding.{Cells, cells_of}
 use Rattle.std.proofs.Common.{◌≡◌, ℕ, ◌+◌, ◌<◌, if◌then◌else◌, Bool, true, false, List, [], ◌∷◌, ◌++◌, Option, Some, None, refl, sym, ap, ◌∙◌, subst}
 use Rattle.std.proofs.lemmas.List.{map-set}
 use Rattle.std.specs.List.{slice_get, slice_set}
+use Rattle.ada_program.specs.Form.{ActualForm}
 use Rattle.ada_meaning.specs.declared.state.Id.{Id}
 use Rattle.ada_meaning.specs.declared.state.Value.{Value}
 use Rattle.ada_meaning.specs.declared.state.Value.TheVariants.{Null, Names, Scalar}
@@ -14,17 +15,23 @@ use Rattle.ada_meaning.specs.State.{Activation}
 use Rattle.ada_meaning.specs.Step.{procedure_of, halts, moves, tells, asks, picks, older, with_places, with_operands, operands, places, popped, jumping, put, stored_from}
 use Rattle.ada_meaning.specs.Named.{Object, State, Next, named, changed, filled, on_object, store}
 use Rattle.ada_typed.proofs.Values.{StayDesignated, designated_more, designated_set}
+use Rattle.ada_typed.proofs.Control.{actuals_at}
 use Rattle.ada_typed.proofs.Evaluations.{cell_at, cells_more}
 
+-- A call ends with these actual parameters, and this is left to do behind it.
+pub record Behind : Type 0 where
+  pub actuals : List ActualForm
+  pub left : List (Frame Value)
+
 -- What is left to do behind the body that runs (6.4): nothing waits for it, or this does.
-abbrev pub behind_call : List (Frame Value) → Option (List (Frame Value))
+abbrev pub behind_call : List (Frame Value) → Option Behind
 behind_call [] = None
-behind_call (f ∷ k) = if is_return f then Some k else behind_call k
+behind_call (f ∷ k) = if is_return f then Some (record { actuals = actuals_at f; left = k }) else behind_call k
 
 -- Does a call begin at this frame, or end?
 abbrev pub crosses : Frame Value → Bool
-crosses (frame.Calls procedure b count) = true
-crosses frame.Returns = true
+crosses (frame.Calls procedure b actuals) = true
+crosses (frame.Returns actuals) = true
 crosses f = false
 
 -- From one state to the other the same body runs, and what waits for it stays as it is; names stay those of objects of their access types.

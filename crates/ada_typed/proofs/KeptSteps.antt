@@ -4,7 +4,7 @@ use Rattle.std.proofs.Common.{◌≡◌, ℕ, ℤ, int_le, not, if◌then◌else
 use Rattle.std.specs.List.{slice_get, slice_index_or, slice_set}
 use Rattle.ada_program.specs.declared.program.Exception.TheVariants.{ConstraintError, StorageError, EndError}
 use Rattle.ada_program.specs.declared.program.TypeDefinition.{TypeDefinition}
-use Rattle.ada_program.specs.Form.{ExpressionForm, integer, boolean, reads, is_null, applied_to, chained, LinksForm, no_more_links, a_link, ItemForm, null_item, item_of_path, item_of_value, item_of_record, RightForm, nothing, value_of, allocates, allocates_default, computes, StmtForm, skips, assigns, assigns_record, frees, gets, writes, writes_text, chooses, repeats, counts, exits, calls, returns, raises as raises_it, encloses, StmtsForm, no_stmts, a_stmt, BranchesForm, otherwise, a_branch, HandlersForm, DeclarationForm, collects, declares, declares_record}
+use Rattle.ada_program.specs.Form.{ActualForm, ExpressionForm, integer, boolean, reads, is_null, applied_to, chained, LinksForm, no_more_links, a_link, ItemForm, null_item, item_of_path, item_of_value, item_of_record, RightForm, nothing, value_of, allocates, allocates_default, computes, StmtForm, skips, assigns, assigns_record, frees, gets, writes, writes_text, chooses, repeats, counts, exits, calls, returns, raises as raises_it, encloses, StmtsForm, no_stmts, a_stmt, BranchesForm, otherwise, a_branch, HandlersForm, DeclarationForm, collects, declares, declares_record}
 use Rattle.ada_program.specs.ProgramForm.{BodyForm}
 use Rattle.ada_program.specs.Typed.{reached_of, words_of, width_of}
 use Rattle.ada_values.specs.declared.operator.BinaryOperator.{BinaryOperator}
@@ -23,6 +23,7 @@ use Rattle.ada_meaning.specs.State.{Owned, declared, collection, record_object, 
 use Rattle.ada_meaning.specs.Heap.{Cell, Found, on_null, on_gone, on_other, finds}
 use Rattle.ada_meaning.specs.Step.{moves, at, operands, places, popped, owned, put, before_last, last_of, in_front, record_in, held, newest, reading, component_next, follow_next, path_next, expression_next, null_test_next, is_decided, link_next, links_next, outcome_next, item_next, items_next, copied_next, copies_next, newest_ones, without_newest, new_cell, answered, new_next, initial_values, right_next, freeing, free_next, end_next, same_pool, told_back, given_back, back_next, assign_next, target_next, stored_next, store_next, record_target_next, record_stored_next, store_record_next, frees_next, freed_next, free_component_next, free_in_next, branches_next, decided_next, turn_next, repeats_next, turned_next, count_turn_next, ranges_next, gets_next, received_next, receive_next, exit_next, exited_next, computing, call_next, stmt_next, stmts_next, line_next, record_cell, made, record_next, declaration_next, declarations_next, members_next, item_leave_next, master_leave_next, leave_next, frame_next, landed, pass_next}
 use Rattle.ada_meaning.specs.Named.{State, Next, named, look, lent, on_object, parted, finished, returned, new_object, members, reads_integer, reads_boolean, reads_null, unary_given, binary_given}
+use Rattle.ada_typed.proofs.Control.{actuals_at}
 use Rattle.ada_typed.proofs.Kept.{behind_call, crosses, Keeps, Each, altered, each_after, jumping_keeps, keeps_all, older_operands, older_places, operated, placed, popped_keeps, procedure_operands, procedure_places, put_keeps, stay_more, stay_on, stay_stored, stay_stored_from, still}
 
 -- Paths and expressions.
@@ -48,7 +49,7 @@ path_keeps (c ∷ cs) v s = follow_keeps v c cs (look s.heap v) s
 path_for : (f : Frame Value) (cs : List ℕ) (v : Value) (s : State) → is_return f ≡ false → Each (Keeps s) (path_next named cs v (at (f ∷ s.control) s))
 path_for f cs v s none =
     each_after s (at (f ∷ s.control) s) (path_next named cs v (at (f ∷ s.control) s))
-    (still refl refl (ap (λ (return : Bool). if return then Some s.control else behind_call s.control) none)) (path_keeps cs v (at (f ∷ s.control) s))
+    (still refl refl (ap (λ (return : Bool). if return then Some (record { actuals = actuals_at f; left = s.control }) else behind_call s.control) none)) (path_keeps cs v (at (f ∷ s.control) s))
 
 expression_keeps : (e : ExpressionForm) (s : State) → Each (Keeps s) (expression_next named e s)
 expression_keeps (integer i) s = operated (named.integer i ∷ operands s) refl refl refl
@@ -122,7 +123,7 @@ right_keeps types (computes e) s = still refl refl refl
 -- Frees, and the end of objects.
 freeing_keeps : (access : ℕ) (v : Value) (clears : Frame Value) (s : State) → is_return clears ≡ false → Keeps s (freeing named access v clears s)
 freeing_keeps access v clears s none =
-    altered (stay_on parted s.heap v (λ x. refl)) refl (ap (λ (return : Bool). if return then Some s.control else behind_call s.control) none)
+    altered (stay_on parted s.heap v (λ x. refl)) refl (ap (λ (return : Bool). if return then Some (record { actuals = actuals_at clears; left = s.control }) else behind_call s.control) none)
 
 free_keeps : (access x : ℕ) (v : Value) (found : Found (Cell Value)) (s : State) → Each (Keeps s) (free_next named access x v found s)
 free_keeps access x v on_null s = still refl refl refl
@@ -271,13 +272,13 @@ exited_keeps None s = tt
 exited_keeps (Some true) s = jumping_keeps Exiting s
 exited_keeps (Some false) s = still refl refl refl
 
-behind_computing : (es : List ExpressionForm) (k : List (Frame Value)) → behind_call (computing named es k) ≡ behind_call k
+behind_computing : (actuals : List ActualForm) (k : List (Frame Value)) → behind_call (computing named actuals k) ≡ behind_call k
 behind_computing [] k = refl
-behind_computing (e ∷ es) k = behind_computing es k
+behind_computing (a ∷ rest) k = behind_computing rest k
 
-call_keeps : (procedure : ℕ) (actuals : List ExpressionForm) (found : Option BodyForm) (s : State) → Each (Keeps s) (call_next named procedure actuals found s)
+call_keeps : (procedure : ℕ) (actuals : List ActualForm) (found : Option BodyForm) (s : State) → Each (Keeps s) (call_next named procedure actuals found s)
 call_keeps procedure actuals None s = tt
-call_keeps procedure actuals (Some b) s = still refl refl (behind_computing actuals (frame.Calls procedure b (length actuals) ∷ s.control))
+call_keeps procedure actuals (Some b) s = still refl refl (behind_computing actuals (frame.Calls procedure b actuals ∷ s.control))
 
 stmt_keeps : (bodies : List BodyForm) (f : StmtForm) (s : State) → Each (Keeps s) (stmt_next named bodies f s)
 stmt_keeps bodies skips s = still refl refl refl
@@ -378,8 +379,8 @@ frame_keeps types bodies frame.Exits s stays =
 frame_keeps types bodies (frame.Handles hs) s stays = still refl refl refl
 frame_keeps types bodies frame.Closes s stays = still refl refl refl
 frame_keeps types bodies (frame.Leaves mode) s stays = leave_keeps mode s.masters s
-frame_keeps types bodies (frame.Calls procedure b count) s stays = absurd (cc)
-frame_keeps types bodies frame.Returns s stays = absurd (cc)
+frame_keeps types bodies (frame.Calls procedure b actuals) s stays = absurd (cc)
+frame_keeps types bodies (frame.Returns actuals) s stays = absurd (cc)
 frame_keeps types bodies (frame.Evaluates right) s stays = right_keeps types right s
 frame_keeps types bodies (frame.Computes e) s stays = expression_keeps e s
 frame_keeps types bodies (frame.Follows cs) s stays = without_one s (path_next named cs (newest named s) (popped s)) (path_keeps cs (newest named s) (popped s))

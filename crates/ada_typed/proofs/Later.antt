@@ -1,19 +1,19 @@
 -- What is left to do fits as well once objects have come to be or have changed.
 
 use Rattle.ada_typed.specs.Holding.{Cells}
-use Rattle.std.proofs.Common.{Bool, true, false, List, [], ◌∷◌, Option, Some, None}
+use Rattle.std.proofs.Common.{ℕ, Bool, true, false, List, [], ◌∷◌, Option, Some, None}
 use Rattle.ada_program.specs.declared.program.VariableKind.{VariableKind}
 use Rattle.ada_program.specs.declared.program.VariableKind.TheVariants as variable
-use Rattle.ada_program.specs.Form.{HandlersForm}
+use Rattle.ada_program.specs.Form.{ActualForm, HandlersForm}
 use Rattle.ada_program.specs.ProgramForm.{ProgramForm, seen_in}
 use Rattle.ada_meaning.specs.declared.state.Value.{Value}
 use Rattle.ada_meaning.specs.declared.state.Mode.TheVariants.{Running, Raising, Exiting, Returning}
 use Rattle.ada_meaning.specs.Frame.{Frame, is_loop, is_return}
 use Rattle.ada_meaning.specs.Frame as frame
 use Rattle.ada_meaning.specs.State.{Activation}
-use Rattle.ada_meaning.specs.Step.{older}
+use Rattle.ada_meaning.specs.Step.{procedure_of, older}
 use Rattle.ada_typed.proofs.Values.{StayDesignated, access_later, held_later, kind_of}
-use Rattle.ada_typed.proofs.Control.{onto, AtReturn, AtLoop, WhereInside, handlers_in, AtHandlers, Fits, Lands, Catches, WaitsFirst, Waiting}
+use Rattle.ada_typed.proofs.Control.{onto, AtReturn, AtLoop, WhereInside, handlers_in, AtHandlers, Fits, Lands, Catches, actuals_at, WaitsFirst, Waiting}
 
 inside_later : (inside : Bool) (lands later : Type 0) → (lands → later) → WhereInside inside lands → WhereInside inside later
 inside_later true lands later f h = f h
@@ -49,8 +49,8 @@ module _ (p : ProgramForm) (cells after : Cells) (stay : StayDesignated cells af
     fits_later (frame.Leaves (Raising e) ∷ k) kinds h = catches_later k h
     fits_later (frame.Leaves Exiting ∷ k) kinds h = (lands_later k h.0, catches_later k h.1)
     fits_later (frame.Leaves Returning ∷ k) kinds h = catches_later k h
-    fits_later (frame.Calls procedure b count ∷ k) kinds h = (h.0, h.1, h.2, fits_later k [] h.3)
-    fits_later (frame.Returns ∷ k) kinds h = h
+    fits_later (frame.Calls procedure b actuals ∷ k) kinds h = (h.0, h.1, h.2, fits_later k [] h.3)
+    fits_later (frame.Returns actuals ∷ k) kinds h = h
     fits_later (frame.Evaluates right ∷ k) kinds h = (h.0, h.1, fits_later k (h.0 ∷ kinds) h.2)
     fits_later (frame.Computes e ∷ k) kinds h = (h.0, h.1, fits_later k (kind_of h.0 ∷ kinds) h.2)
     fits_later (frame.Follows cs ∷ k) kinds h = (h.0, h.1, h.2, h.3, h.4, fits_later k (h.2 ∷ h.0) h.5)
@@ -86,12 +86,17 @@ module _ (p : ProgramForm) (cells after : Cells) (stay : StayDesignated cells af
 
 -- Activations wait as well.
 module _ (p : ProgramForm) (cells after : Cells) (stay : StayDesignated cells after) where
-  first_later : (k : List (Frame Value)) (suspended : List (Activation Value)) (others others_after : Type 0) → (others → others_after) → WaitsFirst p cells k suspended others → WaitsFirst p after k suspended others_after
-  first_later k [] others others_after f h = h
-  first_later k (a ∷ suspended) others others_after f h =
+  first_later : (callee : Option ℕ) (actuals : List ActualForm) (k : List (Frame Value)) (suspended : List (Activation Value)) (others others_after : Type 0) → (others → others_after) → WaitsFirst p cells callee actuals k suspended others → WaitsFirst p after callee actuals k suspended others_after
+  first_later callee actuals k [] others others_after f h = h
+  first_later callee actuals k (a ∷ suspended) others others_after f h =
       let own = seen_in a.procedure p in
-      (record { no_operands = h.0.no_operands; held = held_later cells after stay own.variables a.places h.0.held; fits = fits_later own cells after stay k [] h.0.fits }, f h.1)
+      (record { no_operands = h.0.no_operands; held = held_later cells after stay own.variables a.places h.0.held; suits = h.0.suits; fits = fits_later own cells after stay k [] h.0.fits }, f h.1)
 
-  pub waiting_later : (k : List (Frame Value)) (suspended : List (Activation Value)) → Waiting p cells k suspended → Waiting p after k suspended
-  waiting_later [] suspended h = h
-  waiting_later (f ∷ k) suspended h = return_later (is_return f) (WaitsFirst p cells k suspended (Waiting p cells k (older suspended))) (Waiting p cells k suspended) (WaitsFirst p after k suspended (Waiting p after k (older suspended))) (Waiting p after k suspended) (first_later k suspended (Waiting p cells k (older suspended)) (Waiting p after k (older suspended)) (waiting_later k (older suspended))) (waiting_later k suspended) h
+  pub waiting_later : (callee : Option ℕ) (k : List (Frame Value)) (suspended : List (Activation Value)) → Waiting p cells callee k suspended → Waiting p after callee k suspended
+  waiting_later callee [] suspended h = h
+  waiting_later callee (f ∷ k) suspended h =
+      let others = Waiting p cells (procedure_of suspended) k (older suspended) in
+      let others_after = Waiting p after (procedure_of suspended) k (older suspended) in
+      return_later (is_return f) (WaitsFirst p cells callee (actuals_at f) k suspended others) (Waiting p cells callee k suspended)
+      (WaitsFirst p after callee (actuals_at f) k suspended others_after) (Waiting p after callee k suspended)
+      (first_later callee (actuals_at f) k suspended others others_after (waiting_later (procedure_of suspended) k (older suspended))) (waiting_later callee k suspended) h

@@ -12,7 +12,7 @@ use Rattle.ada_program.specs.declared.program.VariableKind.TheVariants as variab
 use Rattle.ada_program.specs.Form.{ExpressionForm, ItemForm, RightForm, StmtForm, skips, assigns, assigns_record, frees, gets, writes, writes_text, chooses, repeats, counts, exits, calls, returns, raises as raises_it, encloses, StmtsForm, no_stmts, a_stmt, BranchesForm, otherwise, a_branch, HandlersForm, DeclarationForm, collects, declares, declares_record}
 use Rattle.ada_program.specs.ProgramForm.{VariableForm, BodyForm, ProgramForm, type_form}
 use Rattle.ada_program.specs.Typed.{reached_of, words_of}
-use Rattle.ada_program.specs.WellFormed.{reached_components, record_components, is_access, is_object_type, value_access, root_kind, selectors_kind, variable_kind, path_access, scalar_of, is_type, type_of, kind_takes, right_fits, names_borrower, lends_to, is_borrower, item_owns, item_before, is_filled, is_record_path, is_record_object, record_fits, record_initial_fits, path_kind, is_freed_by, collections_first, collection_fits, initial_fits, declarations_fit, has_type, condition_fits, has_statement, statement_fits, stmts_fit, branches_fit, handlers_fit, names_before, profile_of, callable_in}
+use Rattle.ada_program.specs.WellFormed.{reached_components, record_components, is_access, is_object_type, value_access, root_kind, selectors_kind, variable_kind, path_access, scalar_of, is_type, type_of, kind_takes, right_fits, names_borrower, lends_to, is_borrower, item_owns, item_before, is_filled, is_record_path, is_record_object, record_fits, record_initial_fits, path_kind, is_freed_by, collections_first, collection_fits, initial_fits, declarations_fit, has_type, condition_fits, has_statement, statement_fits, stmts_fit, branches_fit, handlers_fit, names_before, formal_kinds, callable_in}
 use Rattle.ada_values.specs.declared.value.Value.TheVariants as scalar
 use Rattle.ada_meaning.specs.declared.state.Id.{Id}
 use Rattle.ada_meaning.specs.declared.state.Value.{Value}
@@ -42,7 +42,7 @@ use Rattle.ada_typed.proofs.Targets.{split_kind, target_fine, store_fine, receiv
 use Rattle.ada_typed.proofs.Wholes.{newest_have, ready_without, copies_fine, record_target_fine, store_record_fine}
 use Rattle.ada_typed.proofs.Frees.{free_fine, free_in_fine}
 use Rattle.ada_typed.proofs.Bodies.{SeenFits, Sees}
-use Rattle.ada_typed.proofs.Actuals.{profile_found, as_many, depth_computing, computing_fits}
+use Rattle.ada_typed.proofs.Actuals.{profile_found, depth_computing, computing_fits}
 use Rattle.ada_typed.proofs.Kept.{crosses}
 use Rattle.ada_typed.proofs.Control.{onto, IsName, WhereInside, Fits, Lands, depth, Ready, Jumps, TypedIn, running, on_jump, catches}
 
@@ -287,11 +287,11 @@ module _ (p : ProgramForm) (fit : SeenFits p) (bodies : List BodyForm) (sees : S
       )
   stmt_fine (calls procedure actuals) inside s ready is lands fits =
       let found = profile_found p.types p.variables p.bodies procedure actuals is in
-      let behind = frame.Calls procedure found.0 (length actuals) ∷ s.control in
+      let behind = frame.Calls procedure found.0 actuals ∷ s.control in
       let deep : depth (computing named actuals behind) ≤ length s.masters = omega (arith, ready.deep, depth_computing actuals behind) in
       subst (λ (o : Option BodyForm). Fine p (call_next named procedure actuals o s)) (sym (sees procedure found.0 found.1))
       (running [] (ready_at p [] s (computing named actuals behind) ready deep)
-      (computing_fits p (cells_of s.heap) (profile_of found.0) [] actuals behind found.2 (found.1, refl, as_many p.types p.variables (profile_of found.0) actuals found.2, fits)))
+      (computing_fits p (cells_of s.heap) (formal_kinds found.0) [] actuals behind found.2 (found.1, refl, found.2, fits)))
   stmt_fine (returns spot) inside s ready is lands fits = on_jump Returning (jumped p [] Returning s ready) (catches p (cells_of s.heap) s.control [] fits)
   stmt_fine (raises_it e) inside s ready is lands fits = raises p [] [] e s ready fits
   stmt_fine (encloses ds fs hs) inside s ready is lands fits =
@@ -431,8 +431,8 @@ module _ (p : ProgramForm) (fit : SeenFits p) (bodies : List BodyForm) (sees : S
       exited_fine (newest named s) (popped s) (cells_of s.heap) (newest_of p variable.Boolean [] s taken) (ready_pop p variable.Boolean [] s taken) fits.1 fits.2
   frame_fine types shown frame.Closes stays s kinds ready deep fits = running kinds (ready_at p kinds s (frame.Leaves Running ∷ s.control) ready deep) fits
   frame_fine types shown (frame.Leaves mode) stays s kinds ready deep fits = leave_fine mode s.masters s kinds refl ready deep fits
-  frame_fine types shown (frame.Calls procedure b count) stays s kinds ready deep fits = absurd (cc)
-  frame_fine types shown frame.Returns stays s kinds ready deep fits = absurd (cc)
+  frame_fine types shown (frame.Calls procedure b actuals) stays s kinds ready deep fits = absurd (cc)
+  frame_fine types shown (frame.Returns actuals) stays s kinds ready deep fits = absurd (cc)
   frame_fine types shown (frame.Evaluates right) stays s kinds ready deep fits = right_fine p types shown right fits.0 s kinds ready fits.1 fits.2
   frame_fine types shown (frame.Computes e) stays s kinds ready deep fits = expression_fine p e fits.0 s kinds ready fits.1 fits.2
   frame_fine types shown (frame.Follows cs) stays s kinds ready deep fits =

@@ -215,7 +215,7 @@ active_held cells xs kinds [] x kind h is = absurd h
 active_held cells xs kinds (a ∷ suspended) x kind h is = held_at cells xs a.places x kind h.0 is
 
 -- A variable gets a value of its kind.
-held_set : (cells : Cells) (xs : List VariableForm) (vs : List Value) (x : ℕ) (kind : VariableKind) (v : Value) → AreHeld cells xs vs → variable_kind xs x ≡ Some kind → HasKind cells kind v → AreHeld cells xs (slice_set vs x v)
+pub held_set : (cells : Cells) (xs : List VariableForm) (vs : List Value) (x : ℕ) (kind : VariableKind) (v : Value) → AreHeld cells xs vs → variable_kind xs x ≡ Some kind → HasKind cells kind v → AreHeld cells xs (slice_set vs x v)
 held_set cells [] vs x kind v h is k = tt
 held_set cells (y ∷ xs) [] x kind v h is k = absurd h
 held_set cells (y ∷ xs) (u ∷ vs) zero kind v h is k = let one : kind ≡ y.kind = cc in (subst (λ (q : VariableKind). HasKind cells q v) one k, h.1)

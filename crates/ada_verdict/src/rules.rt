@@ -60,7 +60,8 @@ pub const TAKE_PAIR: &str = "S3 take-pair";
 /// At the end of a loop's body, or at an exit, less is known of a variable than at the loop's start.
 pub const LOOP_STATE: &str = "S5 loop-state";
 
-/// A component is freed whose path follows a value of the component's own access type.
+/// A component is freed whose path follows a value of the component's own access type, or a variable is given for two formal
+/// parameters of mode `in out`.
 pub const UNSAFE_PATH: &str = "S6 unsafe-path";
 
 /// A record is copied that has a component of an access type, or an aggregate with such a component stands outside an allocator.

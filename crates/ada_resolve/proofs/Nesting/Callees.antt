@@ -1,7 +1,7 @@
 -- Calls: what a procedure creates nests wherever at least those collections are open that are open where it is declared, since it creates none.
 
-use Rattle.std.proofs.Common.{◌≡◌, ◌∙◌, ℕ, zero, suc, Bool, true, false, List, [], ◌∷◌, ◌++◌, ◌+◌, arith, length, length-append, refl, sym, ap, subst}
-use Rattle.std.specs.Prelude.{Option, Some, None, ◌&&◌, ◌||◌, map}
+use Rattle.std.proofs.Common.{◌≡◌, ◌∙◌, ℕ, zero, suc, Bool, true, List, [], ◌∷◌, ◌++◌, ◌+◌, arith, length, length-append, refl, sym, ap, subst}
+use Rattle.std.specs.Prelude.{Option, Some, None, ◌&&◌}
 use Rattle.std.specs.List.{list_all, slice_get}
 use Rattle.ada_program.specs.declared.program.ComponentKind.{ComponentKind}
 use Rattle.ada_program.specs.declared.program.ComponentKind.TheVariants as component

@@ -1,17 +1,17 @@
 -- Calls: what is created by each procedure that may be called at a place nests there, and wherever more is open.
 
-use Rattle.std.proofs.Common.{◌≡◌, ◌∙◌, ℕ, Bool, true, false, cond, List, [], ◌∷◌, ◌++◌, length, refl, sym, ap, subst}
+use Rattle.std.proofs.Common.{◌≡◌, ℕ, Bool, true, false, cond, List, [], ◌∷◌, ◌++◌, length, refl, sym}
 use Rattle.std.specs.Prelude.{Option, Some, None, bytes_eq, codes}
 use Rattle.std.specs.List.{slice_get}
 use Rattle.ada_program.specs.declared.program.Exception.TheVariants.{ConstraintError, ProgramError, StorageError}
-use Rattle.ada_program.specs.Nested.{is_one_of, Callees, body_nests, callees_from}
+use Rattle.ada_program.specs.Nested.{body_nests, callees_from}
 use Rattle.ada_program.specs.ProgramForm.{TypeForm, BodyForm}
 use Rattle.ada_resolve.specs.declared.library.Withs.{Withs}
 use Rattle.ada_resolve.specs.declared.scope.Entity.{Entity}
 use Rattle.ada_resolve.specs.declared.scope.Entity.TheVariants as entity
 use Rattle.ada_resolve.specs.Known.{Known, Named, Part, entered, named, from_part, named_in, inner_first, outermost, unit_named, visible, parts}
 use Rattle.ada_resolve.specs.Library.{predefined}
-use Rattle.ada_resolve.proofs.Nesting.Callees.{Within, Widens, IsPlainBody, body_wider, callees_widen, callees_in, callees_last}
+use Rattle.ada_resolve.proofs.Nesting.Callees.{Within, IsPlainBody, body_wider, callees_widen, callees_in, callees_last}
 use Rattle.ada_resolve.proofs.WellFormed.Growing.{AreIn}
 use Rattle.ada_resolve.proofs.WellFormed.Names.{all_entered, first_of_two, within_of, unit_only}
 

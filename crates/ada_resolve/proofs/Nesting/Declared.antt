@@ -6,7 +6,7 @@ use Rattle.std.specs.List.{list_all, slice_get, slice_set}
 use Rattle.std.proofs.lemmas.Bool.{leb-true, leb-false}
 use Rattle.ada_tree.specs.Names.{Ident, NameTree}
 use Rattle.ada_tree.specs.Records.{StaticTree, ComponentTree, RecordTree}
-use Rattle.ada_tree.specs.Statements.{DeclarationTree, exception_declaration, constant_declaration, incomplete_type, access_type, record_type, instance, object_declaration, borrower_declaration, DeclarationsTree, no_declarations, a_declaration}
+use Rattle.ada_tree.specs.Statements.{DeclarationTree, exception_declaration, constant_declaration, incomplete_type, access_type, record_type, instance, object_declaration, borrower_declaration}
 use Rattle.ada_program.specs.declared.program.ComponentKind.{ComponentKind}
 use Rattle.ada_program.specs.declared.program.ComponentKind.TheVariants as component
 use Rattle.ada_program.specs.declared.program.Exception.TheVariants as exception
@@ -21,17 +21,17 @@ use Rattle.ada_resolve.specs.declared.scope.Entity.TheVariants as entity
 use Rattle.ada_resolve.specs.Borrowers.{borrower_created, lender_found}
 use Rattle.ada_resolve.specs.Exceptions.{next_exception}
 use Rattle.ada_resolve.specs.Instances.{freed_found, instance_of, is_collected}
-use Rattle.ada_resolve.specs.Known.{Known, Named, Part, named, entered, declared, visible, no_variable_yet, is_empty, next_variable, parts, types_go_on}
+use Rattle.ada_resolve.specs.Known.{Known, Named, Part, named, entered, declared, visible, is_empty, next_variable, parts, types_go_on}
 use Rattle.ada_resolve.specs.Library.{is_library_root}
 use Rattle.ada_resolve.specs.Objects.{type_in, object_type_found, held_of, kind_of, initial_items_in, initial_value_in, initial_found, collections_of, own_types, missing_collections, ends_types, after_types, initial_source, variable_created, object_created, next_record, record_created, created_of}
 use Rattle.ada_resolve.specs.Paths.{elementary_in, elementary_of}
 use Rattle.ada_resolve.specs.Rights.{Assigned}
 use Rattle.ada_resolve.specs.Records.{Composition, no_components, kind_in, kind_of_component, kinds_within, composed_with, composed, composition_of, components_written, record_type_known}
-use Rattle.ada_resolve.specs.Resolution.{gives, At, known_at, declaration_remark, declaration_known, declarations_told}
+use Rattle.ada_resolve.specs.Resolution.{known_at, declaration_remark, declaration_known}
 use Rattle.ada_resolve.specs.Statics.{static_value}
 use Rattle.ada_resolve.specs.Types.{completed_type, record_in, record_found, defined, number_of, incomplete_known, access_defined}
 use Rattle.ada_resolve.proofs.Nesting.Open.{RecordOpen, EntityOpen, PartsOpen, KindLies, ComponentsLie, FormLies, ObjectsLie, IsOwnType, OpenAround, EntityLies, visible_lies, visible_open, record_later, right_or}
-use Rattle.ada_resolve.proofs.Standing.{IsBefore, PartsBefore, Sound, Keeps, object_settled, outer_settled, ended_sound, IsSlot, slot_of, declaration_sound, declaration_keeps, declarations_done}
+use Rattle.ada_resolve.proofs.Standing.{IsBefore, PartsBefore, Sound, Keeps, object_settled, outer_settled, ended_sound, IsSlot, slot_of, declaration_keeps}
 use Rattle.ada_resolve.proofs.WellFormed.Names.{all_entered}
 use Rattle.ada_resolve.proofs.WellFormed.Remarks.{Quiet}
 use Rattle.ada_resolve.proofs.WellFormed.Tables.{first_part, second_part, get_more, get_last}

@@ -1,17 +1,17 @@
 -- Where the types of a part have ended: its collections are open from there on, objects and bodies of procedures follow, and what these create nests.
 
-use Rattle.std.proofs.Common.{◌≡◌, ◌∙◌, ℕ, ◌+◌, ◌<◌, Bool, true, false, cond, List, [], ◌∷◌, ◌++◌, length, length-append, refl, sym, ap, subst, zero, suc, arith}
+use Rattle.std.proofs.Common.{◌≡◌, ◌∙◌, ℕ, ◌+◌, Bool, true, false, List, [], ◌∷◌, ◌++◌, length, length-append, refl, sym, ap, subst, arith}
 use Rattle.std.specs.Prelude.{Option, Some, None, ◌&&◌}
-use Rattle.std.specs.List.{list_all, slice_get}
+use Rattle.std.specs.List.{list_all}
 use Rattle.ada_tree.specs.Declarations.{HeadTree}
-use Rattle.ada_tree.specs.Names.{Ident, NameTree}
+use Rattle.ada_tree.specs.Names.{Ident}
 use Rattle.ada_tree.specs.Statements.{DeclarationTree, exception_declaration, constant_declaration, incomplete_type, access_type, record_type, instance}
 use Rattle.ada_program.specs.declared.program.TypeNo.{TypeNo}
 use Rattle.ada_program.specs.declared.program.VariableKind.{VariableKind}
 use Rattle.ada_program.specs.declared.program.VariableKind.TheVariants as variable
 use Rattle.ada_program.specs.Form.{ItemForm, PathForm, RightForm, value_of, DeclarationForm, collects, declares, declares_record, StmtsForm, HandlersForm}
 use Rattle.ada_program.specs.Nested.{collected, record_objects, collection_nests, record_nests, part_nests, body_nests, callees_from}
-use Rattle.ada_program.specs.ProgramForm.{TypeForm, BodyForm, record_of, object_of}
+use Rattle.ada_program.specs.ProgramForm.{TypeForm, record_of, object_of}
 use Rattle.ada_program.specs.WellFormed.{created_in_all}
 use Rattle.ada_resolve.specs.declared.scope.Entity.{Entity}
 use Rattle.ada_resolve.specs.declared.scope.Entity.TheVariants as entity
@@ -24,13 +24,12 @@ use Rattle.ada_resolve.specs.Rights.{Assigned}
 use Rattle.ada_resolve.specs.Resolution.{known_at, declaration_known}
 use Rattle.ada_resolve.specs.Types.{access_defined, completed_type, record_found}
 use Rattle.ada_resolve.proofs.Elaborated.{after_full, after_names}
-use Rattle.ada_resolve.proofs.Nesting.Callees.{IsPlainBody}
-use Rattle.ada_resolve.proofs.Nesting.Calls.{EntityCalls, NamesCall, PartsCall, calls_on, calls_entered, callee_more}
+use Rattle.ada_resolve.proofs.Nesting.Calls.{PartsCall, calls_on, calls_entered, callee_more}
 use Rattle.ada_resolve.proofs.Nesting.Collected.{own_nests, open_behind}
 use Rattle.ada_resolve.proofs.Nesting.Declared.{ended_open}
 use Rattle.ada_resolve.proofs.Nesting.Open.{RecordOpen, EntityOpen, NamesOpen, PartsOpen, OpenAt, OpenAround, EntityLies, one_of_second, record_later}
 use Rattle.ada_resolve.proofs.Nesting.Plain.{NoneIn, bodies_plain}
-use Rattle.ada_resolve.proofs.Standing.{Sound, Complete, longer, get_front, ended_sound, around_body, InBody, left_body}
+use Rattle.ada_resolve.proofs.Standing.{Sound, Complete, longer, ended_sound, around_body, InBody, left_body}
 use Rattle.ada_resolve.proofs.WellFormed.Elaborated.{InOrder, after_late}
 use Rattle.ada_resolve.proofs.WellFormed.Growing.{AreIn}
 use Rattle.ada_resolve.proofs.WellFormed.Names.{all_entered}

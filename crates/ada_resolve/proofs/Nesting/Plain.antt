@@ -1,7 +1,7 @@
 -- Bodies that create no collection are plain: neither their parts nor those of the blocks in them create one.
 
 use Rattle.std.proofs.Common.{◌≡◌, ℕ, ◌+◌, Bool, true, false, cond, List, [], ◌∷◌, ◌++◌, refl, arith, eq-eqb, eqb, zero, suc, subst}
-use Rattle.std.specs.Prelude.{Some, None, map}
+use Rattle.std.specs.Prelude.{Some, map}
 use Rattle.std.specs.List.{slice_get}
 use Rattle.ada_program.specs.Form.{DeclarationForm, collects, declares, declares_record, StmtForm, chooses, repeats, counts, encloses, StmtsForm, no_stmts, a_stmt, BranchesForm, otherwise, HandlersForm}
 use Rattle.ada_program.specs.Form as form

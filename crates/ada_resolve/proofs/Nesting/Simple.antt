@@ -8,7 +8,7 @@ use Rattle.ada_tree.specs.Statements.{StatementTree, null_statement, assignment,
 use Rattle.ada_program.specs.declared.program.Exception.{Exception}
 use Rattle.ada_program.specs.declared.program.TypeNo.{TypeNo}
 use Rattle.ada_program.specs.Form.{StmtForm, reads}
-use Rattle.ada_program.specs.Nested.{statement_nests, call_nests, callees_from}
+use Rattle.ada_program.specs.Nested.{statement_nests, callees_from}
 use Rattle.ada_program.specs.ProgramForm.{TypeForm, BodyForm}
 use Rattle.ada_resolve.specs.declared.calls.Callee.{Callee}
 use Rattle.ada_resolve.specs.declared.calls.Callee.TheVariants as callee

@@ -10,22 +10,22 @@ use Rattle.ada_tree.specs.Statements.{DeclarationTree, exception_declaration, co
 use Rattle.ada_program.specs.declared.program.VariableKind.TheVariants as variable
 use Rattle.ada_program.specs.Form.{StmtForm, chooses, repeats, counts, encloses, StmtsForm, no_stmts, a_stmt, BranchesForm, otherwise, HandlersForm}
 use Rattle.ada_program.specs.Form as form
-use Rattle.ada_program.specs.Nested.{collected, part_nests, statement_nests, statements_nest, branches_nest, handlers_nest, body_nests, callees_from}
+use Rattle.ada_program.specs.Nested.{collected, part_nests, statement_nests, statements_nest, branches_nest, handlers_nest, callees_from}
 use Rattle.ada_program.specs.ProgramForm.{TypeForm, BodyForm, VariableForm}
 use Rattle.ada_resolve.specs.declared.scope.Entity.{Entity}
 use Rattle.ada_resolve.specs.declared.scope.Entity.TheVariants as entity
 use Rattle.ada_resolve.specs.Borrowers.{lender_found}
 use Rattle.ada_resolve.specs.Known.{Known, Part, parts, with_part, left_to, next_variable, types_go_on}
 use Rattle.ada_resolve.specs.Objects.{after_types, object_type_found, initial_found, held_of}
-use Rattle.ada_resolve.specs.Procedures.{behind_head, body_of}
+use Rattle.ada_resolve.specs.Procedures.{behind_head}
 use Rattle.ada_resolve.specs.Resolution.{gives, At, known_at, declaration_remark, declaration_known, LoopHead, on_condition, over_range, with_parameter, loop_of, behind_loop, Others, SequenceForm, simple_told, statement_told, sequence_told, statements_told, branches_told, handlers_told, declaration_told, declarations_told}
 use Rattle.ada_resolve.proofs.Elaborated.{no_types, some_variable, object_made, borrower_made, made_full, made_back, body_back, body_late, complete_back}
 use Rattle.ada_resolve.proofs.Nesting.Calls.{EntityCalls, NamesCall, PartsCall, calls_on, calls_entered}
 use Rattle.ada_resolve.proofs.Nesting.Declared.{declaration_open, object_type_at}
-use Rattle.ada_resolve.proofs.Nesting.Later.{Place, LateOpen, EarlyOpen, State, early, behind, ready, parts_later, late_object, late_borrower, late_body, IsEarly, declaration_calls}
-use Rattle.ada_resolve.proofs.Nesting.Open.{EntityOpen, NamesOpen, PartsOpen, OpenAt, OpenAround, IsOwnType}
+use Rattle.ada_resolve.proofs.Nesting.Later.{Place, LateOpen, State, early, behind, ready, parts_later, late_object, late_borrower, late_body, IsEarly, declaration_calls}
+use Rattle.ada_resolve.proofs.Nesting.Open.{EntityOpen, NamesOpen, PartsOpen, IsOwnType}
 use Rattle.ada_resolve.proofs.Nesting.Simple.{meant_nests}
-use Rattle.ada_resolve.proofs.Standing.{Sound, Complete, Stays, IsConstant, head_formals, more_types, made_gives, gives_same, HeadIs, simple_done, if_done, loop_done, block_done, declare_done, sequence_done, ProcedureDone, procedure_done, single_done, declarations_done, statements_done, branch_done, handler_done, complete_grows, ended_sound, ended_keeps, told_sound, told_keeps, declarations_sound, declarations_keep, begin_open, begin_complete, part_sound, OthersStay, around_body, ended_is, body_stays, sequence_stays, head_sound, head_complete, statement_stays, statements_stay, branches_stay, handlers_stay}
+use Rattle.ada_resolve.proofs.Standing.{Sound, Complete, Stays, IsFormal, head_formals, more_types, made_gives, gives_same, HeadIs, simple_done, if_done, loop_done, block_done, declare_done, sequence_done, procedure_done, single_done, declarations_done, statements_done, branch_done, handler_done, complete_grows, ended_sound, ended_keeps, told_sound, declarations_sound, declarations_keep, begin_open, begin_complete, part_sound, OthersStay, around_body, ended_is, body_stays, sequence_stays, head_sound, head_complete, statement_stays, statements_stay, branches_stay, handlers_stay}
 use Rattle.ada_resolve.proofs.WellFormed.Alike.{body_early, after_follows}
 use Rattle.ada_resolve.proofs.WellFormed.Bodies.{body_begins}
 use Rattle.ada_resolve.proofs.WellFormed.Doing.{parameter_follows, part_follows}
@@ -63,13 +63,15 @@ loop_bodies (on_condition condition) m = refl
 loop_bodies (over_range x low high) m = left_bodies m m.outer
 
 -- a formal parameter is no type
-constant_own : (n : ℕ) (variables : List VariableForm) (text : List ℕ) (e : Entity) → IsConstant variables text e → IsOwnType n e
-constant_own n variables text (entity.Parameter x kind) f = tt
-constant_own n variables text e f = absurd f
+formal_own : (n : ℕ) (variables : List VariableForm) (text : List ℕ) (e : Entity) → IsFormal variables text e → IsOwnType n e
+formal_own n variables text (entity.Parameter x kind) f = tt
+formal_own n variables text (entity.Variable x kind) f = tt
+formal_own n variables text e f = absurd f
 
-constant_calls : (types : List TypeForm) (bodies : List BodyForm) (us : List ℕ) (variables : List VariableForm) (text : List ℕ) (e : Entity) → IsConstant variables text e → EntityCalls types bodies us e
-constant_calls types bodies us variables text (entity.Parameter x kind) f = tt
-constant_calls types bodies us variables text e f = absurd f
+formal_calls : (types : List TypeForm) (bodies : List BodyForm) (us : List ℕ) (variables : List VariableForm) (text : List ℕ) (e : Entity) → IsFormal variables text e → EntityCalls types bodies us e
+formal_calls types bodies us variables text (entity.Parameter x kind) f = tt
+formal_calls types bodies us variables text (entity.Variable x kind) f = tt
+formal_calls types bodies us variables text e f = absurd f
 
 -- where a loop begins, bodies are what they were
 head_ended : (spot : Spot) (scheme : SchemeTree) (k : Known) (head : LoopHead) (m : Known) → Ended k → HeadIs spot scheme k head m → Ended m
@@ -122,12 +124,12 @@ module _ (types : List TypeForm) where
             all_entered (λ t x. EntityOpen us k.types x) k.here.names head.name.text entity.Procedure tt (λ t x ne is. w.open_at.names.0 t x is),
             w.open_at.names.1,
           );
-          own = λ text e is. constant_own _ _ text e (f.names text e is);
+          own = λ text e is. formal_own _ _ text e (f.names text e is);
           forms = λ t form behind is. let within = get_within k.types t form is in absurd (omega (arith, behind, within));
           objects = λ o e. absurd (cc e);
         };
         calls = (
-          λ text e is. constant_calls types k.bodies us _ text e (f.names text e is),
+          λ text e is. formal_calls types k.bodies us _ text e (f.names text e is),
           (calls_entered types k.bodies us k.here.names head.name.text entity.Procedure tt w.calls.0, w.calls.1),
         );
       })

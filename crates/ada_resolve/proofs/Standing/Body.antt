@@ -1,21 +1,14 @@
 -- The parts of a program, where one is given.
 
-use Rattle.std.proofs.Common.{◌≡◌, ℕ, Bool, true, false, List, sym, subst, cond}
-use Rattle.std.specs.Prelude.{Option, Some, None, bytes_eq}
-use Rattle.ada_text.specs.declared.spot.Spot.{Spot}
-use Rattle.ada_program.specs.Form.{StmtsForm, HandlersForm}
+use Rattle.std.proofs.Common.{◌≡◌, false, sym, subst}
 use Rattle.ada_program.specs.ProgramForm.{ProgramForm}
-use Rattle.ada_tree.specs.Names.{Ident}
-use Rattle.ada_tree.specs.Statements.{StatementsTree, HandlersTree, a_sequence, begin_of, UnitTree}
-use Rattle.ada_resolve.specs.declared.fault.NameRule.{NameRule}
-use Rattle.ada_resolve.specs.declared.fault.NameRule.TheVariants.{UnknownName}
+use Rattle.ada_tree.specs.Statements.{UnitTree}
 use Rattle.ada_resolve.specs.declared.library.Withs.{Withs}
 use Rattle.ada_resolve.specs.Reading.{IsEndName}
-use Rattle.ada_resolve.specs.Objects.{after_types}
 use Rattle.ada_resolve.specs.Remark.{noted}
-use Rattle.ada_resolve.specs.Resolution.{broken, gives, settled, At, clauses_told, no_units, alone_remark, known_first, no_notes, declarations_told, SequenceForm, sequence_told, program_of, end_told, statements_part, part_told, procedure_told, Resolves}
+use Rattle.ada_resolve.specs.Resolution.{gives, settled, At, clauses_told, no_units, alone_remark, known_first, no_notes, declarations_told, SequenceForm, sequence_told, program_of, end_told, statements_part, part_told, procedure_told, Resolves}
 use Rattle.ada_resolve.proofs.WellFormed.Remarks.{Quiet, settled_quiet}
-use Rattle.ada_resolve.proofs.Standing.Order.{Sound, Complete, first_sound}
+use Rattle.ada_resolve.proofs.Standing.Order.{Sound, first_sound}
 use Rattle.ada_resolve.proofs.Standing.Given.{gone_on, same_gives, same_end}
 use Rattle.ada_resolve.proofs.Standing.Stated.{declarations_sound}
 

@@ -1,20 +1,17 @@
 -- Declarations, one after another, and the end of a part's types.
 
-use Rattle.std.proofs.Common.{◌≡◌, ℕ, Bool, true, false, cond, List, [], ◌∷◌, refl, sym, subst}
+use Rattle.std.proofs.Common.{◌≡◌, ℕ, Bool, true, false, cond, List, [], ◌∷◌, refl}
 use Rattle.std.specs.Prelude.{Some, bytes_eq, map}
 use Rattle.ada_text.specs.declared.spot.Spot.{Spot}
-use Rattle.ada_tree.specs.Statements.{DeclarationTree, DeclarationsTree, no_declarations, a_declaration}
 use Rattle.ada_program.specs.declared.program.TypeNo.{TypeNo}
 use Rattle.ada_resolve.specs.declared.fault.NameRule.TheVariants.{BodyMissing}
 use Rattle.ada_resolve.specs.declared.scope.Entity.TheVariants as entity
 use Rattle.ada_resolve.specs.Known.{Known, Named, named, types_go_on}
 use Rattle.ada_resolve.specs.Objects.{ends_types, after_types}
-use Rattle.ada_resolve.specs.Resolution.{gives, At, known_at, declaration_remark, declaration_known, declaration_told, declarations_told, is_incomplete, some_incomplete, entity_in, begin_remark}
-use Rattle.ada_resolve.proofs.WellFormed.Remarks.{Quiet, quiet_if, settled_quiet}
+use Rattle.ada_resolve.specs.Resolution.{gives, is_incomplete, some_incomplete, entity_in, begin_remark}
+use Rattle.ada_resolve.proofs.WellFormed.Remarks.{Quiet, quiet_if}
 use Rattle.ada_resolve.proofs.WellFormed.Tables.{left_fails, right_fails}
-use Rattle.ada_resolve.proofs.Standing.Order.{Sound, Complete, Keeps, keeps_same, keeps_on}
-use Rattle.ada_resolve.proofs.Standing.Declared.{declaration_sound, declaration_keeps}
-use Rattle.ada_resolve.proofs.Standing.Given.{gone_on}
+use Rattle.ada_resolve.proofs.Standing.Order.{Complete}
 
 -- nothing is given but what was
 pub gives_same : {X : Type 0} {x y : X} → gives x ≡ gives y → x ≡ y

@@ -46,7 +46,8 @@ elaborated_sound es k w = record {
   names = w.names;
   exceptions = w.exceptions;
   called = w.called;
-  bounds = record { first = w.bounds.first; first_variable = w.bounds.first_variable; first_body = w.bounds.first_body; open_own = w.bounds.open_own; open_unused = w.bounds.open_unused; outer_before = w.bounds.outer_before };
+  sized = w.sized;
+  bounds = record { first = w.bounds.first; first_variable = w.bounds.first_variable; modes = w.bounds.modes; first_body = w.bounds.first_body; open_own = w.bounds.open_own; open_unused = w.bounds.open_unused; outer_before = w.bounds.outer_before };
 }
 
 -- one more variable
@@ -74,9 +75,11 @@ variable_sound v k w fit = record {
   names = parts_stay k.types k.variables v (parts k) w.names;
   exceptions = w.exceptions;
   called = w.called;
+  sized = w.sized;
   bounds = record {
     first = w.bounds.first;
     first_variable = let a = w.bounds.first_variable in let b = longer_by k.variables v in omega arith;
+    modes = w.bounds.modes;
     first_body = w.bounds.first_body;
     open_own = w.bounds.open_own;
     open_unused = w.bounds.open_unused;
@@ -92,7 +95,8 @@ raised_sound name k w = record {
   names = w.names;
   exceptions = raised_outer k.exceptions name (parts k) w.exceptions;
   called = w.called;
-  bounds = record { first = w.bounds.first; first_variable = w.bounds.first_variable; first_body = w.bounds.first_body; open_own = w.bounds.open_own; open_unused = w.bounds.open_unused; outer_before = w.bounds.outer_before };
+  sized = w.sized;
+  bounds = record { first = w.bounds.first; first_variable = w.bounds.first_variable; modes = w.bounds.modes; first_body = w.bounds.first_body; open_own = w.bounds.open_own; open_unused = w.bounds.open_unused; outer_before = w.bounds.outer_before };
 }
 
 -- no type follows a body

@@ -55,9 +55,11 @@ part_sound k s c = record {
   names = (λ text e is. absurd (cc is), s.names);
   exceptions = (λ text e is. absurd (cc is), s.exceptions);
   called = (λ text e is. absurd (cc is), s.called);
+  sized = s.sized;
   bounds = record {
     first = omega arith;
     first_variable = omega arith;
+    modes = omega arith;
     first_body = omega arith;
     open_own = λ text t is. absurd (cc is);
     open_unused = λ none text t is. absurd (cc is);
@@ -143,9 +145,11 @@ left_sound k m s c w around outer g = record {
   names = subst (λ (a : Option (List VariableForm)). PartsFit m.types (variables_behind a m.variables) (parts k)) around (outers_fit k m w outer);
   exceptions = outers_raised k m w outer;
   called = outers_called k m w outer;
+  sized = w.sized;
   bounds = record {
     first = let a = s.bounds.first in let b = more_types k m g in omega arith;
     first_variable = let a = s.bounds.first_variable in let b = more_variables k m g in omega arith;
+    modes = s.bounds.modes;
     first_body = let a = s.bounds.first_body in let b = more_bodies k m g in omega arith;
     open_own = s.bounds.open_own;
     open_unused = λ none text t is. absurd (c text t is);

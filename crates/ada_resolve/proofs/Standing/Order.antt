@@ -45,10 +45,16 @@ abbrev pub PartsCalled : ℕ → List Part → Type 0
 PartsCalled n [] = Unit {0}
 PartsCalled n (part ∷ outer) = AllCalled n part.names × PartsCalled n outer
 
+-- each body has a variable for each of its formal parameters
+abbrev pub AllSized : List BodyForm → Type 0
+AllSized [] = Unit {0}
+AllSized (b ∷ bs) = (length b.formals ≤ length b.variables) × AllSized bs
+
 -- the types of the innermost part come behind all others; where no body stands before in the part, no component is of an incomplete type of it
 pub record IsBounded (k : Known) : Type 0 where
   pub first : k.here.first_type ≤ length k.types
   pub first_variable : k.here.first_variable ≤ length k.variables
+  pub modes : length k.here.modes ≤ k.here.first_variable
   pub first_body : k.here.first_body ≤ length k.bodies
   pub open_own : (text : List ℕ) (t : TypeNo) → named text k.here.names ≡ Some (entity.Incomplete t) → k.here.first_type ≤ t.0
   pub open_unused : no_body_yet k ≡ true → (text : List ℕ) (t : TypeNo) → named text k.here.names ≡ Some (entity.Incomplete t) → IsUnused k.types t.0
@@ -61,6 +67,7 @@ pub record Sound (k : Known) : Type 0 where
   pub names : PartsFit k.types k.variables (parts k)
   pub exceptions : PartsRaised k.exceptions (parts k)
   pub called : PartsCalled (length k.bodies) (parts k)
+  pub sized : AllSized k.bodies
   pub bounds : IsBounded k
 
 -- no name of the innermost part stands for an incomplete type
@@ -98,6 +105,7 @@ pub record Keeps (k m : Known) : Type 0 where
   pub bodies : (n : ℕ) (b : BodyForm) → slice_get k.bodies n ≡ Some b → slice_get m.bodies n ≡ Some b
   pub first_type : m.here.first_type ≡ k.here.first_type
   pub first_variable : m.here.first_variable ≡ k.here.first_variable
+  pub modes : m.here.modes ≡ k.here.modes
   pub first_body : m.here.first_body ≡ k.here.first_body
   pub around : m.here.around ≡ k.here.around
   pub outer : m.outer ≡ k.outer
@@ -163,6 +171,7 @@ keeps_same k = record {
   bodies = λ t x is. is;
   first_type = refl;
   first_variable = refl;
+  modes = refl;
   first_body = refl;
   around = refl;
   outer = refl;
@@ -183,6 +192,7 @@ keeps_on k m z f g = record {
   bodies = λ t x is. g.bodies t x (f.bodies t x is);
   first_type = g.first_type ∙ f.first_type;
   first_variable = g.first_variable ∙ f.first_variable;
+  modes = g.modes ∙ f.modes;
   first_body = g.first_body ∙ f.first_body;
   around = g.around ∙ f.around;
   outer = g.outer ∙ f.outer;
@@ -273,7 +283,8 @@ first_sound withs procedure = record {
   names = (λ t x e. absurd (cc e), (λ t form e. absurd (cc e), refl));
   exceptions = (λ t x e. absurd (cc e), tt);
   called = (λ t x e. absurd (cc e), tt);
-  bounds = record { first = omega arith; first_variable = omega arith; first_body = omega arith; open_own = λ text t e. absurd (cc e); open_unused = λ none text t e. absurd (cc e); outer_before = tt };
+  sized = tt;
+  bounds = record { first = omega arith; first_variable = omega arith; modes = omega arith; first_body = omega arith; open_own = λ text t e. absurd (cc e); open_unused = λ none text t e. absurd (cc e); outer_before = tt };
 }
 
 pub first_complete : (withs : Withs) (procedure : List ℕ) → Complete (known_first withs procedure)

@@ -1,45 +1,50 @@
 -- Bodies of procedures: what is known is in order where one begins, and behind it.
 
-use Rattle.std.proofs.Common.{◌≡◌, ◌∙◌, ℕ, ◌+◌, ◌<◌, ◌≤◌, Bool, true, false, cond, ◌==◌, List, [], ◌∷◌, ◌++◌, length, length-append, refl, sym, ap, subst, arith}
-use Rattle.std.specs.Prelude.{Option, Some, None, bytes_eq, is_some}
+use Rattle.std.proofs.Common.{◌≡◌, ◌∙◌, ℕ, ◌+◌, ◌≤◌, Bool, true, false, cond, List, [], ◌∷◌, ◌++◌, length, length-append, refl, sym, ap, subst, arith}
+use Rattle.std.specs.Prelude.{Option, Some, None, is_some}
 use Rattle.std.specs.List.{list_all, slice_get}
-use Rattle.std.proofs.lemmas.Bool.{ne_eqb, eqb-true}
+use Rattle.std.proofs.lemmas.Bool.{eqb-true}
 use Rattle.ada_text.specs.declared.spot.Spot.{Spot}
-use Rattle.ada_program.specs.declared.program.TypeNo.{TypeNo}
+use Rattle.ada_program.specs.declared.program.FormalMode.{FormalMode}
+use Rattle.ada_program.specs.declared.program.FormalMode.TheVariants.{In, InOut}
 use Rattle.ada_program.specs.declared.program.VariableKind.{VariableKind}
 use Rattle.ada_program.specs.declared.program.VariableKind.TheVariants as variable
+use Rattle.ada_program.specs.declared.program.VariableNo.{VariableNo}
 use Rattle.ada_program.specs.Form.{StmtsForm, HandlersForm}
-use Rattle.ada_program.specs.ProgramForm.{TypeForm, access_to, object_of, VariableForm, BodyForm}
+use Rattle.ada_program.specs.ProgramForm.{TypeForm, access_to, VariableForm, BodyForm}
 use Rattle.ada_program.specs.WellFormed as fits
 use Rattle.ada_tree.specs.Declarations.{FormalTree, HeadTree}
 use Rattle.ada_tree.specs.Names.{Ident}
 use Rattle.ada_resolve.specs.declared.scope.Entity.{Entity}
 use Rattle.ada_resolve.specs.declared.scope.Entity.TheVariants as entity
-use Rattle.ada_resolve.specs.Known.{Known, Named, Part, declared, entered, left_to, named, next_procedure, no_body_yet, parts}
+use Rattle.ada_resolve.specs.Known.{Known, Named, Part, declared, entered, named, next_procedure, no_body_yet, parts}
 use Rattle.ada_resolve.specs.Paths.{name_of_type}
-use Rattle.ada_resolve.specs.Procedures.{Formals, no_formals, formal_type, formal_kind, with_constant, with_formal, with_formals, body_head_remark, body_part, with_body, body_begun, behind_head, variables_around, body_of, without_body, with_procedure, body_ended}
-use Rattle.ada_resolve.specs.Spots.{first_or}
+use Rattle.ada_resolve.specs.Procedures.{Formals, no_formals, formal_type, formal_kind, formal_mode, formal_entity, with_next, with_formal, with_formals, with_body, behind_head, variables_around, body_of, with_procedure, body_ended}
 use Rattle.ada_resolve.proofs.Parts.{left_parts}
-use Rattle.ada_resolve.proofs.WellFormed.Exceptions.{RaisedFits, PartsRaised}
+use Rattle.ada_resolve.proofs.WellFormed.Exceptions.{RaisedFits}
 use Rattle.ada_resolve.proofs.WellFormed.Names.{EntityFits, is_scalar_kind, variables_behind, PartsFit, all_entered, named_entered, other_text}
-use Rattle.ada_resolve.proofs.WellFormed.Remarks.{Quiet}
 use Rattle.ada_resolve.proofs.WellFormed.Tables as tables
 use Rattle.ada_resolve.proofs.WellFormed.Tables.{all_more, all_weaker, both_parts, get_more, get_last, variable_kept}
-use Rattle.ada_resolve.proofs.Standing.Order.{IsBefore, PartsBefore, IsCalled, PartsCalled, Sound, Complete, Grows, IsSettledEntity, Keeps, longer}
+use Rattle.ada_resolve.proofs.Standing.Order.{IsCalled, PartsCalled, AllSized, Sound, Complete, Keeps, longer}
 use Rattle.ada_resolve.proofs.Standing.Types.{name_sound}
-use Rattle.ada_resolve.proofs.Standing.Kept.{new_slot, old_name}
+use Rattle.ada_resolve.proofs.Standing.Kept.{old_name}
 use Rattle.ada_resolve.proofs.Standing.Inner.{own_before, parts_before, outers_fit, outers_raised, outers_called}
 
--- a formal parameter is a constant that is there, an Integer or a Boolean
-abbrev pub IsConstant : List VariableForm → List ℕ → Entity → Type 0
-IsConstant variables text (entity.Parameter x kind) =
-    ((spot : Spot) × (slice_get variables x.0 ≡ Some (record { name = text; spot = spot; kind = kind; borrows = false }))) × (is_scalar_kind kind ≡ true)
-IsConstant variables text e = ⊥
+-- a formal parameter is there, a constant or a variable, an Integer or a Boolean
+abbrev pub IsFormalIn : List VariableForm → List ℕ → VariableKind → ℕ → Type 0
+IsFormalIn variables text kind x =
+    ((spot : Spot) × (slice_get variables x ≡ Some (record { name = text; spot = spot; kind = kind; borrows = false }))) × (is_scalar_kind kind ≡ true)
+
+abbrev pub IsFormal : List VariableForm → List ℕ → Entity → Type 0
+IsFormal variables text (entity.Parameter x kind) = IsFormalIn variables text kind x.0
+IsFormal variables text (entity.Variable x kind) = IsFormalIn variables text kind x.0
+IsFormal variables text e = ⊥
 
 -- the formals are in order
 pub record FormalsSound (types : List TypeForm) (f : Formals) : Type 0 where
   pub fit : list_all (fits.variable_fits types) f.variables ≡ true
-  pub names : (text : List ℕ) (e : Entity) → named text f.names ≡ Some e → IsConstant f.variables text e
+  pub names : (text : List ℕ) (e : Entity) → named text f.names ≡ Some e → IsFormal f.variables text e
+  pub modes : length f.modes ≡ length f.variables
 
 scalar_fits : (types : List TypeForm) (kind : VariableKind) → is_scalar_kind kind ≡ true → fits.variable_kind_fits types kind ≡ true
 scalar_fits types variable.Integer e = refl
@@ -47,18 +52,31 @@ scalar_fits types variable.Boolean e = refl
 scalar_fits types (variable.Access t) e = absurd (cc e)
 scalar_fits types (variable.Record t) e = absurd (cc e)
 
-constant_more : (variables : List VariableForm) (v : VariableForm) (text : List ℕ) (e : Entity) → IsConstant variables text e → IsConstant (variables ++ v ∷ []) text e
-constant_more variables v text (entity.Parameter x kind) f = ((f.0.0, get_more variables v x.0 _ f.0.1), f.1)
-constant_more variables v text e f = absurd f
+formal_more : (variables : List VariableForm) (v : VariableForm) (text : List ℕ) (e : Entity) → IsFormal variables text e → IsFormal (variables ++ v ∷ []) text e
+formal_more variables v text (entity.Parameter x kind) f = ((f.0.0, get_more variables v x.0 _ f.0.1), f.1)
+formal_more variables v text (entity.Variable x kind) f = ((f.0.0, get_more variables v x.0 _ f.0.1), f.1)
+formal_more variables v text e f = absurd f
 
-constant_sound : (types : List TypeForm) (name : Ident) (kind : VariableKind) (f : Formals) → is_scalar_kind kind ≡ true → FormalsSound types f → FormalsSound types (with_constant name kind f)
-constant_sound types name kind f scalar s =
+-- what a formal of a mode is
+formal_is : (mode : FormalMode) (variables : List VariableForm) (text : List ℕ) (x : VariableNo) (kind : VariableKind) → IsFormalIn variables text kind x.0 → IsFormal variables text (formal_entity mode x kind)
+formal_is In variables text x kind f = f
+formal_is InOut variables text x kind f = f
+
+next_sound : (types : List TypeForm) (name : Ident) (mode : FormalMode) (kind : VariableKind) (f : Formals) → is_scalar_kind kind ≡ true → FormalsSound types f → FormalsSound types (with_next name mode kind f)
+next_sound types name mode kind f scalar s =
     let v : VariableForm = record { name = name.text; spot = name.spot; kind = kind; borrows = false } in
+    let x : VariableNo = record { 0 = length f.variables } in
     record {
       fit = all_more (fits.variable_fits types) f.variables (v ∷ []) s.fit
           (both_parts (fits.variable_fits types v) true (both_parts (fits.variable_kind_fits types kind) true (scalar_fits types kind scalar) refl) refl);
-      names = all_entered (IsConstant (f.variables ++ v ∷ [])) f.names name.text (entity.Parameter (record { 0 = length f.variables }) kind)
-          ((name.spot, get_last f.variables v), scalar) (λ text e ne is. constant_more f.variables v text e (s.names text e is));
+      names = all_entered (IsFormal (f.variables ++ v ∷ [])) f.names name.text (formal_entity mode x kind)
+          (formal_is mode (f.variables ++ v ∷ []) name.text x kind ((name.spot, get_last f.variables v), scalar))
+          (λ text e ne is. formal_more f.variables v text e (s.names text e is));
+      modes =
+          let same = s.modes in
+          let modes = length-append f.modes (mode ∷ []) in
+          let variables = length-append f.variables (v ∷ []) in
+          omega (arith, same, modes, variables);
     }
 
 formal_scalar : (o : Option Entity) → is_scalar_kind (formal_kind o) ≡ true
@@ -68,41 +86,47 @@ formal_scalar None = refl
 
 formal_sound : (types : List TypeForm) (k : Known) (f : FormalTree) (before : Formals) → FormalsSound types before → FormalsSound types (with_formal k f before)
 unfolding with_formal
-formal_sound types k f before s = constant_sound types f.name (formal_kind (formal_type k before f.type_name)) before (formal_scalar (formal_type k before f.type_name)) s
+formal_sound types k f before s =
+    next_sound types f.name (formal_mode f.input f.output) (formal_kind (formal_type k before f.type_name)) before (formal_scalar (formal_type k before f.type_name)) s
 
 formals_sound : (types : List TypeForm) (k : Known) (fs : List FormalTree) (before : Formals) → FormalsSound types before → FormalsSound types (with_formals k fs before)
 formals_sound types k [] before s = s
 formals_sound types k (f ∷ fs) before s = formals_sound types k fs (with_formal k f before) (formal_sound types k f before s)
 
 no_formal : (types : List TypeForm) → FormalsSound types no_formals
-no_formal types = record { fit = refl; names = λ text e is. absurd (cc is) }
+no_formal types = record { fit = refl; names = λ text e is. absurd (cc is); modes = refl }
 
 pub head_formals : (types : List TypeForm) (k : Known) (fs : List FormalTree) → FormalsSound types (with_formals k fs no_formals)
 head_formals types k fs = formals_sound types k fs no_formals (no_formal types)
 
-constant_fits : (types : List TypeForm) (variables : List VariableForm) (text : List ℕ) (e : Entity) → IsConstant variables text e → EntityFits types variables text e
-constant_fits types variables text (entity.Parameter x kind) f = f
-constant_fits types variables text e f = absurd f
+formal_fits : (types : List TypeForm) (variables : List VariableForm) (text : List ℕ) (e : Entity) → IsFormal variables text e → EntityFits types variables text e
+formal_fits types variables text (entity.Parameter x kind) f = f
+formal_fits types variables text (entity.Variable x kind) f = ((f.0.0, false, f.0.1), scalar_fits types kind f.1)
+formal_fits types variables text e f = absurd f
 
-constant_raised : (exceptions : List (List ℕ)) (variables : List VariableForm) (text : List ℕ) (e : Entity) → IsConstant variables text e → RaisedFits exceptions text e
-constant_raised exceptions variables text (entity.Parameter x kind) f = tt
-constant_raised exceptions variables text e f = absurd f
+formal_raised : (exceptions : List (List ℕ)) (variables : List VariableForm) (text : List ℕ) (e : Entity) → IsFormal variables text e → RaisedFits exceptions text e
+formal_raised exceptions variables text (entity.Parameter x kind) f = tt
+formal_raised exceptions variables text (entity.Variable x kind) f = tt
+formal_raised exceptions variables text e f = absurd f
 
-constant_called : (n : ℕ) (variables : List VariableForm) (text : List ℕ) (e : Entity) → IsConstant variables text e → IsCalled n e
-constant_called n variables text (entity.Parameter x kind) f = tt
-constant_called n variables text e f = absurd f
+formal_called : (n : ℕ) (variables : List VariableForm) (text : List ℕ) (e : Entity) → IsFormal variables text e → IsCalled n e
+formal_called n variables text (entity.Parameter x kind) f = tt
+formal_called n variables text (entity.Variable x kind) f = tt
+formal_called n variables text e f = absurd f
 
 -- the body begins
 with_body_sound : (k : Known) (f : Formals) → Sound k → FormalsSound k.types f → Sound (with_body f k)
 with_body_sound k f s g = record {
   types_fit = s.types_fit;
   variables_fit = g.fit;
-  names = (λ text e is. constant_fits k.types f.variables text e (g.names text e is), s.names);
-  exceptions = (λ text e is. constant_raised k.exceptions f.variables text e (g.names text e is), s.exceptions);
-  called = (λ text e is. constant_called (length k.bodies) f.variables text e (g.names text e is), s.called);
+  names = (λ text e is. formal_fits k.types f.variables text e (g.names text e is), s.names);
+  exceptions = (λ text e is. formal_raised k.exceptions f.variables text e (g.names text e is), s.exceptions);
+  called = (λ text e is. formal_called (length k.bodies) f.variables text e (g.names text e is), s.called);
+  sized = s.sized;
   bounds = record {
     first = omega arith;
     first_variable = omega arith;
+    modes = let same = g.modes in omega (arith, same);
     first_body = omega arith;
     open_own = λ text t is. absurd (g.names text (entity.Incomplete t) is);
     open_unused = λ none text t is. absurd (g.names text (entity.Incomplete t) is);
@@ -197,16 +221,23 @@ some_body k z b s f none =
     let one = longer_bodies z.bodies b in
     omega (arith, same, least, more, one)
 
-left_body_sound : (k z : Known) (b : BodyForm) → Sound k → InBody k z → Sound (left_body k z b)
-left_body_sound k z b s f = record {
+-- one more body has a variable for each of its formal parameters
+sized_more : (bodies : List BodyForm) (b : BodyForm) → AllSized bodies → length b.formals ≤ length b.variables → AllSized (bodies ++ b ∷ [])
+sized_more [] b w own = (own, tt)
+sized_more (c ∷ bodies) b w own = (w.0, sized_more bodies b w.1 own)
+
+left_body_sound : (k z : Known) (b : BodyForm) → Sound k → InBody k z → length b.formals ≤ length b.variables → Sound (left_body k z b)
+left_body_sound k z b s f own = record {
   types_fit = f.sound.types_fit;
   variables_fit = all_weaker (fits.variable_fits k.types) (fits.variable_fits z.types) (variable_kept k.types z.types (types_keep k.types z.types f.types)) k.variables s.variables_fit;
   names = subst (λ (a : Option (List VariableForm)). PartsFit z.types (variables_behind a z.variables) (parts k)) f.around (outers_fit k z f.sound f.outer);
   exceptions = outers_raised k z f.sound f.outer;
   called = subst (λ (n : ℕ). PartsCalled n (parts k)) (sym (longer_bodies z.bodies b)) (parts_called (length z.bodies) (parts k) (outers_called k z f.sound f.outer));
+  sized = sized_more z.bodies b f.sound.sized own;
   bounds = record {
     first = let a = s.bounds.first in let more = longer k.types z.types f.types in omega arith;
     first_variable = s.bounds.first_variable;
+    modes = s.bounds.modes;
     first_body = let a = s.bounds.first_body in let more = longer k.bodies z.bodies f.bodies in let one = longer_bodies z.bodies b in omega arith;
     open_own = s.bounds.open_own;
     open_unused = λ none text t is. absurd (some_body k z b s f none);
@@ -226,8 +257,10 @@ pub body_ended_sound : (k z : Known) (name : Ident) (fs : StmtsForm) (hs : Handl
 body_ended_sound k z name fs hs s f =
     let b = body_of z fs hs in
     let one = longer_bodies z.bodies b in
+    let modes = f.sound.bounds.modes in
+    let variables = f.sound.bounds.first_variable in
     subst Sound (sym (ended_is k z name fs hs f))
-    (name_sound (left_body k z b) name.text (entity.Callable (next_procedure z)) (left_body_sound k z b s f) tt tt (omega (arith, one)) tt (λ none. tt))
+    (name_sound (left_body k z b) name.text (entity.Callable (next_procedure z)) (left_body_sound k z b s f (omega (arith, modes, variables))) tt tt (omega (arith, one)) tt (λ none. tt))
 
 -- a name that stands for something is another than a new one, which is entered twice
 pub twice_entered : (ns : List Named) (name text : List ℕ) (a b x : Entity) → named name ns ≡ None → named text ns ≡ Some x → named text (entered name b (entered name a ns)) ≡ Some x
@@ -269,6 +302,7 @@ body_ended_keeps k z head spot fs hs s none f =
       bodies = λ n c is. get_more z.bodies b n c (f.bodies n c is);
       first_type = refl;
       first_variable = refl;
+      modes = refl;
       first_body = refl;
       around = refl;
       outer = refl;

@@ -48,7 +48,8 @@ texts_stay texts k s c = record {
     names = s.names;
     exceptions = s.exceptions;
     called = s.called;
-    bounds = record { first = s.bounds.first; first_variable = s.bounds.first_variable; first_body = s.bounds.first_body; open_own = s.bounds.open_own; open_unused = s.bounds.open_unused; outer_before = s.bounds.outer_before };
+    sized = s.sized;
+    bounds = record { first = s.bounds.first; first_variable = s.bounds.first_variable; modes = s.bounds.modes; first_body = s.bounds.first_body; open_own = s.bounds.open_own; open_unused = s.bounds.open_unused; outer_before = s.bounds.outer_before };
   };
   complete = c;
   here = refl;

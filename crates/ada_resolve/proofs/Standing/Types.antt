@@ -98,9 +98,11 @@ type_sound k text e more w g unused f r y behind own = record {
   );
   exceptions = raised_entered k.exceptions k.here.names k.outer text e r w.exceptions;
   called = (all_entered (λ t x. IsCalled (length k.bodies) x) k.here.names text e y (λ t x ne is. w.called.0 t x is), w.called.1);
+  sized = w.sized;
   bounds = record {
     first = let a = w.bounds.first in let b = g.longer in omega arith;
     first_variable = w.bounds.first_variable;
+    modes = w.bounds.modes;
     first_body = w.bounds.first_body;
     open_own = λ other t is. behind_here other (entity.Incomplete t) is;
     open_unused = λ none other t is. (open_here none other t is).1;
@@ -313,9 +315,11 @@ object_type_sound k r w is settled =
       names = parts_more k.types k.variables form (parts k) (g.laid, g.types_fit) w.names;
       exceptions = w.exceptions;
       called = w.called;
+      sized = w.sized;
       bounds = record {
         first = let a = w.bounds.first in let b = g.longer in omega arith;
         first_variable = w.bounds.first_variable;
+        modes = w.bounds.modes;
         first_body = w.bounds.first_body;
         open_own = w.bounds.open_own;
         open_unused = λ none text t there. unused_more k.types form t.0 (w.bounds.open_unused none text t there) (λ same. settled none text t there (sym same));

@@ -14,7 +14,7 @@ use Rattle.ada_resolve.specs.declared.scope.Entity.TheVariants as entity
 use Rattle.ada_resolve.specs.Known.{Known, declared, is_in_procedure, next_procedure, no_body_yet, no_variable_yet, parts, types_go_on}
 use Rattle.ada_resolve.specs.Procedures.{behind_head, body_of, body_ended}
 use Rattle.ada_resolve.proofs.Standing.{Sound, around_body, around_sound, InBody, left_body, ended_is}
-use Rattle.ada_resolve.proofs.Standing.Procedures.{head_complete, body_ended_some}
+use Rattle.ada_resolve.proofs.Standing.Procedures.{head_complete, head_formals, body_ended_some}
 use Rattle.ada_resolve.proofs.WellFormed.Alike.{body_late}
 use Rattle.ada_resolve.proofs.WellFormed.Called.{callables}
 use Rattle.ada_resolve.proofs.WellFormed.Created.{accesses, collected, Creates}
@@ -28,6 +28,7 @@ pub record BodyBegun (k inner : Known) : Type 0 where
   pub types : inner.types ≡ k.types
   pub first_type : inner.here.first_type ≡ length inner.types
   pub first_variable : inner.here.first_variable ≡ length inner.variables
+  pub modes : length inner.here.modes ≡ length inner.variables
   pub ended : Ended k → Ended inner
 
 pub body_begins : (k : Known) (head : HeadTree) → BodyBegun k (behind_head k head)
@@ -37,6 +38,7 @@ body_begins k head = record {
   types = refl;
   first_type = refl;
   first_variable = refl;
+  modes = (head_formals k.types k head.formals).modes;
   ended = λ e. ended_on k (behind_head k head) refl (omega arith) (omega arith) (λ t form is settled. (is, λ yet text u there same. head_complete k head text u there)) e;
 }
 
@@ -46,11 +48,11 @@ created_so inner z cs c =
     let n = length z.variables in
     sym (ap (λ es. fits.creates_from n (length inner.variables) es) (append-nil cs)) ∙ (c.in_order n [] ∙ eq-eqb n n refl)
 
-pub body_is : (inner z : Known) (fs : StmtsForm) (hs : HandlersForm) → Sound z → z.here.first_variable ≡ length inner.variables → Creates inner z (fits.created_in (body_of z fs hs)) → declarations_fit z.types z.variables z.here.elaborated ≡ true → stmts_fit z.types z.variables z.texts z.exceptions (callables z.bodies) false fs ≡ true → handlers_fit z.types z.variables z.texts z.exceptions (callables z.bodies) false hs ≡ true → fits.body_fits z.types z.texts z.exceptions (callables z.bodies) (body_of z fs hs) ≡ true
+pub body_is : (inner z : Known) (fs : StmtsForm) (hs : HandlersForm) → Sound z → length z.here.modes ≡ length inner.variables → Creates inner z (fits.created_in (body_of z fs hs)) → declarations_fit z.types z.variables z.here.elaborated ≡ true → stmts_fit z.types z.variables z.texts z.exceptions (callables z.bodies) false fs ≡ true → handlers_fit z.types z.variables z.texts z.exceptions (callables z.bodies) false hs ≡ true → fits.body_fits z.types z.texts z.exceptions (callables z.bodies) (body_of z fs hs) ≡ true
 body_is inner z fs hs s first c declares own handled =
     let b = body_of z fs hs in
     let held = list_all (fits.variable_fits z.types) z.variables in
-    let created = fits.creates_from (length z.variables) z.here.first_variable (fits.created_in b) in
+    let created = fits.creates_from (length z.variables) (length z.here.modes) (fits.created_in b) in
     let created_is : created ≡ true =
     ap (λ v. fits.creates_from (length z.variables) v (fits.created_in b)) first ∙ created_so inner z (fits.created_in b) c in
     let part = declarations_fit z.types z.variables z.here.elaborated in

@@ -1,42 +1,45 @@
 -- A procedure that may be called has a profile, and actual parameters with which nothing is wrong suit it.
 
-use Rattle.std.proofs.Common.{◌≡◌, ◌∙◌, ℕ, ◌<◌, Bool, true, false, List, [], ◌∷◌, length, refl, sym, ap, zero, suc, cond, arith}
-use Rattle.std.specs.Prelude.{Option, Some, None, map, bytes_eq, codes}
+use Rattle.std.proofs.Common.{◌≡◌, ◌∙◌, ℕ, ◌<◌, ◌≤◌, Bool, true, false, List, [], ◌∷◌, length, refl, sym, ap, zero, suc, cond, arith}
+use Rattle.std.specs.Prelude.{Option, Some, None, map, take, bytes_eq, codes}
 use Rattle.std.specs.List.{slice_get}
 use Rattle.ada_text.specs.declared.spot.Spot.{Spot}
-use Rattle.ada_tree.specs.Expressions.{ArgumentTree, expression_argument}
+use Rattle.ada_tree.specs.Expressions.{ArgumentTree, ExpressionTree, expression_argument, path_expression}
 use Rattle.ada_program.specs.declared.program.Exception.TheVariants.{ConstraintError, ProgramError, StorageError}
+use Rattle.ada_program.specs.declared.program.FormalMode.{FormalMode}
+use Rattle.ada_program.specs.declared.program.FormalMode.TheVariants.{In, InOut}
 use Rattle.ada_program.specs.declared.program.ProcedureNo.{ProcedureNo}
 use Rattle.ada_program.specs.declared.program.ScalarType.TheVariants.{Integer, Boolean}
 use Rattle.ada_program.specs.declared.program.VariableKind.{VariableKind}
 use Rattle.ada_program.specs.declared.program.VariableKind.TheVariants as variable
+use Rattle.ada_program.specs.Form.{reads}
 use Rattle.ada_program.specs.ProgramForm.{TypeForm, VariableForm, BodyForm}
 use Rattle.ada_program.specs.WellFormed as fits
 use Rattle.ada_resolve.specs.declared.library.Withs.{Withs}
 use Rattle.ada_resolve.specs.declared.scope.Entity.{Entity}
 use Rattle.ada_resolve.specs.declared.scope.Entity.TheVariants as entity
-use Rattle.ada_resolve.specs.Actuals.{given_remark, given_meant, given_all_remark, given_all, profile_in, profile, procedure_call_remark}
-use Rattle.ada_resolve.specs.Expressions.{expression_meant}
+use Rattle.ada_resolve.specs.Actuals.{alone_wanted, variable_wanted, given_remark, given_variable, given_meant, first_mode, other_modes, given_all_remark, given_all, profile_in, profile, procedure_call_remark}
+use Rattle.ada_resolve.specs.Expressions.{expression_meant, expression_remark}
 use Rattle.ada_resolve.specs.Known.{Known, Part, named, from_part, named_in, inner_first, outermost, unit_named, visible, parts}
 use Rattle.ada_resolve.specs.Library.{predefined}
 use Rattle.ada_resolve.specs.Operators.{integer_wanted, boolean_wanted, scalar_in}
-use Rattle.ada_resolve.specs.Paths.{Meant, unknown, integer_value, boolean_value}
+use Rattle.ada_resolve.specs.Paths.{Meant, unknown, integer_value, boolean_value, path_meant}
 use Rattle.ada_resolve.specs.Spots.{expression_spot}
-use Rattle.ada_resolve.proofs.Standing.Order.{IsCalled, PartsCalled}
+use Rattle.ada_resolve.proofs.Standing.Order.{IsCalled, PartsCalled, AllSized}
 use Rattle.ada_resolve.proofs.WellFormed.Growing.{AreIn}
 use Rattle.ada_resolve.proofs.WellFormed.Items.{expression_fits}
-use Rattle.ada_resolve.proofs.WellFormed.Meanings.{MeantFits}
+use Rattle.ada_resolve.proofs.WellFormed.Meanings.{MeantFits, path_fits}
 use Rattle.ada_resolve.proofs.WellFormed.Names.{PartsFit, first_of_two, within_of, unit_only}
 use Rattle.ada_resolve.proofs.WellFormed.Remarks.{Quiet}
 use Rattle.ada_resolve.proofs.WellFormed.Tables.{both_parts}
 use Rattle.ada_resolve.proofs.WellFormed.Typing.{is_of_type}
 
 -- the profiles of the procedures whose bodies these are
-abbrev pub callables : List BodyForm → List (List VariableKind)
+abbrev pub callables : List BodyForm → List fits.Profile
 callables bodies = map fits.profile_of bodies
 
 -- the profile of a body that is there
-abbrev profile_at : Option BodyForm → Option (List VariableKind)
+abbrev profile_at : Option BodyForm → Option fits.Profile
 profile_at (Some b) = Some (fits.profile_of b)
 profile_at None = None
 
@@ -104,24 +107,81 @@ scalar_boolean types variables (boolean_value e) spot f q = f
 scalar_boolean types variables unknown spot f q = absurd f
 scalar_boolean types variables m spot f q = absurd q
 
-given_fits : (k : Known) (kind : VariableKind) (argument : ArgumentTree) → PartsFit k.types k.variables (parts k) → Quiet (given_remark k kind argument) → fits.actual_fits k.types k.variables kind (given_meant k argument) ≡ true
-given_fits k variable.Integer (expression_argument e) w q =
-    is_of_type Integer (fits.type_of k.types k.variables (scalar_in (expression_meant k e)))
-    (scalar_integer k.types k.variables (expression_meant k e) (expression_spot e) (expression_fits k e w q.0) q.1)
-given_fits k variable.Boolean (expression_argument e) w q =
-    is_of_type Boolean (fits.type_of k.types k.variables (scalar_in (expression_meant k e)))
-    (scalar_boolean k.types k.variables (expression_meant k e) (expression_spot e) (expression_fits k e w q.0) q.1)
-given_fits k kind (expression_argument e) w q = absurd q.1
-given_fits k kind other w q = absurd q.0
+-- so is the variable for which it stands, which stands alone
+stands_alone : (selectors : List ℕ) (spot : Spot) → Quiet (alone_wanted selectors spot) → fits.stands_alone selectors ≡ true
+stands_alone [] spot q = refl
+stands_alone (c ∷ cs) spot q = absurd q
 
-all_given : (k : Known) (called : Spot) (kinds : List VariableKind) (arguments : List ArgumentTree) → PartsFit k.types k.variables (parts k) → Quiet (given_all_remark k called kinds arguments) → fits.actuals_fit k.types k.variables kinds (given_all k kinds arguments) ≡ true
-all_given k called [] arguments w q = refl
-all_given k called (kind ∷ kinds) [] w q = absurd q
-all_given k called (kind ∷ kinds) (argument ∷ more) w q =
-    both_parts (fits.actual_fits k.types k.variables kind (given_meant k argument)) (fits.actuals_fit k.types k.variables kinds (given_all k kinds more))
-    (given_fits k kind argument w q.0) (all_given k called kinds more w q.1)
+variable_fits : (types : List TypeForm) (variables : List VariableForm) (kind : VariableKind) (m : Meant) (spot : Spot) → MeantFits types variables m → Quiet (variable_wanted kind m spot) → (fits.actual_fits types variables kind (given_variable m) ≡ true) × (fits.mode_of (given_variable m) ≡ InOut)
+variable_fits types variables kind unknown spot f q = absurd f
+variable_fits types variables variable.Integer (integer_value (reads path)) spot f q =
+    let typed = fits.type_of types variables (reads path) in
+    (both_parts (fits.is_type Integer typed) (fits.stands_alone path.selectors) (is_of_type Integer typed f) (stands_alone path.selectors spot q), refl)
+variable_fits types variables variable.Boolean (boolean_value (reads path)) spot f q =
+    let typed = fits.type_of types variables (reads path) in
+    (both_parts (fits.is_type Boolean typed) (fits.stands_alone path.selectors) (is_of_type Boolean typed f) (stands_alone path.selectors spot q), refl)
+variable_fits types variables kind m spot f q = absurd q
+
+value_fits : (k : Known) (kind : VariableKind) (e : ExpressionTree) → PartsFit k.types k.variables (parts k) → Quiet (given_remark k In kind (expression_argument e)) → fits.actual_fits k.types k.variables kind (given_meant k In (expression_argument e)) ≡ true
+value_fits k variable.Integer e w q =
+    let typed = fits.type_of k.types k.variables (scalar_in (expression_meant k e)) in
+    both_parts (fits.is_type Integer typed) true
+    (is_of_type Integer typed (scalar_integer k.types k.variables (expression_meant k e) (expression_spot e) (expression_fits k e w q.0) q.1)) refl
+value_fits k variable.Boolean e w q =
+    let typed = fits.type_of k.types k.variables (scalar_in (expression_meant k e)) in
+    both_parts (fits.is_type Boolean typed) true
+    (is_of_type Boolean typed (scalar_boolean k.types k.variables (expression_meant k e) (expression_spot e) (expression_fits k e w q.0) q.1)) refl
+value_fits k kind e w q = absurd q.1
+
+-- what is given suits the formal parameter, and is passed in its mode
+given_fits : (k : Known) (mode : FormalMode) (kind : VariableKind) (argument : ArgumentTree) → PartsFit k.types k.variables (parts k) → Quiet (given_remark k mode kind argument) → (fits.actual_fits k.types k.variables kind (given_meant k mode argument) ≡ true) × (fits.mode_of (given_meant k mode argument) ≡ mode)
+unfolding expression_remark
+given_fits k In kind (expression_argument e) w q = (value_fits k kind e w q, refl)
+given_fits k InOut kind (expression_argument (path_expression path)) w q =
+    variable_fits k.types k.variables kind (path_meant k path) path.root.spot (path_fits k path w q.0.1) q.1.0
+given_fits k mode kind other w q = absurd q.0
+
+same_modes : (m n : FormalMode) → n ≡ m → fits.same_mode m n ≡ true
+same_modes In In e = refl
+same_modes InOut InOut e = refl
+same_modes In InOut e = absurd (cc e)
+same_modes InOut In e = absurd (cc e)
+
+all_given : (k : Known) (called : Spot) (kinds : List VariableKind) (modes : List FormalMode) (arguments : List ArgumentTree) → PartsFit k.types k.variables (parts k) → Quiet (given_all_remark k called kinds modes arguments) → fits.actuals_fit k.types k.variables kinds (given_all k kinds modes arguments) ≡ true
+all_given k called [] modes arguments w q = refl
+all_given k called (kind ∷ kinds) modes [] w q = absurd q
+all_given k called (kind ∷ kinds) modes (argument ∷ more) w q =
+    both_parts (fits.actual_fits k.types k.variables kind (given_meant k (first_mode modes) argument)) (fits.actuals_fit k.types k.variables kinds (given_all k kinds (other_modes modes) more))
+    (given_fits k (first_mode modes) kind argument w q.0).0 (all_given k called kinds (other_modes modes) more w q.1)
+
+-- in the modes of the formal parameters, where there is one for each
+all_passed : (k : Known) (called : Spot) (kinds : List VariableKind) (modes : List FormalMode) (arguments : List ArgumentTree) → length modes ≡ length kinds → PartsFit k.types k.variables (parts k) → Quiet (given_all_remark k called kinds modes arguments) → fits.modes_fit modes (given_all k kinds modes arguments) ≡ true
+all_passed k called [] [] arguments same w q = refl
+all_passed k called [] (mode ∷ modes) arguments same w q = let no : ⊥ = omega (arith, same) in absurd no
+all_passed k called (kind ∷ kinds) [] arguments same w q = let no : ⊥ = omega (arith, same) in absurd no
+all_passed k called (kind ∷ kinds) (mode ∷ modes) [] same w q = absurd q
+all_passed k called (kind ∷ kinds) (mode ∷ modes) (argument ∷ more) same w q =
+    both_parts (fits.same_mode mode (fits.mode_of (given_meant k mode argument))) (fits.modes_fit modes (given_all k kinds modes more))
+    (same_modes mode (fits.mode_of (given_meant k mode argument)) (given_fits k mode kind argument w q.0).1)
+    (all_passed k called kinds modes more (omega (arith, same)) w q.1)
+
+-- a profile has a mode for each formal parameter
+kinds_sized : (n : ℕ) (vs : List VariableForm) → n ≤ length vs → n ≡ length (map fits.kind_held (take n vs))
+kinds_sized zero vs less = refl
+kinds_sized (suc n) [] less = let no : ⊥ = omega (arith, less) in absurd no
+kinds_sized (suc n) (v ∷ vs) less = let rest = kinds_sized n vs (omega (arith, less)) in omega (arith, rest)
+
+profile_sized : (bs : List BodyForm) (i : ℕ) → AllSized bs → length (profile_in (slice_get bs i)).modes ≡ length (profile_in (slice_get bs i)).kinds
+profile_sized [] i w = refl
+profile_sized (b ∷ bs) zero w = kinds_sized (length b.formals) b.variables w.0
+profile_sized (b ∷ bs) (suc i) w = profile_sized bs i w.1
 
 -- a call suits the profile
-pub call_suits : (k : Known) (p : ProcedureNo) (called : Spot) (arguments : List ArgumentTree) → PartsFit k.types k.variables (parts k) → p.0 < length k.bodies → Quiet (procedure_call_remark k p called arguments) → fits.suits_profile k.types k.variables (slice_get (callables k.bodies) p.0) (given_all k (profile k p) arguments) ≡ true
+pub call_suits : (k : Known) (p : ProcedureNo) (called : Spot) (arguments : List ArgumentTree) → PartsFit k.types k.variables (parts k) → AllSized k.bodies → p.0 < length k.bodies → Quiet (procedure_call_remark k p called arguments) → fits.suits_profile k.types k.variables (slice_get (callables k.bodies) p.0) (given_all k (profile k p).kinds (profile k p).modes arguments) ≡ true
 unfolding profile
-call_suits k p called arguments w there q = rw (profile_known k.bodies p.0 there) (all_given k called (profile_in (slice_get k.bodies p.0)) arguments w q)
+call_suits k p called arguments w sized there q =
+    let found = profile_in (slice_get k.bodies p.0) in
+    rw (profile_known k.bodies p.0 there)
+    (both_parts (fits.actuals_fit k.types k.variables found.kinds (given_all k found.kinds found.modes arguments)) (fits.modes_fit found.modes (given_all k found.kinds found.modes arguments))
+    (all_given k called found.kinds found.modes arguments w q)
+    (all_passed k called found.kinds found.modes arguments (profile_sized k.bodies p.0 sized) w q))

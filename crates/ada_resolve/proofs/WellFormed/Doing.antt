@@ -8,6 +8,7 @@ use Rattle.ada_tree.specs.Names.{Ident}
 use Rattle.ada_tree.specs.Declarations.{HeadTree}
 use Rattle.ada_tree.specs.Statements.{DeclarationsTree, StatementTree, StatementsTree, no_statements, a_statement, SequenceTree}
 use Rattle.ada_program.specs.declared.program.Choice.{Choice}
+use Rattle.ada_program.specs.declared.program.FormalMode.{FormalMode}
 use Rattle.ada_program.specs.declared.program.ScalarType.TheVariants.{Integer, Boolean}
 use Rattle.ada_program.specs.declared.program.VariableKind.TheVariants as variable
 use Rattle.ada_program.specs.Form.{ExpressionForm, StmtForm, chooses, repeats, counts, encloses, StmtsForm, no_stmts, a_stmt, BranchesForm, otherwise, HandlersForm}
@@ -95,7 +96,7 @@ simple_fits inside s at done w e =
     let d = simple_done inside s at done e in
     let k = at.0 in
     let m = with_texts (simple_texts s) k in
-    let h = meant_fits k inside s w.names w.exceptions w.called d.quiet in
+    let h = meant_fits k inside s w.names w.exceptions w.sized w.called d.quiet in
     is_done inside refl d.known d.form (h.0, subst (λ (cs : List Creation). Creates k m cs) (sym h.1) (creates_none k m refl refl), texts_follow (simple_texts s) k)
 
 -- what a part has elaborated once its types end: it fits, and from where the part began it creates what is declared since then
@@ -268,11 +269,12 @@ body_ordered head ds body end_name at next d order s keeps declares sequence =
     let grows = complete_grows inner behind s.inner_complete keeps in
     let creates : Creates inner z (created_in (body_of z fs hs)) =
     f.creates inner grows.types (keeps.first_type ∙ begun.first_type) (keeps.first_variable ∙ begun.first_variable) in
-    let first : z.here.first_variable ≡ length inner.variables =
-    ap (λ (p : Part). p.first_variable) s.sequence.stays.here ∙ ((ended_keeps behind).first_variable ∙ (keeps.first_variable ∙ begun.first_variable)) in
+    let same_modes : z.here.modes ≡ inner.here.modes =
+    ap (λ (p : Part). p.modes) s.sequence.stays.here ∙ ((ended_keeps behind).modes ∙ keeps.modes) in
+    let modes : length z.here.modes ≡ length inner.variables = ap (λ (ms : List FormalMode). length ms) same_modes ∙ begun.modes in
     let own : (a : ℕ) → accesses z.types a ≡ accesses inner.types a = follows.same begun.inside in
     let same : (a : ℕ) → accesses z.types a ≡ accesses k.types a = λ a. own a ∙ ap (λ ts. accesses ts a) begun.types in
-    let fit = body_is inner z fs hs s.done_in.sound first creates f.declares f.own f.handled in
+    let fit = body_is inner z fs hs s.done_in.sound modes creates f.declares f.own f.handled in
     let after = body_behind k z head fs hs s.before (after_late at.0 order) s.done_in same fit (none_created inner z (created_in (body_of z fs hs)) creates own) in
     let types_end = after_follows at.0 in
     record {

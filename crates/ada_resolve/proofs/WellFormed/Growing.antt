@@ -14,7 +14,7 @@ use Rattle.ada_program.specs.declared.program.VariableKind.{VariableKind}
 use Rattle.ada_program.specs.declared.program.VariableKind.TheVariants as variable
 use Rattle.ada_program.specs.declared.program.ScalarType.{ScalarType}
 use Rattle.ada_program.specs.declared.program.ScalarType.TheVariants.{Integer, Boolean}
-use Rattle.ada_program.specs.Form.{PathForm, RecordPathForm, ExpressionForm, integer, boolean, reads, is_null, applied_to, chained, LinksForm, no_more_links, a_link, ItemForm, null_item, item_of_path, item_of_value, item_of_record, RightForm, nothing, value_of, allocates, allocates_default, computes, StmtForm, skips, assigns, assigns_record, frees, gets, writes, writes_text, chooses, repeats, counts, exits, calls, returns, raises, encloses, StmtsForm, no_stmts, a_stmt, BranchesForm, otherwise, a_branch, HandlersForm, no_handlers, a_handler, DeclarationForm, collects, declares, declares_record}
+use Rattle.ada_program.specs.Form.{PathForm, ActualForm, value_given, RecordPathForm, ExpressionForm, integer, boolean, reads, is_null, applied_to, chained, LinksForm, no_more_links, a_link, ItemForm, null_item, item_of_path, item_of_value, item_of_record, RightForm, nothing, value_of, allocates, allocates_default, computes, StmtForm, skips, assigns, assigns_record, frees, gets, writes, writes_text, chooses, repeats, counts, exits, calls, returns, raises, encloses, StmtsForm, no_stmts, a_stmt, BranchesForm, otherwise, a_branch, HandlersForm, no_handlers, a_handler, DeclarationForm, collects, declares, declares_record}
 use Rattle.ada_program.specs.ProgramForm.{TypeForm, VariableForm}
 use Rattle.ada_program.specs.WellFormed as fits
 use Rattle.ada_resolve.proofs.WellFormed.Tables.{both_parts, first_part, second_part, all_weaker}
@@ -440,27 +440,38 @@ module _ (types more : List TypeForm) (variables others : List VariableForm) (ts
   condition_stays (Some e) h = has_type_stays Boolean e h
 
   -- what is given to formal parameters
-  actual_stays : (kind : VariableKind) (e : ExpressionForm) → fits.actual_fits types variables kind e ≡ true → fits.actual_fits more others kind e ≡ true
-  actual_stays variable.Integer e h = has_type_stays Integer e h
-  actual_stays variable.Boolean e h = has_type_stays Boolean e h
-  actual_stays (variable.Access access) e h = absurd (cc h)
-  actual_stays (variable.Record object) e h = absurd (cc h)
+  given_stays : (t : ScalarType) (a : ActualForm) → (fits.has_type types variables t (value_given a) && fits.is_variable a) ≡ true → (fits.has_type more others t (value_given a) && fits.is_variable a) ≡ true
+  given_stays t a h =
+      let typed = fits.has_type types variables t (value_given a) in
+      let alone = fits.is_variable a in
+      both_parts (fits.has_type more others t (value_given a)) alone (has_type_stays t (value_given a) (first_part typed alone h)) (second_part typed alone h)
 
-  actuals_stay : (kinds : List VariableKind) (es : List ExpressionForm) → fits.actuals_fit types variables kinds es ≡ true → fits.actuals_fit more others kinds es ≡ true
+  actual_stays : (kind : VariableKind) (a : ActualForm) → fits.actual_fits types variables kind a ≡ true → fits.actual_fits more others kind a ≡ true
+  actual_stays variable.Integer a h = given_stays Integer a h
+  actual_stays variable.Boolean a h = given_stays Boolean a h
+  actual_stays (variable.Access access) a h = absurd (cc h)
+  actual_stays (variable.Record object) a h = absurd (cc h)
+
+  actuals_stay : (kinds : List VariableKind) (actuals : List ActualForm) → fits.actuals_fit types variables kinds actuals ≡ true → fits.actuals_fit more others kinds actuals ≡ true
   actuals_stay [] [] h = refl
-  actuals_stay [] (e ∷ es) h = absurd (cc h)
+  actuals_stay [] (a ∷ actuals) h = absurd (cc h)
   actuals_stay (k ∷ kinds) [] h = absurd (cc h)
-  actuals_stay (k ∷ kinds) (e ∷ es) h =
-      let own = fits.actual_fits types variables k e in
-      let rest = fits.actuals_fit types variables kinds es in
-      both_parts (fits.actual_fits more others k e) (fits.actuals_fit more others kinds es) (actual_stays k e (first_part own rest h)) (actuals_stay kinds es (second_part own rest h))
+  actuals_stay (k ∷ kinds) (a ∷ actuals) h =
+      let own = fits.actual_fits types variables k a in
+      let rest = fits.actuals_fit types variables kinds actuals in
+      both_parts (fits.actual_fits more others k a) (fits.actuals_fit more others kinds actuals)
+      (actual_stays k a (first_part own rest h)) (actuals_stay kinds actuals (second_part own rest h))
 
-  call_stays : (o found : Option (List VariableKind)) (es : List ExpressionForm) → ((kinds : List VariableKind) → o ≡ Some kinds → found ≡ Some kinds) → fits.suits_profile types variables o es ≡ true → fits.suits_profile more others found es ≡ true
-  call_stays None found es w h = absurd (cc h)
-  call_stays (Some kinds) found es w h = rw (w kinds refl) (actuals_stay kinds es h)
+  call_stays : (o found : Option fits.Profile) (actuals : List ActualForm) → ((profile : fits.Profile) → o ≡ Some profile → found ≡ Some profile) → fits.suits_profile types variables o actuals ≡ true → fits.suits_profile more others found actuals ≡ true
+  call_stays None found actuals w h = absurd (cc h)
+  call_stays (Some profile) found actuals w h =
+      let typed = fits.actuals_fit types variables profile.kinds actuals in
+      let passed = fits.modes_fit profile.modes actuals in
+      rw (w profile refl)
+      (both_parts (fits.actuals_fit more others profile.kinds actuals) passed (actuals_stay profile.kinds actuals (first_part typed passed h)) (second_part typed passed h))
 
   -- statements, as texts and exceptions are added too
-  module _ (texts longer exceptions raised : List (List ℕ)) (callable reachable : List (List VariableKind)) (room : length texts ≤ length longer) (declared : length exceptions ≤ length raised) (calls_stay : AreIn callable reachable) where
+  module _ (texts longer exceptions raised : List (List ℕ)) (callable reachable : List fits.Profile) (room : length texts ≤ length longer) (declared : length exceptions ≤ length raised) (calls_stay : AreIn callable reachable) where
     exception_stays : (e : Exception) → fits.exception_fits exceptions e ≡ true → fits.exception_fits raised e ≡ true
     exception_stays exception.ConstraintError h = refl
     exception_stays exception.ProgramError h = refl

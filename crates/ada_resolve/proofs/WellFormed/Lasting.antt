@@ -5,7 +5,6 @@ use Rattle.std.specs.Prelude.{Some, ◌&&◌}
 use Rattle.std.specs.List.{list_all, slice_get}
 use Rattle.std.proofs.lemmas.List.{append-nil}
 use Rattle.std.proofs.lemmas.List.Sums.{sum_by-append}
-use Rattle.ada_program.specs.declared.program.VariableKind.{VariableKind}
 use Rattle.ada_program.specs.ProgramForm.{TypeForm, BodyForm}
 use Rattle.ada_program.specs.WellFormed as fits
 use Rattle.ada_resolve.specs.Known.{Known, Part, is_in_procedure, left_to, parts}
@@ -19,11 +18,11 @@ use Rattle.ada_resolve.proofs.WellFormed.Tables.{all_weaker, both_parts, first_p
 
 -- as types, texts and exceptions are added
 module _ (types more : List TypeForm) (texts longer exceptions raised : List (List ℕ)) (ts : AreIn types more) (room : length texts ≤ length longer) (declared : length exceptions ≤ length raised) where
-  pub body_later : (callable : List (List VariableKind)) (b : BodyForm) → fits.body_fits types texts exceptions callable b ≡ true → fits.body_fits more longer raised callable b ≡ true
+  pub body_later : (callable : List fits.Profile) (b : BodyForm) → fits.body_fits types texts exceptions callable b ≡ true → fits.body_fits more longer raised callable b ≡ true
   body_later callable b h =
       let vs = b.variables in
       let held = list_all (fits.variable_fits types) vs in
-      let created = fits.creates_from (length vs) b.formals (fits.created_in b) in
+      let created = fits.creates_from (length vs) (length b.formals) (fits.created_in b) in
       let part = fits.declarations_fit types vs b.declarations in
       let own = fits.stmts_fit types vs texts exceptions callable false b.statements in
       let handled = fits.handlers_fit types vs texts exceptions callable false b.handlers in
@@ -46,7 +45,7 @@ module _ (types more : List TypeForm) (texts longer exceptions raised : List (Li
       (growing.handlers_stay types more vs vs ts (λ i x is. is) texts longer exceptions raised callable callable room declared (λ i x is. is) false b.handlers
       (second_part (held && created && part && own) handled h))
 
-  pub bodies_later : (callable : List (List VariableKind)) (bs : List BodyForm) → fits.bodies_fit types texts exceptions callable bs ≡ true → fits.bodies_fit more longer raised callable bs ≡ true
+  pub bodies_later : (callable : List fits.Profile) (bs : List BodyForm) → fits.bodies_fit types texts exceptions callable bs ≡ true → fits.bodies_fit more longer raised callable bs ≡ true
   bodies_later callable [] h = refl
   bodies_later callable (b ∷ bs) h =
       let next = callable ++ fits.profile_of b ∷ [] in
@@ -56,7 +55,7 @@ module _ (types more : List TypeForm) (texts longer exceptions raised : List (Li
       (body_later callable b (first_part own rest h)) (bodies_later next bs (second_part own rest h))
 
 -- one more body
-pub one_body_more : (types : List TypeForm) (texts exceptions : List (List ℕ)) (callable : List (List VariableKind)) (bs : List BodyForm) (b : BodyForm) → fits.bodies_fit types texts exceptions callable bs ≡ true → fits.body_fits types texts exceptions (callable ++ callables bs) b ≡ true → fits.bodies_fit types texts exceptions callable (bs ++ b ∷ []) ≡ true
+pub one_body_more : (types : List TypeForm) (texts exceptions : List (List ℕ)) (callable : List fits.Profile) (bs : List BodyForm) (b : BodyForm) → fits.bodies_fit types texts exceptions callable bs ≡ true → fits.body_fits types texts exceptions (callable ++ callables bs) b ≡ true → fits.bodies_fit types texts exceptions callable (bs ++ b ∷ []) ≡ true
 one_body_more types texts exceptions callable [] b h g =
     both_parts (fits.body_fits types texts exceptions callable b) true
     (subst (λ ps. fits.body_fits types texts exceptions ps b ≡ true) (append-nil callable) g) refl

@@ -36,7 +36,7 @@ use Rattle.ada_resolve.specs.Rights.{Assigned, a_value, a_whole, right_found, ri
 use Rattle.ada_resolve.specs.Remark.{Remark, ◌also◌}
 use Rattle.ada_resolve.specs.Spots.{expression_spot}
 use Rattle.ada_resolve.specs.Statements.{bound_remark, bound_meant, condition_remark, condition_meant, optional_condition_remark, optional_condition_meant, exit_remark, exit_found, statement_remark, statement_found, text_in, simple_texts, form_or_null, statement_meant}
-use Rattle.ada_resolve.proofs.Standing.Order.{IsCalled, PartsCalled}
+use Rattle.ada_resolve.proofs.Standing.Order.{IsCalled, PartsCalled, AllSized}
 use Rattle.ada_resolve.proofs.WellFormed.Called.{callables, call_suits, visible_called}
 use Rattle.ada_resolve.proofs.WellFormed.Remarks.{Quiet, quiet_if, quiet_unless}
 use Rattle.ada_resolve.proofs.WellFormed.Names.{EntityFits, PartsFit, visible_fits}
@@ -144,21 +144,21 @@ library_call_fits k texts inside n (Some PutLine) called arguments w room q = pu
 library_call_fits k texts inside n (Some Get) called arguments w room q = taker_fits k texts inside callee.Get called arguments w tt q
 library_call_fits k texts inside n o called arguments w room q = tt
 
-own_call_one : (k : Known) (texts : List (List ℕ)) (inside : Bool) (text : List ℕ) (e : Entity) (alone : Bool) (name : Ident) (arguments : List ArgumentTree) → PartsFit k.types k.variables (parts k) → EntityFits k.types k.variables text e → IsCalled (length k.bodies) e → Quiet (own_call_remark (Some e) alone k name arguments) → FormFits k texts inside (own_call_found (Some e) alone k arguments)
-own_call_one k texts inside text (entity.Instance t) true name arguments w f c q = taker_fits k texts inside (callee.Free t) name.spot arguments w f q
-own_call_one k texts inside text (entity.Instance t) false name arguments w f c q = tt
-own_call_one k texts inside text (entity.Callable p) true name arguments w f c q = (call_suits k p name.spot arguments w c q, refl)
-own_call_one k texts inside text (entity.Callable p) false name arguments w f c q = tt
-own_call_one k texts inside text e alone name arguments w f c q = tt
+own_call_one : (k : Known) (texts : List (List ℕ)) (inside : Bool) (text : List ℕ) (e : Entity) (alone : Bool) (name : Ident) (arguments : List ArgumentTree) → PartsFit k.types k.variables (parts k) → EntityFits k.types k.variables text e → AllSized k.bodies → IsCalled (length k.bodies) e → Quiet (own_call_remark (Some e) alone k name arguments) → FormFits k texts inside (own_call_found (Some e) alone k arguments)
+own_call_one k texts inside text (entity.Instance t) true name arguments w f z c q = taker_fits k texts inside (callee.Free t) name.spot arguments w f q
+own_call_one k texts inside text (entity.Instance t) false name arguments w f z c q = tt
+own_call_one k texts inside text (entity.Callable p) true name arguments w f z c q = (call_suits k p name.spot arguments w z c q, refl)
+own_call_one k texts inside text (entity.Callable p) false name arguments w f z c q = tt
+own_call_one k texts inside text e alone name arguments w f z c q = tt
 
-own_call_fits : (k : Known) (texts : List (List ℕ)) (inside : Bool) (text : List ℕ) (o : Option Entity) (alone : Bool) (name : Ident) (arguments : List ArgumentTree) → PartsFit k.types k.variables (parts k) → ((e : Entity) → o ≡ Some e → EntityFits k.types k.variables text e) → ((e : Entity) → o ≡ Some e → IsCalled (length k.bodies) e) → Quiet (own_call_remark o alone k name arguments) → FormFits k texts inside (own_call_found o alone k arguments)
-own_call_fits k texts inside text None alone name arguments w v c q = tt
-own_call_fits k texts inside text (Some e) alone name arguments w v c q = own_call_one k texts inside text e alone name arguments w (v e refl) (c e refl) q
+own_call_fits : (k : Known) (texts : List (List ℕ)) (inside : Bool) (text : List ℕ) (o : Option Entity) (alone : Bool) (name : Ident) (arguments : List ArgumentTree) → PartsFit k.types k.variables (parts k) → ((e : Entity) → o ≡ Some e → EntityFits k.types k.variables text e) → AllSized k.bodies → ((e : Entity) → o ≡ Some e → IsCalled (length k.bodies) e) → Quiet (own_call_remark o alone k name arguments) → FormFits k texts inside (own_call_found o alone k arguments)
+own_call_fits k texts inside text None alone name arguments w v z c q = tt
+own_call_fits k texts inside text (Some e) alone name arguments w v z c q = own_call_one k texts inside text e alone name arguments w (v e refl) z (c e refl) q
 
-call_fits_at : (k : Known) (texts : List (List ℕ)) (inside : Bool) (n : ℕ) (procedure : PathTree) (arguments : List ArgumentTree) (b : Bool) (first : Remark) → PartsFit k.types k.variables (parts k) → PartsCalled (length k.bodies) (parts k) → n + length (text_in arguments) ≤ length texts → Quiet (cond b (first also library_call_remark (library_path_found k procedure) k procedure.root.spot arguments) (own_call_remark (visible k procedure.root.text) (is_empty procedure.selectors) k procedure.root arguments)) → FormFits k texts inside (cond b (library_call_found (library_path_found k procedure) k n arguments) (own_call_found (visible k procedure.root.text) (is_empty procedure.selectors) k arguments))
-call_fits_at k texts inside n procedure arguments true first w c room q = library_call_fits k texts inside n (library_path_found k procedure) procedure.root.spot arguments w room q.1
-call_fits_at k texts inside n procedure arguments false first w c room q =
-    own_call_fits k texts inside procedure.root.text (visible k procedure.root.text) (is_empty procedure.selectors) procedure.root arguments w (visible_fits k w procedure.root.text) (visible_called k c procedure.root.text) q
+call_fits_at : (k : Known) (texts : List (List ℕ)) (inside : Bool) (n : ℕ) (procedure : PathTree) (arguments : List ArgumentTree) (b : Bool) (first : Remark) → PartsFit k.types k.variables (parts k) → AllSized k.bodies → PartsCalled (length k.bodies) (parts k) → n + length (text_in arguments) ≤ length texts → Quiet (cond b (first also library_call_remark (library_path_found k procedure) k procedure.root.spot arguments) (own_call_remark (visible k procedure.root.text) (is_empty procedure.selectors) k procedure.root arguments)) → FormFits k texts inside (cond b (library_call_found (library_path_found k procedure) k n arguments) (own_call_found (visible k procedure.root.text) (is_empty procedure.selectors) k arguments))
+call_fits_at k texts inside n procedure arguments true first w z c room q = library_call_fits k texts inside n (library_path_found k procedure) procedure.root.spot arguments w room q.1
+call_fits_at k texts inside n procedure arguments false first w z c room q =
+    own_call_fits k texts inside procedure.root.text (visible k procedure.root.text) (is_empty procedure.selectors) procedure.root arguments w (visible_fits k w procedure.root.text) z (visible_called k c procedure.root.text) q
 
 -- a bound of a range is an Integer
 pub bound_is : (k : Known) (e : ExpressionTree) → PartsFit k.types k.variables (parts k) → Quiet (bound_remark k e) → fits.has_type k.types k.variables Integer (bound_meant k e) ≡ true
@@ -186,23 +186,23 @@ raising_fits : (k : Known) (texts : List (List ℕ)) (inside : Bool) (o : Option
 raising_fits k texts inside (Some e) f = (f, refl)
 raising_fits k texts inside None f = tt
 
-found_fits : (k : Known) (texts : List (List ℕ)) (inside : Bool) (statement : StatementTree) → PartsFit k.types k.variables (parts k) → PartsRaised k.exceptions (parts k) → PartsCalled (length k.bodies) (parts k) → length k.texts + length (simple_texts statement) ≤ length texts → Quiet (statement_remark k inside statement) → FormFits k texts inside (statement_found k statement)
-found_fits k texts inside (null_statement spot) w r c room q = (refl, refl)
-found_fits k texts inside (assignment target value) w r c room q = assignment_fits k texts inside target value w q
-found_fits k texts inside (call procedure arguments) w r c room q =
-    call_fits_at k texts inside (length k.texts) procedure arguments (is_library_root procedure.root.text) _ w c room q.1
-found_fits k texts inside (exit_statement spot condition) w r c room q = exit_fits k texts inside spot condition w q
-found_fits k texts inside (return_statement spot) w r c room q = (refl, refl)
-found_fits k texts inside (raise_statement spot name) w r c room q = raising_fits k texts inside (exception_found k name) (found_is k name r)
-found_fits k texts inside statement w r c room q = tt
+found_fits : (k : Known) (texts : List (List ℕ)) (inside : Bool) (statement : StatementTree) → PartsFit k.types k.variables (parts k) → PartsRaised k.exceptions (parts k) → AllSized k.bodies → PartsCalled (length k.bodies) (parts k) → length k.texts + length (simple_texts statement) ≤ length texts → Quiet (statement_remark k inside statement) → FormFits k texts inside (statement_found k statement)
+found_fits k texts inside (null_statement spot) w r z c room q = (refl, refl)
+found_fits k texts inside (assignment target value) w r z c room q = assignment_fits k texts inside target value w q
+found_fits k texts inside (call procedure arguments) w r z c room q =
+    call_fits_at k texts inside (length k.texts) procedure arguments (is_library_root procedure.root.text) _ w z c room q.1
+found_fits k texts inside (exit_statement spot condition) w r z c room q = exit_fits k texts inside spot condition w q
+found_fits k texts inside (return_statement spot) w r z c room q = (refl, refl)
+found_fits k texts inside (raise_statement spot name) w r z c room q = raising_fits k texts inside (exception_found k name) (found_is k name r)
+found_fits k texts inside statement w r z c room q = tt
 
 form_fits : (k : Known) (texts : List (List ℕ)) (inside : Bool) (o : Option StmtForm) → FormFits k texts inside o → FormFits k texts inside (Some (form_or_null o))
 form_fits k texts inside None h = (refl, refl)
 form_fits k texts inside (Some f) h = h
 
 -- what a statement does, where its texts are known behind it
-pub meant_fits : (k : Known) (inside : Bool) (statement : StatementTree) → PartsFit k.types k.variables (parts k) → PartsRaised k.exceptions (parts k) → PartsCalled (length k.bodies) (parts k) → Quiet (statement_remark k inside statement) → FormFits k (k.texts ++ simple_texts statement) inside (Some (statement_meant k statement))
-meant_fits k inside statement w r c q =
+pub meant_fits : (k : Known) (inside : Bool) (statement : StatementTree) → PartsFit k.types k.variables (parts k) → PartsRaised k.exceptions (parts k) → AllSized k.bodies → PartsCalled (length k.bodies) (parts k) → Quiet (statement_remark k inside statement) → FormFits k (k.texts ++ simple_texts statement) inside (Some (statement_meant k statement))
+meant_fits k inside statement w r z c q =
     let texts = k.texts ++ simple_texts statement in
     let parts : length texts ≡ length k.texts + length (simple_texts statement) = length-append k.texts (simple_texts statement) in
-    form_fits k texts inside (statement_found k statement) (found_fits k texts inside statement w r c (omega (arith, parts)) q)
+    form_fits k texts inside (statement_found k statement) (found_fits k texts inside statement w r z c (omega (arith, parts)) q)

@@ -78,3 +78,6 @@ returns-clause-borrows_around_calls c = (
   calls.relending_accepted,
   calls.relends,
 )
+
+pub returns-clause-gives_back : goal.returns-clause-gives_back
+returns-clause-gives_back c = (calls.giving, calls.giving_declares, calls.giving_form, calls.giving_handles, calls.giving_accepted, calls.gives_back)

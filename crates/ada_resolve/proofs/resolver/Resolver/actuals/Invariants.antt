@@ -1,6 +1,6 @@
 use Rattle.std.proofs.Common.{◌≡◌, ◌++◌, ◌≤◌, map, drop, length}
 use Rattle.ada_tree.specs.ExpressionView.{argument_of}
-use Rattle.ada_program.specs.Form.{expression_form}
+use Rattle.ada_program.specs.Form.{actual_form}
 use Rattle.ada_program.specs.Kept.{variables_in}
 use Rattle.ada_program.specs.WellFormed.{kind_held}
 use Rattle.ada_resolve.specs.Actuals.{given_all, given_all_remark}
@@ -14,10 +14,10 @@ invariant-formals l = record {
   count : length l.made.items ≡ l.formal-index;
   all : l.formal-index ≤ length l.arguments;
   meaning :
-      map expression_form l.made.items ++
-      given_all (known_of l.self) (map kind_held (variables_in (drop l.formal-index l.formals))) (map argument_of (drop l.formal-index l.arguments)) ≡
-      given_all (known_of l.self) (map kind_held (variables_in l.formals)) (map argument_of l.arguments);
+      map actual_form l.made.items ++
+      given_all (known_of l.self) (map kind_held (variables_in (drop l.formal-index l.formals))) l.modes_left (map argument_of (drop l.formal-index l.arguments)) ≡
+      given_all (known_of l.self) (map kind_held (variables_in l.formals)) l.modes (map argument_of l.arguments);
   remark :
-      noted (given_all_remark (known_of l.self) l.called (map kind_held (variables_in (drop l.formal-index l.formals))) (map argument_of (drop l.formal-index l.arguments))) l.notes ≡
-      noted (given_all_remark (known_of l.self) l.called (map kind_held (variables_in l.formals)) (map argument_of l.arguments)) l.initial.notes;
+      noted (given_all_remark (known_of l.self) l.called (map kind_held (variables_in (drop l.formal-index l.formals))) l.modes_left (map argument_of (drop l.formal-index l.arguments))) l.notes ≡
+      noted (given_all_remark (known_of l.self) l.called (map kind_held (variables_in l.formals)) l.modes (map argument_of l.arguments)) l.initial.notes;
 }

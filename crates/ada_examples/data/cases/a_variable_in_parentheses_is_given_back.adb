@@ -1,0 +1,5 @@
+with Ada.Text_IO;
+procedure Main is
+procedure One (A : in out Integer) is begin A := 2; end One;
+X : Integer := 3;
+begin One ((X)); end Main;

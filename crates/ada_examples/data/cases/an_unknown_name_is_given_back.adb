@@ -1,0 +1,4 @@
+with Ada.Text_IO;
+procedure Main is
+procedure One (A : in out Integer) is begin A := 2; end One;
+begin One (Q); end Main;
