@@ -134,7 +134,7 @@ fn modes_fit(modes: &[FormalMode], actuals: &[Actual]) -> bool
         }
         left = others;
     }
-    left.first().is_none()
+    left.get(0).is_none()
 }
 
 /// Whether an actual parameter is passed in a mode (6.2).
